@@ -1,0 +1,59 @@
+//! Whole numbers within bounds.
+ghost use Rattle.std.specs.Prelude.{◌≡◌, ◌≤◌, ℕ, Some, SomeIff, decimal};
+
+use std::fmt;
+use std::marker::Model;
+
+/// A whole number from `LEAST` to `MOST`. Contracts see the number.
+#[derive(Clone, Copy, Debug, PartialEq, Eq)]
+pub struct Bounded<const LEAST: u16, const MOST: u16> {
+    number: u16,
+}
+
+/// How many times two is multiplied: a ring of power `p` has `2^p` partitions. From 1 to 14.
+pub type Power = Bounded<1, 14>;
+
+/// How many replicas of each partition a ring keeps, each on a device of its own. From 1 to 5.
+pub type Replicas = Bounded<1, 5>;
+
+/// The port that a device's server listens on. From 1 to 65535.
+pub type Port = Bounded<1, 65535>;
+
+impl<const LEAST: u16, const MOST: u16> Model for Bounded<LEAST, MOST> {
+    ghost Value = { ℕ };
+
+    ghost view = { λ b. b.number };
+
+    ghost invariant = { λ b. (LEAST ≤ b.number) × (b.number ≤ MOST) };
+
+    ghost inverse = { λ n. record { number = n } };
+}
+
+impl<const LEAST: u16, const MOST: u16> Bounded<LEAST, MOST> {
+    /// The number as a value of this type, and `None` exactly where it is out of bounds.
+    pub fn new(number: u16) -> Option<Self>
+        ensures { SomeIff result ((LEAST ≤ number) × (number ≤ MOST)) number }
+    {
+        if LEAST <= number && number <= MOST {
+            Some(Bounded { number })
+        } else {
+            None
+        }
+    }
+
+    /// The number.
+    pub fn get(self) -> u16
+        ensures value { result ≡ self.entry }
+        ensures within { (LEAST ≤ result) × (result ≤ MOST) }
+    {
+        self.number
+    }
+}
+
+impl<const LEAST: u16, const MOST: u16> fmt::Display for Bounded<LEAST, MOST> {
+    ghost output = { λ n. Some (decimal n) };
+
+    fn fmt<W: fmt::Write>(&self, f: &mut fmt::Formatter<W>) -> fmt::Result {
+        write!(f, "{}", self.number)
+    }
+}

@@ -1,0 +1,95 @@
+//! What is asked of the builder, and what it replies.
+ghost use Rattle.std.specs.Prelude.{◌≡◌, ◌↔◌, IsTrue};
+
+use crate::bounded::{Power, Replicas};
+use crate::device::{DeviceId, Row};
+use crate::name::RingName;
+use crate::weight::Weight;
+
+/// What a new ring is made with.
+#[derive(Clone, Copy, Debug, PartialEq, Eq)]
+pub struct NewRing {
+    /// The ring has `2^power` partitions.
+    pub power: Power,
+    /// How many replicas of each partition it keeps.
+    pub replicas: Replicas,
+    /// For how many hours a partition that was moved stays where it is.
+    pub min_hours: u16,
+}
+
+/// A device's new weight.
+#[derive(Clone, Copy, Debug, PartialEq, Eq)]
+pub struct NewWeight {
+    /// The device's number.
+    pub id: DeviceId,
+    /// What it weighs from now on.
+    pub weight: Weight,
+}
+
+/// What a command does to its ring.
+#[derive(PartialEq, Eq, Debug, Drop)]
+pub enum Act {
+    /// Makes a ring without devices.
+    Create(NewRing),
+    /// Adds a device.
+    Add(Row),
+    /// Changes the weight of a device.
+    SetWeight(NewWeight),
+}
+
+/// What a caller asks for.
+#[derive(PartialEq, Eq, Debug, Drop)]
+pub struct Command {
+    /// The ring that it is about.
+    pub ring: RingName,
+    /// What is to be done to the ring.
+    pub act: Act,
+}
+
+impl Command {
+    /// Whether two commands are one, however they were spelt.
+    pub fn is(&self, other: &Command) -> bool
+        ensures { IsTrue result ↔ (self.now ≡ other.now) }
+    {
+        self == other
+    }
+}
+
+/// What was done. Each has the version of the ring after the command.
+#[derive(Clone, Copy, Debug, PartialEq, Eq)]
+pub enum Done {
+    /// The ring was made.
+    Create { version: u32 },
+    /// The device was added, under this number.
+    Add { id: DeviceId, version: u32 },
+    /// The device has its new weight.
+    SetWeight { version: u32 },
+}
+
+/// Why a command wasn't done. Its ring stays as it was, and the refusal is kept as its reply.
+#[derive(Clone, Copy, Debug, PartialEq, Eq)]
+pub enum Refusal {
+    /// There is no ring of this name.
+    NoRing,
+    /// There is a ring of this name.
+    RingExists,
+    /// There are as many rings as there may be.
+    TooManyRings,
+    /// The ring has no device of this number.
+    NoDevice,
+    /// The ring has a device of this address, port and name, which may be marked to be removed.
+    DeviceExists,
+    /// The device is marked to be removed.
+    DeviceRemoved,
+    /// The ring has as many devices as it may.
+    TooManyDevices,
+    /// The ring has given as many numbers to devices as it may.
+    IdsUsedUp,
+}
+
+/// The answer to a command that was decided.
+#[derive(Clone, Copy, Debug, PartialEq, Eq)]
+pub enum Reply {
+    Done(Done),
+    Refused(Refusal),
+}
