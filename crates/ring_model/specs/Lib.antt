@@ -1,1 +1,4 @@
 pub mod Texts
+pub mod Ring
+pub mod Valid
+pub mod Parts

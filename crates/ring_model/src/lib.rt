@@ -11,7 +11,9 @@ mod command;
 mod decimal;
 mod device;
 mod name;
+mod parts;
 mod request;
+mod ring;
 mod weight;
 
 pub use address::Address;
@@ -22,5 +24,7 @@ pub use device::{Device, DeviceId, Row};
 pub use name::{
     Caller, DeviceName, Name, NameFault, NameKind, OfCaller, OfDevice, OfRing, RingName,
 };
+pub use parts::RingParts;
 pub use request::{Delivery, Hour, Key, Limits};
+pub use ring::Ring;
 pub use weight::Weight;

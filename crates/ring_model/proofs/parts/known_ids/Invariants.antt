@@ -1,0 +1,10 @@
+use Rattle.std.proofs.Common.{◌≡◌, ℕ, length, take, false}
+use Rattle.std.specs.Prelude.{slice_index_or}
+use Rattle.ring_model.specs.Ring.{has_device}
+use Rattle.ring_model.proofs.parts.known_ids.Given as goal
+
+abbrev pub invariant-loop-device : goal.invariant-loop-device
+invariant-loop-device l = record {
+  count : length l.known.items ≡ l.next_id;
+  marks : (id : ℕ) → slice_index_or l.known.items id false ≡ has_device id (take l.device-index l.devices);
+}

@@ -1,0 +1,95 @@
+-- A ring: its devices, and which of them holds each replica of each partition.
+use Rattle.std.specs.Prelude.{◌≡◌, ℕ, ◌+◌, ◌*◌, ◌^◌, ◌<◌, ◌==◌, ◌&&◌, Bool, not, nat_lt, nat_eq, List, [], ◌∷◌, ◌++◌, length, map, replicate, slice_get, slice_index_or, find, Option, Some, None, false, if◌then◌else◌}
+use Rattle.std.specs.List.{list_any}
+use Rattle.std.specs.Option.{option_map}
+use Rattle.std.specs.Cmp.Lexicographic.{pointwise}
+use Rattle.ring_model.specs.declared.device.Row.{Row}
+use Rattle.ring_model.specs.declared.device.Device.{Device}
+
+pub record RingRecord : Type 0 where
+  -- there are 2 ^ power partitions
+  pub power : ℕ
+  -- each with so many seats
+  pub replicas : ℕ
+  -- for so many hours a moved partition stays where it is
+  pub min_hours : ℕ
+  -- the number of the next device
+  pub next_id : ℕ
+  pub version : ℕ
+  -- by rising number
+  pub devices : List Device
+  -- which device is on each seat, by partition and then by replica; nothing where the seats are empty
+  pub seats : List ℕ
+  -- for each partition the hour of its last move, or never
+  pub moved : List (Option ℕ)
+  -- version and text, by rising version
+  pub published : List (ℕ × List ℕ)
+
+abbrev pub partition_count : RingRecord → ℕ
+partition_count ring = 2 ^ ring.power
+
+-- the device on the seat of a replica of a partition, if the seat isn't empty
+abbrev pub seat : RingRecord → ℕ → ℕ → Option ℕ
+seat ring partition replica = slice_get ring.seats (partition * ring.replicas + replica)
+
+-- the hour at which a partition was moved last
+abbrev pub moved_at : RingRecord → ℕ → Option ℕ
+moved_at ring partition = slice_index_or ring.moved partition None
+
+-- whether the seats are taken; else they are all empty
+abbrev pub is_assigned : RingRecord → Bool
+is_assigned ring = nat_lt 0 (length ring.seats)
+
+-- the text that is published under a version
+abbrev pub published_at : RingRecord → ℕ → Option (List ℕ)
+published_at ring version = option_map (λ e. e.1) (find (λ e. e.0 == version) ring.published)
+
+-- whether a device has this number
+abbrev pub has_device : ℕ → List Device → Bool
+has_device id devices = list_any (λ device. device.id == id) devices
+
+-- whether a device that isn't marked to be removed has this number
+abbrev pub has_present : ℕ → List Device → Bool
+has_present id devices = list_any (λ device. (device.id == id) && not device.removed) devices
+
+-- whether two rows have the same address, port and name
+abbrev pub same_place : Row → Row → Bool
+same_place a b = (a.address == b.address) && ((a.port == b.port) && pointwise nat_eq a.name b.name)
+
+-- whether a device, marked or not, has a row's address, port and name
+abbrev pub has_place : Row → List Device → Bool
+has_place row devices = list_any (λ device. same_place device.row row) devices
+
+-- the version after a change: one more, and the greatest stays
+abbrev pub risen : ℕ → ℕ
+risen version = if version == 4294967295 then 4294967295 else version + 1
+
+-- a new ring: no device, no seat taken, never moved
+abbrev pub new_ring : ℕ → ℕ → ℕ → RingRecord
+new_ring power replicas min_hours = record {
+  power = power;
+  replicas = replicas;
+  min_hours = min_hours;
+  next_id = 0;
+  version = 0;
+  devices = [];
+  seats = [];
+  moved = replicate (2 ^ power) None;
+  published = [];
+}
+
+-- the ring with one more device, which has the next number and isn't marked
+abbrev pub with_device : RingRecord → Row → RingRecord
+with_device ring row = record ring {
+  next_id = ring.next_id + 1;
+  version = risen ring.version;
+  devices = ring.devices ++ record { id = ring.next_id; row = row; removed = false } ∷ [];
+}
+
+-- the device, with this weight if it has this number
+abbrev pub reweighed : ℕ → ℕ → Device → Device
+reweighed id weight device = if device.id == id then record device { row = record device.row { weight = weight } } else device
+
+-- the ring with this weight at the device of this number
+abbrev pub with_weight : RingRecord → ℕ → ℕ → RingRecord
+with_weight ring id weight = record ring { version = risen ring.version; devices = map (reweighed id weight) ring.devices }

@@ -1,0 +1,151 @@
+//! Rings.
+ghost use Rattle.std.specs.Prelude.{◌≡◌, ℕ, ◌<◌, ◌≤◌, ◌^◌, ◌↔◌, Bool, IfOk, IsTrue, IsFalse, length, map, Some, None};
+ghost use Rattle.std.specs.Option.{option_map, option_copied};
+
+use crate::bounded::{Power, Replicas};
+use crate::device::{Device, DeviceId, Row};
+use crate::parts::{RingParts, text_at};
+use crate::request::Hour;
+use crate::weight::Weight;
+use std::alloc::{AllocError, Global};
+use std::marker::Model;
+use std::rc::RcStr;
+
+/// Which device holds each replica of each of `2^power` partitions. Each value is valid: its seats are on devices of
+/// the ring, those of one partition on different ones, and no two devices have the same address, port and name.
+/// Contracts see the ring's record.
+///
+/// No call changes a ring: what makes a new one leaves the old as it was.
+#[derive(Drop)]
+pub struct Ring {
+    parts: RingParts,
+}
+
+impl Model for Ring {
+    ghost use Rattle.ring_model.specs.Ring.{RingRecord};
+    ghost use Rattle.ring_model.specs.Parts.{record_of};
+    ghost use Rattle.ring_model.specs.Valid.{IsValid};
+
+    ghost Value = { RingRecord };
+
+    ghost view = { λ ring. record_of ring.parts };
+
+    ghost invariant = { λ ring. IsValid (record_of ring.parts) };
+}
+
+impl Ring {
+    ghost use Rattle.std.specs.Prelude.{◌≡◌, ℕ, ◌<◌, ◌≤◌, ◌^◌, ◌↔◌, Bool, IfOk, IsTrue, length, map, Some, None, true, false};
+    ghost use Rattle.std.specs.Option.{option_map, option_copied};
+    ghost use Rattle.ring_model.specs.Ring.{RingRecord, new_ring, with_device, with_weight, seat, moved_at, is_assigned, published_at, partition_count, has_present, has_place};
+    ghost use Rattle.ring_model.specs.Parts.{texts_of};
+    ghost use Rattle.ring_model.specs.Valid.{IsValid};
+
+    /// A ring without devices, at version 0.
+    pub fn new(
+        alloc: Global,
+        power: Power,
+        replicas: Replicas,
+        min_hours: u16,
+    ) -> Result<Ring, AllocError>
+        ensures { IfOk result (λ ring. ring ≡ new_ring power replicas min_hours) }
+    {
+        let partitions = 1usize << power.get();
+        let parts = RingParts {
+            power,
+            replicas,
+            min_hours,
+            next_id: 0,
+            version: 0,
+            devices: Vec::new(alloc),
+            seats: Vec::new(alloc),
+            moved: vec![in alloc; None; partitions]?,
+            published: Vec::new(alloc),
+        };
+        Ok(Ring { parts })
+    }
+
+    /// The ring has `2^power` partitions.
+    pub fn power(&self) -> Power
+        ensures value { result ≡ self.now.power }
+        ensures valid { IsValid self.now }
+    {
+        self.parts.power
+    }
+
+    /// How many replicas of each partition the ring keeps.
+    pub fn replicas(&self) -> Replicas
+        ensures value { result ≡ self.now.replicas }
+        ensures valid { IsValid self.now }
+    {
+        self.parts.replicas
+    }
+
+    /// For how many hours a partition that was moved stays where it is.
+    pub fn min_hours(&self) -> u16
+        ensures { result ≡ self.now.min_hours }
+    {
+        self.parts.min_hours
+    }
+
+    /// How often the ring was changed. The greatest count, 4294967295, stays.
+    pub fn version(&self) -> u32
+        ensures { result ≡ self.now.version }
+    {
+        self.parts.version
+    }
+
+    /// The number that the next device gets, 65536 where there is none left.
+    pub fn next_id(&self) -> u32
+        ensures { result ≡ self.now.next_id }
+    {
+        self.parts.next_id
+    }
+
+    /// The devices, those that are marked to be removed among them, by rising number.
+    pub fn devices(&self) -> &[Device]
+        ensures value { result.now ≡ self.now.devices }
+        ensures valid { IsValid self.now }
+    {
+        self.parts.devices.as_slice()
+    }
+
+    /// Which device holds a replica of a partition. `None` where the seats are empty.
+    pub fn seat(&self, partition: u32, replica: u16) -> Option<DeviceId>
+        requires partition { partition < partition_count self.now }
+        requires replica { replica < self.now.replicas }
+        ensures { result ≡ seat self.now partition replica }
+    {
+        let place = partition as usize * usize::from(self.parts.replicas.get()) + usize::from(replica);
+        self.parts.seats.get(place).copied()
+    }
+
+    /// The hour at which a partition was moved last. `None` where it never was.
+    pub fn moved(&self, partition: u32) -> Option<Hour>
+        requires { partition < partition_count self.now }
+        ensures { result ≡ moved_at self.now partition }
+    {
+        self.parts.moved[partition as usize]
+    }
+
+    /// Whether each seat is on a device. Else all seats are empty.
+    pub fn is_assigned(&self) -> bool
+        ensures value { result ≡ is_assigned self.now }
+        ensures valid { IsValid self.now }
+    {
+        !self.parts.seats.is_empty()
+    }
+
+    /// The text that was published under a version.
+    pub fn published(&self, version: u32) -> Option<&str>
+        ensures { option_map (λ text. text.now) result ≡ published_at self.now version }
+    {
+        text_at(&self.parts.published, version)
+    }
+
+    /// All published texts, by rising version.
+    pub fn published_list(&self) -> &[(u32, RcStr)]
+        ensures { texts_of result.now ≡ self.now.published }
+    {
+        self.parts.published.as_slice()
+    }
+}
