@@ -1,3 +1,6 @@
 pub mod Decimals
 pub mod Tests
 pub mod Published
+pub mod Copies
+pub mod Building
+pub mod Changes

@@ -26,5 +26,5 @@ pub use name::{
 };
 pub use parts::RingParts;
 pub use request::{Delivery, Hour, Key, Limits};
-pub use ring::Ring;
+pub use ring::{BuildFault, Ring};
 pub use weight::Weight;

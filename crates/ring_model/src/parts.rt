@@ -1,16 +1,17 @@
 //! The parts that a ring is made of.
-ghost use Rattle.std.specs.Prelude.{◌≡◌, ◌==◌, ◌+◌, ◌*◌, ◌<◌, ◌^◌, ◌↔◌, ℕ, slice_index_or, false, IfOk, IsTrue, All, length, map, find, true};
+ghost use Rattle.std.specs.Prelude.{◌≡◌, ◌==◌, ◌+◌, ◌*◌, ◌<◌, ◌≤◌, ◌^◌, ◌↔◌, ℕ, slice_index_or, false, IfOk, IsTrue, All, length, map, find, true};
 ghost use Rattle.std.specs.List.{list_any};
 ghost use Rattle.std.specs.List.Sorted.{IsStrictlyIncreasing};
 ghost use Rattle.std.specs.Option.{option_map};
 ghost use Rattle.std.specs.Rc.{rc_str_bytes};
-ghost use Rattle.ring_model.specs.Ring.{has_device, has_place, same_place, risen};
+ghost use Rattle.ring_model.specs.Ring.{has_device, has_place, same_place, reweighed, risen};
 ghost use Rattle.ring_model.specs.Parts.{record_of, texts_of};
-ghost use Rattle.ring_model.specs.Valid.{AreApart, AreDistinct, IsValid};
+ghost use Rattle.ring_model.specs.Valid.{AreApart, AreDevices, AreDistinct, ArePublished, AreSeats, IsValid};
 
 use crate::bounded::{Power, Replicas};
 use crate::device::{Device, DeviceId, Row};
 use crate::request::Hour;
+use crate::weight::Weight;
 use std::alloc::{AllocError, Global};
 use std::rc::RcStr;
 
@@ -35,6 +36,33 @@ pub struct RingParts {
     pub moved: Vec<Option<Hour>>,
     /// Versions and their published texts, by rising version, at most 1000.
     pub published: Vec<(u32, RcStr)>,
+}
+
+/// How many partitions a ring of a power has.
+pub(crate) fn partition_count(power: Power) -> usize
+    ensures value { result ≡ 2 ^ power }
+    ensures small { result ≤ 16384 }
+    ensures power { (1 ≤ power) × (power ≤ 14) }
+{
+    1usize << power.get()
+}
+
+/// Sets the weight of a device if it has this number.
+fn reweigh(device: &mut Device, id: DeviceId, weight: Weight)
+    ensures { device.new ≡ reweighed id weight device.old }
+{
+    if device.id == id {
+        device.row.weight = weight;
+    }
+}
+
+/// Sets the weight of the device of a number.
+pub(crate) fn set_weight(devices: &mut [Device], id: DeviceId, weight: Weight)
+    ensures { devices.new ≡ map (reweighed id weight) devices.old }
+{
+    for device in devices.iter_mut() {
+        reweigh(device, id, weight);
+    }
 }
 
 /// One more, and the greatest version stays.
@@ -149,4 +177,101 @@ fn are_distinct(seats: &[DeviceId], replicas: usize) -> bool
         }
     }
     true
+}
+
+/// The numbers of devices.
+fn ids_of(alloc: Global, devices: &[Device]) -> Result<Vec<u32>, AllocError>
+    ensures { IfOk result (λ ids. ids.items ≡ map (λ device. device.id) devices.now) }
+{
+    devices
+        .iter()
+        .map(|device| u32::from(device.id))
+        .collect(alloc)
+}
+
+/// The versions of published texts.
+fn versions_of(alloc: Global, published: &[(u32, RcStr)]) -> Result<Vec<u32>, AllocError>
+    ensures { IfOk result (λ versions. versions.items ≡ map (λ entry. entry.0) published.now) }
+{
+    published.iter().map(|entry| entry.0).collect(alloc)
+}
+
+fn are_devices(alloc: Global, devices: &[Device], next_id: u32) -> Result<bool, AllocError>
+    ensures { IfOk result (λ valid. IsTrue valid ↔ AreDevices next_id devices.now) }
+{
+    if devices.len() > 256 || !are_ids_below(devices, next_id) || !are_apart(devices) {
+        return Ok(false);
+    }
+    let ids = ids_of(alloc, devices)?;
+    Ok(are_rising(&ids))
+}
+
+fn are_published(alloc: Global, published: &[(u32, RcStr)]) -> Result<bool, AllocError>
+    ensures { IfOk result (λ valid. IsTrue valid ↔ ArePublished (texts_of published.now)) }
+{
+    if published.len() > 1000 {
+        return Ok(false);
+    }
+    let versions = versions_of(alloc, published)?;
+    Ok(are_rising(&versions))
+}
+
+/// Whether these are the seats of so many partitions and replicas.
+fn are_seats(
+    alloc: Global,
+    devices: &[Device],
+    next_id: usize,
+    seats: &[DeviceId],
+    partitions: usize,
+    replicas: usize,
+) -> Result<bool, AllocError>
+    requires devices { All (λ device. device.id < next_id) devices.now }
+    requires partitions { partitions ≤ 16384 }
+    requires replicas { (1 ≤ replicas) × (replicas ≤ 5) }
+    ensures { IfOk result (λ valid. IsTrue valid ↔ AreSeats partitions replicas devices.now seats.now) }
+{
+    let is_whole = seats.is_empty() || seats.len() == partitions * replicas;
+    if !is_whole || !are_distinct(seats, replicas) {
+        return Ok(false);
+    }
+    are_known(alloc, devices, next_id, seats)
+}
+
+impl RingParts {
+    /// Whether the parts are those of a ring.
+    pub(crate) fn are_valid(&self, alloc: Global) -> Result<bool, AllocError>
+        ensures { IfOk result (λ valid. IsTrue valid ↔ IsValid (record_of self.now)) }
+    {
+        let (_hours, _version) = (self.min_hours, self.version);
+        let partitions = partition_count(self.power);
+        let replicas = usize::from(self.replicas.get());
+        if self.next_id > 65536 || self.moved.len() != partitions {
+            return Ok(false);
+        }
+        if !are_devices(alloc, &self.devices, self.next_id)? {
+            return Ok(false);
+        }
+        if !are_published(alloc, &self.published)? {
+            return Ok(false);
+        }
+        let next_id = self.next_id as usize;
+        are_seats(alloc, &self.devices, next_id, &self.seats, partitions, replicas)
+    }
+
+    /// The same parts once more.
+    pub(crate) fn copy(&self) -> Result<RingParts, AllocError>
+        ensures { IfOk result (λ copy. record_of copy ≡ record_of self.now) }
+    {
+        Ok(RingParts {
+            power: self.power,
+            replicas: self.replicas,
+            min_hours: self.min_hours,
+            next_id: self.next_id,
+            version: self.version,
+            devices: self.devices.clone()?,
+            seats: self.seats.clone()?,
+            moved: self.moved.clone()?,
+            published: self.published.clone()?,
+        })
+    }
 }

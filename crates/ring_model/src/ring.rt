@@ -4,12 +4,32 @@ ghost use Rattle.std.specs.Option.{option_map, option_copied};
 
 use crate::bounded::{Power, Replicas};
 use crate::device::{Device, DeviceId, Row};
-use crate::parts::{RingParts, text_at};
+use crate::parts::{RingParts, partition_count, risen, set_weight, text_at};
 use crate::request::Hour;
 use crate::weight::Weight;
 use std::alloc::{AllocError, Global};
 use std::marker::Model;
 use std::rc::RcStr;
+
+/// Why parts aren't made a ring.
+#[derive(Clone, Copy, Debug, PartialEq, Eq)]
+pub enum BuildFault {
+    /// They make no valid ring.
+    Invalid,
+    /// A growth of memory was refused.
+    NoMemory,
+}
+
+impl From<AllocError> for BuildFault {
+    ghost use Rattle.std.specs.Prelude.{◌≡◌};
+    ghost use Rattle.ring_model.specs.declared.ring.BuildFault.TheVariants.{NoMemory};
+
+    ghost from_gives = { λ _ fault. fault ≡ NoMemory };
+
+    fn from(_refused: AllocError) -> BuildFault {
+        BuildFault::NoMemory
+    }
+}
 
 /// Which device holds each replica of each of `2^power` partitions. Each value is valid: its seats are on devices of
 /// the ring, those of one partition on different ones, and no two devices have the same address, port and name.
@@ -34,10 +54,10 @@ impl Model for Ring {
 }
 
 impl Ring {
-    ghost use Rattle.std.specs.Prelude.{◌≡◌, ℕ, ◌<◌, ◌≤◌, ◌^◌, ◌↔◌, Bool, IfOk, IsTrue, length, map, Some, None, true, false};
+    ghost use Rattle.std.specs.Prelude.{◌≡◌, ℕ, ◌<◌, ◌≤◌, ◌^◌, ◌↔◌, Bool, IfOk, IsErrOf, IsTrue, length, map, Some, None, true, false};
     ghost use Rattle.std.specs.Option.{option_map, option_copied};
-    ghost use Rattle.ring_model.specs.Ring.{RingRecord, new_ring, with_device, with_weight, seat, moved_at, is_assigned, published_at, partition_count, has_present, has_place};
-    ghost use Rattle.ring_model.specs.Parts.{texts_of};
+    ghost use Rattle.ring_model.specs.Ring.{RingRecord, new_ring, seat, moved_at, is_assigned, published_at, partition_count, has_present, has_place, with_device, with_weight};
+    ghost use Rattle.ring_model.specs.Parts.{record_of, texts_of};
     ghost use Rattle.ring_model.specs.Valid.{IsValid};
 
     /// A ring without devices, at version 0.
@@ -49,7 +69,7 @@ impl Ring {
     ) -> Result<Ring, AllocError>
         ensures { IfOk result (λ ring. ring ≡ new_ring power replicas min_hours) }
     {
-        let partitions = 1usize << power.get();
+        let partitions = partition_count(power);
         let parts = RingParts {
             power,
             replicas,
@@ -61,6 +81,55 @@ impl Ring {
             moved: vec![in alloc; None; partitions]?,
             published: Vec::new(alloc),
         };
+        Ok(Ring { parts })
+    }
+
+    /// The ring of these parts. Invalid exactly where they make no valid ring.
+    pub fn build(alloc: Global, parts: RingParts) -> Result<Ring, BuildFault>
+        ensures built { IfOk result (λ ring. ring ≡ record_of parts) }
+        ensures valid { IfOk result (λ _. IsValid (record_of parts)) }
+        ensures invalid { IsErrOf result BuildFault.Invalid → IsValid (record_of parts) → ⊥ }
+    {
+        if !parts.are_valid(alloc)? {
+            return Err(BuildFault::Invalid);
+        }
+        Ok(Ring { parts })
+    }
+
+    /// The parts that the ring is made of.
+    pub fn parts(&self) -> Result<RingParts, AllocError>
+        ensures { IfOk result (λ parts. record_of parts ≡ self.now) }
+    {
+        self.parts.copy()
+    }
+
+    /// The ring with one more device, which gets the next number. The version rises.
+    pub fn with_device(&self, row: &Row) -> Result<Ring, AllocError>
+        requires room { length self.now.devices < 256 }
+        requires numbers { self.now.next_id < 65536 }
+        requires apart { has_place row.now self.now.devices ≡ false }
+        ensures { IfOk result (λ ring. ring ≡ with_device self.now row.now) }
+    {
+        let mut parts = self.parts.copy()?;
+        let device = Device {
+            id: self.parts.next_id as u16,
+            row: row.clone()?,
+            removed: false,
+        };
+        parts.devices.push(device)?;
+        parts.next_id += 1;
+        parts.version = risen(parts.version);
+        Ok(Ring { parts })
+    }
+
+    /// The ring with another weight at a device that isn't marked to be removed. The version rises.
+    pub fn with_weight(&self, id: DeviceId, weight: Weight) -> Result<Ring, AllocError>
+        requires { has_present id self.now.devices ≡ true }
+        ensures { IfOk result (λ ring. ring ≡ with_weight self.now id weight) }
+    {
+        let mut parts = self.parts.copy()?;
+        set_weight(&mut parts.devices, id, weight);
+        parts.version = risen(parts.version);
         Ok(Ring { parts })
     }
 
