@@ -16,7 +16,7 @@ use Rattle.ring_model.specs.declared.parts.RingParts.{RingParts}
 use Rattle.ring_model.specs.Parts.{record_of}
 use Rattle.ring_model.proofs.Tests.{any_fails_at}
 
-risen_fits : (version : ℕ) → version ≤ 4294967295 → risen version ≤ 4294967295
+pub risen_fits : (version : ℕ) → version ≤ 4294967295 → risen version ≤ 4294967295
 risen_fits version fits = ⊎_elim
     (λ e. rw (eq-eqb version 4294967295 e) (lit≤ tt))
     (λ ne. rw (ne_eqb version 4294967295 ne) (omega arith))

@@ -4,3 +4,5 @@ pub mod Published
 pub mod Copies
 pub mod Building
 pub mod Changes
+pub mod Doubling
+pub mod Raising

@@ -2,3 +2,5 @@ pub mod Texts
 pub mod Ring
 pub mod Valid
 pub mod Parts
+pub mod Raise
+pub mod Rings

@@ -14,6 +14,7 @@ mod name;
 mod parts;
 mod request;
 mod ring;
+mod rings;
 mod weight;
 
 pub use address::Address;
@@ -26,5 +27,6 @@ pub use name::{
 };
 pub use parts::RingParts;
 pub use request::{Delivery, Hour, Key, Limits};
-pub use ring::{BuildFault, Ring};
+pub use ring::{BuildFault, RaiseFault, Ring};
+pub use rings::Rings;
 pub use weight::Weight;

@@ -6,6 +6,7 @@ ghost use Rattle.std.specs.Option.{option_map};
 ghost use Rattle.std.specs.Rc.{rc_str_bytes};
 ghost use Rattle.ring_model.specs.Ring.{has_device, has_place, same_place, reweighed, risen};
 ghost use Rattle.ring_model.specs.Parts.{record_of, texts_of};
+ghost use Rattle.ring_model.specs.Raise.{IsTwice};
 ghost use Rattle.ring_model.specs.Valid.{AreApart, AreDevices, AreDistinct, ArePublished, AreSeats, IsValid};
 
 use crate::bounded::{Power, Replicas};
@@ -74,6 +75,26 @@ pub(crate) fn risen(version: u32) -> u32
     } else {
         version + 1
     }
+}
+
+/// Rows of a width, one after another, each twice.
+pub(crate) fn doubled<T: Copy>(
+    alloc: Global,
+    items: &[T],
+    rows: usize,
+    width: usize,
+) -> Result<Vec<T>, AllocError>
+    requires width { 0 < width }
+    requires whole { length items.now ≡ rows * width }
+    requires small { length items.now < 2 ^ 32 }
+    ensures count { IfOk result (λ twice. length twice.items ≡ 2 * length items.now) }
+    ensures halves { IfOk result (λ twice. IsTwice width items.now twice.items) }
+{
+    let mut twice = Vec::new(alloc);
+    for place in 0..2 * items.len() {
+        twice.push(items[place / width / 2 * width + place % width])?;
+    }
+    Ok(twice)
 }
 
 /// The text that is published under a version.
@@ -256,6 +277,30 @@ impl RingParts {
         }
         let next_id = self.next_id as usize;
         are_seats(alloc, &self.devices, next_id, &self.seats, partitions, replicas)
+    }
+
+    /// The seats where each partition is twice.
+    pub(crate) fn doubled_seats(&self) -> Result<Vec<DeviceId>, AllocError>
+        requires { IsValid (record_of self.now) }
+        ensures count { IfOk result (λ seats. length seats.items ≡ 2 * length self.now.seats.items) }
+        ensures halves { IfOk result (λ seats. IsTwice self.now.replicas self.now.seats.items seats.items) }
+    {
+        let rows = if self.seats.is_empty() {
+            0
+        } else {
+            partition_count(self.power)
+        };
+        let replicas = usize::from(self.replicas.get());
+        doubled(*self.seats.allocator(), &self.seats, rows, replicas)
+    }
+
+    /// The hours of moves where each partition is twice.
+    pub(crate) fn doubled_moved(&self) -> Result<Vec<Option<Hour>>, AllocError>
+        requires { IsValid (record_of self.now) }
+        ensures count { IfOk result (λ moved. length moved.items ≡ 2 * length self.now.moved.items) }
+        ensures halves { IfOk result (λ moved. IsTwice 1 self.now.moved.items moved.items) }
+    {
+        doubled(*self.moved.allocator(), &self.moved, self.moved.len(), 1)
     }
 
     /// The same parts once more.

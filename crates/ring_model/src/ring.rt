@@ -31,6 +31,26 @@ impl From<AllocError> for BuildFault {
     }
 }
 
+/// Why a ring isn't raised.
+#[derive(Clone, Copy, Debug, PartialEq, Eq)]
+pub enum RaiseFault {
+    /// It has the greatest power already.
+    PowerLimit,
+    /// A growth of memory was refused.
+    NoMemory,
+}
+
+impl From<AllocError> for RaiseFault {
+    ghost use Rattle.std.specs.Prelude.{◌≡◌};
+    ghost use Rattle.ring_model.specs.declared.ring.RaiseFault.TheVariants.{NoMemory};
+
+    ghost from_gives = { λ _ fault. fault ≡ NoMemory };
+
+    fn from(_refused: AllocError) -> RaiseFault {
+        RaiseFault::NoMemory
+    }
+}
+
 /// Which device holds each replica of each of `2^power` partitions. Each value is valid: its seats are on devices of
 /// the ring, those of one partition on different ones, and no two devices have the same address, port and name.
 /// Contracts see the ring's record.
@@ -58,6 +78,7 @@ impl Ring {
     ghost use Rattle.std.specs.Option.{option_map, option_copied};
     ghost use Rattle.ring_model.specs.Ring.{RingRecord, new_ring, seat, moved_at, is_assigned, published_at, partition_count, has_present, has_place, with_device, with_weight};
     ghost use Rattle.ring_model.specs.Parts.{record_of, texts_of};
+    ghost use Rattle.ring_model.specs.Raise.{IsRaised};
     ghost use Rattle.ring_model.specs.Valid.{IsValid};
 
     /// A ring without devices, at version 0.
@@ -129,6 +150,23 @@ impl Ring {
     {
         let mut parts = self.parts.copy()?;
         set_weight(&mut parts.devices, id, weight);
+        parts.version = risen(parts.version);
+        Ok(Ring { parts })
+    }
+
+    /// The ring with each partition split into two halves, which are on the partition's devices and were moved when
+    /// it was. PowerLimit exactly where the power is the greatest already. The version rises.
+    pub fn raised(&self) -> Result<Ring, RaiseFault>
+        ensures raised { IfOk result (λ ring. IsRaised self.now ring) }
+        ensures limit { IsErrOf result RaiseFault.PowerLimit ↔ (self.now.power ≡ 14) }
+    {
+        let Some(power) = Power::new(self.parts.power.get() + 1) else {
+            return Err(RaiseFault::PowerLimit);
+        };
+        let mut parts = self.parts.copy()?;
+        parts.seats = self.parts.doubled_seats()?;
+        parts.moved = self.parts.doubled_moved()?;
+        parts.power = power;
         parts.version = risen(parts.version);
         Ok(Ring { parts })
     }
