@@ -1,5 +1,5 @@
 -- When parts make a ring.
-use Rattle.std.proofs.Common.{◌≡◌, ℕ, ◌^◌, ◌≤◌, Bool, List, length, Result, Ok, Err, subst, arith}
+use Rattle.std.proofs.Common.{◌≡◌, ℕ, ◌^◌, ◌≤◌, Bool, length, Result, Ok, Err, subst}
 use Rattle.std.specs.Prelude.{IfOk, IsTrue, ◌↔◌}
 use Rattle.std.specs.declared.alloc.AllocError.{AllocError}
 use Rattle.ring_model.specs.Parts.{record_of}
@@ -21,15 +21,17 @@ pub valid_by_seats : (parts : RingParts) (r : Result Bool AllocError) (partition
     → IfOk r (λ v. IsTrue v ↔ AreSeats partitions replicas parts.devices.items parts.seats.items) → IfOk r (λ v. IsTrue v ↔ IsValid (record_of parts))
 valid_by_seats parts (Err e) partitions replicas but p q h = tt
 valid_by_seats parts (Ok v) partitions replicas but p q h =
-    let seats = subst (λ (m : ℕ). IsTrue v ↔ AreSeats (2 ^ parts.power) m parts.devices.items parts.seats.items) q (subst (λ (m : ℕ). IsTrue v ↔ AreSeats m replicas parts.devices.items parts.seats.items) p h) in
-    (λ yes. record {
-      power = but.power;
-      replicas = but.replicas;
-      min_hours = but.min_hours;
-      next_id = but.next_id;
-      version = but.version;
-      devices = but.devices;
-      seats = seats.0 yes;
-      moved = but.moved;
-      published = but.published;
-    }, λ valid. seats.1 valid.seats)
+    let seats = subst (λ (m : ℕ). IsTrue v ↔ AreSeats (2 ^ parts.power) m parts.devices.items parts.seats.items) q (subst (λ (m : ℕ). IsTrue v ↔ AreSeats m replicas parts.devices.items parts.seats.items) p h) in (
+      λ yes. record {
+        power = but.power;
+        replicas = but.replicas;
+        min_hours = but.min_hours;
+        next_id = but.next_id;
+        version = but.version;
+        devices = but.devices;
+        seats = seats.0 yes;
+        moved = but.moved;
+        published = but.published;
+      },
+      λ valid. seats.1 valid.seats,
+    )

@@ -1,9 +1,8 @@
 -- A changed ring is valid.
-use Rattle.std.proofs.Common.{◌≡◌, ℕ, ◌+◌, ◌<◌, ◌≤◌, Bool, true, false, ◌||◌, cond, List, [], ◌∷◌, ◌++◌, length, get_or, take, drop, map, refl, sym, ap, ap₂, subst, ◌∙◌, ⊎_elim, lit≤, arith}
-use Rattle.std.specs.Prelude.{All, AllPairs, ◌==◌, slice_index}
-use Rattle.std.specs.List.{list_any}
+use Rattle.std.proofs.Common.{◌≡◌, ℕ, ◌+◌, ◌<◌, ◌≤◌, Bool, true, false, ◌||◌, cond, List, [], ◌∷◌, ◌++◌, length, get_or, take, drop, map, refl, sym, ap, ap₂, ◌∙◌, ⊎_elim, lit≤, arith}
+use Rattle.std.specs.Prelude.{All, ◌==◌, slice_index}
 use Rattle.std.specs.List.Sorted.{IsStrictlyIncreasing}
-use Rattle.std.proofs.lemmas.Bool.{cases_lt, cases_eq, or_left, eq-eqb, ne_eqb}
+use Rattle.std.proofs.lemmas.Bool.{cases_lt, cases_eq, eq-eqb, ne_eqb}
 use Rattle.std.proofs.lemmas.List.{length-append, length-map, take_at, get_or_append_left, get_or_at, map-append, get_or-map}
 use Rattle.std.proofs.lemmas.List.Folds.{list_any-append}
 use Rattle.std.proofs.lemmas.List.Elements.{All-push, All-weaker, All-map}
@@ -14,7 +13,7 @@ use Rattle.ring_model.specs.declared.device.Device.{Device}
 use Rattle.ring_model.specs.declared.device.Row.{Row}
 use Rattle.ring_model.specs.declared.parts.RingParts.{RingParts}
 use Rattle.ring_model.specs.Parts.{record_of}
-use Rattle.ring_model.proofs.Tests.{any_fails_at}
+use Rattle.ring_model.proofs.Validity.{any_fails_at}
 
 pub risen_fits : (version : ℕ) → version ≤ 4294967295 → risen version ≤ 4294967295
 risen_fits version fits = ⊎_elim
@@ -29,9 +28,9 @@ rising_push xs y rise below k lt =
     let long : k + 1 < length xs + 1 = omega (arith, length-append xs (y ∷ [])) in
     let first : slice_index (xs ++ y ∷ []) k ≡ slice_index xs k = get_or_append_left xs (y ∷ []) 0 k (omega arith) in
     ⊎_elim
-        (λ inner. rw (first, get_or_append_left xs (y ∷ []) 0 (k + 1) inner) (rise k inner))
-        (λ last. rw (first, get_or_at xs y [] 0 (k + 1) (omega arith)) (below k 0 (omega arith)))
-        (cases_lt (k + 1) (length xs))
+    (λ inner. rw (first, get_or_append_left xs (y ∷ []) 0 (k + 1) inner) (rise k inner))
+    (λ last. rw (first, get_or_at xs y [] 0 (k + 1) (omega arith)) (below k 0 (omega arith)))
+    (cases_lt (k + 1) (length xs))
 
 pub devices_added : (next_id : ℕ) (devices : List Device) (row : Row) → AreDevices next_id devices → length devices < 256 → has_place row devices ≡ false →
     AreDevices (next_id + 1) (devices ++ record { id = next_id; row = row; removed = false } ∷ [])

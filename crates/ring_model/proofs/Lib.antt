@@ -1,8 +1,9 @@
 pub mod Decimals
-pub mod Tests
+pub mod Validity
 pub mod Published
 pub mod Copies
 pub mod Building
 pub mod Changes
 pub mod Doubling
 pub mod Raising
+pub mod ByName

@@ -2,11 +2,11 @@
 use Rattle.std.proofs.Common.{◌≡◌, ℕ, ◌+◌, ◌*◌, ◌/◌, ◌%◌, ◌^◌, ◌<◌, ◌≤◌, ◌⊎◌, true, List, length, get_or, Some, refl, sym, ap, subst, ◌∙◌, ⊎_elim, inl, inr, add-one, Option, None, arith}
 use Rattle.std.specs.Prelude.{All, slice_get, slice_index_or, unwrap_or}
 use Rattle.std.proofs.Math.Nat.{div-add-mod, mod-lt, mul_comm, mul_assoc, pow-suc}
-use Rattle.std.proofs.lemmas.Bool.{cases_lt, cases_eq}
+use Rattle.std.proofs.lemmas.Bool.{cases_eq}
 use Rattle.std.proofs.lemmas.Option.{slice_get-get_or, slice_get_within, get_or_from_slice_get, unwrap_or-slice_get}
 use Rattle.ring_model.specs.Ring.{RingRecord, has_device, seat, risen, partition_count}
 use Rattle.ring_model.specs.Raise.{IsRaised, IsTwice}
-use Rattle.ring_model.specs.Valid.{AreDevices, AreDistinct, ArePublished, AreSeats, IsValid}
+use Rattle.ring_model.specs.Valid.{AreDistinct, IsValid}
 use Rattle.ring_model.proofs.Changes.{risen_fits}
 
 same_replicas : (old new : RingRecord) → IsRaised old new → new.replicas ≡ old.replicas
@@ -19,9 +19,9 @@ half_seat old new raised half replica lt =
     let even : (half ≡ 2 * (half / 2)) ⊎ (half ≡ 2 * (half / 2) + 1) = ⊎_elim (λ e. inl (omega arith)) (λ ne. inr (omega arith)) (cases_eq (half % 2) 0) in
     let same = same_replicas old new raised in
     ⊎_elim
-        (λ e. ap (λ (q : ℕ). slice_get new.seats (q * old.replicas + replica)) e ∙ ap (λ (r : ℕ). slice_get new.seats (2 * (half / 2) * r + replica)) (sym same) ∙ both.0)
-        (λ e. ap (λ (q : ℕ). slice_get new.seats (q * old.replicas + replica)) e ∙ ap (λ (r : ℕ). slice_get new.seats ((2 * (half / 2) + 1) * r + replica)) (sym same) ∙ both.1)
-        even
+    (λ e. ap (λ (q : ℕ). slice_get new.seats (q * old.replicas + replica)) e ∙ ap (λ (r : ℕ). slice_get new.seats (2 * (half / 2) * r + replica)) (sym same) ∙ both.0)
+    (λ e. ap (λ (q : ℕ). slice_get new.seats (q * old.replicas + replica)) e ∙ ap (λ (r : ℕ). slice_get new.seats ((2 * (half / 2) + 1) * r + replica)) (sym same) ∙ both.1)
+    even
 
 known_halves : (old new : RingRecord) → IsRaised old new → 0 < old.replicas → All (λ id. has_device id old.devices ≡ true) old.seats → All (λ id. has_device id old.devices ≡ true) new.seats
 known_halves old new raised some known k d lt =
@@ -76,9 +76,10 @@ raised_is old power seats moved up seat_count twice moved_count both = record {
   power = up;
   version = refl;
   seats = twice;
-  moved = λ partition.
-      (moved_half old.moved moved (2 * partition * 1 + 0) (2 * partition) (partition * 1 + 0) (omega arith) (both partition 0 (omega arith)).0 partition (omega arith),
-       moved_half old.moved moved ((2 * partition + 1) * 1 + 0) (2 * partition + 1) (partition * 1 + 0) (omega arith) (both partition 0 (omega arith)).1 partition (omega arith));
+  moved = λ partition. (
+    moved_half old.moved moved (2 * partition * 1 + 0) (2 * partition) (partition * 1 + 0) (omega arith) (both partition 0 (omega arith)).0 partition (omega arith),
+    moved_half old.moved moved ((2 * partition + 1) * 1 + 0) (2 * partition + 1) (partition * 1 + 0) (omega arith) (both partition 0 (omega arith)).1 partition (omega arith),
+  );
   seat_count = seat_count;
   moved_count = moved_count;
   rest = refl;

@@ -1,5 +1,5 @@
 -- A ring: its devices, and which of them holds each replica of each partition.
-use Rattle.std.specs.Prelude.{◌≡◌, ℕ, ◌+◌, ◌*◌, ◌^◌, ◌<◌, ◌==◌, ◌&&◌, Bool, not, nat_lt, nat_eq, List, [], ◌∷◌, ◌++◌, length, map, replicate, slice_get, slice_index_or, find, Option, Some, None, false, if◌then◌else◌}
+use Rattle.std.specs.Prelude.{ℕ, ◌+◌, ◌*◌, ◌^◌, ◌==◌, ◌&&◌, Bool, not, nat_lt, nat_eq, List, [], ◌∷◌, ◌++◌, length, map, replicate, slice_get, slice_index_or, find, Option, None, false, if◌then◌else◌}
 use Rattle.std.specs.List.{list_any}
 use Rattle.std.specs.Option.{option_map}
 use Rattle.std.specs.Cmp.Lexicographic.{pointwise}

@@ -30,3 +30,6 @@ pub use request::{Delivery, Hour, Key, Limits};
 pub use ring::{BuildFault, RaiseFault, Ring};
 pub use rings::Rings;
 pub use weight::Weight;
+
+#[cfg(test)]
+mod tests;

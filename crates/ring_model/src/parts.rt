@@ -4,7 +4,7 @@ ghost use Rattle.std.specs.List.{list_any};
 ghost use Rattle.std.specs.List.Sorted.{IsStrictlyIncreasing};
 ghost use Rattle.std.specs.Option.{option_map};
 ghost use Rattle.std.specs.Rc.{rc_str_bytes};
-ghost use Rattle.ring_model.specs.Ring.{has_device, has_place, same_place, reweighed, risen};
+ghost use Rattle.ring_model.specs.Ring.{has_device, has_place, has_present, same_place, reweighed, risen};
 ghost use Rattle.ring_model.specs.Parts.{record_of, texts_of};
 ghost use Rattle.ring_model.specs.Raise.{IsTwice};
 ghost use Rattle.ring_model.specs.Valid.{AreApart, AreDevices, AreDistinct, ArePublished, AreSeats, IsValid};
@@ -103,6 +103,22 @@ pub(crate) fn text_at(published: &[(u32, RcStr)], version: u32) -> Option<&str>
 {
     let entry = published.iter().find(|entry| entry.0 == version)?;
     Some(entry.1.as_str())
+}
+
+/// Whether a device, marked to be removed or not, has this number.
+pub(crate) fn has_device(devices: &[Device], id: DeviceId) -> bool
+    ensures { result ≡ has_device id devices.now }
+{
+    devices.iter().any(|device| device.id == id)
+}
+
+/// Whether a device that isn't marked to be removed has this number.
+pub(crate) fn has_present(devices: &[Device], id: DeviceId) -> bool
+    ensures { result ≡ has_present id devices.now }
+{
+    devices
+        .iter()
+        .any(|device| device.id == id && !device.removed)
 }
 
 impl Row {
@@ -276,7 +292,14 @@ impl RingParts {
             return Ok(false);
         }
         let next_id = self.next_id as usize;
-        are_seats(alloc, &self.devices, next_id, &self.seats, partitions, replicas)
+        are_seats(
+            alloc,
+            &self.devices,
+            next_id,
+            &self.seats,
+            partitions,
+            replicas,
+        )
     }
 
     /// The seats where each partition is twice.

@@ -4,7 +4,9 @@ ghost use Rattle.std.specs.Option.{option_map, option_copied};
 
 use crate::bounded::{Power, Replicas};
 use crate::device::{Device, DeviceId, Row};
-use crate::parts::{RingParts, partition_count, risen, set_weight, text_at};
+use crate::parts::{
+    RingParts, has_device, has_present, partition_count, risen, set_weight, text_at,
+};
 use crate::request::Hour;
 use crate::weight::Weight;
 use std::alloc::{AllocError, Global};
@@ -76,7 +78,7 @@ impl Model for Ring {
 impl Ring {
     ghost use Rattle.std.specs.Prelude.{◌≡◌, ℕ, ◌<◌, ◌≤◌, ◌^◌, ◌↔◌, Bool, IfOk, IsErrOf, IsTrue, length, map, Some, None, true, false};
     ghost use Rattle.std.specs.Option.{option_map, option_copied};
-    ghost use Rattle.ring_model.specs.Ring.{RingRecord, new_ring, seat, moved_at, is_assigned, published_at, partition_count, has_present, has_place, with_device, with_weight};
+    ghost use Rattle.ring_model.specs.Ring.{RingRecord, new_ring, seat, moved_at, is_assigned, published_at, partition_count, has_device, has_present, has_place, with_device, with_weight};
     ghost use Rattle.ring_model.specs.Parts.{record_of, texts_of};
     ghost use Rattle.ring_model.specs.Raise.{IsRaised};
     ghost use Rattle.ring_model.specs.Valid.{IsValid};
@@ -216,13 +218,35 @@ impl Ring {
         self.parts.devices.as_slice()
     }
 
+    /// Whether a device, marked to be removed or not, has this number.
+    pub fn has_device(&self, id: DeviceId) -> bool
+        ensures { result ≡ has_device id self.now.devices }
+    {
+        has_device(&self.parts.devices, id)
+    }
+
+    /// Whether a device that isn't marked to be removed has this number.
+    pub fn has_present(&self, id: DeviceId) -> bool
+        ensures { result ≡ has_present id self.now.devices }
+    {
+        has_present(&self.parts.devices, id)
+    }
+
+    /// Whether a device, marked to be removed or not, has a row's address, port and name.
+    pub fn has_place(&self, row: &Row) -> bool
+        ensures { result ≡ has_place row.now self.now.devices }
+    {
+        row.has_place_in(&self.parts.devices)
+    }
+
     /// Which device holds a replica of a partition. `None` where the seats are empty.
     pub fn seat(&self, partition: u32, replica: u16) -> Option<DeviceId>
         requires partition { partition < partition_count self.now }
         requires replica { replica < self.now.replicas }
         ensures { result ≡ seat self.now partition replica }
     {
-        let place = partition as usize * usize::from(self.parts.replicas.get()) + usize::from(replica);
+        let place = partition as usize * usize::from(self.parts.replicas.get())
+            + usize::from(replica);
         self.parts.seats.get(place).copied()
     }
 

@@ -1,7 +1,6 @@
-use Rattle.std.proofs.Common.{◌<◌, ◌≤◌, length, sym, ◌∙◌, refl, subst, take, true≢false, true, false, arith}
+use Rattle.std.proofs.Common.{◌≤◌, length, sym, ◌∙◌, refl, true≢false, arith}
 use Rattle.std.proofs.lemmas.List.{take_all}
-use Rattle.ring_model.specs.Valid.{AreApart}
-use Rattle.ring_model.proofs.Tests.{apart_more, apart_fails}
+use Rattle.ring_model.proofs.Validity.{apart_more, apart_fails}
 use Rattle.ring_model.proofs.parts.are_apart.Goals as goal
 
 pub returns-then-has_place_in : goal.returns-then-has_place_in

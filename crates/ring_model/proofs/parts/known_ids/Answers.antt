@@ -1,6 +1,6 @@
-use Rattle.std.proofs.Common.{◌≡◌, ◌<◌, length, sym, ◌∙◌, refl, false, arith}
+use Rattle.std.proofs.Common.{◌<◌, arith}
 use Rattle.std.proofs.lemmas.List.{length-set}
-use Rattle.ring_model.proofs.Tests.{marks_more, no_marks}
+use Rattle.ring_model.proofs.Validity.{marks_more, no_marks}
 use Rattle.ring_model.proofs.parts.known_ids.Goals as goal
 
 pub loop-device-init : goal.loop-device-init

@@ -1,6 +1,4 @@
-use Rattle.std.proofs.Common.{◌≡◌, ◌^◌, ◌≤◌, length, sym, ◌∙◌, not, true, false, arith}
-use Rattle.ring_model.specs.Parts.{record_of}
-use Rattle.ring_model.specs.Valid.{AreDevices, ArePublished, AreSeats, IsValid}
+use Rattle.std.proofs.Common.{◌≡◌, length, sym, ◌∙◌, arith}
 use Rattle.ring_model.proofs.Building.{IsValidButSeats, valid_by_seats}
 use Rattle.ring_model.proofs.parts.RingParts.are_valid.Goals as goal
 

@@ -1,4 +1,4 @@
-use Rattle.std.proofs.Common.{◌≡◌, rules, refl, sym, ◌∙◌}
+use Rattle.std.proofs.Common.{◌≡◌, rules, refl}
 use Rattle.std.proofs.lemmas.List.Elements.{same_from_all_zip}
 use Rattle.ring_model.specs.Parts.{texts_of}
 use Rattle.ring_model.proofs.Copies.{same_texts}

@@ -1,4 +1,4 @@
-use Rattle.std.proofs.Common.{◌≡◌, ◌+◌, ◌≤◌, ℕ, ap, sym, ◌∙◌, subst, arith}
+use Rattle.std.proofs.Common.{◌≡◌, ◌+◌, ℕ, ap, sym, ◌∙◌, subst}
 use Rattle.ring_model.specs.Ring.{RingRecord}
 use Rattle.ring_model.specs.Parts.{record_of}
 use Rattle.ring_model.specs.Raise.{IsRaised}

@@ -1,4 +1,4 @@
-use Rattle.std.proofs.Common.{◌≡◌, map, ap, sym, ◌∙◌, subst}
+use Rattle.std.proofs.Common.{map, ap, sym, ◌∙◌, subst}
 use Rattle.std.proofs.lemmas.List.{length-map}
 use Rattle.ring_model.specs.Ring.{RingRecord, with_weight, reweighed}
 use Rattle.ring_model.specs.Parts.{record_of}
@@ -11,10 +11,10 @@ invariant_of-result c =
     let old : RingRecord = record_of c.self.inside.parts in
     let parts = c.in_ok-parts.parts in
     rw (c.set_weight.ensures, c.deref_mut.ensures.value, c.risen.ensures, written_all parts.devices.items (map (reweighed c.args.id c.args.weight) parts.devices.items) parts.devices.len parts.devices.ok.0 (length-map _ _))
-        (subst (λ (r : RingRecord). IsValid (with_weight r c.args.id c.args.weight)) (sym c.in_ok-parts.ensures) (weighed_valid old c.args.id c.args.weight c.self.invariant))
+    (subst (λ (r : RingRecord). IsValid (with_weight r c.args.id c.args.weight)) (sym c.in_ok-parts.ensures) (weighed_valid old c.args.id c.args.weight c.self.invariant))
 
 pub returns : goal.returns
 returns c =
     let parts = c.in_ok-parts.parts in
     rw (c.set_weight.ensures, c.deref_mut.ensures.value, c.risen.ensures, written_all parts.devices.items (map (reweighed c.args.id c.args.weight) parts.devices.items) parts.devices.len parts.devices.ok.0 (length-map _ _))
-        (ap (λ (r : RingRecord). with_weight r c.args.id c.args.weight) (c.in_ok-parts.ensures ∙ c.self.view_is))
+    (ap (λ (r : RingRecord). with_weight r c.args.id c.args.weight) (c.in_ok-parts.ensures ∙ c.self.view_is))

@@ -1,7 +1,7 @@
 -- What the tests of a ring's parts find.
-use Rattle.std.proofs.Common.{◌≡◌, ◌≢◌, ℕ, ◌+◌, ◌*◌, ◌/◌, ◌%◌, ◌-◌, ◌<◌, ◌≤◌, Bool, true, false, true≢false, List, [], ◌∷◌, ◌++◌, length, get_or, take, drop, set, replicate, Some, eqb, refl, sym, ap, subst, ◌∙◌, inl, inr, ⊎_elim, arith}
-use Rattle.std.specs.Prelude.{slice_get, slice_range, slice_index_or, All, AllPairs, ◌==◌, ◌⊎◌, ◌||◌}
-use Rattle.std.specs.List.{list_any, Any}
+use Rattle.std.proofs.Common.{◌≡◌, ℕ, ◌+◌, ◌*◌, ◌/◌, ◌%◌, ◌-◌, ◌<◌, ◌≤◌, Bool, true, false, true≢false, List, length, get_or, take, drop, set, replicate, Some, refl, sym, ap, subst, ◌∙◌, ⊎_elim, arith}
+use Rattle.std.specs.Prelude.{slice_get, slice_range, slice_index_or, All, ◌==◌, ◌||◌}
+use Rattle.std.specs.List.{list_any}
 use Rattle.std.proofs.lemmas.Bool.{cases_eq, cases_lt, eq-eqb, ne_eqb, eqb-true, eqb-false, cases_Bool}
 use Rattle.std.proofs.lemmas.List.{take_more, length-take, length-take-le, length-drop, get_or-take, get_or-drop, get_or-set_same, get_or-set_other, get_or_default, get_or-replicate, length-replicate}
 use Rattle.std.proofs.Math.ListN.{get_or-eq_default}
@@ -21,8 +21,8 @@ any_fails_at p xs i d none lt = ⊎_elim (λ yes. absurd (true≢false (sym (lis
 pub apart_more : (xs : List Device) (i : ℕ) (x : Device) → i < length xs → x ≡ get_or xs i x → AreApart (take i xs) → has_place x.row (take i xs) ≡ false → AreApart (take (i + 1) xs)
 apart_more xs i x lt is apart none =
     rw (take_more xs i x lt, ← is)
-        (all_pairs_push (λ a b. same_place a.row b.row ≡ false) (take i xs) x apart
-            (λ k d below. any_fails_at (λ device. same_place device.row x.row) (take i xs) k d none below))
+    (all_pairs_push (λ a b. same_place a.row b.row ≡ false) (take i xs) x apart
+    (λ k d below. any_fails_at (λ device. same_place device.row x.row) (take i xs) k d none below))
 
 pub apart_fails : (xs : List Device) (i : ℕ) (x : Device) → i < length xs → x ≡ get_or xs i x → has_place x.row (take i xs) ≡ true → AreApart xs → ⊥
 apart_fails xs i x lt is found apart =
@@ -49,11 +49,11 @@ pub marks_more : (known : List Bool) (devices : List Device) (i : ℕ) (x : Devi
     → ((id : ℕ) → slice_index_or known id false ≡ has_device id (take i devices)) → (id : ℕ) → slice_index_or (set known x.id true) id false ≡ has_device id (take (i + 1) devices)
 marks_more known devices i x lt is fits marks id =
     let more : has_device id (take (i + 1) devices) ≡ (has_device id (take i devices) || (x.id == id)) =
-        rw (← is) at (list_any_more (λ (device : Device). device.id == id) devices i x lt) in
+    rw (← is) at (list_any_more (λ (device : Device). device.id == id) devices i x lt) in
     ⊎_elim
-        (λ same. rw (more, ← same, eq-eqb x.id x.id refl) (get_or-set_same known x.id true false fits ∙ sym (or_true _)))
-        (λ other. rw (more, ne_eqb x.id id other) (get_or-set_other known x.id id true false (λ e. other (sym e)) ∙ marks id ∙ sym (or_false _)))
-        (cases_eq x.id id)
+    (λ same. rw (more, ← same, eq-eqb x.id x.id refl) (get_or-set_same known x.id true false fits ∙ sym (or_true _)))
+    (λ other. rw (more, ne_eqb x.id id other) (get_or-set_other known x.id id true false (λ e. other (sym e)) ∙ marks id ∙ sym (or_false _)))
+    (cases_eq x.id id)
 
 -- beyond all numbers of devices there is none
 pub unknown_above : (devices : List Device) (next_id id : ℕ) → All (λ device. device.id < next_id) devices → next_id ≤ id → has_device id devices ≡ false
@@ -81,16 +81,16 @@ pub distinct_more : (seats : List ℕ) (replicas place x : ℕ) → place < leng
     → (j k id : ℕ) → j < k → k < place + 1 → j / replicas ≡ k / replicas → slice_get seats j ≡ Some id → slice_get seats k ≡ Some id → ⊥
 distinct_more seats replicas place x lt is none before j k id less below same one other =
     ⊎_elim (λ earlier. before j k id less earlier same one other) (λ late.
-        let here : k ≡ place = omega arith in
-        let start : place - place % replicas ≤ j = same_row j place replicas (same ∙ ap (λ (m : ℕ). m / replicas) here) in
-        let first : ℕ = place - place % replicas in
-        let inside : j - first < place - first = omega arith in
-        let there : first + (j - first) ≡ j = omega arith in
-        let long : j - first < length (slice_range seats first place) = range_long seats first place (j - first) lt inside in
-        let got : get_or (slice_range seats first place) (j - first) 0 ≡ id = in_range seats first place (j - first) inside ∙ ap (λ (m : ℕ). get_or seats m 0) there ∙ get_or_from_slice_get seats j id 0 one in
-        let twin : x ≡ id = is ∙ ap (λ (m : ℕ). get_or seats m 0) (sym here) ∙ get_or_from_slice_get seats k id 0 other in
-        let no = any_fails_at (λ (y : ℕ). y == x) (slice_range seats first place) (j - first) 0 none long in
-        eqb-false _ _ no (got ∙ sym twin)) (cases_lt k place)
+    let here : k ≡ place = omega arith in
+    let start : place - place % replicas ≤ j = same_row j place replicas (same ∙ ap (λ (m : ℕ). m / replicas) here) in
+    let first : ℕ = place - place % replicas in
+    let inside : j - first < place - first = omega arith in
+    let there : first + (j - first) ≡ j = omega arith in
+    let long : j - first < length (slice_range seats first place) = range_long seats first place (j - first) lt inside in
+    let got : get_or (slice_range seats first place) (j - first) 0 ≡ id = in_range seats first place (j - first) inside ∙ ap (λ (m : ℕ). get_or seats m 0) there ∙ get_or_from_slice_get seats j id 0 one in
+    let twin : x ≡ id = is ∙ ap (λ (m : ℕ). get_or seats m 0) (sym here) ∙ get_or_from_slice_get seats k id 0 other in
+    let no = any_fails_at (λ (y : ℕ). y == x) (slice_range seats first place) (j - first) 0 none long in
+    eqb-false _ _ no (got ∙ sym twin)) (cases_lt k place)
   where
     range_long : (xs : List ℕ) (first last k : ℕ) → last < length xs → k < last - first → k < length (slice_range xs first last)
     range_long xs first last k lt inside = simp (length-take, length-drop) (omega arith)
@@ -120,8 +120,8 @@ pub distinct_all : (seats : List ℕ) (replicas place : ℕ) → length seats �
     → ((j k id : ℕ) → j < k → k < place → j / replicas ≡ k / replicas → slice_get seats j ≡ Some id → slice_get seats k ≡ Some id → ⊥) → AreDistinct replicas seats
 distinct_all seats replicas place end before partition one other id lo lt first second =
     ⊎_elim (λ e. e) (λ differ. absurd (⊎_elim
-        (λ less. apart one other lo lt less first second)
-        (λ more. apart other one lt lo (let no = differ in omega arith) second first) (cases_lt one other))) (cases_eq one other)
+    (λ less. apart one other lo lt less first second)
+    (λ more. apart other one lt lo (let no = differ in omega arith) second first) (cases_lt one other))) (cases_eq one other)
   where
     apart : (a b : ℕ) → a < replicas → b < replicas → a < b → slice_get seats (partition * replicas + a) ≡ Some id → slice_get seats (partition * replicas + b) ≡ Some id → ⊥
     apart a b la lb less x y =

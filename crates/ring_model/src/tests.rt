@@ -1,0 +1,371 @@
+//! What no contract says: worked examples, and that calls succeed where there is memory.
+ghost use Rattle.std.specs.Prelude.{◌≡◌, IfOk};
+ghost use Rattle.ring_model.specs.Parts.{record_of};
+
+use crate::{
+    Address, BuildFault, Caller, Device, DeviceName, Limits, NameFault, Port, Power, RaiseFault,
+    Replicas, Ring, RingName, RingParts, Rings, Row, Weight, parse_decimal,
+};
+use std::alloc::Global;
+use std::rc::RcStr;
+use std::test::Fail;
+
+/// Device `dN` at 10.0.0.(N+1), port 6200, in region 1 and zone 1.
+fn row(alloc: Global, number: u8, weight: &str) -> Result<Row, Fail> {
+    let address = format!(in alloc; "10.0.0.{}", number.saturating_add(1))?;
+    let name = format!(in alloc; "d{number}")?;
+    Ok(Row {
+        region: 1,
+        zone: 1,
+        address: Address::parse(address.as_str()).ok_or("an address")?,
+        port: Port::new(6200).ok_or("a port")?,
+        name: DeviceName::new(alloc, name.as_str())?,
+        weight: Weight::parse(weight).ok_or("a weight")?,
+    })
+}
+
+#[test]
+fn a_weight_has_one_spelling(rt: HostRuntime) -> Result<(), Fail> {
+    for (text, hundredths) in [
+        ("0.00", 0),
+        ("0.01", 1),
+        ("100.00", 10_000),
+        ("999999.99", 99_999_999),
+        ("1000000.00", 100_000_000),
+    ] {
+        let weight = Weight::parse(text).ok_or("a weight")?;
+        assert_eq!(rt; weight.hundredths(), hundredths);
+        assert_eq!(rt; weight.to_string(rt.alloc())?.as_str(), text);
+        assert_eq!(rt; Weight::of(hundredths), Some(weight));
+    }
+    for text in [
+        "1000000.01",
+        "100.0",
+        "0100.00",
+        ".50",
+        "+1.00",
+        "1e2",
+        "",
+        "1.000",
+        "1",
+        "00.00",
+        "-1.00",
+        "4294967296.00",
+        "1,00",
+        " 1.00",
+    ] {
+        assert_eq!(rt; Weight::parse(text), None, "{text}");
+    }
+    assert_eq!(rt; Weight::of(100_000_001), None);
+    Ok(())
+}
+
+#[test]
+fn an_address_has_one_spelling(rt: HostRuntime) -> Result<(), Fail> {
+    for text in ["0.0.0.0", "10.0.0.1", "255.255.255.255", "1.20.30.4"] {
+        let address = Address::parse(text).ok_or("an address")?;
+        assert_eq!(rt; address.to_string(rt.alloc())?.as_str(), text);
+    }
+    for text in [
+        "",
+        "1.2.3",
+        "1.2.3.4.5",
+        "10.0.0.256",
+        "01.2.3.4",
+        "1.2.3.04",
+        "1..2.3",
+        "1.2.3.",
+        ".1.2.3",
+        "a.b.c.d",
+        "1.2.3.4 ",
+    ] {
+        assert_eq!(rt; Address::parse(text), None, "{text}");
+    }
+    Ok(())
+}
+
+#[test]
+fn numbers_keep_their_bounds(rt: HostRuntime) -> Result<(), Fail> {
+    assert_eq!(rt; Power::new(0), None);
+    assert_eq!(rt; Power::new(15), None);
+    assert_eq!(rt; Power::new(14).ok_or("14")?.get(), 14);
+    assert_eq!(rt; Replicas::new(6), None);
+    assert_eq!(rt; Replicas::new(5).ok_or("5")?.get(), 5);
+    assert_eq!(rt; Port::new(0), None);
+    assert_eq!(rt;
+        Port::new(65535)
+            .ok_or("65535")?
+            .to_string(rt.alloc())?
+            .as_str(),
+        "65535"
+    );
+    for (text, number) in [
+        ("0", Some(0)),
+        ("4294967295", Some(u32::MAX)),
+        ("4294967296", None),
+        ("01", None),
+        ("", None),
+    ] {
+        assert_eq!(rt; parse_decimal(text), number, "{text}");
+    }
+    let limits = Limits::full();
+    assert_eq!(rt;
+        (
+            limits.rings,
+            limits.devices,
+            limits.ids,
+            limits.versions,
+            limits.numbers
+        ),
+        (16, 256, 65536, 1000, 100_000)
+    );
+    Ok(())
+}
+
+#[test]
+fn names_keep_their_form(rt: HostRuntime) -> Result<(), Fail> {
+    for text in [
+        "a",
+        "object",
+        "object-1",
+        "a2345678901234567890123456789012",
+    ] {
+        assert_eq!(rt; RingName::new(rt.alloc(), text)?.as_str(), text);
+        assert_eq!(rt;
+            Caller::new(rt.alloc(), text)?
+                .to_string(rt.alloc())?
+                .as_str(),
+            text
+        );
+    }
+    for text in [
+        "",
+        "1a",
+        "-a",
+        "Object",
+        "a_b",
+        "a23456789012345678901234567890123",
+        "a b",
+        "\u{e9}",
+    ] {
+        assert_eq!(rt;
+            RingName::new(rt.alloc(), text).err(),
+            Some(NameFault::Bad),
+            "{text}"
+        );
+    }
+    for text in ["1", "_", "-", "Sd_A-1"] {
+        assert_eq!(rt; DeviceName::new(rt.alloc(), text)?.as_str(), text);
+    }
+    for text in ["", "a.b", "a b", "\u{e9}"] {
+        assert_eq!(rt;
+            DeviceName::new(rt.alloc(), text).err(),
+            Some(NameFault::Bad),
+            "{text}"
+        );
+    }
+    let name = DeviceName::new(rt.alloc(), "d0")?;
+    assert!(rt; name.clone()? == name);
+    Ok(())
+}
+
+/// A ring of power 1 with two replicas, on devices 0 and 1.
+fn small_parts(alloc: Global) -> Result<RingParts, Fail> {
+    let mut devices = Vec::new(alloc);
+    for number in 0u8..2 {
+        let device = Device {
+            id: u16::from(number),
+            row: row(alloc, number, "100.00")?,
+            removed: false,
+        };
+        devices.push(device)?;
+    }
+    Ok(RingParts {
+        power: Power::new(1).ok_or("a power")?,
+        replicas: Replicas::new(2).ok_or("replicas")?,
+        min_hours: 24,
+        next_id: 2,
+        version: 3,
+        devices,
+        seats: vec![in alloc; 0, 1, 1, 0]?,
+        moved: vec![in alloc; Some(7), None]?,
+        published: vec![in alloc; (3, RcStr::from_str(alloc, "text")?)]?,
+    })
+}
+
+#[test]
+fn a_ring_is_made_and_read(rt: HostRuntime) -> Result<(), Fail> {
+    let alloc = rt.alloc();
+    let empty = Ring::new(
+        alloc,
+        Power::new(2).ok_or("power")?,
+        Replicas::new(1).ok_or("replicas")?,
+        24,
+    )?;
+    assert_eq!(rt;
+        (empty.version(), empty.next_id(), empty.min_hours()),
+        (0, 0, 24)
+    );
+    assert!(rt;
+        !empty.is_assigned() && empty.devices().is_empty() && empty.published_list().is_empty()
+    );
+    let parts = empty.parts()?;
+    assert_eq!(rt; parts.moved.len(), 4);
+    assert!(rt; parts.seats.is_empty());
+    let ring = Ring::build(alloc, small_parts(alloc)?)?;
+    assert_eq!(rt; (ring.power().get(), ring.replicas().get()), (1, 2));
+    assert!(rt; ring.is_assigned());
+    assert_eq!(rt; ring.published(3), Some("text"));
+    assert_eq!(rt; ring.published(2), None);
+    let parts = ring.parts()?;
+    assert_eq!(rt; parts.seats.as_slice(), [0, 1, 1, 0].as_slice());
+    assert_eq!(rt; parts.moved.as_slice(), [Some(7), None].as_slice());
+    assert_eq!(rt; parts.devices.len(), 2);
+    Ok(())
+}
+
+#[test]
+fn parts_that_make_no_ring_are_refused(rt: HostRuntime) -> Result<(), Fail> {
+    let alloc = rt.alloc();
+    for case in 0..14 {
+        let mut parts = small_parts(alloc)?;
+        assert_eq!(rt; (parts.devices.len(), parts.seats.len()), (2, 4));
+        match case {
+            0 => parts.devices[1].row = row(alloc, 0, "50.00")?,
+            1 => parts.seats.truncate(2),
+            2 => parts.seats[3] = 7,
+            3 => parts.seats[1] = 0,
+            4 => parts.next_id = 1,
+            5 => parts.devices[1].id = 0,
+            6 => parts.devices.swap(0, 1),
+            7 => parts.moved.truncate(1),
+            8 => parts.next_id = 65537,
+            9 => parts.published.push((3, RcStr::from_str(alloc, "again")?))?,
+            10 => parts.published.push((1, RcStr::from_str(alloc, "older")?))?,
+            11 => parts.seats.push(0)?,
+            12 => parts.power = Power::new(2).ok_or("power")?,
+            _ => parts.replicas = Replicas::new(1).ok_or("replicas")?,
+        }
+        assert_eq!(rt;
+            Ring::build(alloc, parts).err(),
+            Some(BuildFault::Invalid),
+            "{case}"
+        );
+    }
+    Ok(())
+}
+
+#[test]
+fn a_device_is_added_and_reweighed(rt: HostRuntime) -> Result<(), Fail> {
+    let alloc = rt.alloc();
+    let ring = Ring::build(alloc, small_parts(alloc)?)?;
+    let added = row(alloc, 2, "70.00")?;
+    assert_eq!(rt; (ring.devices().len(), ring.next_id()), (2, 2));
+    if ring.has_place(&added) || !ring.has_present(1) {
+        return Err(Fail::from("device 1 is there, and none has the row's place"));
+    }
+    let heavier = ring.with_weight(1, Weight::of(5).ok_or("a weight")?)?;
+    assert!(rt; heavier.has_device(1) && !heavier.has_device(2));
+    assert_eq!(rt; (heavier.version(), heavier.devices().len()), (4, 2));
+    assert_eq!(rt; heavier.devices()[1].row.weight.hundredths(), 5);
+    assert_eq!(rt; heavier.devices()[0].row.weight.hundredths(), 10_000);
+    let more = ring.with_device(&added)?;
+    assert_eq!(rt;
+        (more.version(), more.next_id(), more.devices().len()),
+        (4, 3, 3)
+    );
+    assert_eq!(rt; (ring.version(), ring.devices().len()), (3, 2));
+    assert!(rt; added.has_place_in(more.devices()));
+    Ok(())
+}
+
+#[test]
+fn both_halves_stay_on_their_devices(rt: HostRuntime) -> Result<(), Fail> {
+    let ring = Ring::build(rt.alloc(), small_parts(rt.alloc())?)?;
+    let raised = ring.raised()?;
+    let parts = raised.parts()?;
+    assert_eq!(rt; (raised.power().get(), raised.version()), (2, 4));
+    assert_eq!(rt; parts.seats.as_slice(), [0, 1, 0, 1, 1, 0, 1, 0].as_slice());
+    assert_eq!(rt;
+        parts.moved.as_slice(),
+        [Some(7), Some(7), None, None].as_slice()
+    );
+    let mut greatest = raised;
+    for _ in 2..14 {
+        greatest = greatest.raised()?;
+    }
+    assert_eq!(rt; greatest.power().get(), 14);
+    assert_eq!(rt; greatest.raised().err(), Some(RaiseFault::PowerLimit));
+    Ok(())
+}
+
+#[test]
+fn the_largest_ring_is_built_and_read_back(rt: HostRuntime) -> Result<(), Fail> {
+    let alloc = rt.alloc();
+    let mut devices = Vec::new(alloc);
+    for number in 0u16..256 {
+        let mut row = row(alloc, (number % 250) as u8, "1.00")?;
+        row.port = Port::new(6200 + number).ok_or("a port")?;
+        devices.push(Device {
+            id: number,
+            row,
+            removed: false,
+        })?;
+    }
+    let mut seats: Vec<u16> = Vec::with_capacity(alloc, 81_920)?;
+    for place in 0u32..81_920 {
+        seats.push((place % 256) as u16)?;
+    }
+    let parts = RingParts {
+        power: Power::new(14).ok_or("a power")?,
+        replicas: Replicas::new(5).ok_or("replicas")?,
+        min_hours: 0,
+        next_id: 65536,
+        version: 1,
+        devices,
+        seats,
+        moved: vec![in alloc; None; 16384]?,
+        published: Vec::new(alloc),
+    };
+    let ring = Ring::build(alloc, parts)?;
+    let back = ring.parts()?;
+    assert_eq!(rt;
+        (back.seats.len(), back.moved.len(), back.devices.len()),
+        (81_920, 16_384, 256)
+    );
+    assert_eq!(rt; back.seats.get(81_919).copied(), Some(255));
+    Ok(())
+}
+
+#[test]
+fn rings_are_kept_by_name(rt: HostRuntime) -> Result<(), Fail> {
+    let alloc = rt.alloc();
+    let none = Rings::new(alloc);
+    assert!(rt; none.list().is_empty());
+    let object = RingName::new(alloc, "object")?;
+    assert!(rt; none.get(&object).is_none());
+    let one = none.with(object, Ring::build(alloc, small_parts(alloc)?)?)?;
+    if one.get(&RingName::new(alloc, "account")?).is_some() || one.list().len() >= 16 {
+        return Err(Fail::from("there is one ring"));
+    }
+    let empty = Ring::new(
+        alloc,
+        Power::new(1).ok_or("power")?,
+        Replicas::new(1).ok_or("replicas")?,
+        0,
+    )?;
+    let two = one.with(RingName::new(alloc, "account")?, empty)?;
+    let mut names = String::new(alloc);
+    for entry in two.list() {
+        names.push_str(entry.0.as_str())?;
+        names.push(' ')?;
+    }
+    assert_eq!(rt; names.as_str(), "account object ");
+    assert_eq!(rt;
+        two.get(&RingName::new(alloc, "object")?)
+            .map(|ring| ring.version()),
+        Some(3)
+    );
+    assert_eq!(rt; one.list().len(), 1);
+    Ok(())
+}
