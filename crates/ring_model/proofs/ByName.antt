@@ -1,6 +1,7 @@
 -- Rings in the order of their names.
-use Rattle.std.proofs.Common.{◌≡◌, ℕ, zero, suc, ◌+◌, ◌<◌, ◌≤◌, Bool, true, false, cond, List, [], ◌∷◌, ◌++◌, length, get_or, take, Option, Some, None, Ordering, Less, Equal, Greater, refl, sym, ap, ◌∙◌, append_assoc, ⊎_elim, arith, find}
+use Rattle.std.proofs.Common.{ap₂, ◌≡◌, ℕ, zero, suc, ◌+◌, ◌<◌, ◌≤◌, Bool, true, false, cond, List, [], ◌∷◌, ◌++◌, length, get_or, take, Option, Some, None, Ordering, Less, Equal, Greater, refl, sym, ap, ◌∙◌, append_assoc, ⊎_elim, arith, find}
 use Rattle.std.specs.Prelude.{All, AllPairs, filter, is_some, nat_eq}
+use Rattle.std.specs.List.{AllZip}
 use Rattle.std.specs.Option.{option_map}
 use Rattle.std.specs.Ordering.{nat_cmp, is_eq, is_lt, ordering_reverse}
 use Rattle.std.specs.Cmp.Lexicographic.{pointwise, slice_cmp, nat_list_cmp_total, texts_ties}
@@ -107,3 +108,10 @@ at_most_with rings name ring n few new =
     (λ known. let one = one_if (is_some (there name rings)) (sym (mapped_some (there name rings)) ∙ known) in omega (arith, sum, long, one))
     (λ unknown. let room = new unknown in omega (arith, sum, long, room))
     (cases_Bool (is_some (ring_at name rings)))
+
+-- shares of the same rings are seen as the same
+pub same_rings : (xs ys : List (List ℕ × Rc Ring Global)) → AllZip (λ x y. (y.0 ≡ x.0) × (y.1.value ≡ x.1.value)) xs ys → seen ys ≡ seen xs
+same_rings [] [] h = refl
+same_rings [] (y ∷ ys) h = absurd h
+same_rings (x ∷ xs) [] h = absurd h
+same_rings (x ∷ xs) (y ∷ ys) h = ap₂ (λ (e : List ℕ × RingRecord) (es : List (List ℕ × RingRecord)). e ∷ es) (ap₂ (λ (n : List ℕ) (r : RingRecord). (n, r)) h.0.0 h.0.1) (same_rings xs ys h.1)

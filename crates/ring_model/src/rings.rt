@@ -97,6 +97,15 @@ fn push_after(
     Ok(())
 }
 
+impl Clone for Rings {
+    ghost is_clone = { λ rings copy. copy ≡ rings };
+
+    fn clone(&self) -> Result<Rings, AllocError> {
+        let rings = self.rings.clone()?;
+        Ok(Rings { rings })
+    }
+}
+
 impl Rings {
     /// No rings.
     pub fn new(alloc: Global) -> Rings

@@ -1,0 +1,134 @@
+//! Deciding commands.
+ghost use Rattle.std.specs.Prelude.{◌≡◌, IfOk};
+ghost use Rattle.builder.specs.Step.{Step};
+ghost use Rattle.builder.specs.Outcome.{IsOutcome};
+
+use ring_model::{
+    Act, Command, Done, Hour, Limits, NewRing, NewWeight, Refusal, Reply, Ring, Rings, Row,
+};
+use std::alloc::{AllocError, Global};
+
+/// What a command comes to.
+#[derive(Drop)]
+enum Outcome {
+    /// It is refused.
+    Refused(Refusal),
+    /// It is done, and the named ring is this one from now on.
+    Done(Done, Ring),
+}
+
+/// Makes a ring, unless it is there or there are too many.
+fn create(
+    alloc: Global,
+    rings: &Rings,
+    hour: Hour,
+    command: &Command,
+    new: &NewRing,
+    limits: &Limits,
+) -> Result<Outcome, AllocError>
+    requires { command.now.act ≡ Act.Create new.now }
+    ensures { IfOk result (IsOutcome limits.now rings.now hour command.now) }
+{
+    if rings.get(&command.ring).is_some() {
+        return Ok(Outcome::Refused(Refusal::RingExists));
+    }
+    if rings.list().len() >= limits.rings as usize {
+        return Ok(Outcome::Refused(Refusal::TooManyRings));
+    }
+    let ring = Ring::new(alloc, new.power, new.replicas, new.min_hours)?;
+    Ok(Outcome::Done(Done::Create { version: 0 }, ring))
+}
+
+/// Adds a device, unless its place is taken, there are too many, or the numbers are used up.
+fn add(
+    rings: &Rings,
+    hour: Hour,
+    command: &Command,
+    row: &Row,
+    limits: &Limits,
+) -> Result<Outcome, AllocError>
+    requires { command.now.act ≡ Act.Add row.now }
+    ensures { IfOk result (IsOutcome limits.now rings.now hour command.now) }
+{
+    let Some(ring) = rings.get(&command.ring) else {
+        return Ok(Outcome::Refused(Refusal::NoRing));
+    };
+    if ring.has_place(row) {
+        return Ok(Outcome::Refused(Refusal::DeviceExists));
+    }
+    if ring.devices().len() >= limits.devices as usize {
+        return Ok(Outcome::Refused(Refusal::TooManyDevices));
+    }
+    if ring.next_id() >= limits.ids {
+        return Ok(Outcome::Refused(Refusal::IdsUsedUp));
+    }
+    let new = ring.with_device(row)?;
+    let done = Done::Add {
+        id: ring.next_id() as u16,
+        version: new.version(),
+    };
+    Ok(Outcome::Done(done, new))
+}
+
+/// Sets a device's weight, unless there is no such device or it is marked to be removed.
+fn set_weight(
+    rings: &Rings,
+    hour: Hour,
+    command: &Command,
+    to: &NewWeight,
+    limits: &Limits,
+) -> Result<Outcome, AllocError>
+    requires { command.now.act ≡ Act.SetWeight to.now }
+    ensures { IfOk result (IsOutcome limits.now rings.now hour command.now) }
+{
+    let Some(ring) = rings.get(&command.ring) else {
+        return Ok(Outcome::Refused(Refusal::NoRing));
+    };
+    if !ring.has_device(to.id) {
+        return Ok(Outcome::Refused(Refusal::NoDevice));
+    }
+    if !ring.has_present(to.id) {
+        return Ok(Outcome::Refused(Refusal::DeviceRemoved));
+    }
+    let new = ring.with_weight(to.id, to.weight)?;
+    let done = Done::SetWeight {
+        version: new.version(),
+    };
+    Ok(Outcome::Done(done, new))
+}
+
+/// What a command comes to.
+fn outcome(
+    alloc: Global,
+    rings: &Rings,
+    hour: Hour,
+    command: &Command,
+    limits: &Limits,
+) -> Result<Outcome, AllocError>
+    ensures { IfOk result (IsOutcome limits.now rings.now hour command.now) }
+{
+    match &command.act {
+        Act::Create(new) => create(alloc, rings, hour, command, new, limits),
+        Act::Add(row) => add(rings, hour, command, row, limits),
+        Act::SetWeight(to) => set_weight(rings, hour, command, to, limits),
+    }
+}
+
+/// Decides a command at an hour: its reply, and the rings after it. The rings before it stay as they were.
+pub fn decide(
+    alloc: Global,
+    rings: &Rings,
+    hour: Hour,
+    command: &Command,
+    limits: &Limits,
+) -> Result<(Rings, Reply), AllocError>
+    ensures { IfOk result (λ decided. Step limits.now rings.now hour command.now decided.1 decided.0) }
+{
+    match outcome(alloc, rings, hour, command, limits)? {
+        Outcome::Refused(refusal) => Ok((rings.clone()?, Reply::Refused(refusal))),
+        Outcome::Done(done, ring) => {
+            let name = command.ring.clone()?;
+            Ok((rings.with(name, ring)?, Reply::Done(done)))
+        }
+    }
+}
