@@ -1,14 +1,16 @@
 -- Rings in the order of their names.
-use Rattle.std.proofs.Common.{ap₂, ◌≡◌, ℕ, zero, suc, ◌+◌, ◌<◌, ◌≤◌, Bool, true, false, cond, List, [], ◌∷◌, ◌++◌, length, get_or, take, Option, Some, None, Ordering, Less, Equal, Greater, refl, sym, ap, ◌∙◌, append_assoc, ⊎_elim, arith, find}
+use Rattle.std.proofs.Common.{ap₂, true≢false, ◌≡◌, ℕ, zero, suc, ◌+◌, ◌<◌, ◌≤◌, Bool, true, false, cond, List, [], ◌∷◌, ◌++◌, length, get_or, take, Option, Some, None, Ordering, Less, Equal, Greater, refl, sym, ap, ◌∙◌, append_assoc, ⊎_elim, arith, find}
 use Rattle.std.specs.Prelude.{All, AllPairs, filter, is_some, nat_eq}
 use Rattle.std.specs.List.{AllZip}
-use Rattle.std.specs.Option.{option_map}
+use Rattle.std.specs.Option.{option_map, option_or}
 use Rattle.std.specs.Ordering.{nat_cmp, is_eq, is_lt, ordering_reverse}
 use Rattle.std.specs.Cmp.Lexicographic.{pointwise, slice_cmp, nat_list_cmp_total, texts_ties}
 use Rattle.std.specs.declared.rc.Rc.{Rc}
 use Rattle.std.specs.declared.alloc.Global.{Global}
 use Rattle.std.proofs.lemmas.List.{get_or-map, length-append, length-map}
-use Rattle.std.proofs.lemmas.Bool.{cases_Bool}
+use Rattle.std.proofs.lemmas.Bool.{cases_Bool, false_from_ne_true}
+use Rattle.std.proofs.lemmas.Slice.Eq.{bytes_eq-Decides}
+use Rattle.std.proofs.lemmas.List.Folds.{find-append}
 use Rattle.std.proofs.lemmas.List.Elements.{filter_more, filter_passes, All-append, All-cons, All-weaker}
 use Rattle.std.proofs.lemmas.List.Kept.{AllPairs-cons, AllPairs-filter}
 use Rattle.ring_model.specs.Ring.{RingRecord}
@@ -115,3 +117,61 @@ same_rings [] [] h = refl
 same_rings [] (y ∷ ys) h = absurd h
 same_rings (x ∷ xs) [] h = absurd h
 same_rings (x ∷ xs) (y ∷ ys) h = ap₂ (λ (e : List ℕ × RingRecord) (es : List (List ℕ × RingRecord)). e ∷ es) (ap₂ (λ (n : List ℕ) (r : RingRecord). (n, r)) h.0.0 h.0.1) (same_rings xs ys h.1)
+
+-- ---- what is found once a ring is put under its name
+
+-- the first element that passes p, of those that pass q, where the tests of the first of them are known
+kept_first : {X : Type 0} (p q : X → Bool) (x : X) (xs : List X) (a b : Bool) → p x ≡ a → q x ≡ b → (p x ≡ true → q x ≡ true) → find p (filter q xs) ≡ find p xs
+    → find p (cond (q x) (x ∷ filter q xs) (filter q xs)) ≡ cond (p x) (Some x) (find p xs)
+kept_first p q x xs true true e f h rest = rw (f, e) refl
+kept_first p q x xs false true e f h rest = rw (f, e) rest
+kept_first p q x xs false false e f h rest = rw (f, e) rest
+kept_first p q x xs true false e f h rest = absurd (true≢false (sym (h e) ∙ f))
+
+find_kept : {X : Type 0} (p q : X → Bool) (xs : List X) → ((x : X) → p x ≡ true → q x ≡ true) → find p (filter q xs) ≡ find p xs
+find_kept p q [] h = refl
+find_kept p q (x ∷ xs) h = kept_first p q x xs (p x) (q x) refl refl (h x) (find_kept p q xs h)
+
+dropped_first : {X : Type 0} (p q : X → Bool) (x : X) (xs : List X) (a b : Bool) → p x ≡ a → q x ≡ b → (p x ≡ true → q x ≡ false) → find p (filter q xs) ≡ None
+    → find p (cond (q x) (x ∷ filter q xs) (filter q xs)) ≡ None
+dropped_first p q x xs true false e f h rest = rw f rest
+dropped_first p q x xs false false e f h rest = rw f rest
+dropped_first p q x xs false true e f h rest = rw (f, e) rest
+dropped_first p q x xs true true e f h rest = absurd (true≢false (sym f ∙ h e))
+
+find_dropped : {X : Type 0} (p q : X → Bool) (xs : List X) → ((x : X) → p x ≡ true → q x ≡ false) → find p (filter q xs) ≡ None
+find_dropped p q [] h = refl
+find_dropped p q (x ∷ xs) h = dropped_first p q x xs (p x) (q x) refl refl (h x) (find_dropped p q xs h)
+
+is_same : (name other : List ℕ) → pointwise nat_eq name other ≡ true → name ≡ other
+is_same name other e = (bytes_eq-Decides name other).0 e
+
+is_other : (name other : List ℕ) → (name ≡ other → ⊥) → pointwise nat_eq name other ≡ false
+is_other name other ne = false_from_ne_true (pointwise nat_eq name other) (λ e. ne (is_same name other e))
+
+or_none : {X : Type 0} (o : Option X) → option_or o None ≡ o
+or_none None = refl
+or_none (Some x) = refl
+
+find_other : (rings : List (List ℕ × RingRecord)) (name other : List ℕ) (ring : RingRecord) (o : Ordering) → slice_cmp nat_cmp other name ≡ o → (other ≡ name → ⊥)
+    → find (λ e. pointwise nat_eq e.0 other) (with_ring rings name ring) ≡ find (λ e. pointwise nat_eq e.0 other) rings
+find_other rings name other ring o e ne =
+    let p : List ℕ × RingRecord → Bool = λ x. pointwise nat_eq x.0 other in
+    let lower : List ℕ × RingRecord → Bool = λ x. is_before x.0 name in
+    let upper : List ℕ × RingRecord → Bool = λ x. is_before name x.0 in
+    let mine : pointwise nat_eq name other ≡ false = is_other name other (λ same. ne (sym same)) in
+    let back : slice_cmp nat_cmp name other ≡ ordering_reverse o = nat_list_cmp_total.antisymm name other ∙ ap ordering_reverse e in
+    let below : (x : List ℕ × RingRecord) → p x ≡ true → lower x ≡ is_lt o = λ x h. ap (λ (n : List ℕ). is_before n name) (is_same x.0 other h) ∙ ap is_lt e in
+    let above : (x : List ℕ × RingRecord) → p x ≡ true → upper x ≡ is_lt (ordering_reverse o) = λ x h. ap (λ (n : List ℕ). is_before name n) (is_same x.0 other h) ∙ ap is_lt back in
+    find-append p (filter lower rings) ((name, ring) ∷ filter upper rings)
+    ∙ rw mine (by_order o (λ same. ne (is_same other name (texts_ties other name ∙ ap is_eq (e ∙ same)))) p lower upper rings below above)
+  where
+    by_order : (o : Ordering) → (o ≡ Equal → ⊥) → (p lower upper : List ℕ × RingRecord → Bool) (rings : List (List ℕ × RingRecord)) → ((x : List ℕ × RingRecord) → p x ≡ true → lower x ≡ is_lt o)
+        → ((x : List ℕ × RingRecord) → p x ≡ true → upper x ≡ is_lt (ordering_reverse o)) → option_or (find p (filter lower rings)) (find p (filter upper rings)) ≡ find p rings
+    by_order Less apart p lower upper rings below above = rw (find_kept p lower rings below, find_dropped p upper rings above) (or_none (find p rings))
+    by_order Equal apart p lower upper rings below above = absurd (apart refl)
+    by_order Greater apart p lower upper rings below above = rw (find_dropped p lower rings below, find_kept p upper rings above) refl
+
+-- The ring of another name stays.
+pub ring_at-with_other : (rings : List (List ℕ × RingRecord)) (name other : List ℕ) (ring : RingRecord) → (other ≡ name → ⊥) → ring_at other (with_ring rings name ring) ≡ ring_at other rings
+ring_at-with_other rings name other ring ne = ap (option_map (λ e. e.1)) (find_other rings name other ring (slice_cmp nat_cmp other name) refl ne)

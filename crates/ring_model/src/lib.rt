@@ -10,6 +10,7 @@ mod bounded;
 mod command;
 mod decimal;
 mod device;
+pub mod laws;
 mod name;
 mod parts;
 mod request;
