@@ -1,5 +1,5 @@
 -- One step of the builder: what a command is replied, and what it does to the rings.
-use Rattle.std.specs.Prelude.{◌≡◌, ℕ, Bool, true, not, nat_le, List, [], ◌∷◌, length, find, is_some, Option, Some, None, ⊥}
+use Rattle.std.specs.Prelude.{◌≡◌, ℕ, Bool, true, false, not, nat_le, List, [], ◌∷◌, length, find, is_some, Option, Some, None}
 use Rattle.std.specs.Option.{option_map}
 use Rattle.ring_model.specs.Ring.{RingRecord, has_device, has_place, has_present, new_ring, with_device, with_weight}
 use Rattle.ring_model.specs.Rings.{ring_at, with_ring}
@@ -67,3 +67,8 @@ Step limits rings hour command (reply.Refused refused) after = (first_refusal li
 Step limits rings hour command (reply.Done answer) after =
     (first_refusal limits rings command ≡ None)
     × ((new : RingRecord) × Effect command.act (ring_at command.ring rings) hour answer new × (after ≡ with_ring rings command.ring new))
+
+-- whether a reply is a refusal
+abbrev pub is_refused : Reply → Bool
+is_refused (reply.Refused refused) = true
+is_refused (reply.Done answer) = false

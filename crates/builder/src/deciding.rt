@@ -62,12 +62,12 @@ fn add(
     if ring.next_id() >= limits.ids {
         return Ok(Outcome::Refused(Refusal::IdsUsedUp));
     }
-    let new = ring.with_device(row)?;
+    let added = ring.with_device(row)?;
     let done = Done::Add {
         id: ring.next_id() as u16,
-        version: new.version(),
+        version: added.version(),
     };
-    Ok(Outcome::Done(done, new))
+    Ok(Outcome::Done(done, added))
 }
 
 /// Sets a device's weight, unless there is no such device or it is marked to be removed.
@@ -90,15 +90,15 @@ fn set_weight(
     if !ring.has_present(to.id) {
         return Ok(Outcome::Refused(Refusal::DeviceRemoved));
     }
-    let new = ring.with_weight(to.id, to.weight)?;
+    let reweighed = ring.with_weight(to.id, to.weight)?;
     let done = Done::SetWeight {
-        version: new.version(),
+        version: reweighed.version(),
     };
-    Ok(Outcome::Done(done, new))
+    Ok(Outcome::Done(done, reweighed))
 }
 
 /// What a command comes to.
-fn outcome(
+fn outcome_of(
     alloc: Global,
     rings: &Rings,
     hour: Hour,
@@ -124,7 +124,7 @@ pub fn decide(
 ) -> Result<(Rings, Reply), AllocError>
     ensures { IfOk result (λ decided. Step limits.now rings.now hour command.now decided.1 decided.0) }
 {
-    match outcome(alloc, rings, hour, command, limits)? {
+    match outcome_of(alloc, rings, hour, command, limits)? {
         Outcome::Refused(refusal) => Ok((rings.clone()?, Reply::Refused(refusal))),
         Outcome::Done(done, ring) => {
             let name = command.ring.clone()?;

@@ -1,5 +1,5 @@
 -- Numbers as text, and what stands before a point.
-use Rattle.std.proofs.Common.{◌≡◌, ◌≢◌, ℕ, zero, suc, ◌+◌, ◌*◌, ◌/◌, ◌%◌, ◌-◌, ◌^◌, ◌<◌, ◌≤◌, Bool, true, false, List, [], ◌∷◌, ◌++◌, length, get_or, drop, Option, Some, None, Result, Ok, Err, decimal, leb, refl, sym, ap, ◌∙◌, ⊎_elim, append_assoc, arith}
+use Rattle.std.proofs.Common.{lit<, ◌≡◌, ◌≢◌, ℕ, zero, suc, ◌+◌, ◌*◌, ◌/◌, ◌%◌, ◌-◌, ◌^◌, ◌<◌, ◌≤◌, true, false, List, [], ◌∷◌, ◌++◌, length, get_or, drop, Option, Some, None, Result, Ok, Err, decimal, leb, refl, sym, ap, ◌∙◌, ⊎_elim, append_assoc, arith}
 use Rattle.std.proofs.Common.{Bor}
 use Rattle.std.proofs.lemmas.Option.{MatchOption-at_some}
 use Rattle.std.specs.Prelude.{MatchOption, IfSome, IfNone, not, ◌==◌, ◌||◌}
@@ -8,7 +8,7 @@ use Rattle.std.specs.List.{position_or_len, before_first, after_first}
 use Rattle.std.specs.Str.Parse.{ParsesUnsigned, AllDigits, digits_value}
 use Rattle.std.specs.Int.{IsInRange}
 use Rattle.std.specs.Fmt.{padded_integral, format_spec, char_count}
-use Rattle.std.proofs.lemmas.Bool.{and_parts, and_from, or_right, or_cases, le-leb, leb-true, ne_eqb, eqb-true, not-true, eqb-false, cases_lt, lt-ltb}
+use Rattle.std.proofs.lemmas.Bool.{and_parts, and_from, or_right, or_cases, le-leb, leb-true, ne_eqb, eqb-true, not-true, eqb-false, cases_lt, eq-eqb, lt-ltb}
 use Rattle.std.proofs.lemmas.Fmt.{decimal_nonempty, first_decimal, decimal_digit, decimal_step, digits_decimal, decimal-digits_value, parse-decimal, decimal_injective}
 use Rattle.std.proofs.lemmas.List.{take_at, drop_at, length-append, get_or_append_left, get_or_at}
 use Rattle.std.proofs.lemmas.List.Sums.{split_at_first, position_or_len_is, passes_at_first}
@@ -71,63 +71,65 @@ decimal_none {E = E} t (Err e) h = λ n lt is. let bad : fails e ≡ Ok n = pars
 pub not_decimal : (t : List ℕ) → is_decimal t ≡ false → (n : ℕ) → n < 2 ^ 32 → t ≡ decimal n → ⊥
 not_decimal t bad n lt e = let yes = is_decimal-decimal n (omega arith) in let same : is_decimal t ≡ is_decimal (decimal n) = ap is_decimal e in cc
 
--- ---- the first point of a text
+-- ---- the first separator of a text
 
-abbrev is_point : ℕ → Bool
-is_point b = b == 46
+-- The text has the separator, and its first one stands between these two.
+pub record IsCut (s : ℕ) (t front back : List ℕ) : Type 0 where
+  pub inside : position_or_len (λ b. b == s) t < length t
+  pub before : before_first (λ b. b == s) t ≡ front
+  pub after : after_first (λ b. b == s) t ≡ back
 
--- The text has a point, and its first one stands between these two.
-pub record IsCut (t front back : List ℕ) : Type 0 where
-  pub inside : position_or_len is_point t < length t
-  pub before : before_first is_point t ≡ front
-  pub after : after_first is_point t ≡ back
+first_at : (s : ℕ) (ds rest : List ℕ) → s < 48 → ((i : ℕ) → i < length ds → IsInRange 48 57 (get_or ds i 0)) → position_or_len (λ b. b == s) (ds ++ s ∷ rest) ≡ length ds
+first_at s ds rest low digits =
+    let le : length ds ≤ length (ds ++ s ∷ rest) = omega (arith, length-append ds (s ∷ rest)) in
+    position_or_len_is (λ b. b == s) (ds ++ s ∷ rest) (length ds) 0 le
+    (λ k lt. rw (get_or_append_left ds (s ∷ rest) 0 k lt) (let d = digits k lt in ne_eqb _ s (λ e. omega (arith, d.0, d.1))))
+    (λ _. rw (get_or_at ds s rest 0 (length ds) refl) (eq-eqb s s refl))
 
-point_at : (ds rest : List ℕ) → ((i : ℕ) → i < length ds → IsInRange 48 57 (get_or ds i 0)) → position_or_len is_point (ds ++ 46 ∷ rest) ≡ length ds
-point_at ds rest digits =
-    let le : length ds ≤ length (ds ++ 46 ∷ rest) = omega (arith, length-append ds (46 ∷ rest)) in
-    position_or_len_is is_point (ds ++ 46 ∷ rest) (length ds) 0 le
-    (λ k lt. rw (get_or_append_left ds (46 ∷ rest) 0 k lt) (let d = digits k lt in ne_eqb _ 46 (λ e. omega (arith, d.0, d.1))))
-    (λ _. rw (get_or_at ds 46 rest 0 (length ds) refl))
-
-cut_at : (ds rest : List ℕ) → ((i : ℕ) → i < length ds → IsInRange 48 57 (get_or ds i 0)) → IsCut (ds ++ 46 ∷ rest) ds rest
-cut_at ds rest digits =
-    let at = point_at ds rest digits in
+cut_at : (s : ℕ) (ds rest : List ℕ) → s < 48 → ((i : ℕ) → i < length ds → IsInRange 48 57 (get_or ds i 0)) → IsCut s (ds ++ s ∷ rest) ds rest
+cut_at s ds rest low digits =
+    let at = first_at s ds rest low digits in
     record {
-      inside = rw at (omega (arith, length-append ds (46 ∷ rest)));
-      before = rw at (take_at ds (46 ∷ rest) (length ds) refl);
-      after = rw at (ap (λ (l : List ℕ). drop (length ds + 1) l) (sym (simp append_assoc)) ∙ drop_at (ds ++ 46 ∷ []) rest (length ds + 1) (simp length-append));
+      inside = rw at (omega (arith, length-append ds (s ∷ rest)));
+      before = rw at (take_at ds (s ∷ rest) (length ds) refl);
+      after = rw at (ap (λ (l : List ℕ). drop (length ds + 1) l) (sym (simp append_assoc)) ∙ drop_at (ds ++ s ∷ []) rest (length ds + 1) (simp length-append));
     }
 
-pub decimal_cut : (t : List ℕ) (n : ℕ) (rest : List ℕ) → n < 2 ^ 32 → t ≡ decimal n ++ 46 ∷ rest → IsCut t (decimal n) rest
-decimal_cut t n rest lt e = let small : n < 2 ^ 64 = omega arith in rw e (cut_at (decimal n) rest (λ i. digit_of_decimal n i small))
+pub decimal_cut : (s : ℕ) (t : List ℕ) (n : ℕ) (rest : List ℕ) → s < 48 → n < 2 ^ 32 → t ≡ decimal n ++ s ∷ rest → IsCut s t (decimal n) rest
+decimal_cut s t n rest low lt e = let small : n < 2 ^ 64 = omega arith in rw e (cut_at s (decimal n) rest low (λ i. digit_of_decimal n i small))
 
--- what `split_once('.')` says
-abbrev pub Splits : List ℕ → Option (Bor (List ℕ) × Bor (List ℕ)) → Type 0
-Splits t r = MatchOption r (position_or_len is_point t ≡ length t) (λ x. (position_or_len is_point t < length t) × (x.0.now ≡ before_first is_point t) × (x.1.now ≡ after_first is_point t))
+-- what `split_once` says at the separator
+abbrev pub Splits : ℕ → List ℕ → Option (Bor (List ℕ) × Bor (List ℕ)) → Type 0
+Splits s t r = MatchOption r (position_or_len (λ b. b == s) t ≡ length t)
+    (λ x. (position_or_len (λ b. b == s) t < length t) × (x.0.now ≡ before_first (λ b. b == s) t) × (x.1.now ≡ after_first (λ b. b == s) t))
 
-pub no_point : (t : List ℕ) (r : Option (Bor (List ℕ) × Bor (List ℕ))) → Splits t r → r ≡ None → (n : ℕ) (rest : List ℕ) → n < 2 ^ 32 → t ≡ decimal n ++ 46 ∷ rest → ⊥
-no_point t None h is n rest lt e = let cut = decimal_cut t n rest lt e in omega (arith, cut.inside, h)
-no_point t (Some x) h is n rest lt e = cc
+pub no_separator : (s : ℕ) (t : List ℕ) (r : Option (Bor (List ℕ) × Bor (List ℕ))) → s < 48 → Splits s t r → r ≡ None → (n : ℕ) (rest : List ℕ) → n < 2 ^ 32 → t ≡ decimal n ++ s ∷ rest → ⊥
+no_separator s t None low h is n rest lt e = let cut = decimal_cut s t n rest low lt e in omega (arith, cut.inside, h)
+no_separator s t (Some x) low h is n rest lt e = cc
 
-pub cut_of : (t : List ℕ) (r : Option (Bor (List ℕ) × Bor (List ℕ))) (x : Bor (List ℕ) × Bor (List ℕ)) → Splits t r → r ≡ Some x → IsCut t x.0.now x.1.now
-cut_of t r x h is = let p = MatchOption-at_some _ _ x is h in record { inside = p.0; before = sym p.1; after = sym p.2 }
+pub cut_of : (s : ℕ) (t : List ℕ) (r : Option (Bor (List ℕ) × Bor (List ℕ))) (x : Bor (List ℕ) × Bor (List ℕ)) → Splits s t r → r ≡ Some x → IsCut s t x.0.now x.1.now
+cut_of s t r x h is = let p = MatchOption-at_some _ _ x is h in record { inside = p.0; before = sym p.1; after = sym p.2 }
 
--- what stands before the point is no number
-pub no_number : (t front back : List ℕ) → IsCut t front back → ((n : ℕ) → n < 2 ^ 32 → front ≡ decimal n → ⊥) → (n : ℕ) (rest : List ℕ) → n < 2 ^ 32 → t ≡ decimal n ++ 46 ∷ rest → ⊥
-no_number t front back cut none n rest lt e = none n lt (sym cut.before ∙ (decimal_cut t n rest lt e).before)
+-- what stands before the separator is no number
+pub no_number : (s : ℕ) (t front back : List ℕ) → s < 48 → IsCut s t front back → ((n : ℕ) → n < 2 ^ 32 → front ≡ decimal n → ⊥) → (n : ℕ) (rest : List ℕ) → n < 2 ^ 32 → t ≡ decimal n ++ s ∷ rest → ⊥
+no_number s t front back low cut none n rest lt e = none n lt (sym cut.before ∙ (decimal_cut s t n rest low lt e).before)
 
 -- the text is its parts
-pub cut_text : (t front back : List ℕ) → IsCut t front back → t ≡ front ++ 46 ∷ back
-cut_text t front back cut =
-    let dot : get_or t (position_or_len is_point t) 0 ≡ 46 = eqb-true _ _ (passes_at_first is_point t 0 cut.inside) in
-    split_at_first is_point t 0 cut.inside ∙ rw (cut.before, cut.after, dot) refl
+pub cut_text : (s : ℕ) (t front back : List ℕ) → IsCut s t front back → t ≡ front ++ s ∷ back
+cut_text s t front back cut =
+    let there : get_or t (position_or_len (λ b. b == s) t) 0 ≡ s = eqb-true _ _ (passes_at_first (λ b. b == s) t 0 cut.inside) in
+    split_at_first (λ b. b == s) t 0 cut.inside ∙ rw (cut.before, cut.after, there) refl
 
--- a text has one number before its first point, and one rest
-pub same_parts : (t : List ℕ) (n m : ℕ) (rest more : List ℕ) → n < 2 ^ 32 → m < 2 ^ 32 → t ≡ decimal n ++ 46 ∷ rest → t ≡ decimal m ++ 46 ∷ more → (n ≡ m) × (rest ≡ more)
-same_parts t n m rest more ln lm en em =
-    let a = decimal_cut t n rest ln en in
-    let b = decimal_cut t m more lm em in
+-- a text has one number before its first separator, and one rest
+pub separated_parts : (s : ℕ) (t : List ℕ) (n m : ℕ) (rest more : List ℕ) → s < 48 → n < 2 ^ 32 → m < 2 ^ 32 → t ≡ decimal n ++ s ∷ rest → t ≡ decimal m ++ s ∷ more → (n ≡ m) × (rest ≡ more)
+separated_parts s t n m rest more low ln lm en em =
+    let a = decimal_cut s t n rest low ln en in
+    let b = decimal_cut s t m more low lm em in
     (decimal_injective n m (omega arith) (omega arith) (sym a.before ∙ b.before), sym a.after ∙ b.after)
+
+-- the same at a point
+pub same_parts : (t : List ℕ) (n m : ℕ) (rest more : List ℕ) → n < 2 ^ 32 → m < 2 ^ 32 → t ≡ decimal n ++ 46 ∷ rest → t ≡ decimal m ++ 46 ∷ more → (n ≡ m) × (rest ≡ more)
+same_parts t n m rest more ln lm en em = separated_parts 46 t n m rest more (lit< tt) ln lm en em
 
 -- a number has one text
 pub same_number : (n m : ℕ) → n < 2 ^ 32 → m < 2 ^ 32 → decimal n ≡ decimal m → n ≡ m

@@ -2,7 +2,7 @@
 ghost use Rattle.std.specs.Prelude.{◌≡◌, ◌∷◌, ◌++◌, ◌<◌, ◌^◌, ℕ, List, IfSome, IfNone, Some, decimal};
 ghost use Rattle.ring_model.specs.Texts.{address_text, address_limit};
 
-use crate::decimal::{parse_decimal, parse_up_to_point};
+use crate::decimal::{parse_decimal, parse_decimal_up_to};
 use std::fmt;
 use std::marker::Model;
 
@@ -27,7 +27,7 @@ fn octet_up_to_point(text: &str) -> Option<(u8, &str)>
     ensures found { IfSome result (λ x. (x.0 < 256) × (text.now ≡ decimal x.0 ++ 46 ∷ x.1.now)) }
     ensures none { IfNone result ((n : ℕ) (rest : List ℕ) → n < 256 → text.now ≡ decimal n ++ 46 ∷ rest → ⊥) }
 {
-    let (octet, rest) = parse_up_to_point(text)?;
+    let (octet, rest) = parse_decimal_up_to(text, '.')?;
     if octet < 256 {
         Some((octet as u8, rest))
     } else {
@@ -53,6 +53,14 @@ impl Address {
         Some(Address {
             bits: (front * 256 + u32::from(third)) * 256 + fourth,
         })
+    }
+
+    /// The address as one number, its first octet the greatest part.
+    pub fn bits(self) -> u32
+        ensures value { result ≡ self }
+        ensures within { result < address_limit }
+    {
+        self.bits
     }
 }
 

@@ -21,12 +21,14 @@ pub fn parse_decimal(text: &str) -> Option<u32>
     text.parse().ok()
 }
 
-/// The number in decimal at the front of a text, up to its first point, and what follows the point.
-pub(crate) fn parse_up_to_point(text: &str) -> Option<(u32, &str)>
-    ensures found { IfSome result (λ x. (x.0 < 2 ^ 32) × (text.now ≡ decimal x.0 ++ 46 ∷ x.1.now)) }
-    ensures none { IfNone result ((n : ℕ) (rest : List ℕ) → n < 2 ^ 32 → text.now ≡ decimal n ++ 46 ∷ rest → ⊥) }
+/// The number in decimal at the front of a text, up to the first separator, and what follows the separator. `None`
+/// exactly where the text has no such front.
+pub fn parse_decimal_up_to(text: &str, separator: char) -> Option<(u32, &str)>
+    requires { separator < 48 }
+    ensures found { IfSome result (λ x. (x.0 < 2 ^ 32) × (text.now ≡ decimal x.0 ++ separator ∷ x.1.now)) }
+    ensures none { IfNone result ((n : ℕ) (rest : List ℕ) → n < 2 ^ 32 → text.now ≡ decimal n ++ separator ∷ rest → ⊥) }
 {
-    let (number, rest) = text.split_once('.')?;
+    let (number, rest) = text.split_once(separator)?;
     Some((parse_decimal(number)?, rest))
 }
 

@@ -21,7 +21,7 @@ mod weight;
 pub use address::Address;
 pub use bounded::{Bounded, Port, Power, Replicas};
 pub use command::{Act, Command, Done, NewRing, NewWeight, Refusal, Reply};
-pub use decimal::parse_decimal;
+pub use decimal::{parse_decimal, parse_decimal_up_to};
 pub use device::{Device, DeviceId, Row};
 pub use name::{
     Caller, DeviceName, Name, NameFault, NameKind, OfCaller, OfDevice, OfRing, RingName,

@@ -2,7 +2,7 @@
 ghost use Rattle.std.specs.Prelude.{◌≡◌, ◌≤◌, ℕ, IfSome, IfNone, Some, SomeIff};
 ghost use Rattle.ring_model.specs.Texts.{hundredths_text, greatest_weight};
 
-use crate::decimal::{parse_two_digits, parse_up_to_point};
+use crate::decimal::{parse_decimal_up_to, parse_two_digits};
 use std::fmt;
 use std::marker::Model;
 
@@ -43,7 +43,7 @@ impl Weight {
         ensures found { IfSome result (λ w. (w ≤ greatest_weight) × (text.now ≡ hundredths_text w)) }
         ensures none { IfNone result ((w : ℕ) → w ≤ greatest_weight → text.now ≡ hundredths_text w → ⊥) }
     {
-        let (whole, rest) = parse_up_to_point(text)?;
+        let (whole, rest) = parse_decimal_up_to(text, '.')?;
         let part = parse_two_digits(rest)?;
         if whole > Self::GREATEST / 100 {
             return None;

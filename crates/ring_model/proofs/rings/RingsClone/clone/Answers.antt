@@ -1,6 +1,6 @@
-use Rattle.std.proofs.Common.{◌≡◌, ◌≤◌, length, ap, sym, ◌∙◌, arith}
+use Rattle.std.proofs.Common.{◌≡◌, ◌≤◌, length, ◌∙◌}
 use Rattle.std.proofs.lemmas.List.{length-map}
-use Rattle.ring_model.specs.Rings.{AreByName, seen}
+use Rattle.ring_model.specs.Rings.{seen}
 use Rattle.ring_model.proofs.ByName.{same_rings}
 use Rattle.ring_model.proofs.rings.RingsClone.clone.Goals as goal
 

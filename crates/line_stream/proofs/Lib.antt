@@ -1,0 +1,4 @@
+pub mod KnownLemmas
+pub mod LineLemmas
+pub mod ChainLemmas
+pub mod MidwayLemmas

@@ -1,0 +1,5 @@
+pub mod StreamFault
+pub mod Lines
+pub mod Answers
+pub mod Serving
+pub mod Midway

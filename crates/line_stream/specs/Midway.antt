@@ -1,0 +1,49 @@
+-- What the parts of the server know in mid-stream.
+use Rattle.std.specs.Prelude.{◌≡◌, ℕ, ◌-◌, ◌^◌, min, List, ◌++◌, length, All, nat_le, if◌then◌else◌, Option, Some, None}
+use Rattle.std.specs.Io.KnownBytes.{Appends}
+use Rattle.line_stream.specs.Lines.{IsLine, Divides, AreLines, ended}
+use Rattle.line_stream.specs.Answers.{Chain}
+use Rattle.line_stream.specs.Serving.{WritesBeginning}
+
+-- what is kept of a line: all of it, or nothing where it is too long
+abbrev pub kept_of : List ℕ → Option (List ℕ)
+kept_of line = if nat_le (length line) 65536 then Some line else None
+
+-- a front of the text was written, and this is left of it
+abbrev pub Forwards : Option (List ℕ) → Option (List ℕ) → List ℕ → List ℕ → Type 0
+Forwards before after text left = (front : List ℕ) × (text ≡ front ++ left) × Appends before after front
+
+-- Each line that had its line feed in the bytes is answered. The answers are written or wait, and what is kept of the
+-- next line is known.
+pub record IsMidway {S : Type 0} (gives : S → List ℕ → List ℕ → S → Type 0)
+    (bytes : List ℕ) (before now : Option (List ℕ)) (old new : S)
+    (kept : Option (List ℕ)) (waiting : List ℕ) (count : ℕ) : Type 0 where
+  pub lines : List (List ℕ)
+  pub rest : List ℕ
+  pub divides : Divides bytes lines rest
+  pub kept_is : kept ≡ kept_of rest
+  pub texts : List (List ℕ)
+  pub chain : Chain gives old lines texts new
+  pub forwards : Forwards before now (ended texts) waiting
+  pub count_is : count ≡ min (length lines) (2 ^ 32 - 1)
+
+-- Some lines that had their line feed in the bytes were answered, and a beginning of the answers was written.
+pub record IsCutOff {S : Type 0} (gives : S → List ℕ → List ℕ → S → Type 0)
+    (bytes : List ℕ) (before now : Option (List ℕ)) (old new : S) : Type 0 where
+  pub answered : List (List ℕ)
+  pub tail : List ℕ
+  pub begins : bytes ≡ ended answered ++ tail
+  pub are_lines : All IsLine answered
+  pub texts : List (List ℕ)
+  pub chain : Chain gives old answered texts new
+  pub written : WritesBeginning before now (ended texts)
+
+-- Each line of the bytes is answered, and the answers are written or wait.
+pub record IsEnded {S : Type 0} (gives : S → List ℕ → List ℕ → S → Type 0)
+    (bytes : List ℕ) (before now : Option (List ℕ)) (old new : S) (waiting : List ℕ) (count : ℕ) : Type 0 where
+  pub lines : List (List ℕ)
+  pub are_lines : AreLines bytes lines
+  pub texts : List (List ℕ)
+  pub chain : Chain gives old lines texts new
+  pub forwards : Forwards before now (ended texts) waiting
+  pub count_is : count ≡ min (length lines) (2 ^ 32 - 1)

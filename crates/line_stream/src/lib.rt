@@ -1,0 +1,21 @@
+//! A line protocol over any reader and any writer: each line that is read is answered by one line, in order.
+//!
+//! `serve_lines` is generic over a `Handler`, which answers one line after another and keeps a state. What is written
+//! depends on the bytes that are read and on the handler, and not on how the reads cut them. The definitions that the
+//! contracts cite stand in `specs/`.
+#![tactic(auto)]
+
+mod fault;
+mod handler;
+mod input;
+pub mod laws;
+mod output;
+mod serving;
+
+pub use fault::StreamFault;
+pub use handler::Handler;
+pub use input::LONGEST_LINE;
+pub use serving::serve_lines;
+
+#[cfg(test)]
+mod tests;

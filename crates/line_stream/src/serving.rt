@@ -1,0 +1,197 @@
+//! The lines of a stream are answered.
+ghost use Rattle.std.specs.Prelude.{◌≡◌, ◌+◌, ◌-◌, ◌^◌, ◌++◌, min, ℕ, List, [], ◌∷◌, Some, OnOk, IfOk, IfErr, MatchResult, Option};
+ghost use Rattle.std.specs.Io.KnownBytes.{IsAtEnd};
+ghost use Rattle.line_stream.specs.Answers.{Answered};
+ghost use Rattle.line_stream.specs.Serving.{Served, Stopped, ServedInPart, WritesBeginning};
+ghost use Rattle.line_stream.specs.Midway.{kept_of, Forwards, IsMidway, IsEnded, IsCutOff};
+ghost use Rattle.line_stream.specs.declared.fault.StreamFault.TheVariants.{WriteFailed};
+
+use crate::fault::StreamFault;
+use crate::handler::Handler;
+use crate::input::{LineBuffer, new_chunk, read_some};
+use crate::output::Outbox;
+use std::alloc::{AllocError, Global};
+use std::io::{Read, Write};
+
+/// Where the server is in the stream.
+#[derive(Drop)]
+struct Progress {
+    alloc: Global,
+    line: LineBuffer,
+    outbox: Outbox,
+    /// How many lines were answered, 4294967295 for more.
+    answered: u32,
+}
+
+/// Answers a line. The answer waits in the outbox.
+fn answer_line<W: Write, H: Handler>(
+    alloc: Global,
+    line: &LineBuffer,
+    outbox: &mut Outbox,
+    state: &mut H::State,
+    writer: &mut W,
+) -> Result<(), StreamFault>
+    ensures { (text : List ℕ)
+        × ((whole : List ℕ) → line.now ≡ kept_of whole
+        → Answered H.answers H.loses H.no_memory H.too_long state.old whole text state.new)
+        × MatchResult result
+        (λ _. Forwards (W.contents writer.old) (W.contents writer.new)
+        (outbox.old ++ (text ++ 10 ∷ [])) outbox.new)
+        (λ fault. (fault ≡ WriteFailed)
+        × WritesBeginning (W.contents writer.old) (W.contents writer.new)
+        (outbox.old ++ (text ++ 10 ∷ []))) }
+{
+    let Some(bytes) = line.get() else {
+        return outbox.push_line(H::too_long().as_bytes(), writer);
+    };
+    match H::answer(alloc, state, bytes) {
+        Ok(text) => outbox.push_line(text.as_bytes(), writer),
+        Err(AllocError) => outbox.push_line(H::no_memory().as_bytes(), writer),
+    }
+}
+
+impl Progress {
+    /// Before the first byte, with all its room.
+    fn new(alloc: Global) -> Result<Progress, AllocError>
+        ensures { IfOk result (λ progress. (progress.line ≡ Some []) × (progress.outbox ≡ [])
+            × (progress.answered ≡ 0)) }
+    {
+        Ok(Progress {
+            alloc,
+            line: LineBuffer::new(alloc)?,
+            outbox: Outbox::new(alloc)?,
+            answered: 0,
+        })
+    }
+
+    /// Answers the line that ends here, and begins the next.
+    fn end_line<W: Write, H: Handler>(
+        &mut self,
+        state: &mut H::State,
+        writer: &mut W,
+    ) -> Result<(), StreamFault>
+        ensures { (text : List ℕ)
+            × ((whole : List ℕ) → self.old.line ≡ kept_of whole
+            → Answered H.answers H.loses H.no_memory H.too_long state.old whole text state.new)
+            × MatchResult result
+            (λ _. (self.new.line ≡ Some []) × (self.new.answered ≡ min (self.old.answered + 1) (2 ^ 32 - 1))
+            × Forwards (W.contents writer.old) (W.contents writer.new)
+            (self.old.outbox ++ (text ++ 10 ∷ [])) self.new.outbox)
+            (λ fault. (fault ≡ WriteFailed)
+            × WritesBeginning (W.contents writer.old) (W.contents writer.new)
+            (self.old.outbox ++ (text ++ 10 ∷ []))) }
+    {
+        answer_line::<W, H>(self.alloc, &self.line, &mut self.outbox, state, writer)?;
+        self.line.clear();
+        self.answered = self.answered.saturating_add(1);
+        Ok(())
+    }
+
+    /// Answers the lines that end in these bytes, and keeps what is left of them.
+    fn take<W: Write, H: Handler>(
+        &mut self,
+        bytes: &[u8],
+        state: &mut H::State,
+        writer: &mut W,
+    ) -> Result<(), StreamFault>
+        ensures { let gives = Answered H.answers H.loses H.no_memory H.too_long in
+            (origin : H.State) (before : Option (List ℕ)) (came : List ℕ)
+            → IsMidway gives came before (W.contents writer.old) origin state.old
+            self.old.line self.old.outbox self.old.answered
+            → MatchResult result
+            (λ _. IsMidway gives (came ++ bytes.now) before (W.contents writer.new) origin state.new
+            self.new.line self.new.outbox self.new.answered)
+            (λ fault. (fault ≡ WriteFailed)
+            × IsCutOff gives (came ++ bytes.now) before (W.contents writer.new) origin state.new) }
+    {
+        for byte in bytes {
+            if *byte == b'\n' {
+                self.end_line::<W, H>(state, writer)?;
+            } else {
+                self.line.push(*byte);
+            }
+        }
+        Ok(())
+    }
+
+    /// Answers the last line of the input, if it has a byte and no line feed.
+    fn answer_rest<W: Write, H: Handler>(
+        &mut self,
+        state: &mut H::State,
+        writer: &mut W,
+    ) -> Result<(), StreamFault>
+        ensures { let gives = Answered H.answers H.loses H.no_memory H.too_long in
+            (origin : H.State) (before : Option (List ℕ)) (came : List ℕ)
+            → IsMidway gives came before (W.contents writer.old) origin state.old
+            self.old.line self.old.outbox self.old.answered
+            → MatchResult result
+            (λ _. IsEnded gives came before (W.contents writer.new) origin state.new
+            self.new.outbox self.new.answered)
+            (λ fault. (fault ≡ WriteFailed)
+            × ServedInPart gives (Some came) before (W.contents writer.new) origin state.new) }
+    {
+        if self.line.is_empty() {
+            return Ok(());
+        }
+        self.end_line::<W, H>(state, writer)
+    }
+
+    /// Answers what is left at the end of the input, writes what waits, and tells the count of answers.
+    fn finish<W: Write, H: Handler>(
+        &mut self,
+        state: &mut H::State,
+        writer: &mut W,
+    ) -> Result<u32, StreamFault>
+        ensures { let gives = Answered H.answers H.loses H.no_memory H.too_long in
+            (origin : H.State) (before : Option (List ℕ)) (came : List ℕ)
+            → IsMidway gives came before (W.contents writer.old) origin state.old
+            self.old.line self.old.outbox self.old.answered
+            → MatchResult result
+            (Served gives (Some came) before (W.contents writer.new) origin state.new)
+            (λ fault. (fault ≡ WriteFailed)
+            × ServedInPart gives (Some came) before (W.contents writer.new) origin state.new) }
+    {
+        self.answer_rest::<W, H>(state, writer)?;
+        self.outbox.flush(writer)?;
+        Ok(self.answered)
+    }
+}
+
+/// Answers each line of what is read, until the end, and tells how many answers it wrote (4294967295 for more).
+///
+/// A line ends at a line feed or at the end of the input; a last line without a line feed counts if it has a byte. The
+/// handler answers each line in order, and each answer is written as one line. A line of more than `LONGEST_LINE` bytes
+/// is skipped to its end, and answered by `Handler::too_long`; in place of an answer that found no memory
+/// `Handler::no_memory` is written, and the next line is served. Whatever is answered is written and flushed before
+/// the reader is asked for more.
+///
+/// `ReadFailed` comes where a read failed, with the answers so far written and flushed. `WriteFailed` comes where a
+/// write or a flush failed or a write took no byte, with a beginning of the answers written. `NoMemory` comes before the
+/// first read. A read, write or flush that is interrupted is tried again; one that is interrupted 2^64 - 1 times in a
+/// row has failed, as has the reader of a stream of more than 2^64 - 1 reads.
+pub fn serve_lines<R: Read, W: Write, H: Handler>(
+    alloc: Global,
+    reader: &mut R,
+    writer: &mut W,
+    state: &mut H::State,
+) -> Result<u32, StreamFault>
+    ensures served { IfOk result (Served (Answered H.answers H.loses H.no_memory H.too_long)
+        (R.remaining reader.old) (W.contents writer.old) (W.contents writer.new) state.old state.new) }
+    ensures at_end { OnOk result (IsAtEnd (R.remaining reader.new)) }
+    ensures stopped { IfErr result (Stopped (Answered H.answers H.loses H.no_memory H.too_long)
+        (R.remaining reader.old) (R.remaining reader.new) (W.contents writer.old) (W.contents writer.new)
+        state.old state.new
+        ((reader.new ≡ reader.old) × (writer.new ≡ writer.old) × (state.new ≡ state.old))) }
+{
+    let mut progress = Progress::new(alloc)?;
+    let mut chunk = new_chunk(alloc)?;
+    for _ in 0..u64::MAX {
+        let count = read_some(reader, &mut chunk)?;
+        if count == 0 {
+            return progress.finish::<W, H>(state, writer);
+        }
+        progress.take::<W, H>(&chunk[..count], state, writer)?;
+        progress.outbox.flush(writer)?;
+    }
+    Err(StreamFault::ReadFailed)
+}

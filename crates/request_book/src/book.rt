@@ -1,0 +1,220 @@
+//! The book: each request decided once, whatever comes again.
+ghost use Rattle.std.specs.Prelude.{◌≡◌, ◌<◌, ◌↔◌, ◌∷◌, [], false, IfOk, IsErrOf, IsTrue, OnErr, OnOk, length, nat_lt};
+ghost use Rattle.request_book.specs.Book.{Parts};
+ghost use Rattle.request_book.specs.Call.{ClosesAfterFault, Deliver, FaultsTold, Load, calls_of};
+ghost use Rattle.request_book.specs.Called.{Called};
+ghost use Rattle.request_book.specs.Content.{Content};
+ghost use Rattle.request_book.specs.Keeper.{LeavesOnly};
+ghost use Rattle.request_book.specs.Run.{AnswersAlike, Run};
+ghost use Rattle.request_book.specs.declared.book.Fault.TheVariants.{NoMemory};
+
+use crate::keeper::{Found, KeepFault, Keeper};
+use crate::machine::Machine;
+use ring_model::{Delivery, Hour, Key};
+use std::alloc::{AllocError, Global};
+use std::marker::Model;
+
+/// Why a delivery has no reply.
+#[derive(Clone, Copy, Debug, PartialEq, Eq)]
+pub enum Fault {
+    /// The number was used for another command. Nothing changed.
+    NumberReused,
+    /// The book has as many entries as it may. Nothing changed.
+    BookFull,
+    /// A growth of memory was refused. Nothing changed.
+    NoMemory,
+    /// The store failed in this call. The content is as before or with what the delivery commits.
+    StoreFault,
+    /// The store failed in an earlier call. Nothing changed.
+    Closed,
+}
+
+/// What a delivery is answered: the machine's reply, or why there is none.
+pub type Answer<R> = Result<R, Fault>;
+
+impl From<KeepFault> for Fault {
+    ghost use Rattle.request_book.specs.Book.{fault_of};
+
+    ghost from_gives = { λ e f. f ≡ fault_of e };
+
+    fn from(fault: KeepFault) -> Fault {
+        match fault {
+            KeepFault::NoMemory => Fault::NoMemory,
+            KeepFault::Store => Fault::StoreFault,
+        }
+    }
+}
+
+impl From<AllocError> for Fault {
+    ghost from_gives = { λ _ f. f ≡ NoMemory };
+
+    fn from(_refused: AllocError) -> Fault {
+        Fault::NoMemory
+    }
+}
+
+/// A machine beside a keeper of its state and of the requests that it decided. Contracts see the two.
+///
+/// Once its store has failed the book is closed: it answers `Closed` and touches nothing.
+#[derive(Drop)]
+pub struct Book<M: Machine, K: Keeper<M>> {
+    alloc: Global,
+    machine: M,
+    keeper: K,
+}
+
+impl<M: Machine, K: Keeper<M>> Model for Book<M, K> {
+    ghost Value = { Parts M K };
+
+    ghost view = { λ b. record { machine = b.machine; keeper = b.keeper } };
+}
+
+impl<M: Machine, K: Keeper<M>> Book<M, K> {
+    /// A book over what the keeper holds. States and answers are made in the allocator's memory.
+    pub fn open(alloc: Global, machine: M, keeper: K) -> Self
+        requires { K.fault_count keeper ≡ 0 }
+        ensures { result ≡ record { machine = machine; keeper = keeper } }
+    {
+        Book {
+            alloc,
+            machine,
+            keeper,
+        }
+    }
+
+    /// Whether the store has failed.
+    fn is_closed(&self) -> bool
+        ensures { IsTrue result ↔ (0 < K.fault_count self.now.keeper) }
+    {
+        self.keeper.faults() > 0
+    }
+
+    /// Answers a delivery, as `deliver` does.
+    fn answer(&mut self, delivery: Delivery<M::Command>) -> Answer<M::Reply>
+        ensures called { K.sound self.new.keeper → Called (M.step self.old.machine) (K.limit self.old.keeper) (nat_lt 0 (K.fault_count self.old.keeper)) (K.content self.old.keeper) (Deliver delivery result) (K.content self.new.keeper) }
+        ensures sound { K.sound self.new.keeper → K.sound self.old.keeper }
+        ensures limit { K.limit self.new.keeper ≡ K.limit self.old.keeper }
+        ensures machine { self.new.machine ≡ self.old.machine }
+        ensures faults { FaultsTold (K.fault_count self.old.keeper) (K.fault_count self.new.keeper) (Deliver delivery result ∷ []) }
+        ensures closed { IsErrOf result Fault.Closed ↔ (0 < K.fault_count self.old.keeper) }
+        ensures nothing { 0 < K.fault_count self.old.keeper → self.new ≡ self.old }
+        ensures left { K.sound self.new.keeper → K.fault_count self.old.keeper ≡ 0 → (left : Content M.State M.Command M.Reply) → K.may_leave self.new.keeper left → Called (M.step self.old.machine) (K.limit self.old.keeper) false (K.content self.old.keeper) (Deliver delivery result) left }
+        ensures settled { K.sound self.new.keeper → K.fault_count self.old.keeper ≡ 0 → K.fault_count self.new.keeper ≡ 0 → LeavesOnly (K.may_leave self.new.keeper) (K.content self.new.keeper) }
+    {
+        if self.is_closed() {
+            return Err(Fault::Closed);
+        }
+        let Delivery { hour, key, command } = delivery;
+        match self.keeper.look(&key, &command)? {
+            Found::Same(reply) => return Ok(reply),
+            Found::Other => return Err(Fault::NumberReused),
+            Found::New => {}
+        }
+        if self.keeper.is_full()? {
+            return Err(Fault::BookFull);
+        }
+        let hour = hour.max(self.keeper.hour()?);
+        self.keeper.load()?;
+        let (state, reply) = self
+            .machine
+            .decide(self.alloc, self.keeper.state(), hour, &command)?;
+        self.keeper.commit(key, hour, command, reply, state)?;
+        Ok(reply)
+    }
+
+    /// Answers a delivery.
+    ///
+    /// In this order: `Closed` after an earlier `StoreFault`; where the key is known, the kept reply of an equal command
+    /// and `NumberReused` for another one; `BookFull` where the key is new and there is no room. Else the command is
+    /// decided at the greatest hour among this delivery's and those of all decided before, and its reply, a refusal too,
+    /// is kept for good. `NoMemory` changes nothing, and `StoreFault` leaves the content as before or with the delivery.
+    #[tactic(auto, using(crate::proofs::Runs::run_one))]
+    pub fn deliver(&mut self, hour: Hour, key: Key, command: M::Command) -> Answer<M::Reply>
+        ensures run { K.sound self.new.keeper → Run (M.step self.old.machine) (K.limit self.old.keeper) (nat_lt 0 (K.fault_count self.old.keeper)) (K.content self.old.keeper) (Deliver (record { hour = hour; key = key; command = command }) result ∷ []) (K.content self.new.keeper) }
+        ensures called { K.sound self.new.keeper → Called (M.step self.old.machine) (K.limit self.old.keeper) (nat_lt 0 (K.fault_count self.old.keeper)) (K.content self.old.keeper) (Deliver (record { hour = hour; key = key; command = command }) result) (K.content self.new.keeper) }
+        ensures sound { K.sound self.new.keeper → K.sound self.old.keeper }
+        ensures limit { K.limit self.new.keeper ≡ K.limit self.old.keeper }
+        ensures machine { self.new.machine ≡ self.old.machine }
+        ensures faults { FaultsTold (K.fault_count self.old.keeper) (K.fault_count self.new.keeper) (Deliver (record { hour = hour; key = key; command = command }) result ∷ []) }
+        ensures closed { IsErrOf result Fault.Closed ↔ (0 < K.fault_count self.old.keeper) }
+        ensures nothing { 0 < K.fault_count self.old.keeper → self.new ≡ self.old }
+
+        // A crash after the call leaves what the call may leave, and where the store didn't fail what it left.
+        ensures left { K.sound self.new.keeper → K.fault_count self.old.keeper ≡ 0 → (left : Content M.State M.Command M.Reply) → K.may_leave self.new.keeper left → Called (M.step self.old.machine) (K.limit self.old.keeper) false (K.content self.old.keeper) (Deliver (record { hour = hour; key = key; command = command }) result) left }
+        ensures settled { K.sound self.new.keeper → K.fault_count self.old.keeper ≡ 0 → K.fault_count self.new.keeper ≡ 0 → LeavesOnly (K.may_leave self.new.keeper) (K.content self.new.keeper) }
+    {
+        self.answer(Delivery { hour, key, command })
+    }
+
+    /// Answers deliveries in their order, each as `deliver` does. An error says that there was no memory for the
+    /// answers: then no delivery was looked at.
+    pub fn run(
+        &mut self,
+        deliveries: Vec<Delivery<M::Command>>,
+    ) -> Result<Vec<Answer<M::Reply>>, AllocError>
+        ensures run { K.sound self.new.keeper → IfOk result (λ answers. Run (M.step self.old.machine) (K.limit self.old.keeper) (nat_lt 0 (K.fault_count self.old.keeper)) (K.content self.old.keeper) (calls_of deliveries.items answers.items) (K.content self.new.keeper)) }
+        // What a key is answered by a reply it is answered by each later one, and they have its command.
+        ensures alike { K.sound self.new.keeper → IfOk result (λ answers. AnswersAlike (calls_of deliveries.items answers.items)) }
+        ensures count { IfOk result (λ answers. length answers.items ≡ length deliveries.items) }
+        ensures sound { K.sound self.new.keeper → K.sound self.old.keeper }
+        ensures limit { K.limit self.new.keeper ≡ K.limit self.old.keeper }
+        ensures machine { self.new.machine ≡ self.old.machine }
+        ensures faults { IfOk result (λ answers. FaultsTold (K.fault_count self.old.keeper) (K.fault_count self.new.keeper) (calls_of deliveries.items answers.items)) }
+        ensures closed { IfOk result (λ answers. ClosesAfterFault (nat_lt 0 (K.fault_count self.old.keeper)) (calls_of deliveries.items answers.items)) }
+        ensures nothing { 0 < K.fault_count self.old.keeper → self.new ≡ self.old }
+        ensures err { OnErr result (self.new ≡ self.old) }
+
+        // A crash after the call leaves what the deliveries may leave, and where the store didn't fail what they left.
+        ensures left { K.sound self.new.keeper → LeavesOnly (K.may_leave self.old.keeper) (K.content self.old.keeper) → IfOk result (λ answers. (left : Content M.State M.Command M.Reply) → K.may_leave self.new.keeper left → Run (M.step self.old.machine) (K.limit self.old.keeper) (nat_lt 0 (K.fault_count self.old.keeper)) (K.content self.old.keeper) (calls_of deliveries.items answers.items) left) }
+        ensures settled { K.sound self.new.keeper → LeavesOnly (K.may_leave self.old.keeper) (K.content self.old.keeper) → K.fault_count self.new.keeper ≡ 0 → LeavesOnly (K.may_leave self.new.keeper) (K.content self.new.keeper) }
+    {
+        let mut answers = Vec::with_capacity(self.alloc, deliveries.len())?;
+        for delivery in deliveries {
+            let answer = self.answer(delivery);
+            answers.push(answer).unwrap();
+        }
+        Ok(answers)
+    }
+
+    /// Makes the state ready for `state`. The content stays. `Closed` after an earlier `StoreFault`; a `StoreFault` of
+    /// this call closes the book; `NoMemory` leaves it open.
+    #[tactic(auto, using(crate::proofs::Runs::run_one))]
+    pub fn load(&mut self) -> Result<(), Fault>
+        ensures loaded { OnOk result (K.is_loaded self.new.keeper × (K.fault_count self.new.keeper ≡ 0)) }
+        ensures content { K.sound self.new.keeper → K.content self.new.keeper ≡ K.content self.old.keeper }
+        ensures run { K.sound self.new.keeper → Run (M.step self.old.machine) (K.limit self.old.keeper) (nat_lt 0 (K.fault_count self.old.keeper)) (K.content self.old.keeper) (Load result ∷ []) (K.content self.new.keeper) }
+        ensures called { K.sound self.new.keeper → Called (M.step self.old.machine) (K.limit self.old.keeper) (nat_lt 0 (K.fault_count self.old.keeper)) (K.content self.old.keeper) (Load result) (K.content self.new.keeper) }
+        ensures sound { K.sound self.new.keeper → K.sound self.old.keeper }
+        ensures limit { K.limit self.new.keeper ≡ K.limit self.old.keeper }
+        ensures machine { self.new.machine ≡ self.old.machine }
+        ensures faults { FaultsTold {C = M.Command} {R = M.Reply} (K.fault_count self.old.keeper) (K.fault_count self.new.keeper) (Load result ∷ []) }
+        ensures closed { IsErrOf result Fault.Closed ↔ (0 < K.fault_count self.old.keeper) }
+        ensures nothing { 0 < K.fault_count self.old.keeper → self.new ≡ self.old }
+        ensures left { K.sound self.new.keeper → K.fault_count self.old.keeper ≡ 0 → LeavesOnly (K.may_leave self.new.keeper) (K.content self.old.keeper) }
+    {
+        if self.is_closed() {
+            return Err(Fault::Closed);
+        }
+        self.keeper.load()?;
+        Ok(())
+    }
+
+    /// The state. The last call that may change the book was a `load` that succeeded.
+    pub fn state(&self) -> &M::State
+        requires loaded { K.is_loaded self.now.keeper }
+        requires faults { K.fault_count self.now.keeper ≡ 0 }
+        ensures { K.sound self.now.keeper → result.now ≡ (K.content self.now.keeper).state }
+    {
+        self.keeper.state()
+    }
+}
+
+impl<M: Machine + Drop, K: Keeper<M>> Book<M, K> {
+    /// The keeper, as the book leaves it.
+    pub fn into_keeper(self) -> K
+        ensures { result ≡ self.keeper }
+    {
+        let Book { keeper, .. } = self;
+        keeper
+    }
+}

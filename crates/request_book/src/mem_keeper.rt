@@ -1,0 +1,116 @@
+//! A keeper in memory.
+ghost use Rattle.std.specs.Prelude.{◌≡◌, [], ℕ};
+ghost use Rattle.std.specs.Option.{option_copied};
+ghost use Rattle.request_book.specs.Content.{Content, entry_of};
+
+use crate::entry::Entry;
+use crate::keeper::{Found, KeepFault, Keeper};
+use crate::machine::Machine;
+use ring_model::{Hour, Key, Limits};
+use std::alloc::Global;
+use std::marker::Model;
+
+/// A state beside its book, in memory. Contracts see its content, and the number of entries that it may have.
+#[derive(Drop)]
+pub struct MemKeeper<S, C, R> {
+    state: S,
+    entries: Vec<Entry<C, R>>,
+    hour: Hour,
+    limit: u32,
+}
+
+impl<S, C, R> Model for MemKeeper<S, C, R> {
+    ghost Value = { Content S C R × ℕ };
+
+    ghost view = { λ k. (record { state = k.state; book = k.entries.items; hour = k.hour }, k.limit) };
+}
+
+impl<S, C, R> MemKeeper<S, C, R> {
+    /// Begins with this state, an empty book and hour 0, and keeps at most `limits.numbers` requests.
+    pub fn new(alloc: Global, state: S, limits: Limits) -> Self
+        ensures { result ≡ (record { state = state; book = []; hour = 0 }, limits.numbers) }
+    {
+        MemKeeper {
+            state,
+            entries: Vec::new(alloc),
+            hour: 0,
+            limit: limits.numbers,
+        }
+    }
+}
+
+/// The entry of a key.
+fn entry_of<'a, C, R>(entries: &'a [Entry<C, R>], key: &Key) -> Option<&'a Entry<C, R>>
+    ensures { option_copied result ≡ entry_of key.now entries.now }
+{
+    entries.iter().find(|entry| entry.key == *key)
+}
+
+impl<M: Machine> Keeper<M> for MemKeeper<M::State, M::Command, M::Reply> {
+    ghost content = { λ k. k.0 };
+
+    ghost sound = { λ _. Unit {0} };
+
+    ghost fault_count = { λ _. 0 };
+
+    ghost limit = { λ k. k.1 };
+
+    ghost is_loaded = { λ _. Unit {0} };
+
+    ghost may_leave = { λ k content. content ≡ k.0 };
+
+    fn faults(&self) -> u64 {
+        0
+    }
+
+    fn look(&mut self, key: &Key, command: &M::Command) -> Result<Found<M::Reply>, KeepFault> {
+        match entry_of(&self.entries, key) {
+            None => Ok(Found::New),
+            Some(entry) => {
+                if M::same(&entry.command, command) {
+                    Ok(Found::Same(entry.reply))
+                } else {
+                    Ok(Found::Other)
+                }
+            }
+        }
+    }
+
+    fn is_full(&mut self) -> Result<bool, KeepFault> {
+        Ok(self.entries.len() >= self.limit as usize)
+    }
+
+    fn hour(&mut self) -> Result<Hour, KeepFault> {
+        Ok(self.hour)
+    }
+
+    fn load(&mut self) -> Result<(), KeepFault> {
+        Ok(())
+    }
+
+    fn state(&self) -> &M::State {
+        &self.state
+    }
+
+    fn commit(
+        &mut self,
+        key: Key,
+        hour: Hour,
+        command: M::Command,
+        reply: M::Reply,
+        state: M::State,
+    ) -> Result<(), KeepFault> {
+        let entry = Entry {
+            key,
+            hour,
+            command,
+            reply,
+        };
+        if self.entries.push(entry).is_err() {
+            return Err(KeepFault::NoMemory);
+        }
+        self.state = state;
+        self.hour = hour;
+        Ok(())
+    }
+}

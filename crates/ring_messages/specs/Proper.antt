@@ -1,0 +1,55 @@
+-- What holds of each command and each reply that there is: names are of their form, and numbers within their bounds.
+use Rattle.std.specs.Prelude.{◌<◌, ◌≤◌, ◌^◌, IsTrue, ⊤}
+use Rattle.ring_model.specs.Texts.{is_label, is_device_name, greatest_weight, address_limit}
+use Rattle.ring_model.specs.declared.device.Row.{Row}
+use Rattle.ring_model.specs.declared.command.NewRing.{NewRing}
+use Rattle.ring_model.specs.declared.command.NewWeight.{NewWeight}
+use Rattle.ring_model.specs.declared.command.Command.{Command}
+use Rattle.ring_model.specs.declared.command.Act.{Act}
+use Rattle.ring_model.specs.declared.command.Act.TheVariants.{Create, Add, SetWeight}
+use Rattle.ring_model.specs.declared.command.Done.{Done}
+use Rattle.ring_model.specs.declared.command.Done.TheVariants as done
+use Rattle.ring_model.specs.declared.command.Reply.{Reply}
+use Rattle.ring_model.specs.declared.command.Reply.TheVariants as reply
+
+-- The power is 1 to 14, and the replicas are 1 to 5.
+pub record IsProperNewRing (n : NewRing) : Type 0 where
+  pub power : (1 ≤ n.power) × (n.power ≤ 14)
+  pub replicas : (1 ≤ n.replicas) × (n.replicas ≤ 5)
+  pub min_hours : n.min_hours < 2 ^ 16
+
+-- The device has a name, an address, a port and a weight such as there are.
+pub record IsProperRow (r : Row) : Type 0 where
+  pub region : r.region < 2 ^ 16
+  pub zone : r.zone < 2 ^ 16
+  pub address : r.address < address_limit
+  pub port : (1 ≤ r.port) × (r.port < 2 ^ 16)
+  pub name : IsTrue (is_device_name r.name)
+  pub weight : r.weight ≤ greatest_weight
+
+-- The weight is such as there are.
+pub record IsProperNewWeight (w : NewWeight) : Type 0 where
+  pub id : w.id < 2 ^ 16
+  pub weight : w.weight ≤ greatest_weight
+
+-- Its fields are such as there are.
+abbrev pub IsProperAct : Act → Type 0
+IsProperAct (Create n) = IsProperNewRing n
+IsProperAct (Add r) = IsProperRow r
+IsProperAct (SetWeight w) = IsProperNewWeight w
+
+-- The ring has a ring's name, and the fields are such as there are.
+pub record IsProperCommand (c : Command) : Type 0 where
+  pub ring : IsTrue (is_label c.ring)
+  pub act : IsProperAct c.act
+
+-- Numbers of devices have 16 bits, and versions 32.
+abbrev pub IsProperDone : Done → Type 0
+IsProperDone (done.Create v) = v < 2 ^ 32
+IsProperDone (done.Add i v) = (i < 2 ^ 16) × (v < 2 ^ 32)
+IsProperDone (done.SetWeight v) = v < 2 ^ 32
+
+-- What was done has numbers such as there are.
+abbrev pub IsProperReply : Reply → Type 0
+IsProperReply (reply.Done d) = IsProperDone d
+IsProperReply (reply.Refused r) = ⊤

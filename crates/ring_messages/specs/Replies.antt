@@ -1,0 +1,108 @@
+-- The text and the status of each answer: compact JSON, its keys in byte order.
+use Rattle.std.specs.Prelude.{ℕ, List, codes}
+use Rattle.serde_json.specs.Data.{Data, string, object, no_members, member}
+use Rattle.serde_json.specs.Written.{compact_text}
+use Rattle.ring_model.specs.declared.command.Done.{Done}
+use Rattle.ring_model.specs.declared.command.Done.TheVariants.{Create, Add, SetWeight}
+use Rattle.ring_model.specs.declared.command.Refusal.{Refusal}
+use Rattle.ring_model.specs.declared.command.Refusal.TheVariants.{NoRing, RingExists, TooManyRings, NoDevice, DeviceExists, DeviceRemoved, TooManyDevices, IdsUsedUp}
+use Rattle.ring_model.specs.declared.command.Reply.{Reply}
+use Rattle.ring_model.specs.declared.command.Reply.TheVariants as reply
+use Rattle.ring_messages.specs.Canonical.{whole}
+use Rattle.ring_messages.specs.declared.told.Told.{Told}
+use Rattle.ring_messages.specs.declared.told.Told.TheVariants as told
+
+-- What is written where only the ring's version is told.
+abbrev pub version_data : List ℕ → ℕ → Data
+version_data word version = object (member (codes "done") (string word) (member (codes "version") (whole version) no_members))
+
+-- What is written of what was done.
+abbrev pub done_data : Done → Data
+done_data (Create version) = version_data (codes "create") version
+done_data (Add id version) = object (member (codes "done") (string (codes "add")) (member (codes "id") (whole id) (member (codes "version") (whole version) no_members)))
+done_data (SetWeight version) = version_data (codes "set_weight") version
+
+-- What a refusal is called.
+abbrev pub refusal_name : Refusal → List ℕ
+refusal_name NoRing = codes "NoRing"
+refusal_name RingExists = codes "RingExists"
+refusal_name TooManyRings = codes "TooManyRings"
+refusal_name NoDevice = codes "NoDevice"
+refusal_name DeviceExists = codes "DeviceExists"
+refusal_name DeviceRemoved = codes "DeviceRemoved"
+refusal_name TooManyDevices = codes "TooManyDevices"
+refusal_name IdsUsedUp = codes "IdsUsedUp"
+
+-- The number of the rule that a refusal is by.
+abbrev pub refusal_rule : Refusal → ℕ
+refusal_rule NoRing = 1
+refusal_rule RingExists = 2
+refusal_rule TooManyRings = 3
+refusal_rule NoDevice = 4
+refusal_rule DeviceExists = 5
+refusal_rule DeviceRemoved = 6
+refusal_rule TooManyDevices = 7
+refusal_rule IdsUsedUp = 8
+
+-- What is written of a refusal with this name, by this rule.
+abbrev pub refused_data : List ℕ → ℕ → Data
+refused_data name rule = object (member (codes "refused") (string name) (member (codes "rule") (whole rule) no_members))
+
+-- What is written of a reply.
+abbrev pub reply_data : Reply → Data
+reply_data (reply.Done d) = done_data d
+reply_data (reply.Refused r) = refused_data (refusal_name r) (refusal_rule r)
+
+-- The text of a reply.
+abbrev pub reply_text : Reply → List ℕ
+reply_text r = compact_text (reply_data r)
+
+-- What is written of a fault with this name, by this rule.
+abbrev pub fault_data : List ℕ → ℕ → Data
+fault_data name rule = object (member (codes "fault") (string name) (member (codes "rule") (whole rule) no_members))
+
+-- What is written of a row of the wrong length.
+abbrev pub bad_row_data : ℕ → Data
+bad_row_data row = object (member (codes "fault") (string (codes "BadRow")) (member (codes "row") (whole row) (member (codes "rule") (whole 41) no_members)))
+
+-- What is written of a field that isn't of its form.
+abbrev pub bad_field_data : ℕ → ℕ → Data
+bad_field_data row column = object (member (codes "column") (whole column) (member (codes "fault") (string (codes "BadField")) (member (codes "row") (whole row)
+    (member (codes "rule") (whole 42) no_members))))
+
+-- What is written of an answer.
+abbrev pub told_data : Told → Data
+told_data (told.Reply r) = reply_data r
+told_data told.Unreadable = fault_data (codes "Unreadable") 20
+told_data told.NumberReused = fault_data (codes "NumberReused") 21
+told_data told.BookFull = fault_data (codes "BookFull") 22
+told_data told.NoMemory = fault_data (codes "NoMemory") 23
+told_data told.StoreFault = fault_data (codes "StoreFault") 24
+told_data told.Closed = fault_data (codes "Closed") 25
+told_data told.BadPath = refused_data (codes "BadPath") 30
+told_data told.NoVersion = refused_data (codes "NoVersion") 32
+told_data told.BadHeader = fault_data (codes "BadHeader") 40
+told_data (told.BadRow row) = bad_row_data row
+told_data (told.BadField row column) = bad_field_data row column
+told_data told.ReadFailed = fault_data (codes "ReadFailed") 43
+
+-- The text of an answer.
+abbrev pub answer_text : Told → List ℕ
+answer_text t = compact_text (told_data t)
+
+-- The status that an answer has over HTTP.
+abbrev pub answer_status : Told → ℕ
+answer_status (told.Reply (reply.Done d)) = 200
+answer_status (told.Reply (reply.Refused r)) = 422
+answer_status told.Unreadable = 400
+answer_status told.NumberReused = 409
+answer_status told.BookFull = 507
+answer_status told.NoMemory = 503
+answer_status told.StoreFault = 503
+answer_status told.Closed = 503
+answer_status told.BadPath = 400
+answer_status told.NoVersion = 422
+answer_status told.BadHeader = 400
+answer_status (told.BadRow row) = 400
+answer_status (told.BadField row column) = 400
+answer_status told.ReadFailed = 503

@@ -1,0 +1,39 @@
+-- What an object says was replied, whatever else stands in it.
+use Rattle.std.specs.Prelude.{◌≡◌, ℕ, List, Some, None, codes, ⊤}
+use Rattle.serde_json.specs.Data.{Data, number, unsigned, string}
+use Rattle.serde_json.specs.Find.{get}
+use Rattle.ring_model.specs.declared.command.Done.{Done}
+use Rattle.ring_model.specs.declared.command.Done.TheVariants.{Create, Add, SetWeight}
+use Rattle.ring_model.specs.declared.command.Reply.{Reply}
+use Rattle.ring_model.specs.declared.command.Reply.TheVariants as reply
+use Rattle.ring_messages.specs.Reads.{IsNumber}
+use Rattle.ring_messages.specs.Replies.{refusal_rule}
+
+-- The word under the key `done`.
+abbrev pub done_word : Done → List ℕ
+done_word (Create version) = codes "create"
+done_word (Add id version) = codes "add"
+done_word (SetWeight version) = codes "set_weight"
+
+-- The ring's version after the command.
+abbrev pub done_version : Done → ℕ
+done_version (Create version) = version
+done_version (Add id version) = version
+done_version (SetWeight version) = version
+
+-- The object says what else is told of what was done.
+abbrev pub SaysMore : Data → Done → Type 0
+SaysMore d (Create version) = ⊤
+SaysMore d (Add id version) = IsNumber (get (codes "id") d) 0 65535 id
+SaysMore d (SetWeight version) = ⊤
+
+-- The object says that this was done.
+pub record SaysDone (d : Data) (x : Done) : Type 0 where
+  pub word : get (codes "done") d ≡ Some (string (done_word x))
+  pub version : IsNumber (get (codes "version") d) 0 4294967295 (done_version x)
+  pub more : SaysMore d x
+
+-- The object says this reply: a refusal is by a rule, and what was done by none.
+abbrev pub SaysReply : Data → Reply → Type 0
+SaysReply d (reply.Done x) = (get (codes "rule") d ≡ None) × SaysDone d x
+SaysReply d (reply.Refused r) = get (codes "rule") d ≡ Some (number (unsigned (refusal_rule r)))

@@ -1,0 +1,17 @@
+-- The programs of `ringd`, as the words of its command line name them.
+use Rattle.std.specs.Prelude.{◌≡◌, ℕ, List, Some, codes, option_map, true}
+use Rattle.clap.specs.Simple.{App, new_app, new_shape, on_top, subcommand_of, with_subcommand}
+use Rattle.ringd.specs.declared.words.Task.{Task}
+use Rattle.ringd.specs.declared.words.Task.TheVariants.{Run}
+
+-- what the words may name
+abbrev pub programs : App
+programs = with_subcommand (on_top (λ s. record s { subcommand_required = true }) (new_app (codes "ringd"))) (new_shape (codes "run"))
+
+-- the name of a task's program
+abbrev pub program_of : Task → List ℕ
+program_of Run = codes "run"
+
+-- The words, of which the first is the program's own name, ask for this task.
+abbrev pub AskFor : List (List ℕ) → Task → Type 0
+AskFor words task = option_map (λ named. named.0) (subcommand_of programs words) ≡ Some (program_of task)

@@ -1,0 +1,31 @@
+//! The program `ringd`: it keeps the rings of an object store, and carries out each numbered request once.
+#![tactic(auto)]
+
+mod lines;
+mod performing;
+#[cfg(test)]
+mod tests;
+mod words;
+
+use performing::perform;
+use std::env;
+use std::process::ExitCode;
+
+fn main(rt: HostRuntime) -> ExitCode {
+    let words: Result<Vec<String>, _> = match env::args(&rt) {
+        Ok(words) => words.collect(rt.alloc()),
+        Err(_) => Ok(Vec::new(rt.alloc())),
+    };
+    let Ok(words) = words else {
+        let _ = eprintln!(rt; "ringd: NoMemory 23");
+        return ExitCode::FAILURE;
+    };
+    let status = perform(
+        &rt,
+        &words,
+        &mut rt.reader(),
+        &mut rt.stdout(),
+        &mut rt.stderr(),
+    );
+    ExitCode::from(status)
+}
