@@ -32,19 +32,27 @@ impl From<AllocError> for ArgsFault {
 /// What `ringd --help` tells.
 const ABOUT: &str = "Keeps the rings of an object store: which disks hold each object.
 
-Every change is a numbered request. A request that is repeated, for its answer was lost, is not carried out again: it
-gets the answer that was given first.";
+Every change is a numbered request. A request that is sent again, since its answer was lost, is not carried out again:
+it gets the answer that was given first.";
 
 /// What `ringd run --help` tells.
 const ABOUT_RUN: &str =
     "Answers numbered requests, one line each, from standard input on standard output.
 
-A line is the hour, a space, and a JSON object with the caller, the caller's number of this request, and the command:
+A line is the hour, a space, and a JSON object: who asks, the caller's number of this request, what to do, and the ring.
 
-    0 {\"caller\":\"ops\",\"number\":1,\"do\":\"create\",\"ring\":\"objects\",\"power\":4,\"replicas\":3,\"min_hours\":1}
+  0 {\"caller\":\"ops\",\"number\":1,\"do\":\"create\",\"ring\":\"object\",\"power\":4,\"replicas\":3,\"min_hours\":24}
+  0 {\"caller\":\"ops\",\"number\":2,\"do\":\"add\",\"ring\":\"object\",\"region\":1,\"zone\":1,\"address\":\"10.0.0.1\",\"port\":6200,\"name\":\"d0\",\"weight\":\"100.00\"}
+  1 {\"caller\":\"ops\",\"number\":3,\"do\":\"set_weight\",\"ring\":\"object\",\"id\":0,\"weight\":\"50.00\"}
 
-It is answered by a status, a space and a JSON object. Rings live as long as the program runs. The commands are create,
-add and set_weight. An hour is a whole number, in decimal. Each line is answered before the next one is waited for.";
+create makes a ring of 2 to the power of partitions, each on so many replicas. add puts a device into it, and tells the
+number under which the ring knows it. set_weight changes what share of the ring a device is to hold.
+
+Each line is answered by a status, a space and a JSON object, before the next line is waited for. A caller that got no
+answer sends the line again: it is answered as before, and nothing is done twice. Another request takes another number.
+The hour is a whole number of hours since 1970.
+
+Rings are kept in memory, and are gone when the program ends.";
 
 /// The programs, for `clap`.
 fn command<'a>(alloc: Global) -> Result<Command<'a>, AllocError>
