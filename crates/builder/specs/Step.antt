@@ -1,7 +1,9 @@
 -- One step of the builder: what a command is replied, and what it does to the rings.
-use Rattle.std.specs.Prelude.{◌≡◌, ℕ, Bool, true, false, not, nat_le, List, [], ◌∷◌, length, find, is_some, Option, Some, None}
+use Rattle.std.specs.Prelude.{◌≡◌, ◌+◌, ◌==◌, ◌&&◌, ℕ, Bool, true, false, not, nat_le, List, [], ◌∷◌, ◌++◌, length, find, is_some, Option, Some, None}
 use Rattle.std.specs.Option.{option_map}
-use Rattle.ring_model.specs.Ring.{RingRecord, has_device, has_place, has_present, new_ring, with_device, with_weight}
+use Rattle.ring_model.specs.Import.{after_row, after_rows}
+use Rattle.ring_model.specs.Raise.{IsRaised}
+use Rattle.ring_model.specs.Ring.{RingRecord, changed, has_device, has_place, has_present, new_ring, same_place, with_device, with_hours_passed, with_mark, with_min_hours, with_weight}
 use Rattle.ring_model.specs.Rings.{ring_at, with_ring}
 use Rattle.ring_model.specs.declared.request.Limits.{Limits}
 use Rattle.ring_model.specs.declared.command.Command.{Command}
@@ -11,6 +13,10 @@ use Rattle.ring_model.specs.declared.command.Done.{Done}
 use Rattle.ring_model.specs.declared.command.Done.TheVariants as done
 use Rattle.ring_model.specs.declared.command.Refusal.{Refusal}
 use Rattle.ring_model.specs.declared.command.Refusal.TheVariants as refusal
+use Rattle.ring_model.specs.declared.command.RowCause.{RowCause}
+use Rattle.ring_model.specs.declared.command.RowCause.TheVariants as row_cause
+use Rattle.ring_model.specs.declared.device.Device.{Device}
+use Rattle.ring_model.specs.declared.device.Row.{Row}
 use Rattle.ring_model.specs.declared.command.Reply.{Reply}
 use Rattle.ring_model.specs.declared.command.Reply.TheVariants as reply
 
@@ -30,6 +36,55 @@ abbrev pub of_ring : Option RingRecord → (RingRecord → List Cause) → List 
 of_ring None causes = record { refused = refusal.NoRing; stands = true } ∷ []
 of_ring (Some ring) causes = causes ring
 
+-- the causes that speak of the device of a number
+abbrev pub of_device : ℕ → RingRecord → List Cause
+of_device id ring =
+    record { refused = refusal.NoDevice; stands = not (has_device id ring.devices) }
+    ∷ record { refused = refusal.DeviceRemoved; stands = not (has_present id ring.devices) }
+    ∷ []
+
+-- a cause for which a row of an import is refused, and whether it stands
+pub record RowTrouble : Type 0 where
+  pub cause : RowCause
+  pub stands : Bool
+
+-- the first cause that stands
+abbrev pub first_trouble : List RowTrouble → Option RowCause
+first_trouble troubles = option_map (λ trouble. trouble.cause) (find (λ trouble. trouble.stands) troubles)
+
+-- the causes that may stand against a row's weight at a device
+abbrev pub of_weight : Row → Device → List RowTrouble
+of_weight row device =
+    record { cause = row_cause.DeviceRemoved; stands = device.removed }
+    ∷ record { cause = row_cause.TierDiffers; stands = not ((device.row.region == row.region) && (device.row.zone == row.zone)) }
+    ∷ []
+
+-- the causes that may stand against one more device
+abbrev pub of_more : Limits → RingRecord → List RowTrouble
+of_more limits ring =
+    record { cause = row_cause.TooManyDevices; stands = nat_le limits.devices (length ring.devices) }
+    ∷ record { cause = row_cause.IdsUsedUp; stands = nat_le limits.ids ring.next_id }
+    ∷ []
+
+-- the causes that may stand against a row, by the device of its address, port and name, if there is one
+abbrev pub troubles_at : Limits → RingRecord → Row → Option Device → List RowTrouble
+troubles_at limits ring row (Some device) = of_weight row device
+troubles_at limits ring row None = of_more limits ring
+
+-- the first cause that stands against a row
+abbrev pub row_refusal : Limits → RingRecord → Row → Option RowCause
+row_refusal limits ring row = first_trouble (troubles_at limits ring row (find (λ device. same_place device.row row) ring.devices))
+
+-- a cause against the n-th row, if there is one
+abbrev pub of_row : ℕ → Option RowCause → List Cause
+of_row n (Some cause) = record { refused = refusal.RowRefused n cause; stands = true } ∷ []
+of_row n None = []
+
+-- The causes against rows, the first of which is the n-th. Each row is put into the ring that those before it leave.
+abbrev pub of_rows : Limits → ℕ → RingRecord → List Row → List Cause
+of_rows limits n ring [] = []
+of_rows limits n ring (row ∷ rows) = of_row n (row_refusal limits ring row) ++ of_rows limits (n + 1) (after_row ring row) rows
+
 -- the causes that may stand against a command, in the order in which they are looked at
 abbrev pub causes : Limits → State → List ℕ → Act → List Cause
 causes limits rings name (act.Create new) =
@@ -41,10 +96,12 @@ causes limits rings name (act.Add row) = of_ring (ring_at name rings) (λ ring.
     ∷ record { refused = refusal.TooManyDevices; stands = nat_le limits.devices (length ring.devices) }
     ∷ record { refused = refusal.IdsUsedUp; stands = nat_le limits.ids ring.next_id }
     ∷ [])
-causes limits rings name (act.SetWeight to) = of_ring (ring_at name rings) (λ ring.
-    record { refused = refusal.NoDevice; stands = not (has_device to.id ring.devices) }
-    ∷ record { refused = refusal.DeviceRemoved; stands = not (has_present to.id ring.devices) }
-    ∷ [])
+causes limits rings name (act.SetWeight to) = of_ring (ring_at name rings) (of_device to.id)
+causes limits rings name (act.Remove id) = of_ring (ring_at name rings) (of_device id)
+causes limits rings name (act.SetHours hours) = of_ring (ring_at name rings) (λ ring. [])
+causes limits rings name act.PretendPassed = of_ring (ring_at name rings) (λ ring. [])
+causes limits rings name act.RaisePower = of_ring (ring_at name rings) (λ ring. record { refused = refusal.PowerLimit; stands = ring.power == 14 } ∷ [])
+causes limits rings name (act.Import rows) = of_ring (ring_at name rings) (λ ring. of_rows limits 1 ring rows)
 
 -- the first cause that stands
 abbrev pub first_refusal : Limits → State → Command → Option Refusal
@@ -57,6 +114,13 @@ abbrev pub Effect : Act → Option RingRecord → ℕ → Done → RingRecord �
 Effect (act.Create made) old hour (done.Create version) new = (new ≡ new_ring made.power made.replicas made.min_hours) × (version ≡ new.version)
 Effect (act.Add row) (Some old) hour (done.Add id version) new = (new ≡ with_device old row) × (id ≡ old.next_id) × (version ≡ new.version)
 Effect (act.SetWeight to) (Some old) hour (done.SetWeight version) new = (new ≡ with_weight old to.id to.weight) × (version ≡ new.version)
+Effect (act.Remove id) (Some old) hour (done.Remove version) new = (new ≡ with_mark old id) × (version ≡ new.version)
+Effect (act.SetHours hours) (Some old) hour (done.SetHours version) new = (new ≡ with_min_hours old hours) × (version ≡ new.version)
+Effect act.PretendPassed (Some old) hour (done.PretendPassed version) new = (new ≡ with_hours_passed old) × (version ≡ new.version)
+Effect act.RaisePower (Some old) hour (done.RaisePower version) new = IsRaised old new × (version ≡ new.version)
+-- each row that found no device took a number, and every other found one
+Effect (act.Import rows) (Some old) hour (done.Import added reweighted version) new =
+    (new ≡ changed (after_rows old rows)) × (new.next_id ≡ old.next_id + added) × (added + reweighted ≡ length rows) × (version ≡ new.version)
 Effect other old hour answer new = ⊥
 
 -- From these rings, a command at an hour may be given this reply, and leave those rings.

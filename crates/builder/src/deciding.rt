@@ -3,14 +3,16 @@ ghost use Rattle.std.specs.Prelude.{◌≡◌, IfOk};
 ghost use Rattle.builder.specs.Step.{Step};
 ghost use Rattle.builder.specs.Outcome.{IsOutcome};
 
+use crate::importing::import;
 use ring_model::{
-    Act, Command, Done, Hour, Limits, NewRing, NewWeight, Refusal, Reply, Ring, Rings, Row,
+    Act, Command, DeviceId, Done, Hour, Limits, NewRing, NewWeight, RaiseFault, Refusal, Reply,
+    Ring, Rings, Row,
 };
 use std::alloc::{AllocError, Global};
 
 /// What a command comes to.
 #[derive(Drop)]
-enum Outcome {
+pub(crate) enum Outcome {
     /// It is refused.
     Refused(Refusal),
     /// It is done, and the named ring is this one from now on.
@@ -97,6 +99,98 @@ fn set_weight(
     Ok(Outcome::Done(done, reweighed))
 }
 
+/// Marks a device to be removed, unless there is no such device or it is marked already.
+fn remove(
+    rings: &Rings,
+    hour: Hour,
+    command: &Command,
+    id: DeviceId,
+    limits: &Limits,
+) -> Result<Outcome, AllocError>
+    requires { command.now.act ≡ Act.Remove id }
+    ensures { IfOk result (IsOutcome limits.now rings.now hour command.now) }
+{
+    let Some(ring) = rings.get(&command.ring) else {
+        return Ok(Outcome::Refused(Refusal::NoRing));
+    };
+    if !ring.has_device(id) {
+        return Ok(Outcome::Refused(Refusal::NoDevice));
+    }
+    if !ring.has_present(id) {
+        return Ok(Outcome::Refused(Refusal::DeviceRemoved));
+    }
+    let marked = ring.with_mark(id)?;
+    let done = Done::Remove {
+        version: marked.version(),
+    };
+    Ok(Outcome::Done(done, marked))
+}
+
+/// Sets for how many hours a partition that was moved stays where it is.
+fn set_hours(
+    rings: &Rings,
+    hour: Hour,
+    command: &Command,
+    hours: u16,
+    limits: &Limits,
+) -> Result<Outcome, AllocError>
+    requires { command.now.act ≡ Act.SetHours hours }
+    ensures { IfOk result (IsOutcome limits.now rings.now hour command.now) }
+{
+    let Some(ring) = rings.get(&command.ring) else {
+        return Ok(Outcome::Refused(Refusal::NoRing));
+    };
+    let set = ring.with_min_hours(hours)?;
+    let done = Done::SetHours {
+        version: set.version(),
+    };
+    Ok(Outcome::Done(done, set))
+}
+
+/// Lets each partition be moved as if it never had been.
+fn pretend_passed(
+    rings: &Rings,
+    hour: Hour,
+    command: &Command,
+    limits: &Limits,
+) -> Result<Outcome, AllocError>
+    requires { command.now.act ≡ Act.PretendPassed }
+    ensures { IfOk result (IsOutcome limits.now rings.now hour command.now) }
+{
+    let Some(ring) = rings.get(&command.ring) else {
+        return Ok(Outcome::Refused(Refusal::NoRing));
+    };
+    let passed = ring.with_hours_passed()?;
+    let done = Done::PretendPassed {
+        version: passed.version(),
+    };
+    Ok(Outcome::Done(done, passed))
+}
+
+/// Splits each partition into two, unless the ring has the greatest power.
+fn raise_power(
+    rings: &Rings,
+    hour: Hour,
+    command: &Command,
+    limits: &Limits,
+) -> Result<Outcome, AllocError>
+    requires { command.now.act ≡ Act.RaisePower }
+    ensures { IfOk result (IsOutcome limits.now rings.now hour command.now) }
+{
+    let Some(ring) = rings.get(&command.ring) else {
+        return Ok(Outcome::Refused(Refusal::NoRing));
+    };
+    let raised = match ring.raised() {
+        Ok(raised) => raised,
+        Err(RaiseFault::PowerLimit) => return Ok(Outcome::Refused(Refusal::PowerLimit)),
+        Err(RaiseFault::NoMemory) => return Err(AllocError),
+    };
+    let done = Done::RaisePower {
+        version: raised.version(),
+    };
+    Ok(Outcome::Done(done, raised))
+}
+
 /// What a command comes to.
 fn outcome_of(
     alloc: Global,
@@ -111,6 +205,11 @@ fn outcome_of(
         Act::Create(new) => create(alloc, rings, hour, command, new, limits),
         Act::Add(row) => add(rings, hour, command, row, limits),
         Act::SetWeight(to) => set_weight(rings, hour, command, to, limits),
+        Act::Remove(id) => remove(rings, hour, command, *id, limits),
+        Act::SetHours(hours) => set_hours(rings, hour, command, *hours, limits),
+        Act::PretendPassed => pretend_passed(rings, hour, command, limits),
+        Act::RaisePower => raise_power(rings, hour, command, limits),
+        Act::Import(rows) => import(rings, hour, command, rows, limits),
     }
 }
 

@@ -7,6 +7,7 @@
 #![tactic(auto)]
 
 mod deciding;
+mod importing;
 pub mod laws;
 mod machine;
 

@@ -1,5 +1,7 @@
 pub mod Reading
 pub mod OneValue
+pub mod RowLists
+pub mod Floats
 pub mod Unique
 pub mod ReadBack
 pub mod Once

@@ -14,9 +14,10 @@ use Rattle.serde_json.proofs.Texts.{print-outline}
 use Rattle.serde_json.proofs.Numbers.{number_of-decimal}
 use Rattle.ring_model.specs.declared.command.Command.{Command}
 use Rattle.ring_model.specs.declared.command.Act.{Act}
-use Rattle.ring_model.specs.declared.command.Act.TheVariants.{Create, Add, SetWeight}
+use Rattle.ring_model.specs.declared.command.Act.TheVariants.{Create, Add, SetWeight, Remove, SetHours, PretendPassed, RaisePower, Import}
 use Rattle.ring_messages.specs.Proper.{IsProperAct, IsProperCommand}
 use Rattle.ring_messages.specs.Canonical.{act_data, command_data, canonical}
+use Rattle.ring_messages.proofs.RowLists.{rows_back, rows_low, rows_numbers}
 
 -- `read`, from what the grammar gives
 abbrev last_of : Option (json.Json × List Token) → Option Data
@@ -35,6 +36,11 @@ act_numbers : (ring : List ℕ) (a : Act) → IsProperAct a → HasNumbers (outl
 act_numbers ring (Create s) h = (tt, (IsNumber-decimal s.min_hours (short _ h.min_hours), (IsNumber-decimal s.power (omega (arith, h.power.1)), (IsNumber-decimal s.replicas (omega (arith, h.replicas.1)), (tt, tt)))))
 act_numbers ring (Add r) h = (tt, (tt, (tt, (IsNumber-decimal r.port (short _ h.port.1), (IsNumber-decimal r.region (short _ h.region), (tt, (tt, (IsNumber-decimal r.zone (short _ h.zone), tt))))))))
 act_numbers ring (SetWeight w) h = (tt, (IsNumber-decimal w.id (short _ h.id), (tt, (tt, tt))))
+act_numbers ring (Remove id) h = (tt, (IsNumber-decimal id (short _ h), (tt, tt)))
+act_numbers ring (SetHours hours) h = (tt, (IsNumber-decimal hours (short _ h), (tt, tt)))
+act_numbers ring PretendPassed h = (tt, (tt, tt))
+act_numbers ring RaisePower h = (tt, (tt, tt))
+act_numbers ring (Import rows) h = (tt, (tt, (rows_numbers rows h, tt)))
 
 act_back : (ring : List ℕ) (a : Act) → IsProperAct a → of_json (outline (act_data ring a)) ≡ Some (act_data ring a)
 act_back ring (Create s) h =
@@ -48,11 +54,21 @@ act_back ring (Add r) h =
     let c = number_of-decimal r.zone (short _ h.zone) in
     rw (a, b, c) refl
 act_back ring (SetWeight w) h = let a = number_of-decimal w.id (short _ h.id) in rw a refl
+act_back ring (Remove id) h = let a = number_of-decimal id (short _ h) in rw a refl
+act_back ring (SetHours hours) h = let a = number_of-decimal hours (short _ h) in rw a refl
+act_back ring PretendPassed h = refl
+act_back ring RaisePower h = refl
+act_back ring (Import rows) h = let a = rows_back rows h in rw a refl
 
 act_low : (ring : List ℕ) (a : Act) → depth (outline (act_data ring a)) ≤ max_depth
 act_low ring (Create s) = omega arith
 act_low ring (Add r) = omega arith
 act_low ring (SetWeight w) = omega arith
+act_low ring (Remove id) = omega arith
+act_low ring (SetHours hours) = omega arith
+act_low ring PretendPassed = omega arith
+act_low ring RaisePower = omega arith
+act_low ring (Import rows) = let low = rows_low rows in omega (arith, low)
 
 pub read-canonical : (c : Command) → IsProperCommand c → read (canonical c) ≡ Some (command_data c)
 read-canonical c h = reads_compact (command_data c) (act_numbers c.ring c.act h.act) (act_back c.ring c.act h.act) (act_low c.ring c.act)

@@ -3,22 +3,19 @@ use Rattle.std.proofs.Common.{◌≡◌, ℕ, ◌+◌, List, Some, codes, refl, 
 use Rattle.serde_json.specs.Data.{Data, string}
 use Rattle.serde_json.specs.Find.{get}
 use Rattle.ring_model.specs.declared.request.Key.{Key}
-use Rattle.ring_model.specs.declared.device.Row.{Row}
 use Rattle.ring_model.specs.declared.command.NewRing.{NewRing}
 use Rattle.ring_model.specs.declared.command.NewWeight.{NewWeight}
 use Rattle.ring_model.specs.declared.command.Command.{Command}
 use Rattle.ring_model.specs.declared.command.Act.{Act}
-use Rattle.ring_model.specs.declared.command.Act.TheVariants.{Create, Add, SetWeight}
-use Rattle.ring_messages.specs.Message.{IsNewRing, IsRow, IsNewWeight, IsAct, IsCommand, IsDelivery, word_of, members_count, fields_count}
+use Rattle.ring_model.specs.declared.command.Act.TheVariants.{Create, Add, SetWeight, Remove, SetHours, PretendPassed, RaisePower, Import}
+use Rattle.ring_messages.specs.Message.{IsNewRing, IsNewWeight, IsAct, IsCommand, IsDelivery, word_of, members_count, fields_count}
 use Rattle.ring_messages.specs.Proper.{IsProperAct, IsProperCommand}
 use Rattle.ring_messages.specs.Canonical.{act_data, command_data}
-use Rattle.ring_messages.proofs.OneValue.{apart, same_number_read, same_name, same_weight, same_address}
+use Rattle.ring_messages.proofs.OneValue.{apart, same_number_read, same_name, same_weight}
+use Rattle.ring_messages.proofs.RowLists.{same_row, same_rows, row_is, rows_are, row_proper, rows_proper}
 
 abbrev new_ring : ℕ → ℕ → ℕ → NewRing
 new_ring p r m = record { power = p; replicas = r; min_hours = m }
-
-abbrev row : ℕ → ℕ → ℕ → ℕ → List ℕ → ℕ → Row
-row r z a p n w = record { region = r; zone = z; address = a; port = p; name = n; weight = w }
 
 abbrev new_weight : ℕ → ℕ → NewWeight
 new_weight i w = record { id = i; weight = w }
@@ -26,28 +23,24 @@ new_weight i w = record { id = i; weight = w }
 equal_new_rings : (s t : NewRing) → s.power ≡ t.power → s.replicas ≡ t.replicas → s.min_hours ≡ t.min_hours → s ≡ t
 equal_new_rings s t a b c = ap (λ (x : ℕ). new_ring x s.replicas s.min_hours) a ∙ ap (λ (x : ℕ). new_ring t.power x s.min_hours) b ∙ ap (λ (x : ℕ). new_ring t.power t.replicas x) c
 
-equal_rows : (r q : Row) → r.region ≡ q.region → r.zone ≡ q.zone → r.address ≡ q.address → r.port ≡ q.port → r.name ≡ q.name → r.weight ≡ q.weight → r ≡ q
-equal_rows r q a b c d e f = ap (λ (x : ℕ). row x r.zone r.address r.port r.name r.weight) a ∙ ap (λ (x : ℕ). row q.region x r.address r.port r.name r.weight) b
-    ∙ ap (λ (x : ℕ). row q.region q.zone x r.port r.name r.weight) c ∙ ap (λ (x : ℕ). row q.region q.zone q.address x r.name r.weight) d
-    ∙ ap (λ (x : List ℕ). row q.region q.zone q.address q.port x r.weight) e ∙ ap (λ (x : ℕ). row q.region q.zone q.address q.port q.name x) f
-
 equal_new_weights : (w v : NewWeight) → w.id ≡ v.id → w.weight ≡ v.weight → w ≡ v
 equal_new_weights w v a b = ap (λ (x : ℕ). new_weight x w.weight) a ∙ ap (λ (x : ℕ). new_weight v.id x) b
 
 same_new_ring : (d : Data) (s t : NewRing) → IsNewRing d s → IsNewRing d t → s ≡ t
 same_new_ring d s t h k = equal_new_rings s t (same_number_read _ _ _ _ _ h.power k.power) (same_number_read _ _ _ _ _ h.replicas k.replicas) (same_number_read _ _ _ _ _ h.min_hours k.min_hours)
 
-same_row : (d : Data) (r q : Row) → IsRow d r → IsRow d q → r ≡ q
-same_row d r q h k = equal_rows r q (same_number_read _ _ _ _ _ h.region k.region) (same_number_read _ _ _ _ _ h.zone k.zone) (same_address _ _ _ h.address k.address)
-    (same_number_read _ _ _ _ _ h.port k.port) (same_name _ _ _ _ h.name k.name) (same_weight _ _ _ h.weight k.weight)
-
 same_new_weight : (d : Data) (w v : NewWeight) → IsNewWeight d w → IsNewWeight d v → w ≡ v
 same_new_weight d w v h k = equal_new_weights w v (same_number_read _ _ _ _ _ h.id k.id) (same_weight _ _ _ h.weight k.weight)
 
 same_act : (d : Data) (a b : Act) → IsAct d a → IsAct d b → a ≡ b
 same_act d (Create s) (Create t) h k = ap Create (same_new_ring d s t h.fields k.fields)
-same_act d (Add r) (Add q) h k = ap Add (same_row d r q h.fields k.fields)
+same_act d (Add r) (Add q) h k = ap Add (same_row _ _ _ _ _ _ r q h.fields k.fields)
 same_act d (SetWeight w) (SetWeight v) h k = ap SetWeight (same_new_weight d w v h.fields k.fields)
+same_act d (Remove i) (Remove j) h k = ap Remove (same_number_read _ _ _ _ _ h.fields k.fields)
+same_act d (SetHours m) (SetHours n) h k = ap SetHours (same_number_read _ _ _ _ _ h.fields k.fields)
+same_act d PretendPassed PretendPassed h k = refl
+same_act d RaisePower RaisePower h k = refl
+same_act d (Import rs) (Import qs) h k = ap Import (same_rows _ rs qs h.fields k.fields)
 same_act d a b h k = absurd (apart (word_of a) (word_of b) refl (sym h.word ∙ k.word))
 
 abbrev command : List ℕ → Act → Command
@@ -75,17 +68,7 @@ act_is ring (Create s) h = record {
     min_hours = record { is = refl; above = omega arith; below = omega (arith, h.min_hours) };
   };
 }
-act_is ring (Add r) h = record {
-  word = refl;
-  fields = record {
-    region = record { is = refl; above = omega arith; below = omega (arith, h.region) };
-    zone = record { is = refl; above = omega arith; below = omega (arith, h.zone) };
-    address = record { is = refl; valid = h.address };
-    port = record { is = refl; above = h.port.0; below = omega (arith, h.port.1) };
-    name = record { is = refl; valid = h.name };
-    weight = record { is = refl; valid = h.weight };
-  };
-}
+act_is ring (Add r) h = record { word = refl; fields = row_is r h }
 act_is ring (SetWeight w) h = record {
   word = refl;
   fields = record {
@@ -93,16 +76,31 @@ act_is ring (SetWeight w) h = record {
     weight = record { is = refl; valid = h.weight };
   };
 }
+act_is ring (Remove id) h = record { word = refl; fields = record { is = refl; above = omega arith; below = omega arith } }
+act_is ring (SetHours hours) h = record { word = refl; fields = record { is = refl; above = omega arith; below = omega arith } }
+act_is ring PretendPassed h = record { word = refl; fields = tt }
+act_is ring RaisePower h = record { word = refl; fields = tt }
+act_is ring (Import rows) h = record { word = refl; fields = rows_are rows h }
 
 ring_is : (ring : List ℕ) (a : Act) → get (codes "ring") (act_data ring a) ≡ Some (string ring)
 ring_is ring (Create s) = refl
 ring_is ring (Add r) = refl
 ring_is ring (SetWeight w) = refl
+ring_is ring (Remove id) = refl
+ring_is ring (SetHours hours) = refl
+ring_is ring PretendPassed = refl
+ring_is ring RaisePower = refl
+ring_is ring (Import rows) = refl
 
 count_is : (ring : List ℕ) (a : Act) → members_count (act_data ring a) ≡ 0 + (2 + fields_count a)
 count_is ring (Create s) = refl
 count_is ring (Add r) = refl
 count_is ring (SetWeight w) = refl
+count_is ring (Remove id) = refl
+count_is ring (SetHours hours) = refl
+count_is ring PretendPassed = refl
+count_is ring RaisePower = refl
+count_is ring (Import rows) = refl
 
 pub is_command : (c : Command) → IsProperCommand c → IsCommand 0 (command_data c) c
 is_command c h = record { ring = record { is = ring_is c.ring c.act; valid = h.ring }; act = act_is c.ring c.act h.act; count = count_is c.ring c.act }
@@ -111,15 +109,13 @@ is_command c h = record { ring = record { is = ring_is c.ring c.act; valid = h.r
 
 act_proper : (d : Data) (a : Act) → IsAct d a → IsProperAct a
 act_proper d (Create s) h = let f = h.fields in record { power = (f.power.above, f.power.below); replicas = (f.replicas.above, f.replicas.below); min_hours = omega (arith, f.min_hours.below) }
-act_proper d (Add r) h = let f = h.fields in record {
-  region = omega (arith, f.region.below);
-  zone = omega (arith, f.zone.below);
-  address = f.address.valid;
-  port = (f.port.above, omega (arith, f.port.below));
-  name = f.name.valid;
-  weight = f.weight.valid;
-}
+act_proper d (Add r) h = row_proper _ _ _ _ _ _ r h.fields
 act_proper d (SetWeight w) h = let f = h.fields in record { id = omega (arith, f.id.below); weight = f.weight.valid }
+act_proper d (Remove id) h = omega (arith, h.fields.below)
+act_proper d (SetHours hours) h = omega (arith, h.fields.below)
+act_proper d PretendPassed h = tt
+act_proper d RaisePower h = tt
+act_proper d (Import rows) h = rows_proper _ rows h.fields
 
 pub command_proper : (m : ℕ) (d : Data) (c : Command) → IsCommand m d c → IsProperCommand c
 command_proper m d c h = record { ring = h.ring.valid; act = act_proper d c.act h.act }

@@ -1,6 +1,7 @@
 -- The one text of a command: compact JSON, its keys in byte order.
-use Rattle.std.specs.Prelude.{ℕ, List, codes}
-use Rattle.serde_json.specs.Data.{Data, number, unsigned, string, object, no_members, member}
+use Rattle.std.specs.Prelude.{ℕ, List, codes, map}
+use Rattle.serde_json.specs.Data.{Data, number, unsigned, string, array, item, no_items, object, no_members, member}
+use Rattle.serde_json.specs.View.{items_of}
 use Rattle.serde_json.specs.Written.{compact_text}
 use Rattle.ring_model.specs.Texts.{address_text, hundredths_text}
 use Rattle.ring_model.specs.declared.device.Row.{Row}
@@ -8,7 +9,7 @@ use Rattle.ring_model.specs.declared.command.NewRing.{NewRing}
 use Rattle.ring_model.specs.declared.command.NewWeight.{NewWeight}
 use Rattle.ring_model.specs.declared.command.Command.{Command}
 use Rattle.ring_model.specs.declared.command.Act.{Act}
-use Rattle.ring_model.specs.declared.command.Act.TheVariants.{Create, Add, SetWeight}
+use Rattle.ring_model.specs.declared.command.Act.TheVariants.{Create, Add, SetWeight, Remove, SetHours, PretendPassed, RaisePower, Import}
 
 -- A whole number.
 abbrev pub whole : ℕ → Data
@@ -30,11 +31,38 @@ abbrev pub set_weight_data : List ℕ → NewWeight → Data
 set_weight_data ring w = object (member (codes "do") (string (codes "set_weight")) (member (codes "id") (whole w.id) (member (codes "ring") (string ring)
     (member (codes "weight") (string (hundredths_text w.weight)) no_members))))
 
+-- The members of the command that marks a device to be removed.
+abbrev pub remove_data : List ℕ → ℕ → Data
+remove_data ring id = object (member (codes "do") (string (codes "remove")) (member (codes "id") (whole id) (member (codes "ring") (string ring) no_members)))
+
+-- The members of the command that sets the hours of a move.
+abbrev pub set_hours_data : List ℕ → ℕ → Data
+set_hours_data ring hours = object (member (codes "do") (string (codes "set_hours")) (member (codes "min_hours") (whole hours) (member (codes "ring") (string ring) no_members)))
+
+-- The members of a command that has no further ones.
+abbrev pub plain_data : List ℕ → List ℕ → Data
+plain_data word ring = object (member (codes "do") (string word) (member (codes "ring") (string ring) no_members))
+
+-- A row of an import: region, zone, address, port, name and weight.
+abbrev pub row_data : Row → Data
+row_data r = array (item (whole r.region) (item (whole r.zone) (item (string (address_text r.address)) (item (whole r.port) (item (string r.name)
+    (item (string (hundredths_text r.weight)) no_items))))))
+
+-- The members of the command that imports these rows.
+abbrev pub import_data : List ℕ → List Row → Data
+import_data ring rows = object (member (codes "do") (string (codes "import")) (member (codes "ring") (string ring)
+    (member (codes "rows") (array (items_of (map row_data rows))) no_members)))
+
 -- The members of the command that does this to this ring.
 abbrev pub act_data : List ℕ → Act → Data
 act_data ring (Create n) = create_data ring n
 act_data ring (Add r) = add_data ring r
 act_data ring (SetWeight w) = set_weight_data ring w
+act_data ring (Remove id) = remove_data ring id
+act_data ring (SetHours hours) = set_hours_data ring hours
+act_data ring PretendPassed = plain_data (codes "pretend_passed") ring
+act_data ring RaisePower = plain_data (codes "raise_power") ring
+act_data ring (Import rows) = import_data ring rows
 
 -- The members of a message of this command, without the key's.
 abbrev pub command_data : Command → Data

@@ -1,14 +1,17 @@
 -- What holds of each command and each reply that there is: names are of their form, and numbers within their bounds.
 use Rattle.std.specs.Prelude.{◌<◌, ◌≤◌, ◌^◌, IsTrue, ⊤}
+use Rattle.std.specs.List.{AllByRecursion}
 use Rattle.ring_model.specs.Texts.{is_label, is_device_name, greatest_weight, address_limit}
 use Rattle.ring_model.specs.declared.device.Row.{Row}
 use Rattle.ring_model.specs.declared.command.NewRing.{NewRing}
 use Rattle.ring_model.specs.declared.command.NewWeight.{NewWeight}
 use Rattle.ring_model.specs.declared.command.Command.{Command}
 use Rattle.ring_model.specs.declared.command.Act.{Act}
-use Rattle.ring_model.specs.declared.command.Act.TheVariants.{Create, Add, SetWeight}
+use Rattle.ring_model.specs.declared.command.Act.TheVariants.{Create, Add, SetWeight, Remove, SetHours, PretendPassed, RaisePower, Import}
 use Rattle.ring_model.specs.declared.command.Done.{Done}
 use Rattle.ring_model.specs.declared.command.Done.TheVariants as done
+use Rattle.ring_model.specs.declared.command.Refusal.{Refusal}
+use Rattle.ring_model.specs.declared.command.Refusal.TheVariants.{RowRefused}
 use Rattle.ring_model.specs.declared.command.Reply.{Reply}
 use Rattle.ring_model.specs.declared.command.Reply.TheVariants as reply
 
@@ -37,19 +40,34 @@ abbrev pub IsProperAct : Act → Type 0
 IsProperAct (Create n) = IsProperNewRing n
 IsProperAct (Add r) = IsProperRow r
 IsProperAct (SetWeight w) = IsProperNewWeight w
+IsProperAct (Remove id) = id < 2 ^ 16
+IsProperAct (SetHours hours) = hours < 2 ^ 16
+IsProperAct PretendPassed = ⊤
+IsProperAct RaisePower = ⊤
+IsProperAct (Import rows) = AllByRecursion IsProperRow rows
 
 -- The ring has a ring's name, and the fields are such as there are.
 pub record IsProperCommand (c : Command) : Type 0 where
   pub ring : IsTrue (is_label c.ring)
   pub act : IsProperAct c.act
 
--- Numbers of devices have 16 bits, and versions 32.
+-- Numbers of devices have 16 bits, versions 32, and counts of rows 64.
 abbrev pub IsProperDone : Done → Type 0
 IsProperDone (done.Create v) = v < 2 ^ 32
 IsProperDone (done.Add i v) = (i < 2 ^ 16) × (v < 2 ^ 32)
 IsProperDone (done.SetWeight v) = v < 2 ^ 32
+IsProperDone (done.Remove v) = v < 2 ^ 32
+IsProperDone (done.SetHours v) = v < 2 ^ 32
+IsProperDone (done.PretendPassed v) = v < 2 ^ 32
+IsProperDone (done.RaisePower v) = v < 2 ^ 32
+IsProperDone (done.Import a r v) = (a < 2 ^ 64) × ((r < 2 ^ 64) × (v < 2 ^ 32))
 
--- What was done has numbers such as there are.
+-- The number of a row has 64 bits.
+abbrev pub IsProperRefusal : Refusal → Type 0
+IsProperRefusal (RowRefused row cause) = row < 2 ^ 64
+IsProperRefusal other = ⊤
+
+-- What was done, or why it wasn't, has numbers such as there are.
 abbrev pub IsProperReply : Reply → Type 0
 IsProperReply (reply.Done d) = IsProperDone d
-IsProperReply (reply.Refused r) = ⊤
+IsProperReply (reply.Refused r) = IsProperRefusal r

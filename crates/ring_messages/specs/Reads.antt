@@ -1,6 +1,9 @@
 -- What a reader of a part of a message answers, and the parts that are found under a key.
-use Rattle.std.specs.Prelude.{◌≡◌, ℕ, ◌<◌, ◌≤◌, List, Bool, Option, Some, Result, Ok, Err, ⊤, IsTrue}
+use Rattle.std.specs.Prelude.{◌≡◌, ℕ, ◌<◌, ◌≤◌, List, Bool, Option, Some, Result, Ok, Err, ⊤, IsTrue, option_map}
+use Rattle.std.specs.Borrow.{Bor}
 use Rattle.serde_json.specs.Data.{Data, number, unsigned, string}
+use Rattle.serde_json.specs.View.{view}
+use Rattle.serde_json.specs.declared.value.Value.{Value}
 use Rattle.ring_model.specs.Texts.{address_text, address_limit, hundredths_text, greatest_weight}
 use Rattle.ring_messages.specs.declared.fault.MessageFault.{MessageFault}
 use Rattle.ring_messages.specs.declared.fault.MessageFault.TheVariants.{Unreadable, NoMemory}
@@ -17,6 +20,10 @@ abbrev pub ReadsAs : {X Y : Type 0} → (X → Y) → (Y → Type 0) → Result 
 ReadsAs view Is (Ok x) = Is (view x)
 ReadsAs {Y = Y} view Is (Err Unreadable) = (y : Y) → Is y → ⊥
 ReadsAs view Is (Err NoMemory) = ⊤
+
+-- What is seen of a value that may stand there.
+abbrev pub seen : Option (Bor Value) → Option Data
+seen found = option_map (λ v. view v.now) found
 
 -- This whole number stands there, and is within these bounds.
 pub record IsNumber (found : Option Data) (least most n : ℕ) : Type 0 where

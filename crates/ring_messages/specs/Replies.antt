@@ -3,9 +3,11 @@ use Rattle.std.specs.Prelude.{ℕ, List, codes}
 use Rattle.serde_json.specs.Data.{Data, string, object, no_members, member}
 use Rattle.serde_json.specs.Written.{compact_text}
 use Rattle.ring_model.specs.declared.command.Done.{Done}
-use Rattle.ring_model.specs.declared.command.Done.TheVariants.{Create, Add, SetWeight}
+use Rattle.ring_model.specs.declared.command.Done.TheVariants.{Create, Add, SetWeight, Remove, SetHours, PretendPassed, RaisePower, Import}
 use Rattle.ring_model.specs.declared.command.Refusal.{Refusal}
-use Rattle.ring_model.specs.declared.command.Refusal.TheVariants.{NoRing, RingExists, TooManyRings, NoDevice, DeviceExists, DeviceRemoved, TooManyDevices, IdsUsedUp}
+use Rattle.ring_model.specs.declared.command.Refusal.TheVariants.{NoRing, RingExists, TooManyRings, NoDevice, DeviceExists, DeviceRemoved, TooManyDevices, IdsUsedUp, RowRefused, PowerLimit}
+use Rattle.ring_model.specs.declared.command.RowCause.{RowCause}
+use Rattle.ring_model.specs.declared.command.RowCause.TheVariants as cause
 use Rattle.ring_model.specs.declared.command.Reply.{Reply}
 use Rattle.ring_model.specs.declared.command.Reply.TheVariants as reply
 use Rattle.ring_messages.specs.Canonical.{whole}
@@ -21,6 +23,12 @@ abbrev pub done_data : Done → Data
 done_data (Create version) = version_data (codes "create") version
 done_data (Add id version) = object (member (codes "done") (string (codes "add")) (member (codes "id") (whole id) (member (codes "version") (whole version) no_members)))
 done_data (SetWeight version) = version_data (codes "set_weight") version
+done_data (Remove version) = version_data (codes "remove") version
+done_data (SetHours version) = version_data (codes "set_hours") version
+done_data (PretendPassed version) = version_data (codes "pretend_passed") version
+done_data (RaisePower version) = version_data (codes "raise_power") version
+done_data (Import added reweighted version) = object (member (codes "added") (whole added) (member (codes "done") (string (codes "import"))
+    (member (codes "reweighted") (whole reweighted) (member (codes "version") (whole version) no_members))))
 
 -- What a refusal is called.
 abbrev pub refusal_name : Refusal → List ℕ
@@ -32,6 +40,8 @@ refusal_name DeviceExists = codes "DeviceExists"
 refusal_name DeviceRemoved = codes "DeviceRemoved"
 refusal_name TooManyDevices = codes "TooManyDevices"
 refusal_name IdsUsedUp = codes "IdsUsedUp"
+refusal_name (RowRefused row why) = codes "RowRefused"
+refusal_name PowerLimit = codes "PowerLimit"
 
 -- The number of the rule that a refusal is by.
 abbrev pub refusal_rule : Refusal → ℕ
@@ -43,15 +53,34 @@ refusal_rule DeviceExists = 5
 refusal_rule DeviceRemoved = 6
 refusal_rule TooManyDevices = 7
 refusal_rule IdsUsedUp = 8
+refusal_rule (RowRefused row why) = 13
+refusal_rule PowerLimit = 14
+
+-- The number of the rule that a row is refused by.
+abbrev pub cause_rule : RowCause → ℕ
+cause_rule cause.DeviceRemoved = 6
+cause_rule cause.TooManyDevices = 7
+cause_rule cause.IdsUsedUp = 8
+cause_rule cause.TierDiffers = 12
 
 -- What is written of a refusal with this name, by this rule.
 abbrev pub refused_data : List ℕ → ℕ → Data
 refused_data name rule = object (member (codes "refused") (string name) (member (codes "rule") (whole rule) no_members))
 
+-- What is written of the refusal of a row by this rule.
+abbrev pub row_refused_data : ℕ → ℕ → Data
+row_refused_data row rule = object (member (codes "cause") (whole rule) (member (codes "refused") (string (codes "RowRefused")) (member (codes "row") (whole row)
+    (member (codes "rule") (whole 13) no_members))))
+
+-- What is written of a refusal.
+abbrev pub refusal_data : Refusal → Data
+refusal_data (RowRefused row why) = row_refused_data row (cause_rule why)
+refusal_data other = refused_data (refusal_name other) (refusal_rule other)
+
 -- What is written of a reply.
 abbrev pub reply_data : Reply → Data
 reply_data (reply.Done d) = done_data d
-reply_data (reply.Refused r) = refused_data (refusal_name r) (refusal_rule r)
+reply_data (reply.Refused r) = refusal_data r
 
 -- The text of a reply.
 abbrev pub reply_text : Reply → List ℕ

@@ -1,16 +1,16 @@
 //! What follows of messages and texts, and what is known of every command and reply.
-ghost use Rattle.std.specs.Prelude.{◌≡◌, ◌≢◌, ℕ, List, codes};
+ghost use Rattle.std.specs.Prelude.{◌≡◌, ◌≢◌, ℕ, All, List, codes};
 ghost use Rattle.serde_json.specs.Data.{Data};
 ghost use Rattle.serde_json.specs.Find.{get};
 ghost use Rattle.ring_model.specs.declared.command.Command.{Command};
 ghost use Rattle.ring_model.specs.declared.command.Reply.{Reply};
 ghost use Rattle.ring_model.specs.declared.request.Key.{Key};
 ghost use Rattle.ring_messages.specs.Message.{IsDelivery, IsMessage};
-ghost use Rattle.ring_messages.specs.Proper.{IsProperNewRing, IsProperRow, IsProperNewWeight, IsProperAct, IsProperCommand, IsProperReply};
+ghost use Rattle.ring_messages.specs.Proper.{IsProperNewRing, IsProperRow, IsProperNewWeight, IsProperAct, IsProperCommand, IsProperDone, IsProperRefusal, IsProperReply};
 ghost use Rattle.ring_messages.specs.Canonical.{canonical, command_data};
 ghost use Rattle.ring_messages.specs.Replies.{reply_text};
 
-use ring_model::{Act, Command, Done, NewRing, NewWeight, Reply, Row};
+use ring_model::{Act, Command, Done, NewRing, NewWeight, Refusal, Reply, Row};
 
 /// Commands with one text are one command.
 pub fn one_text()
@@ -61,6 +61,15 @@ fn new_weight_is_proper(to: &NewWeight)
     let _weight = to.weight.hundredths();
 }
 
+fn rows_are_proper(rows: &[Row])
+    ensures { All IsProperRow rows.now }
+{
+    for row in rows {
+        row_is_proper(row);
+    }
+}
+
+#[tactic(auto, using(crate::proofs::RowLists::all_by_recursion))]
 fn act_is_proper(act: &Act)
     ensures { IsProperAct act.now }
 {
@@ -68,6 +77,11 @@ fn act_is_proper(act: &Act)
         Act::Create(new) => new_ring_is_proper(new),
         Act::Add(row) => row_is_proper(row),
         Act::SetWeight(to) => new_weight_is_proper(to),
+        Act::Remove(number) | Act::SetHours(number) => {
+            let _number = *number;
+        }
+        Act::PretendPassed | Act::RaisePower => {}
+        Act::Import(rows) => rows_are_proper(rows.as_slice()),
     }
 }
 
@@ -80,21 +94,48 @@ pub fn command_is_proper(command: &Command)
     act_is_proper(&command.act);
 }
 
+fn done_is_proper(done: &Done)
+    ensures { IsProperDone done.now }
+{
+    match *done {
+        Done::Create { version } | Done::SetWeight { version } | Done::Remove { version } => {
+            let _version = version;
+        }
+        Done::SetHours { version }
+        | Done::PretendPassed { version }
+        | Done::RaisePower { version } => {
+            let _version = version;
+        }
+        Done::Add { id, version } => {
+            let _id = id;
+            let _version = version;
+        }
+        Done::Import {
+            added,
+            reweighted,
+            version,
+        } => {
+            let _added = added;
+            let _reweighted = reweighted;
+            let _version = version;
+        }
+    }
+}
+
+fn refusal_is_proper(refusal: &Refusal)
+    ensures { IsProperRefusal refusal.now }
+{
+    if let Refusal::RowRefused { row, .. } = *refusal {
+        let _row = row;
+    }
+}
+
 /// Every reply is proper: its numbers are within their bounds.
 pub fn reply_is_proper(reply: &Reply)
     ensures { IsProperReply reply.now }
 {
     match reply {
-        Reply::Done(Done::Create { version }) => {
-            let _version = *version;
-        }
-        Reply::Done(Done::Add { id, version }) => {
-            let _id = *id;
-            let _version = *version;
-        }
-        Reply::Done(Done::SetWeight { version }) => {
-            let _version = *version;
-        }
-        Reply::Refused(_) => {}
+        Reply::Done(done) => done_is_proper(done),
+        Reply::Refused(refusal) => refusal_is_proper(refusal),
     }
 }

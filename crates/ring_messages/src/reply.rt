@@ -1,15 +1,17 @@
 //! The one text of a reply, and back.
-ghost use Rattle.std.specs.Prelude.{◌≡◌, IfOk, IfSome, IfNone, string_bytes};
+ghost use Rattle.std.specs.Prelude.{◌≡◌, ◌≢◌, IfOk, IfSome, IfNone, Some, codes, string_bytes};
+ghost use Rattle.serde_json.specs.Find.{get};
 ghost use Rattle.serde_json.specs.View.{view};
 ghost use Rattle.ring_model.specs.declared.command.Refusal.{Refusal};
+ghost use Rattle.ring_model.specs.declared.command.RowCause.{RowCause};
 ghost use Rattle.ring_messages.specs.Reads.{Reads};
 ghost use Rattle.ring_messages.specs.Proper.{IsProperReply};
-ghost use Rattle.ring_messages.specs.Replies.{version_data, done_data, refusal_name, refusal_rule, refused_data, reply_data, reply_text};
-ghost use Rattle.ring_messages.specs.Says.{SaysDone, SaysReply};
+ghost use Rattle.ring_messages.specs.Replies.{version_data, done_data, cause_rule, refusal_rule, refused_data, refusal_data, row_refused_data, reply_data, reply_text};
+ghost use Rattle.ring_messages.specs.Says.{SaysDone, SaysRefusal, SaysReply, SaysWhy};
 
 use crate::fault::MessageFault;
-use crate::parts::{number16, number32, value_of};
-use ring_model::{DeviceId, Done, Refusal, Reply};
+use crate::parts::{number, number16, number32, value_of};
+use ring_model::{DeviceId, Done, Refusal, Reply, RowCause};
 use serde_json::{Value, json};
 use std::alloc::{AllocError, Global};
 
@@ -25,6 +27,17 @@ fn added_value(alloc: Global, id: DeviceId, version: u32) -> Result<Value, Alloc
     json!(in alloc; {"done": "add", "id": id, "version": version})
 }
 
+fn imported_value(
+    alloc: Global,
+    added: u64,
+    reweighted: u64,
+    version: u32,
+) -> Result<Value, AllocError>
+    ensures { IfOk result (λ v. view v ≡ done_data (Done.Import added reweighted version)) }
+{
+    json!(in alloc; {"added": added, "done": "import", "reweighted": reweighted, "version": version})
+}
+
 fn done_value(alloc: Global, done: Done) -> Result<Value, AllocError>
     ensures { IfOk result (λ v. view v ≡ done_data done) }
 {
@@ -32,6 +45,15 @@ fn done_value(alloc: Global, done: Done) -> Result<Value, AllocError>
         Done::Create { version } => version_value(alloc, "create", version),
         Done::Add { id, version } => added_value(alloc, id, version),
         Done::SetWeight { version } => version_value(alloc, "set_weight", version),
+        Done::Remove { version } => version_value(alloc, "remove", version),
+        Done::SetHours { version } => version_value(alloc, "set_hours", version),
+        Done::PretendPassed { version } => version_value(alloc, "pretend_passed", version),
+        Done::RaisePower { version } => version_value(alloc, "raise_power", version),
+        Done::Import {
+            added,
+            reweighted,
+            version,
+        } => imported_value(alloc, added, reweighted, version),
     }
 }
 
@@ -41,8 +63,25 @@ pub(crate) fn refused_value(alloc: Global, name: &str, rule: u8) -> Result<Value
     json!(in alloc; {"refused": name, "rule": rule})
 }
 
+fn cause_rule(cause: RowCause) -> u8
+    ensures { result ≡ cause_rule cause }
+{
+    match cause {
+        RowCause::DeviceRemoved => 6,
+        RowCause::TooManyDevices => 7,
+        RowCause::IdsUsedUp => 8,
+        RowCause::TierDiffers => 12,
+    }
+}
+
+fn row_refused_value(alloc: Global, row: u64, rule: u8) -> Result<Value, AllocError>
+    ensures { IfOk result (λ v. view v ≡ row_refused_data row rule) }
+{
+    json!(in alloc; {"cause": rule, "refused": "RowRefused", "row": row, "rule": 13})
+}
+
 fn refusal_value(alloc: Global, refusal: Refusal) -> Result<Value, AllocError>
-    ensures { IfOk result (λ v. view v ≡ refused_data (refusal_name refusal) (refusal_rule refusal)) }
+    ensures { IfOk result (λ v. view v ≡ refusal_data refusal) }
 {
     match refusal {
         Refusal::NoRing => refused_value(alloc, "NoRing", 1),
@@ -53,6 +92,8 @@ fn refusal_value(alloc: Global, refusal: Refusal) -> Result<Value, AllocError>
         Refusal::DeviceRemoved => refused_value(alloc, "DeviceRemoved", 6),
         Refusal::TooManyDevices => refused_value(alloc, "TooManyDevices", 7),
         Refusal::IdsUsedUp => refused_value(alloc, "IdsUsedUp", 8),
+        Refusal::RowRefused { row, cause } => row_refused_value(alloc, row, cause_rule(cause)),
+        Refusal::PowerLimit => refused_value(alloc, "PowerLimit", 14),
     }
 }
 
@@ -83,13 +124,27 @@ fn done(value: &Value) -> Result<Done, MessageFault>
             Ok(Done::Add { id, version })
         }
         Some("set_weight") => Ok(Done::SetWeight { version }),
+        Some("remove") => Ok(Done::Remove { version }),
+        Some("set_hours") => Ok(Done::SetHours { version }),
+        Some("pretend_passed") => Ok(Done::PretendPassed { version }),
+        Some("raise_power") => Ok(Done::RaisePower { version }),
+        Some("import") => {
+            let added = number(value.get("added"), u64::MAX)?;
+            let reweighted = number(value.get("reweighted"), u64::MAX)?;
+            Ok(Done::Import {
+                added,
+                reweighted,
+                version,
+            })
+        }
         _ => Err(MessageFault::Unreadable),
     }
 }
 
+/// The refusal by a rule that says no more than its number.
 fn refusal_by(rule: u64) -> Option<Refusal>
-    ensures found { IfSome result (λ r. refusal_rule r ≡ rule) }
-    ensures none { IfNone result ((r : Refusal) → refusal_rule r ≡ rule → ⊥) }
+    ensures found { IfSome result (λ r. (refusal_rule r ≡ rule) × (rule ≢ 13)) }
+    ensures none { IfNone result ((r : Refusal) → refusal_rule r ≡ rule → rule ≡ 13) }
 {
     match rule {
         1 => Some(Refusal::NoRing),
@@ -100,19 +155,57 @@ fn refusal_by(rule: u64) -> Option<Refusal>
         6 => Some(Refusal::DeviceRemoved),
         7 => Some(Refusal::TooManyDevices),
         8 => Some(Refusal::IdsUsedUp),
+        14 => Some(Refusal::PowerLimit),
         _ => None,
+    }
+}
+
+fn cause_by(rule: u64) -> Option<RowCause>
+    ensures found { IfSome result (λ cause. cause_rule cause ≡ rule) }
+    ensures none { IfNone result ((cause : RowCause) → cause_rule cause ≡ rule → ⊥) }
+{
+    match rule {
+        6 => Some(RowCause::DeviceRemoved),
+        7 => Some(RowCause::TooManyDevices),
+        8 => Some(RowCause::IdsUsedUp),
+        12 => Some(RowCause::TierDiffers),
+        _ => None,
+    }
+}
+
+/// The refusal of a row.
+fn row_refusal(value: &Value) -> Result<Refusal, MessageFault>
+    ensures { Reads (λ r. SaysWhy (view value.now) r × (refusal_rule r ≡ 13)) result }
+{
+    let row = number(value.get("row"), u64::MAX)?;
+    match value
+        .get("cause")
+        .and_then(Value::as_u64)
+        .and_then(cause_by)
+    {
+        Some(cause) => Ok(Refusal::RowRefused { row, cause }),
+        None => Err(MessageFault::Unreadable),
+    }
+}
+
+/// The refusal of an object that has this under the key `rule`.
+fn refusal(value: &Value, rule: &Value) -> Result<Refusal, MessageFault>
+    requires { get (codes "rule") (view value.now) ≡ Some (view rule.now) }
+    ensures { Reads (SaysRefusal (view value.now)) result }
+{
+    match rule.as_u64() {
+        Some(13) => row_refusal(value),
+        Some(rule) => refusal_by(rule).ok_or(MessageFault::Unreadable),
+        None => Err(MessageFault::Unreadable),
     }
 }
 
 fn reply(value: &Value) -> Result<Reply, MessageFault>
     ensures { Reads (SaysReply (view value.now)) result }
 {
-    let Some(rule) = value.get("rule") else {
-        return Ok(Reply::Done(done(value)?));
-    };
-    match rule.as_u64().and_then(refusal_by) {
-        Some(refusal) => Ok(Reply::Refused(refusal)),
-        None => Err(MessageFault::Unreadable),
+    match value.get("rule") {
+        Some(rule) => Ok(Reply::Refused(refusal(value, rule)?)),
+        None => Ok(Reply::Done(done(value)?)),
     }
 }
 

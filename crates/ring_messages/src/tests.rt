@@ -3,7 +3,7 @@ use crate::{
     MessageFault, NO_MEMORY_TEXT, Told, command_text, no_memory, read_command, read_delivery,
     read_reply, reply_text, status_of, told_text,
 };
-use ring_model::{Done, Refusal, Reply};
+use ring_model::{Done, Refusal, Reply, RowCause};
 use serde_json::Value;
 use std::alloc::{AllocError, Global};
 use std::test::Fail;
@@ -317,5 +317,129 @@ fn faults_of_paths_and_tables_have_a_text_and_a_status(rt: HostRuntime) -> Resul
     let field = Told::BadField { row: 1, column: 6 };
     let text = "{\"column\":6,\"fault\":\"BadField\",\"row\":1,\"rule\":42}";
     assert!(rt; is_told(rt.alloc(), field, text, 400)?);
+    Ok(())
+}
+
+#[test]
+fn commands_without_a_device_are_read_and_written(rt: HostRuntime) -> Result<(), Fail> {
+    for (message, written) in [
+        (
+            "{\"caller\":\"ann\",\"number\":1,\"ring\":\"object\",\"do\":\"remove\",\"id\":65535}",
+            "{\"do\":\"remove\",\"id\":65535,\"ring\":\"object\"}",
+        ),
+        (
+            "{\"caller\":\"ann\",\"number\":2,\"ring\":\"object\",\"do\":\"set_hours\",\"min_hours\":24}",
+            "{\"do\":\"set_hours\",\"min_hours\":24,\"ring\":\"object\"}",
+        ),
+        (
+            "{\"caller\":\"ann\",\"number\":3,\"ring\":\"object\",\"do\":\"pretend_passed\"}",
+            "{\"do\":\"pretend_passed\",\"ring\":\"object\"}",
+        ),
+        (
+            "{\"caller\":\"ann\",\"number\":4,\"ring\":\"object\",\"do\":\"raise_power\"}",
+            "{\"do\":\"raise_power\",\"ring\":\"object\"}",
+        ),
+    ] {
+        assert!(rt; is_message_of(rt.alloc(), message, written)?, "{written}");
+    }
+    Ok(())
+}
+
+#[test]
+fn rows_are_read_and_written(rt: HostRuntime) -> Result<(), Fail> {
+    for (message, written) in [
+        (
+            "{\"caller\":\"ann\",\"number\":5,\"ring\":\"object\",\"do\":\"import\",\"rows\":[]}",
+            "{\"do\":\"import\",\"ring\":\"object\",\"rows\":[]}",
+        ),
+        (
+            "{\"caller\":\"ann\",\"number\":5,\"ring\":\"object\",\"do\":\"import\",\"rows\":[[1, 2,\"10.0.0.9\",6200,\"d9\",\"10.00\"],[0,0,\"0.0.0.0\",1,\"x\",\"0.00\"]]}",
+            "{\"do\":\"import\",\"ring\":\"object\",\"rows\":[[1,2,\"10.0.0.9\",6200,\"d9\",\"10.00\"],[0,0,\"0.0.0.0\",1,\"x\",\"0.00\"]]}",
+        ),
+    ] {
+        assert!(rt; is_message_of(rt.alloc(), message, written)?, "{written}");
+    }
+    for rows in [
+        "null",
+        "{}",
+        "[1]",
+        "[[]]",
+        "[[1,2,\"10.0.0.9\",6200,\"d9\"]]",
+        "[[1,2,\"10.0.0.9\",6200,\"d9\",\"10.00\",1]]",
+        "[[1,2,\"10.0.0.9\",0,\"d9\",\"10.00\"]]",
+        "[[\"1\",2,\"10.0.0.9\",6200,\"d9\",\"10.00\"]]",
+        "[[1,2,\"10.0.0.9\",6200,\"d9\",\"10.0\"]]",
+    ] {
+        let mut text = String::from_str(
+            rt.alloc(),
+            "{\"caller\":\"ann\",\"number\":5,\"ring\":\"object\",\"do\":\"import\",\"rows\":",
+        )?;
+        text.push_str(rows)?;
+        text.push('}')?;
+        let answer = read_delivery(rt.alloc(), text.as_bytes());
+        assert!(rt; !is_read(answer)?, "{rows}");
+    }
+    Ok(())
+}
+
+#[test]
+fn replies_of_every_command_are_written_and_read_back(rt: HostRuntime) -> Result<(), Fail> {
+    let version = 7;
+    for (done, text) in [
+        (
+            Done::Remove { version },
+            "{\"done\":\"remove\",\"version\":7}",
+        ),
+        (
+            Done::SetHours { version },
+            "{\"done\":\"set_hours\",\"version\":7}",
+        ),
+        (
+            Done::PretendPassed { version },
+            "{\"done\":\"pretend_passed\",\"version\":7}",
+        ),
+        (
+            Done::RaisePower { version },
+            "{\"done\":\"raise_power\",\"version\":7}",
+        ),
+        (
+            Done::Import {
+                added: 1,
+                reweighted: 18446744073709551615,
+                version,
+            },
+            "{\"added\":1,\"done\":\"import\",\"reweighted\":18446744073709551615,\"version\":7}",
+        ),
+    ] {
+        assert!(rt; is_text_of(rt.alloc(), text, Reply::Done(done))?, "{text}");
+    }
+    Ok(())
+}
+
+#[test]
+fn a_row_is_refused_with_its_number_and_cause(rt: HostRuntime) -> Result<(), Fail> {
+    for (cause, rule) in [
+        (RowCause::DeviceRemoved, 6u8),
+        (RowCause::TooManyDevices, 7),
+        (RowCause::IdsUsedUp, 8),
+        (RowCause::TierDiffers, 12),
+    ] {
+        let text = format!(in rt.alloc();
+            "{{\"cause\":{rule},\"refused\":\"RowRefused\",\"row\":3,\"rule\":13}}"
+        )?;
+        let refusal = Refusal::RowRefused { row: 3, cause };
+        assert!(rt;
+            is_text_of(rt.alloc(), text.as_str(), Reply::Refused(refusal))?,
+            "{rule}"
+        );
+    }
+    let text = "{\"refused\":\"PowerLimit\",\"rule\":14}";
+    assert!(rt; is_text_of(rt.alloc(), text, Reply::Refused(Refusal::PowerLimit))?);
+    for text in [
+        "{\"cause\":9,\"refused\":\"RowRefused\",\"row\":3,\"rule\":13}",
+        "{\"refused\":\"RowRefused\",\"rule\":13}",
+    ] {
+        assert!(rt; !is_read(read_reply(rt.alloc(), text))?, "{text}");
+    }
     Ok(())
 }

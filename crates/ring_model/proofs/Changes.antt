@@ -7,7 +7,8 @@ use Rattle.std.proofs.lemmas.List.{length-append, length-map, take_at, get_or_ap
 use Rattle.std.proofs.lemmas.List.Folds.{list_any-append}
 use Rattle.std.proofs.lemmas.List.Elements.{All-push, All-weaker, All-map}
 use Rattle.std.proofs.lemmas.List.Quantifiers.{all_pairs_push}
-use Rattle.ring_model.specs.Ring.{RingRecord, has_device, has_place, same_place, risen, reweighed, with_device, with_weight, partition_count}
+use Rattle.ring_model.specs.Ring.{RingRecord, has_device, has_place, same_place, risen, reweighed, marked, added, changed, with_device, partition_count}
+use Rattle.ring_model.specs.Import.{reweighed_by}
 use Rattle.ring_model.specs.Valid.{AreApart, AreDevices, AreSeats, IsValid}
 use Rattle.ring_model.specs.declared.device.Device.{Device}
 use Rattle.ring_model.specs.declared.device.Row.{Row}
@@ -51,68 +52,111 @@ seats_added partitions replicas devices more seats valid = record {
   distinct = valid.distinct;
 }
 
-pub added_valid : (ring : RingRecord) (row : Row) → IsValid ring → length ring.devices < 256 → ring.next_id < 65536 → has_place row ring.devices ≡ false → IsValid (with_device ring row)
+pub added_valid : (ring : RingRecord) (row : Row) → IsValid ring → length ring.devices < 256 → ring.next_id < 65536 → has_place row ring.devices ≡ false → IsValid (added ring row)
 added_valid ring row valid room numbers none = record {
   power = valid.power;
   replicas = valid.replicas;
   min_hours = valid.min_hours;
   next_id = omega arith;
-  version = risen_fits ring.version valid.version;
+  version = valid.version;
   devices = devices_added ring.next_id ring.devices row valid.devices room none;
   seats = seats_added (partition_count ring) ring.replicas ring.devices _ ring.seats valid.seats;
   moved = valid.moved;
   published = valid.published;
 }
 
--- ---- another weight
+-- ---- another version
 
-reweighed-id : (id weight : ℕ) (d : Device) → (reweighed id weight d).id ≡ d.id
-reweighed-id id weight d = elim (d.id == id) as (λ b. (cond b (record d { row = record d.row { weight = weight } }) d).id ≡ d.id) [ true ↦ refl | false ↦ refl ]
-
-reweighed-place : (id weight : ℕ) (a b : Device) → same_place (reweighed id weight a).row (reweighed id weight b).row ≡ same_place a.row b.row
-reweighed-place id weight a b =
-    elim (a.id == id) as (λ v. same_place (cond v (record a { row = record a.row { weight = weight } }) a).row (reweighed id weight b).row ≡ same_place a.row b.row) [
-      | true ↦ elim (b.id == id) as (λ v. same_place (record a.row { weight = weight }) (cond v (record b { row = record b.row { weight = weight } }) b).row ≡ same_place a.row b.row) [ true ↦ refl | false ↦ refl ]
-      | false ↦ elim (b.id == id) as (λ v. same_place a.row (cond v (record b { row = record b.row { weight = weight } }) b).row ≡ same_place a.row b.row) [ true ↦ refl | false ↦ refl ]
-    ]
-
-ids_kept : (id weight : ℕ) (devices : List Device) → map (λ (d : Device). d.id) (map (reweighed id weight) devices) ≡ map (λ (d : Device). d.id) devices
-ids_kept id weight [] = refl
-ids_kept id weight (d ∷ ds) = ap₂ (λ (n : ℕ) (ns : List ℕ). n ∷ ns) (reweighed-id id weight d) (ids_kept id weight ds)
-
-devices_kept : (id weight other : ℕ) (devices : List Device) → has_device other (map (reweighed id weight) devices) ≡ has_device other devices
-devices_kept id weight other [] = refl
-devices_kept id weight other (d ∷ ds) = ap₂ (λ (n : ℕ) (b : Bool). (n == other) || b) (reweighed-id id weight d) (devices_kept id weight other ds)
-
-apart_kept : (id weight : ℕ) (devices : List Device) → AreApart devices → AreApart (map (reweighed id weight) devices)
-apart_kept id weight devices apart i j d less lt =
-    let within : j < length devices = omega (arith, length-map {A = Device} {B = Device}) in
-    let one : get_or (map (reweighed id weight) devices) i d ≡ reweighed id weight (get_or devices i d) = get_or-map (reweighed id weight) devices i d d (omega arith) in
-    let two : get_or (map (reweighed id weight) devices) j d ≡ reweighed id weight (get_or devices j d) = get_or-map (reweighed id weight) devices j d d within in
-    rw (one, two) (reweighed-place id weight (get_or devices i d) (get_or devices j d) ∙ apart i j d less within)
-
-pub weighed_valid : (ring : RingRecord) (id weight : ℕ) → IsValid ring → IsValid (with_weight ring id weight)
-weighed_valid ring id weight valid = record {
+pub changed_valid : (ring : RingRecord) → IsValid ring → IsValid (changed ring)
+changed_valid ring valid = record {
   power = valid.power;
   replicas = valid.replicas;
   min_hours = valid.min_hours;
   next_id = valid.next_id;
   version = risen_fits ring.version valid.version;
+  devices = valid.devices;
+  seats = valid.seats;
+  moved = valid.moved;
+  published = valid.published;
+}
+
+-- ---- devices that keep their numbers and places
+
+abbrev pub Keeps : (Device → Device) → Type 0
+Keeps f = ((d : Device) → (f d).id ≡ d.id) × ((a b : Device) → same_place (f a).row (f b).row ≡ same_place a.row b.row)
+
+ids_kept : (f : Device → Device) → Keeps f → (devices : List Device) → map (λ (d : Device). d.id) (map f devices) ≡ map (λ (d : Device). d.id) devices
+ids_kept f keeps [] = refl
+ids_kept f keeps (d ∷ ds) = ap₂ (λ (n : ℕ) (ns : List ℕ). n ∷ ns) (keeps.0 d) (ids_kept f keeps ds)
+
+devices_kept : (f : Device → Device) → Keeps f → (id : ℕ) (devices : List Device) → has_device id (map f devices) ≡ has_device id devices
+devices_kept f keeps id [] = refl
+devices_kept f keeps id (d ∷ ds) = ap₂ (λ (n : ℕ) (b : Bool). (n == id) || b) (keeps.0 d) (devices_kept f keeps id ds)
+
+apart_kept : (f : Device → Device) → Keeps f → (devices : List Device) → AreApart devices → AreApart (map f devices)
+apart_kept f keeps devices apart i j d less lt =
+    let within : j < length devices = omega (arith, length-map {A = Device} {B = Device}) in
+    let one : get_or (map f devices) i d ≡ f (get_or devices i d) = get_or-map f devices i d d (omega arith) in
+    let two : get_or (map f devices) j d ≡ f (get_or devices j d) = get_or-map f devices j d d within in
+    rw (one, two) (keeps.1 (get_or devices i d) (get_or devices j d) ∙ apart i j d less within)
+
+pub altered_valid : (f : Device → Device) → Keeps f → (ring : RingRecord) → IsValid ring → IsValid (record ring { devices = map f ring.devices })
+altered_valid f keeps ring valid = record {
+  power = valid.power;
+  replicas = valid.replicas;
+  min_hours = valid.min_hours;
+  next_id = valid.next_id;
+  version = valid.version;
   devices = record {
     count = omega (arith, length-map {A = Device} {B = Device}, valid.devices.count);
-    below = All-map (λ (d : Device). d.id < ring.next_id) (reweighed id weight) ring.devices
-        (All-weaker (λ (d : Device). d.id < ring.next_id) (λ (d : Device). (reweighed id weight d).id < ring.next_id) (λ d lt. rw (reweighed-id id weight d) lt) ring.devices valid.devices.below);
-    rise = rw (ids_kept id weight ring.devices) valid.devices.rise;
-    apart = apart_kept id weight ring.devices valid.devices.apart;
+    below = All-map (λ (d : Device). d.id < ring.next_id) f ring.devices
+        (All-weaker (λ (d : Device). d.id < ring.next_id) (λ (d : Device). (f d).id < ring.next_id) (λ d lt. rw (keeps.0 d) lt) ring.devices valid.devices.below);
+    rise = rw (ids_kept f keeps ring.devices) valid.devices.rise;
+    apart = apart_kept f keeps ring.devices valid.devices.apart;
   };
   seats = record {
     whole = valid.seats.whole;
-    known = All-weaker (λ n. has_device n ring.devices ≡ true) (λ n. has_device n (map (reweighed id weight) ring.devices) ≡ true) (λ n known. devices_kept id weight n ring.devices ∙ known) ring.seats valid.seats.known;
+    known = All-weaker (λ n. has_device n ring.devices ≡ true) (λ n. has_device n (map f ring.devices) ≡ true) (λ n known. devices_kept f keeps n ring.devices ∙ known) ring.seats valid.seats.known;
     distinct = valid.seats.distinct;
   };
   moved = valid.moved;
   published = valid.published;
 }
+
+-- a device of another weight where a test says so
+abbrev weighed_if : Bool → ℕ → Device → Device
+weighed_if b weight d = cond b (record d { row = record d.row { weight = weight } }) d
+
+weighed_if-place : (v w : Bool) (one two : ℕ) (a b : Device) → same_place (weighed_if v one a).row (weighed_if w two b).row ≡ same_place a.row b.row
+weighed_if-place true true one two a b = refl
+weighed_if-place true false one two a b = refl
+weighed_if-place false true one two a b = refl
+weighed_if-place false false one two a b = refl
+
+weighed_if-id : (b : Bool) (weight : ℕ) (d : Device) → (weighed_if b weight d).id ≡ d.id
+weighed_if-id true weight d = refl
+weighed_if-id false weight d = refl
+
+pub reweighed_keeps : (id weight : ℕ) → Keeps (reweighed id weight)
+reweighed_keeps id weight = (λ d. weighed_if-id (d.id == id) weight d, λ a b. weighed_if-place (a.id == id) (b.id == id) weight weight a b)
+
+pub reweighed_by_keeps : (row : Row) → Keeps (reweighed_by row)
+reweighed_by_keeps row = (λ d. weighed_if-id (same_place d.row row) row.weight d, λ a b. weighed_if-place (same_place a.row row) (same_place b.row row) row.weight row.weight a b)
+
+-- a marked device where a test says so
+abbrev marked_if : Bool → Device → Device
+marked_if b d = cond b (record d { removed = true }) d
+
+marked_if-row : (b : Bool) (d : Device) → (marked_if b d).row ≡ d.row
+marked_if-row true d = refl
+marked_if-row false d = refl
+
+marked_if-id : (b : Bool) (d : Device) → (marked_if b d).id ≡ d.id
+marked_if-id true d = refl
+marked_if-id false d = refl
+
+pub marked_keeps : (id : ℕ) → Keeps (marked id)
+marked_keeps id = (λ d. marked_if-id (d.id == id) d, λ a b. ap₂ same_place (marked_if-row (a.id == id) a) (marked_if-row (b.id == id) b))
 
 -- ---- rows with the same parts
 

@@ -7,3 +7,4 @@ pub mod Changes
 pub mod Doubling
 pub mod Raising
 pub mod ByName
+pub mod AlikeRows

@@ -4,3 +4,5 @@ pub mod Valid
 pub mod Parts
 pub mod Raise
 pub mod Rings
+pub mod Import
+pub mod SameRows

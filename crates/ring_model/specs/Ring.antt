@@ -1,5 +1,5 @@
 -- A ring: its devices, and which of them holds each replica of each partition.
-use Rattle.std.specs.Prelude.{ℕ, ◌+◌, ◌*◌, ◌^◌, ◌==◌, ◌&&◌, Bool, not, nat_lt, nat_eq, List, [], ◌∷◌, ◌++◌, length, map, replicate, slice_get, slice_index_or, find, Option, None, false, if◌then◌else◌}
+use Rattle.std.specs.Prelude.{ℕ, ◌+◌, ◌*◌, ◌^◌, ◌==◌, ◌&&◌, Bool, not, nat_lt, nat_eq, List, [], ◌∷◌, ◌++◌, length, map, replicate, slice_get, slice_index_or, find, Option, None, false, true, if◌then◌else◌}
 use Rattle.std.specs.List.{list_any}
 use Rattle.std.specs.Option.{option_map}
 use Rattle.std.specs.Cmp.Lexicographic.{pointwise}
@@ -78,13 +78,20 @@ new_ring power replicas min_hours = record {
   published = [];
 }
 
--- the ring with one more device, which has the next number and isn't marked
-abbrev pub with_device : RingRecord → Row → RingRecord
-with_device ring row = record ring {
+-- the ring and a device that isn't marked under the next number, at the version that it had
+abbrev pub added : RingRecord → Row → RingRecord
+added ring row = record ring {
   next_id = ring.next_id + 1;
-  version = risen ring.version;
   devices = ring.devices ++ record { id = ring.next_id; row = row; removed = false } ∷ [];
 }
+
+-- the ring at the version after a change
+abbrev pub changed : RingRecord → RingRecord
+changed ring = record ring { version = risen ring.version }
+
+-- the ring with one more device
+abbrev pub with_device : RingRecord → Row → RingRecord
+with_device ring row = changed (added ring row)
 
 -- the device, with this weight if it has this number
 abbrev pub reweighed : ℕ → ℕ → Device → Device
@@ -92,4 +99,20 @@ reweighed id weight device = if device.id == id then record device { row = recor
 
 -- the ring with this weight at the device of this number
 abbrev pub with_weight : RingRecord → ℕ → ℕ → RingRecord
-with_weight ring id weight = record ring { version = risen ring.version; devices = map (reweighed id weight) ring.devices }
+with_weight ring id weight = changed (record ring { devices = map (reweighed id weight) ring.devices })
+
+-- the device, marked to be removed if it has this number
+abbrev pub marked : ℕ → Device → Device
+marked id device = if device.id == id then record device { removed = true } else device
+
+-- the ring with the device of this number marked to be removed
+abbrev pub with_mark : RingRecord → ℕ → RingRecord
+with_mark ring id = changed (record ring { devices = map (marked id) ring.devices })
+
+-- the ring where a moved partition stays for so many hours
+abbrev pub with_min_hours : RingRecord → ℕ → RingRecord
+with_min_hours ring hours = changed (record ring { min_hours = hours })
+
+-- the ring where no partition was ever moved
+abbrev pub with_hours_passed : RingRecord → RingRecord
+with_hours_passed ring = changed (record ring { moved = replicate (partition_count ring) None })

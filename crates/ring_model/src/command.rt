@@ -4,6 +4,7 @@ ghost use Rattle.std.specs.Prelude.{◌≡◌, ◌↔◌, IsTrue};
 use crate::bounded::{Power, Replicas};
 use crate::device::{DeviceId, Row};
 use crate::name::RingName;
+use crate::rows::Rows;
 use crate::weight::Weight;
 
 /// What a new ring is made with.
@@ -35,6 +36,34 @@ pub enum Act {
     Add(Row),
     /// Changes the weight of a device.
     SetWeight(NewWeight),
+    /// Marks the device of this number to be removed.
+    Remove(DeviceId),
+    /// Sets for how many hours a partition that was moved stays where it is.
+    SetHours(u16),
+    /// Lets each partition be moved as if it never had been.
+    PretendPassed,
+    /// Splits each partition into two.
+    RaisePower,
+    /// Adds devices and changes weights, all rows or none.
+    Import(Rows),
+}
+
+impl Act {
+    /// Whether two acts are one.
+    fn is(&self, other: &Act) -> bool
+        ensures { IsTrue result ↔ (self.now ≡ other.now) }
+    {
+        match self {
+            Act::Create(new) => matches!(other, Act::Create(also) if also == new),
+            Act::Add(row) => matches!(other, Act::Add(also) if also == row),
+            Act::SetWeight(to) => matches!(other, Act::SetWeight(also) if also == to),
+            Act::Remove(id) => matches!(other, Act::Remove(also) if also == id),
+            Act::SetHours(hours) => matches!(other, Act::SetHours(also) if also == hours),
+            Act::PretendPassed => matches!(other, Act::PretendPassed),
+            Act::RaisePower => matches!(other, Act::RaisePower),
+            Act::Import(rows) => matches!(other, Act::Import(also) if also.is(rows)),
+        }
+    }
 }
 
 /// What a caller asks for.
@@ -51,7 +80,7 @@ impl Command {
     pub fn is(&self, other: &Command) -> bool
         ensures { IsTrue result ↔ (self.now ≡ other.now) }
     {
-        self == other
+        self.ring == other.ring && self.act.is(&other.act)
     }
 }
 
@@ -59,11 +88,53 @@ impl Command {
 #[derive(Clone, Copy, Debug, PartialEq, Eq)]
 pub enum Done {
     /// The ring was made.
-    Create { version: u32 },
+    Create {
+        version: u32,
+    },
     /// The device was added, under this number.
-    Add { id: DeviceId, version: u32 },
+    Add {
+        id: DeviceId,
+        version: u32,
+    },
     /// The device has its new weight.
-    SetWeight { version: u32 },
+    SetWeight {
+        version: u32,
+    },
+    /// The device is marked to be removed.
+    Remove {
+        version: u32,
+    },
+    /// The hours are set.
+    SetHours {
+        version: u32,
+    },
+    /// No partition counts as moved.
+    PretendPassed {
+        version: u32,
+    },
+    /// There are twice as many partitions.
+    RaisePower {
+        version: u32,
+    },
+    /// So many rows added a device, and so many found one, whose weight is theirs now.
+    Import {
+        added: u64,
+        reweighted: u64,
+        version: u32,
+    },
+}
+
+/// Why a row of an import is refused, on the ring that the rows before it leave.
+#[derive(Clone, Copy, Debug, PartialEq, Eq)]
+pub enum RowCause {
+    /// The device of its address, port and name is marked to be removed.
+    DeviceRemoved,
+    /// The device of its address, port and name is in another region or zone.
+    TierDiffers,
+    /// It would add a device, and the ring has as many as it may.
+    TooManyDevices,
+    /// It would add a device, and the ring has given as many numbers to devices as it may.
+    IdsUsedUp,
 }
 
 /// Why a command wasn't done. Its ring stays as it was, and the refusal is kept as its reply.
@@ -85,6 +156,10 @@ pub enum Refusal {
     TooManyDevices,
     /// The ring has given as many numbers to devices as it may.
     IdsUsedUp,
+    /// A row of an import is refused, the first of which this can be said. Rows are counted from 1.
+    RowRefused { row: u64, cause: RowCause },
+    /// The ring has the greatest power.
+    PowerLimit,
 }
 
 /// The answer to a command that was decided.

@@ -6,23 +6,27 @@
 #![tactic(auto)]
 
 mod address;
+mod altering;
 mod bounded;
 mod command;
 mod decimal;
 mod device;
+mod draft;
 pub mod laws;
 mod name;
 mod parts;
 mod request;
 mod ring;
 mod rings;
+mod rows;
 mod weight;
 
 pub use address::Address;
 pub use bounded::{Bounded, Port, Power, Replicas};
-pub use command::{Act, Command, Done, NewRing, NewWeight, Refusal, Reply};
+pub use command::{Act, Command, Done, NewRing, NewWeight, Refusal, Reply, RowCause};
 pub use decimal::{parse_decimal, parse_decimal_up_to};
 pub use device::{Device, DeviceId, Row};
+pub use draft::Draft;
 pub use name::{
     Caller, DeviceName, Name, NameFault, NameKind, OfCaller, OfDevice, OfRing, RingName,
 };
@@ -30,6 +34,7 @@ pub use parts::RingParts;
 pub use request::{Delivery, Hour, Key, Limits};
 pub use ring::{BuildFault, RaiseFault, Ring};
 pub use rings::Rings;
+pub use rows::Rows;
 pub use weight::Weight;
 
 #[cfg(test)]

@@ -4,7 +4,7 @@ ghost use Rattle.std.specs.List.{list_any};
 ghost use Rattle.std.specs.List.Sorted.{IsStrictlyIncreasing};
 ghost use Rattle.std.specs.Option.{option_map};
 ghost use Rattle.std.specs.Rc.{rc_str_bytes};
-ghost use Rattle.ring_model.specs.Ring.{has_device, has_place, has_present, same_place, reweighed, risen};
+ghost use Rattle.ring_model.specs.Ring.{has_device, has_place, has_present, same_place, risen};
 ghost use Rattle.ring_model.specs.Parts.{record_of, texts_of};
 ghost use Rattle.ring_model.specs.Raise.{IsTwice};
 ghost use Rattle.ring_model.specs.Valid.{AreApart, AreDevices, AreDistinct, ArePublished, AreSeats, IsValid};
@@ -12,7 +12,6 @@ ghost use Rattle.ring_model.specs.Valid.{AreApart, AreDevices, AreDistinct, AreP
 use crate::bounded::{Power, Replicas};
 use crate::device::{Device, DeviceId, Row};
 use crate::request::Hour;
-use crate::weight::Weight;
 use std::alloc::{AllocError, Global};
 use std::rc::RcStr;
 
@@ -46,24 +45,6 @@ pub(crate) fn partition_count(power: Power) -> usize
     ensures power { (1 ≤ power) × (power ≤ 14) }
 {
     1usize << power.get()
-}
-
-/// Sets the weight of a device if it has this number.
-fn reweigh(device: &mut Device, id: DeviceId, weight: Weight)
-    ensures { device.new ≡ reweighed id weight device.old }
-{
-    if device.id == id {
-        device.row.weight = weight;
-    }
-}
-
-/// Sets the weight of the device of a number.
-pub(crate) fn set_weight(devices: &mut [Device], id: DeviceId, weight: Weight)
-    ensures { devices.new ≡ map (reweighed id weight) devices.old }
-{
-    for device in devices.iter_mut() {
-        reweigh(device, id, weight);
-    }
 }
 
 /// One more, and the greatest version stays.

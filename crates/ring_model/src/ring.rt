@@ -2,11 +2,12 @@
 ghost use Rattle.std.specs.Prelude.{◌≡◌, ℕ, ◌<◌, ◌≤◌, ◌^◌, ◌↔◌, Bool, IfOk, IsTrue, IsFalse, length, map, Some, None};
 ghost use Rattle.std.specs.Option.{option_map, option_copied};
 
+use crate::altering::{Mark, alter_all};
 use crate::bounded::{Power, Replicas};
+use crate::command::NewWeight;
 use crate::device::{Device, DeviceId, Row};
-use crate::parts::{
-    RingParts, has_device, has_present, partition_count, risen, set_weight, text_at,
-};
+use crate::draft::Draft;
+use crate::parts::{RingParts, has_device, has_present, partition_count, risen, text_at};
 use crate::request::Hour;
 use crate::weight::Weight;
 use std::alloc::{AllocError, Global};
@@ -78,7 +79,7 @@ impl Model for Ring {
 impl Ring {
     ghost use Rattle.std.specs.Prelude.{◌≡◌, ℕ, ◌<◌, ◌≤◌, ◌^◌, ◌↔◌, Bool, IfOk, IsErrOf, IsTrue, length, map, Some, None, true, false};
     ghost use Rattle.std.specs.Option.{option_map, option_copied};
-    ghost use Rattle.ring_model.specs.Ring.{RingRecord, new_ring, seat, moved_at, is_assigned, published_at, partition_count, has_device, has_present, has_place, with_device, with_weight};
+    ghost use Rattle.ring_model.specs.Ring.{RingRecord, new_ring, seat, moved_at, is_assigned, published_at, partition_count, has_device, has_present, has_place, with_device, with_weight, with_mark, with_min_hours, with_hours_passed};
     ghost use Rattle.ring_model.specs.Parts.{record_of, texts_of};
     ghost use Rattle.ring_model.specs.Raise.{IsRaised};
     ghost use Rattle.ring_model.specs.Valid.{IsValid};
@@ -119,9 +120,18 @@ impl Ring {
         Ok(Ring { parts })
     }
 
+    /// The ring of parts that are known to make one.
+    pub(crate) fn of_parts(parts: RingParts) -> Ring
+        requires { IsValid (record_of parts) }
+        ensures { result ≡ record_of parts }
+    {
+        Ring { parts }
+    }
+
     /// The parts that the ring is made of.
     pub fn parts(&self) -> Result<RingParts, AllocError>
-        ensures { IfOk result (λ parts. record_of parts ≡ self.now) }
+        ensures parts { IfOk result (λ parts. record_of parts ≡ self.now) }
+        ensures valid { IsValid self.now }
     {
         self.parts.copy()
     }
@@ -133,16 +143,9 @@ impl Ring {
         requires apart { has_place row.now self.now.devices ≡ false }
         ensures { IfOk result (λ ring. ring ≡ with_device self.now row.now) }
     {
-        let mut parts = self.parts.copy()?;
-        let device = Device {
-            id: self.parts.next_id as u16,
-            row: row.clone()?,
-            removed: false,
-        };
-        parts.devices.push(device)?;
-        parts.next_id += 1;
-        parts.version = risen(parts.version);
-        Ok(Ring { parts })
+        let mut draft = Draft::of(self)?;
+        draft.put(row)?;
+        Ok(draft.finish())
     }
 
     /// The ring with another weight at a device that isn't marked to be removed. The version rises.
@@ -151,7 +154,39 @@ impl Ring {
         ensures { IfOk result (λ ring. ring ≡ with_weight self.now id weight) }
     {
         let mut parts = self.parts.copy()?;
-        set_weight(&mut parts.devices, id, weight);
+        alter_all(&mut parts.devices, &NewWeight { id, weight });
+        parts.version = risen(parts.version);
+        Ok(Ring { parts })
+    }
+
+    /// The ring with a device marked to be removed, which isn't marked yet. The version rises.
+    pub fn with_mark(&self, id: DeviceId) -> Result<Ring, AllocError>
+        requires { has_present id self.now.devices ≡ true }
+        ensures { IfOk result (λ ring. ring ≡ with_mark self.now id) }
+    {
+        let mut parts = self.parts.copy()?;
+        alter_all(&mut parts.devices, &Mark { id });
+        parts.version = risen(parts.version);
+        Ok(Ring { parts })
+    }
+
+    /// The ring where a moved partition stays where it is for so many hours. The version rises.
+    pub fn with_min_hours(&self, hours: u16) -> Result<Ring, AllocError>
+        ensures { IfOk result (λ ring. ring ≡ with_min_hours self.now hours) }
+    {
+        let mut parts = self.parts.copy()?;
+        parts.min_hours = hours;
+        parts.version = risen(parts.version);
+        Ok(Ring { parts })
+    }
+
+    /// The ring as if no partition had ever been moved. The version rises.
+    pub fn with_hours_passed(&self) -> Result<Ring, AllocError>
+        ensures { IfOk result (λ ring. ring ≡ with_hours_passed self.now) }
+    {
+        let mut parts = self.parts.copy()?;
+        let partitions = partition_count(parts.power);
+        parts.moved = vec![in *parts.moved.allocator(); None; partitions]?;
         parts.version = risen(parts.version);
         Ok(Ring { parts })
     }
@@ -248,6 +283,22 @@ impl Ring {
         let place = partition as usize * usize::from(self.parts.replicas.get())
             + usize::from(replica);
         self.parts.seats.get(place).copied()
+    }
+
+    /// The devices of the seats, by partition and then by replica. None at all where the seats are empty.
+    pub fn seats(&self) -> &[DeviceId]
+        ensures value { result.now ≡ self.now.seats }
+        ensures valid { IsValid self.now }
+    {
+        self.parts.seats.as_slice()
+    }
+
+    /// The hours at which the partitions were moved last, by partition. `None` for one that never was.
+    pub fn moves(&self) -> &[Option<Hour>]
+        ensures value { result.now ≡ self.now.moved }
+        ensures valid { IsValid self.now }
+    {
+        self.parts.moved.as_slice()
     }
 
     /// The hour at which a partition was moved last. `None` where it never was.

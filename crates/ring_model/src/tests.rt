@@ -3,8 +3,8 @@ ghost use Rattle.std.specs.Prelude.{◌≡◌, IfOk};
 ghost use Rattle.ring_model.specs.Parts.{record_of};
 
 use crate::{
-    Address, BuildFault, Caller, Device, DeviceName, Limits, NameFault, Port, Power, RaiseFault,
-    Replicas, Ring, RingName, RingParts, Rings, Row, Weight, parse_decimal,
+    Address, BuildFault, Caller, Device, DeviceName, Draft, Limits, NameFault, Port, Power,
+    RaiseFault, Replicas, Ring, RingName, RingParts, Rings, Row, Rows, Weight, parse_decimal,
 };
 use std::alloc::Global;
 use std::rc::RcStr;
@@ -217,6 +217,8 @@ fn a_ring_is_made_and_read(rt: HostRuntime) -> Result<(), Fail> {
     assert!(rt; ring.is_assigned());
     assert_eq!(rt; ring.published(3), Some("text"));
     assert_eq!(rt; ring.published(2), None);
+    assert_eq!(rt; ring.seats(), [0, 1, 1, 0].as_slice());
+    assert_eq!(rt; ring.moves(), [Some(7), None].as_slice());
     let parts = ring.parts()?;
     assert_eq!(rt; parts.seats.as_slice(), [0, 1, 1, 0].as_slice());
     assert_eq!(rt; parts.moved.as_slice(), [Some(7), None].as_slice());
@@ -367,5 +369,69 @@ fn rings_are_kept_by_name(rt: HostRuntime) -> Result<(), Fail> {
         Some(3)
     );
     assert_eq!(rt; one.list().len(), 1);
+    Ok(())
+}
+
+#[test]
+fn marks_hours_and_moves_are_changed(rt: HostRuntime) -> Result<(), Fail> {
+    let ring = Ring::build(rt.alloc(), small_parts(rt.alloc())?)?;
+    if !ring.has_present(1) {
+        return Err(Fail::from("device 1 is there"));
+    }
+    let marked = ring.with_mark(1)?;
+    assert_eq!(rt;
+        (
+            marked.version(),
+            marked.has_present(1),
+            marked.has_device(1)
+        ),
+        (4, false, true)
+    );
+    assert_eq!(rt; (ring.version(), ring.has_present(1)), (3, true));
+    let set = ring.with_min_hours(9)?;
+    assert_eq!(rt; (set.version(), set.min_hours()), (4, 9));
+    let passed = ring.with_hours_passed()?;
+    assert_eq!(rt; passed.version(), 4);
+    assert_eq!(rt; passed.moves(), [None, None].as_slice());
+    assert_eq!(rt; ring.moves(), [Some(7), None].as_slice());
+    Ok(())
+}
+
+#[test]
+fn rows_are_put_into_a_draft(rt: HostRuntime) -> Result<(), Fail> {
+    let alloc = rt.alloc();
+    let ring = Ring::build(alloc, small_parts(alloc)?)?;
+    let mut draft = Draft::of(&ring)?;
+    let lighter = row(alloc, 0, "1.00")?;
+    let more = row(alloc, 2, "7.00")?;
+    assert_eq!(rt; draft.device_at(&lighter).map(|device| device.id), Some(0));
+    assert!(rt; draft.device_at(&more).is_none());
+    assert_eq!(rt; (draft.device_count(), draft.next_id()), (2, 2));
+    if ring.has_place(&more) || ring.devices().len() > 2 || ring.next_id() > 2 {
+        return Err(Fail::from("two devices, and none has the row's place"));
+    }
+    let mut rows = Vec::new(alloc);
+    rows.push(lighter)?;
+    rows.push(more)?;
+    let rows = Rows::new(rows);
+    let (Some(lighter), Some(more)) = (rows.as_slice().first(), rows.as_slice().get(1)) else {
+        return Err(Fail::from("two rows"));
+    };
+    if draft.device_count() >= 256 || draft.next_id() >= 65536 {
+        return Err(Fail::from("there is room"));
+    }
+    draft.put(lighter)?;
+    if draft.device_count() >= 256 || draft.next_id() >= 65536 {
+        return Err(Fail::from("there is room"));
+    }
+    draft.put(more)?;
+    let after = draft.finish();
+    assert_eq!(rt;
+        (after.version(), after.next_id(), after.devices().len()),
+        (4, 3, 3)
+    );
+    assert_eq!(rt; after.devices()[0].row.weight.hundredths(), 100);
+    assert_eq!(rt; after.devices()[2].row.weight.hundredths(), 700);
+    assert_eq!(rt; ring.devices().len(), 2);
     Ok(())
 }

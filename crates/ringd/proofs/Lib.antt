@@ -1,4 +1,5 @@
 pub mod Asking
+pub mod Tasks
 pub mod Constants
 pub mod Serving
 pub mod Stopping

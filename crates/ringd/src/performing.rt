@@ -1,6 +1,8 @@
 //! What the program does over three streams.
-ghost use Rattle.std.specs.Prelude.{◌≡◌, ◌≤◌, ℕ, IfErr, IfOk};
+ghost use Rattle.std.specs.Prelude.{◌≡◌, ◌≤◌, ℕ, IfErr, IfOk, map, string_bytes};
 ghost use Rattle.ringd.specs.Performed.{RanOverMemory, StoppedOverMemory, fault_number};
+ghost use Rattle.ringd.specs.Programs.{AskFor, AskForNothing};
+ghost use Rattle.ringd.specs.declared.words.Task.{Task};
 ghost use Rattle.line_stream.specs.declared.fault.StreamFault.{StreamFault};
 
 use crate::lines::run_lines;
@@ -61,10 +63,11 @@ pub fn perform<X: AllocGlobal, R: Read, W: Write, E: Write>(
     errors: &mut E,
 ) -> u8
     ensures status { result ≤ 2 }
-    ensures done { result ≡ 0 → (count : ℕ) × RanOverMemory (R.remaining reader.old) (W.contents writer.old) (W.contents writer.new) count }
+    ensures done { result ≡ 0 → AskFor (map string_bytes words.now) Task.Run
+        × ((count : ℕ) × RanOverMemory (R.remaining reader.old) (W.contents writer.old) (W.contents writer.new) count) }
     ensures fault { result ≡ 1 → (fault : StreamFault) × StoppedOverMemory (R.remaining reader.old) (R.remaining reader.new)
         (W.contents writer.old) (W.contents writer.new) ((reader.new ≡ reader.old) × (writer.new ≡ writer.old)) fault }
-    ensures nothing { result ≡ 2 → (reader.new ≡ reader.old) × (writer.new ≡ writer.old) }
+    ensures nothing { result ≡ 2 → AskForNothing (map string_bytes words.now) × ((reader.new ≡ reader.old) × (writer.new ≡ writer.old)) }
 {
     let alloc = rt.alloc();
     match task_of(alloc, words) {

@@ -1,4 +1,5 @@
 //! The program on lines, as an operator sends them.
+mod changes;
 mod streams;
 
 use crate::lines::run_lines;

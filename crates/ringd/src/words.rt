@@ -1,11 +1,15 @@
 //! The words of the command line.
-ghost use Rattle.std.specs.Prelude.{◌≡◌, IfOk, map, string_bytes};
+ghost use Rattle.std.specs.Prelude.{◌≡◌, IfErr, IfOk, map, string_bytes};
 ghost use Rattle.clap.specs.Simple.{app_of};
-ghost use Rattle.ringd.specs.Programs.{AskFor, programs};
+ghost use Rattle.clap.specs.Values.{kind_of};
+ghost use Rattle.clap.specs.declared.error.kind.ErrorKind.{ErrorKind};
+ghost use Rattle.ringd.specs.declared.words.ArgsFault.TheVariants.{NoMemory};
+ghost use Rattle.ringd.specs.Programs.{AskFor, AskForNothing, IfBad, programs};
 
 use clap::error::ErrorKind;
 use clap::{Command, Error};
 use std::alloc::{AllocError, Global};
+use std::fmt::Display;
 
 /// What the words ask for.
 #[derive(Clone, Copy, Debug, PartialEq, Eq)]
@@ -24,6 +28,8 @@ pub enum ArgsFault {
 }
 
 impl From<AllocError> for ArgsFault {
+    ghost from_gives = { λ _ fault. fault ≡ NoMemory };
+
     fn from(_error: AllocError) -> ArgsFault {
         ArgsFault::NoMemory
     }
@@ -46,7 +52,16 @@ A line is the hour, a space, and a JSON object: who asks, the caller's number of
   1 {\"caller\":\"ops\",\"number\":3,\"do\":\"set_weight\",\"ring\":\"object\",\"id\":0,\"weight\":\"50.00\"}
 
 create makes a ring of 2 to the power of partitions, each on so many replicas. add puts a device into it, and tells the
-number under which the ring knows it. set_weight changes what share of the ring a device is to hold.
+number under which the ring knows it. set_weight changes what share of the ring a device is to hold. These also say what
+to do, each on its ring:
+
+  {..,\"do\":\"remove\",\"id\":0}            marks a device, which leaves the ring at the next rebalance
+  {..,\"do\":\"set_hours\",\"min_hours\":1}  sets for how many hours a moved partition stays where it is
+  {..,\"do\":\"pretend_passed\"}           lets each partition be moved as if it never had been
+  {..,\"do\":\"raise_power\"}              splits each partition into two
+  {..,\"do\":\"import\",\"rows\":[[1,1,\"10.0.0.1\",6200,\"d0\",\"100.00\"],[1,2,\"10.0.0.2\",6200,\"d1\",\"50.00\"]]}
+                                         adds devices by region, zone, address, port, name and weight, or sets the
+                                         weight of those that are there: all rows or none
 
 Each line is answered by a status, a space and a JSON object, before the next line is waited for. A caller that got no
 answer sends the line again: it is answered as before, and nothing is done twice. Another request takes another number.
@@ -68,27 +83,37 @@ fn command<'a>(alloc: Global) -> Result<Command<'a>, AllocError>
         .subcommand(run)
 }
 
-/// What an error of `clap` is told as.
-fn fault_of(alloc: Global, error: &Error) -> ArgsFault {
-    if error.kind() == ErrorKind::OutOfMemory {
-        return ArgsFault::NoMemory;
-    }
-    match format!(in alloc; "{error}") {
+/// What words that ask for nothing are told.
+fn bad<T: Display>(alloc: Global, told: &T) -> ArgsFault {
+    match format!(in alloc; "{told}") {
         Ok(text) => ArgsFault::Bad(text),
         Err(AllocError) => ArgsFault::NoMemory,
     }
 }
 
-/// What the words ask for. The first word is the program's own name.
+/// What an error of `clap` is told as.
+fn fault_of(alloc: Global, error: &Error) -> ArgsFault
+    ensures { IfBad result (kind_of error.now ≡ ErrorKind.OutOfMemory → ⊥) }
+{
+    if error.kind() == ErrorKind::OutOfMemory {
+        return ArgsFault::NoMemory;
+    }
+    bad(alloc, error)
+}
+
+/// What the words ask for. The first word is the program's own name. Bad exactly where they ask for nothing.
 pub fn task_of(alloc: Global, words: &[String]) -> Result<Task, ArgsFault>
-    ensures { IfOk result (AskFor (map string_bytes words.now)) }
+    ensures task { IfOk result (AskFor (map string_bytes words.now)) }
+    ensures nothing { IfErr result (λ fault. IfBad fault (AskForNothing (map string_bytes words.now))) }
 {
     let command = command(alloc)?;
-    match command.try_get_matches_from(words) {
-        Ok(matches) => match matches.subcommand_name() {
-            Some("run") => Ok(Task::Run),
-            _ => Err(ArgsFault::Bad(String::from_str(alloc, ABOUT)?)),
-        },
-        Err(error) => Err(fault_of(alloc, &error)),
+    let matches = match command.try_get_matches_from(words) {
+        Ok(matches) => matches,
+        Err(error) => return Err(fault_of(alloc, &error)),
+    };
+    if matches.subcommand_matches("run").is_some() {
+        Ok(Task::Run)
+    } else {
+        Err(bad(alloc, &ABOUT))
     }
 }

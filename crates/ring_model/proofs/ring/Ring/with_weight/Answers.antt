@@ -3,18 +3,19 @@ use Rattle.std.proofs.lemmas.List.{length-map}
 use Rattle.ring_model.specs.Ring.{RingRecord, with_weight, reweighed}
 use Rattle.ring_model.specs.Parts.{record_of}
 use Rattle.ring_model.specs.Valid.{IsValid}
-use Rattle.ring_model.proofs.Changes.{weighed_valid, written_all}
+use Rattle.ring_model.proofs.Changes.{altered_valid, changed_valid, reweighed_keeps, written_all}
 use Rattle.ring_model.proofs.ring.Ring.with_weight.Goals as goal
 
 pub invariant_of-result : goal.invariant_of-result
 invariant_of-result c =
     let old : RingRecord = record_of c.self.inside.parts in
     let parts = c.in_ok-parts.parts in
-    rw (c.set_weight.ensures, c.deref_mut.ensures.value, c.risen.ensures, written_all parts.devices.items (map (reweighed c.args.id c.args.weight) parts.devices.items) parts.devices.len parts.devices.ok.0 (length-map _ _))
-    (subst (λ (r : RingRecord). IsValid (with_weight r c.args.id c.args.weight)) (sym c.in_ok-parts.ensures) (weighed_valid old c.args.id c.args.weight c.self.invariant))
+    let f = reweighed c.args.id c.args.weight in
+    rw (c.alter_all.ensures, c.deref_mut.ensures.value, c.risen.ensures, written_all parts.devices.items (map f parts.devices.items) parts.devices.len parts.devices.ok.0 (length-map _ _))
+    (subst (λ (r : RingRecord). IsValid (with_weight r c.args.id c.args.weight)) (sym c.in_ok-parts.ensures) (changed_valid _ (altered_valid f (reweighed_keeps c.args.id c.args.weight) old c.self.invariant)))
 
 pub returns : goal.returns
 returns c =
     let parts = c.in_ok-parts.parts in
-    rw (c.set_weight.ensures, c.deref_mut.ensures.value, c.risen.ensures, written_all parts.devices.items (map (reweighed c.args.id c.args.weight) parts.devices.items) parts.devices.len parts.devices.ok.0 (length-map _ _))
+    rw (c.alter_all.ensures, c.deref_mut.ensures.value, c.risen.ensures, written_all parts.devices.items (map (reweighed c.args.id c.args.weight) parts.devices.items) parts.devices.len parts.devices.ok.0 (length-map _ _))
     (ap (λ (r : RingRecord). with_weight r c.args.id c.args.weight) (c.in_ok-parts.ensures ∙ c.self.view_is))

@@ -1,0 +1,5 @@
+use Rattle.csv_import.proofs.Spelling.{weight_is_text}
+use Rattle.csv_import.proofs.fields.weight_of.Goals as goal
+
+pub returns-in_err-text_of-clause-none : goal.returns-in_err-text_of-clause-none
+returns-in_err-text_of-clause-none c = rw c.from_residual.ensures (λ weight spells. c.in_err-text_of.ensures.none (weight_is_text c.args.field.now weight spells))

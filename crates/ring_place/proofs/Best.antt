@@ -1,0 +1,65 @@
+-- The best device of the first steps.
+use Rattle.std.proofs.Common.{◌≡◌, ◌==◌, ℕ, ◌+◌, ◌<◌, ◌≤◌, true, false, ◌&&◌, List, length, Option, Some, None, ap, subst, sym, ◌∙◌, arith, below_more, below_none}
+use Rattle.std.proofs.lemmas.Bool.Decides.{nat_tests}
+use Rattle.ring_share.specs.Crowd.{is_less}
+use Rattle.ring_place.specs.Load.{Load, is_free_in, crowd_in}
+use Rattle.ring_place.specs.Places.{id_at, id_after, turned, IsBestOf, IsBestSoFar}
+
+pub less_trans : (a b c : ℕ × ℕ × ℕ) → is_less a b ≡ true → is_less b c ≡ true → is_less a c ≡ true
+less_trans a b c h k = grind (arith, nat_tests)
+
+pub not_less_trans : (a b c : ℕ × ℕ × ℕ) → is_less a b ≡ false → is_less b c ≡ false → is_less a c ≡ false
+not_less_trans a b c h k = grind (arith, nat_tests)
+
+pub not_less_self : (a : ℕ × ℕ × ℕ) → is_less a a ≡ false
+not_less_self a = grind (arith, nat_tests)
+
+pub not_less_after : (a b : ℕ × ℕ × ℕ) → is_less a b ≡ true → is_less b a ≡ false
+not_less_after a b h = grind (arith, nat_tests)
+
+-- the device at this place comes at this step
+abbrev pub ComesAt : Load → ℕ → ℕ → ℕ → Type 0
+ComesAt load start step place = place ≡ turned (length load.devices) start step
+
+free_step : (load : Load) (row : List (Option ℕ)) (start step place : ℕ) → ComesAt load start step place → is_free_in load row (id_after load start step) ≡ is_free_in load row (id_at load.devices place)
+free_step load row start step place at = ap (λ p. is_free_in load row (id_at load.devices p)) (sym at)
+
+pub best_skip : (load : Load) (row : List (Option ℕ)) (start step place : ℕ) (best : Option ℕ) → ComesAt load start step place → IsBestSoFar start step load row best
+    → is_free_in load row (id_at load.devices place) ≡ false → IsBestSoFar start (step + 1) load row best
+best_skip load row start step place None at so_far fails = below_more (λ s. is_free_in load row (id_after load start s) ≡ false) step so_far (free_step load row start step place at ∙ fails)
+best_skip load row start step place (Some best) at so_far fails = record {
+  within = so_far.within;
+  free = so_far.free;
+  least = below_more (λ s. is_free_in load row (id_after load start s) ≡ true → is_less (crowd_in load row (id_after load start s)) (crowd_in load row (id_at load.devices best)) ≡ false)
+      step so_far.least (λ free. absurd (cc (free, free_step load row start step place at, fails)));
+}
+
+pub best_first : (load : Load) (row : List (Option ℕ)) (start step place : ℕ) → ComesAt load start step place → place < length load.devices → IsBestSoFar start step load row None
+    → is_free_in load row (id_at load.devices place) ≡ true → IsBestOf start (step + 1) load row place
+best_first load row start step place at lt so_far free = record {
+  within = lt;
+  free = free;
+  least = below_more (λ s. is_free_in load row (id_after load start s) ≡ true → is_less (crowd_in load row (id_after load start s)) (crowd_in load row (id_at load.devices place)) ≡ false)
+      step (λ s less passes. absurd (cc (so_far s less, passes)))
+      (λ passes. subst (λ p. is_less (crowd_in load row (id_at load.devices p)) (crowd_in load row (id_at load.devices place)) ≡ false) at (not_less_self (crowd_in load row (id_at load.devices place))));
+}
+
+pub best_take : (load : Load) (row : List (Option ℕ)) (start step place best : ℕ) → ComesAt load start step place → place < length load.devices → IsBestOf start step load row best
+    → is_free_in load row (id_at load.devices place) ≡ true → is_less (crowd_in load row (id_at load.devices place)) (crowd_in load row (id_at load.devices best)) ≡ true → IsBestOf start (step + 1) load row place
+best_take load row start step place best at lt so_far free less = record {
+  within = lt;
+  free = free;
+  least = below_more (λ s. is_free_in load row (id_after load start s) ≡ true → is_less (crowd_in load row (id_after load start s)) (crowd_in load row (id_at load.devices place)) ≡ false)
+      step
+      (λ s below passes. not_less_trans (crowd_in load row (id_after load start s)) (crowd_in load row (id_at load.devices best)) (crowd_in load row (id_at load.devices place)) (so_far.least s below passes) (not_less_after (crowd_in load row (id_at load.devices place)) (crowd_in load row (id_at load.devices best)) less))
+      (λ passes. subst (λ p. is_less (crowd_in load row (id_at load.devices p)) (crowd_in load row (id_at load.devices place)) ≡ false) at (not_less_self (crowd_in load row (id_at load.devices place))));
+}
+
+pub best_keep : (load : Load) (row : List (Option ℕ)) (start step place best : ℕ) → ComesAt load start step place → IsBestOf start step load row best
+    → is_less (crowd_in load row (id_at load.devices place)) (crowd_in load row (id_at load.devices best)) ≡ false → IsBestOf start (step + 1) load row best
+best_keep load row start step place best at so_far fails = record {
+  within = so_far.within;
+  free = so_far.free;
+  least = below_more (λ s. is_free_in load row (id_after load start s) ≡ true → is_less (crowd_in load row (id_after load start s)) (crowd_in load row (id_at load.devices best)) ≡ false)
+      step so_far.least (λ passes. subst (λ p. is_less (crowd_in load row (id_at load.devices p)) (crowd_in load row (id_at load.devices best)) ≡ false) at fails);
+}

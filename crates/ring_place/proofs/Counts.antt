@@ -1,0 +1,56 @@
+-- How many seats devices have, as seats are put on them.
+use Rattle.std.proofs.Common.{◌≡◌, ◌≢◌, ◌==◌, ℕ, ◌+◌, ◌<◌, ◌≤◌, Bool, true, false, cond, List, length, get_or, set, take, map, count_by, Some, refl, sym, ap, ◌∙◌, ⊎_elim, arith}
+use Rattle.std.specs.Prelude.{slice_get, slice_index, nat_lt, if◌then◌else◌}
+use Rattle.std.proofs.lemmas.Bool.{cases_eq, eq-eqb, ne_eqb}
+use Rattle.std.proofs.lemmas.Bool.Decides.{nat_tests}
+use Rattle.std.proofs.lemmas.List.{get_or-set_same, get_or-set_other}
+use Rattle.std.proofs.lemmas.Option.{slice_get_within, same_Some}
+use Rattle.ring_model.specs.Ring.{has_device}
+use Rattle.ring_model.specs.declared.device.Device.{Device}
+use Rattle.ring_share.specs.Room.{place_of}
+use Rattle.ring_share.proofs.Standing.{found_device}
+use Rattle.ring_place.specs.Load.{Load, IsLoad, have_in, load_put}
+use Rattle.ring_place.proofs.AtPlaces.{place_stands}
+
+-- the place of a device that is known
+pub place_within : (load : Load) → IsLoad load → (id : ℕ) → has_device id load.devices ≡ true → place_of id load.devices < length load.counts
+place_within load is id known =
+    let found = found_device load.devices id known in
+    let within = slice_get_within load.devices found.place found.stands.device found.stands.at in
+    let here = place_stands load.devices is.rise id found.place found.stands in
+    let counted = is.counted in
+    omega (arith, within, here, counted)
+
+-- two devices that are known stand at two places
+pub places_differ : (load : Load) → IsLoad load → (id other : ℕ) → has_device id load.devices ≡ true → has_device other load.devices ≡ true → other ≢ id
+    → place_of other load.devices ≢ place_of id load.devices
+places_differ load is id other known also ne same =
+    let a = found_device load.devices id known in
+    let b = found_device load.devices other also in
+    let ha = place_stands load.devices is.rise id a.place a.stands in
+    let hb = place_stands load.devices is.rise other b.place b.stands in
+    let one : b.place ≡ a.place = omega (arith, ha, hb, same) in
+    let device : b.stands.device ≡ a.stands.device = same_Some b.stands.device a.stands.device (sym b.stands.at ∙ ap (slice_get load.devices) one ∙ a.stands.at) in
+    ne (sym b.stands.named ∙ ap (λ (d : Device). d.id) device ∙ a.stands.named)
+
+more_if : (count : ℕ) → count < 4294967295 → (if nat_lt count 4294967295 then count + 1 else count) ≡ count + 1
+more_if count lt = let yes : nat_lt count 4294967295 ≡ true = grind (arith, nat_tests) in rw yes refl
+
+-- one seat more is on the device that it was put on, and on no other
+pub put_more : (load : Load) → IsLoad load → (id other : ℕ) → has_device id load.devices ≡ true → has_device other load.devices ≡ true → have_in load id < 4294967295
+    → have_in (load_put load id) other ≡ have_in load other + cond (id == other) 1 0
+put_more load is id other known also few =
+    let value = if nat_lt (have_in load id) 4294967295 then have_in load id + 1 else have_in load id in
+    let here = place_of id load.devices in
+    ⊎_elim
+    (λ same.
+    let yes : ◌≡◌ {A = ℕ} (cond (id == other) 1 0) 1 = rw (eq-eqb _ _ (sym same)) refl in
+    let at : have_in (load_put load id) other ≡ value = ap (λ k. get_or (set load.counts here value) (place_of k load.devices) 0) same ∙ get_or-set_same load.counts here value 0 (place_within load is id known) in
+    let old : have_in load other ≡ have_in load id = ap (have_in load) same in
+    let new = more_if (have_in load id) few in
+    omega (arith, yes, at, old, new))
+    (λ differs.
+    let none : ◌≡◌ {A = ℕ} (cond (id == other) 1 0) 0 = rw (ne_eqb _ _ (λ e. differs (sym e))) refl in
+    let at = get_or-set_other load.counts here (place_of other load.devices) value 0 (places_differ load is id other known also differs) in
+    omega (arith, none, at))
+    (cases_eq other id)

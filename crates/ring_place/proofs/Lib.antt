@@ -1,0 +1,5 @@
+pub mod AtPlaces
+pub mod Best
+pub mod Outside
+pub mod Counts
+pub mod Lawful

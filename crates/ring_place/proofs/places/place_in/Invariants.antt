@@ -1,0 +1,15 @@
+use Rattle.std.proofs.Common.{◌≡◌, ◌<◌, ◌≤◌, ◌-◌, ℕ, length, Some}
+use Rattle.std.specs.Prelude.{slice_get}
+use Rattle.ring_model.specs.declared.device.Device.{Device}
+use Rattle.ring_place.proofs.places.place_in.Given as goal
+
+-- the device of the number is none before low, and none from high on
+abbrev pub invariant-loop-high : goal.invariant-loop-high
+invariant-loop-high l = record {
+  some : l.low < l.high;
+  within : l.high ≤ length l.devices;
+  between : (k : ℕ) (device : Device) → slice_get l.devices k ≡ Some device → device.id ≡ l.id → (l.low ≤ k) × (k < l.high);
+}
+
+abbrev pub decreases-loop-high : goal.decreases-loop-high
+decreases-loop-high l = l.high - l.low

@@ -1,0 +1,3 @@
+pub mod Rebalance
+pub mod Load
+pub mod Places

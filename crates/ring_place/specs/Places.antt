@@ -1,0 +1,42 @@
+-- Devices by their places among those of a ring.
+use Rattle.std.specs.Prelude.{◌≡◌, ℕ, ◌+◌, ◌-◌, ◌<◌, nat_lt, if◌then◌else◌, false, true, List, length, map, Option, Some, None, slice_get}
+use Rattle.ring_model.specs.declared.device.Device.{Device}
+use Rattle.ring_share.specs.Crowd.{is_less}
+use Rattle.ring_place.specs.Load.{Load, is_free_in, crowd_in}
+
+-- the number of a device, 0 where there is none
+abbrev pub number_of : Option Device → ℕ
+number_of None = 0
+number_of (Some device) = device.id
+
+-- the number of the device at a place
+abbrev pub id_at : List Device → ℕ → ℕ
+id_at devices place = number_of (slice_get devices place)
+
+-- seats on the devices at these places
+abbrev pub seats_at : List Device → List ℕ → List (Option ℕ)
+seats_at devices places = map (λ place. Some (id_at devices place)) places
+
+-- the place so many steps after another, where the first place comes after the last
+abbrev pub turned : ℕ → ℕ → ℕ → ℕ
+turned count start step = if nat_lt (start + step) count then start + step else (start + step - count)
+
+-- the number of the device so many steps after a place
+abbrev pub id_after : Load → ℕ → ℕ → ℕ
+id_after load start step = id_at load.devices (turned (length load.devices) start step)
+
+-- Of the devices of the first steps after a place none that is free is less crowded for a seat than the one at the best place.
+abbrev pub AreNoLess : ℕ → ℕ → Load → List (Option ℕ) → ℕ → Type 0
+AreNoLess start steps load row best = (step : ℕ) → step < steps → is_free_in load row (id_after load start step) ≡ true →
+    is_less (crowd_in load row (id_after load start step)) (crowd_in load row (id_at load.devices best)) ≡ false
+
+-- The device at the best place is free for a seat, and least crowded among the devices of the first steps after a place.
+pub record IsBestOf (start steps : ℕ) (load : Load) (row : List (Option ℕ)) (best : ℕ) : Type 0 where
+  pub within : best < length load.devices
+  pub free : is_free_in load row (id_at load.devices best) ≡ true
+  pub least : AreNoLess start steps load row best
+
+-- So is this, or none of them is free.
+abbrev pub IsBestSoFar : ℕ → ℕ → Load → List (Option ℕ) → Option ℕ → Type 0
+IsBestSoFar start steps load row None = (step : ℕ) → step < steps → is_free_in load row (id_after load start step) ≡ false
+IsBestSoFar start steps load row (Some best) = IsBestOf start steps load row best

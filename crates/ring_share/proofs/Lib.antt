@@ -1,0 +1,11 @@
+pub mod Rows
+pub mod Sharing
+pub mod Standing
+pub mod Balances
+pub mod Determined
+pub mod NearTable
+pub mod Better
+pub mod Counting
+pub mod Bridge
+pub mod Assigned
+pub mod AllSeats

@@ -1,0 +1,6 @@
+pub mod Want
+pub mod Turns
+pub mod Room
+pub mod Crowd
+pub mod Figures
+pub mod Near

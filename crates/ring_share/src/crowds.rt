@@ -1,0 +1,94 @@
+//! Where devices stand, and how crowded they are.
+ghost use Rattle.std.specs.Prelude.{◌≡◌, ◌<◌, ◌+◌, ◌≤◌, ℕ, true, [], ◌∷◌, length, slice_index_or, Option, Some, None, if◌then◌else◌};
+ghost use Rattle.std.specs.Option.{option_map};
+ghost use Rattle.ring_model.specs.Ring.{partition_count, has_device};
+ghost use Rattle.ring_share.specs.Crowd.{in_region, in_zone, on_server, device_of, tiers_of, row_of, others, crowd, crowd_for};
+
+use ring_model::{Device, DeviceId, Ring};
+
+pub(crate) fn in_region(a: &Device, b: &Device) -> bool
+    ensures { result ≡ in_region a.now b.now }
+{
+    a.row.region == b.row.region
+}
+
+pub(crate) fn in_zone(a: &Device, b: &Device) -> bool
+    ensures { result ≡ in_zone a.now b.now }
+{
+    in_region(a, b) && a.row.zone == b.row.zone
+}
+
+pub(crate) fn on_server(a: &Device, b: &Device) -> bool
+    ensures { result ≡ on_server a.now b.now }
+{
+    in_zone(a, b) && a.row.address == b.row.address
+}
+
+/// The device of a number.
+pub(crate) fn device_of(devices: &[Device], id: DeviceId) -> Option<&Device>
+    ensures { option_map (λ device. device.now) result ≡ device_of id devices.now }
+{
+    devices.iter().find(|device| device.id == id)
+}
+
+fn one_if(yes: bool) -> u32
+    ensures { result ≡ (if yes then 1 else 0) }
+{
+    if yes { 1 } else { 0 }
+}
+
+/// What one seat adds to a device's crowd: 1 for each tier that the device shares with the seat's.
+fn shared(devices: &[Device], id: DeviceId, seat: Option<DeviceId>) -> (u32, u32, u32)
+    ensures same { result ≡ crowd (tiers_of devices.now) (seat ∷ []) id }
+    ensures few { (result.0 ≤ 1) × (result.1 ≤ 1) × (result.2 ≤ 1) }
+{
+    let Some(seat) = seat else {
+        return (0, 0, 0);
+    };
+    let Some(device) = device_of(devices, id) else {
+        return (0, 0, 0);
+    };
+    let Some(other) = device_of(devices, seat) else {
+        return (0, 0, 0);
+    };
+    (
+        one_if(in_region(device, other)),
+        one_if(in_zone(device, other)),
+        one_if(on_server(device, other)),
+    )
+}
+
+/// A seat of a partition, as one of its seats sees it: that seat itself is taken as empty.
+fn seat_seen_from(ring: &Ring, partition: u32, replica: u16, other: u16) -> Option<DeviceId>
+    requires partition { partition < partition_count ring.now }
+    requires other { other < ring.now.replicas }
+    ensures { result ≡ slice_index_or (others (row_of ring.now partition) replica) other None }
+{
+    if other == replica {
+        None
+    } else {
+        ring.seat(partition, other)
+    }
+}
+
+/// How crowded a device of the ring is for the seat of a replica of a partition: how many other seats of the partition,
+/// those of the other replicas, are in the device's region, in its zone and on its server.
+pub fn crowd(ring: &Ring, partition: u32, replica: u16, device: DeviceId) -> (u32, u32, u32)
+    requires partition { partition < partition_count ring.now }
+    requires replica { replica < ring.now.replicas }
+    requires device { has_device device ring.now.devices ≡ true }
+    ensures { result ≡ crowd_for ring.now partition replica device }
+{
+    let devices = ring.devices();
+    let mut region = 0;
+    let mut zone = 0;
+    let mut server = 0;
+    for other in 0..ring.replicas().get() {
+        let seat = seat_seen_from(ring, partition, replica, other);
+        let more = shared(devices, device, seat);
+        region += more.0;
+        zone += more.1;
+        server += more.2;
+    }
+    (region, zone, server)
+}

@@ -1,0 +1,151 @@
+//! Balance and dispersion.
+ghost use Rattle.std.specs.Prelude.{◌≡◌, ◌==◌, ◌<◌, ◌≤◌, ◌+◌, ◌*◌, ◌/◌, ◌^◌, ℕ, true, All, length, map, min, max, slice_get, slice_index, slice_index_or, count_by, Some, None};
+ghost use Rattle.std.specs.Option.{option_map};
+ghost use Rattle.std.specs.List.Sorted.{IsStrictlyIncreasing};
+ghost use Rattle.ring_model.specs.Ring.{partition_count, has_device, is_assigned};
+ghost use Rattle.ring_model.specs.Valid.{AreDevices};
+ghost use Rattle.ring_model.specs.declared.device.Device.{Device as DeviceModel};
+ghost use Rattle.ring_share.specs.Want.{total_weight};
+ghost use Rattle.ring_share.specs.Room.{have};
+ghost use Rattle.ring_share.specs.Near.{IsTable};
+ghost use Rattle.ring_share.specs.Crowd.{device_of, rows_of};
+ghost use Rattle.ring_share.specs.Figures.{distance, greatest_balance, device_balance, ring_balance, has_crowded, ring_dispersion};
+
+use crate::crowds::device_of;
+use crate::nearness::{Table, has_better_at, table_of};
+use crate::places::{place_in, places_of};
+use crate::rooms::have;
+use crate::wants::{is_open, partition_count, seat_count, total_weight};
+use ring_model::{Device, DeviceId, Ring};
+
+const GREATEST_BALANCE: u64 = 99_999;
+
+fn distance(a: u64, b: u64) -> u64
+    ensures { result ≡ distance a b }
+{
+    if a < b { b - a } else { a - b }
+}
+
+fn greater(a: u32, b: u32) -> u32
+    ensures { result ≡ max a b }
+{
+    a.max(b)
+}
+
+/// So many hundredths of a percent of a share are a distance from it, or the greatest balance if they are more.
+fn balance_from(distance: u64, share: u64) -> u32
+    requires some { 0 < share }
+    requires small { share < 2 ^ 44 }
+    ensures { result ≡ min greatest_balance (10000 * distance / share) }
+{
+    if distance / share >= 10 {
+        return GREATEST_BALANCE as u32;
+    }
+    (10_000 * distance / share).min(GREATEST_BALANCE) as u32
+}
+
+/// The balance of a device of the ring that has so many seats.
+fn device_balance(ring: &Ring, total: u64, device: &Device, seats: u32) -> u32
+    requires total { total ≡ total_weight ring.now.devices }
+    requires light { total ≤ 2 ^ 35 }
+    requires seats { seats ≡ have ring.now device.now.id }
+    requires few { seats ≤ 81920 }
+    ensures { result ≡ device_balance ring.now device.now }
+{
+    if is_open(device) {
+        let weight = u64::from(device.row.weight.hundredths());
+        let share = seat_count(ring) * weight;
+        balance_from(distance(u64::from(seats) * total, share), share)
+    } else if seats > 0 {
+        GREATEST_BALANCE as u32
+    } else {
+        0
+    }
+}
+
+/// How far the seats of a device are from its share, in hundredths of a percent of that share, at most 99999. For a
+/// device that isn't open, 99999 if it has a seat, and else 0. `None` exactly where the ring has no such device.
+pub fn balance_of(ring: &Ring, device: DeviceId) -> Option<u32>
+    ensures { result ≡ option_map (device_balance ring.now) (device_of device ring.now.devices) }
+{
+    let found = device_of(ring.devices(), device)?;
+    let total = total_weight(ring.devices());
+    Some(device_balance(ring, total, found, have(ring, found.id)))
+}
+
+/// How many seats the device at each place has.
+fn counts_of(ring: &Ring) -> [u32; 256]
+    ensures { (place : ℕ) (device : DeviceModel) → slice_get ring.now.devices place ≡ Some device → slice_index result place ≡ have ring.now device.id }
+{
+    let devices = ring.devices();
+    let seats = ring.seats();
+    let mut counts: [u32; 256] = zero_counts();
+    for seat in seats {
+        counts[place_in(devices, *seat)] += 1;
+    }
+    counts
+}
+
+fn zero_counts<const N: usize>() -> [u32; N]
+    ensures { (k : ℕ) → slice_index result k ≡ 0 }
+{
+    [0; N]
+}
+
+/// The greatest balance of a device, and 0 without devices.
+pub fn balance(ring: &Ring) -> u32
+    ensures { result ≡ ring_balance ring.now }
+{
+    let devices = ring.devices();
+    let total = total_weight(devices);
+    let counts = counts_of(ring);
+    let mut greatest = 0;
+    for (place, device) in devices.iter().enumerate() {
+        let next = device_balance(ring, total, device, counts[place]);
+        greatest = greater(greatest, next);
+    }
+    greatest
+}
+
+/// Whether a partition with these seats has one for which an open device outside it is less crowded than the seat's own.
+fn has_crowded(devices: &[Device], table: &Table, row: &[DeviceId]) -> bool
+    requires devices { AreDevices 65536 devices.now }
+    requires table { IsTable devices.now table.now }
+    requires known { All (λ id. has_device id devices.now ≡ true) row.now }
+    requires few { length row.now ≤ 5 }
+    ensures { result ≡ has_crowded devices.now (map Some row.now) }
+{
+    let places = places_of(devices, row);
+    has_better_at(devices, table, &places[..row.len()])
+}
+
+/// How many partitions of an assigned ring have such a seat.
+fn crowded_count(ring: &Ring) -> u32
+    requires { is_assigned ring.now ≡ true }
+    ensures value { result ≡ count_by (has_crowded ring.now.devices) (rows_of ring.now) }
+    ensures small { result ≤ partition_count ring.now }
+{
+    let devices = ring.devices();
+    let table = table_of(devices);
+    let replicas = usize::from(ring.replicas().get());
+    let seats = ring.seats();
+    let mut crowded = 0;
+    for partition in 0..partition_count(ring) {
+        let first = partition * replicas;
+        if has_crowded(devices, &table, &seats[first..first + replicas]) {
+            crowded += 1;
+        }
+    }
+    crowded
+}
+
+/// Which part of the partitions, in hundredths of a percent, has a seat for which an open device outside the partition,
+/// with room or without, is less crowded than the seat's own. 0 where the seats are empty.
+pub fn dispersion(ring: &Ring) -> u32
+    ensures { result ≡ ring_dispersion ring.now }
+{
+    if !ring.is_assigned() {
+        return 0;
+    }
+    10_000 * crowded_count(ring) / partition_count(ring) as u32
+}

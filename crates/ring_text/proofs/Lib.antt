@@ -1,0 +1,10 @@
+pub mod Validity
+pub mod Written
+pub mod Reading
+pub mod Graphic
+pub mod Devices
+pub mod Partitions
+pub mod Text
+pub mod Cutting
+pub mod Whole
+pub mod Once

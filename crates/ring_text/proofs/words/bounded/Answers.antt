@@ -1,0 +1,12 @@
+use Rattle.std.proofs.Common.{◌<◌, ◌≤◌, ◌^◌, arith}
+use Rattle.ring_text.proofs.Reading.{one_number}
+use Rattle.ring_text.proofs.words.bounded.Goals as goal
+
+pub returns-in_default : goal.returns-in_default
+returns-in_default g c = λ n h.
+    let all : 65535 < 2 ^ 32 = omega arith in
+    let most : g.row.MOST < 2 ^ 32 = omega (arith, g.MOST.fits) in
+    let same = one_number c.args.word.now 0 65535 g.row.LEAST g.row.MOST c.in_ok-number.number n all most c.in_ok-number.ensures h in
+    let lower : g.row.LEAST ≤ c.in_ok-number.number = omega (arith, same, h.above) in
+    let upper : c.in_ok-number.number ≤ g.row.MOST = omega (arith, same, h.below) in
+    c.in_default.ensures (lower, upper)

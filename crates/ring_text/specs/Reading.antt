@@ -1,0 +1,137 @@
+-- What a reader of a part of a text answers, and the parts that are read.
+use Rattle.std.specs.Prelude.{◌≡◌, ℕ, ◌*◌, ◌≤◌, ◌<◌, ◌^◌, ◌++◌, Bool, List, [], ◌∷◌, length, map, slice_index_or, Result, Ok, Err, ⊤, IsTrue, All, codes, decimal}
+use Rattle.std.specs.List.{join_with_byte}
+use Rattle.ring_model.specs.Texts.{address_text, address_limit, hundredths_text, greatest_weight, is_label, is_device_name}
+use Rattle.ring_model.specs.declared.device.Device.{Device}
+use Rattle.ring_text.specs.Snapshot.{SnapshotRecord, IsValidSnapshot, IsWithinLimits}
+use Rattle.ring_text.specs.Spelling.{lines_of, device_line, partition_lines, state_word}
+use Rattle.ring_text.specs.declared.fault.TextFault.{TextFault}
+use Rattle.ring_text.specs.declared.fault.TextFault.TheVariants.{BadText, NoMemory}
+use Rattle.ring_text.specs.declared.head.Head.{Head}
+
+-- What was read is what is written there; where the text is bad, nothing of the kind is written there. Want of memory
+-- says nothing.
+abbrev pub Reads : {X : Type 0} → (X → Type 0) → Result X TextFault → Type 0
+Reads Is (Ok x) = Is x
+Reads {X = X} Is (Err BadText) = (x : X) → Is x → ⊥
+Reads Is (Err NoMemory) = ⊤
+
+-- The same, of what a value is seen as.
+abbrev pub ReadsAs : {X Y : Type 0} → (X → Y) → (Y → Type 0) → Result X TextFault → Type 0
+ReadsAs view Is (Ok x) = Is (view x)
+ReadsAs {Y = Y} view Is (Err BadText) = (y : Y) → Is y → ⊥
+ReadsAs view Is (Err NoMemory) = ⊤
+
+-- The word is this number, which is within these bounds.
+pub record IsNumber (word : List ℕ) (least most n : ℕ) : Type 0 where
+  pub is : word ≡ decimal n
+  pub above : least ≤ n
+  pub below : n ≤ most
+
+-- The word is this name, which is one by this rule.
+pub record IsName (allows : List ℕ → Bool) (word name : List ℕ) : Type 0 where
+  pub is : word ≡ name
+  pub valid : IsTrue (allows name)
+
+-- The word is this address.
+pub record IsAddress (word : List ℕ) (address : ℕ) : Type 0 where
+  pub is : word ≡ address_text address
+  pub valid : address < address_limit
+
+-- The word is this weight.
+pub record IsWeight (word : List ℕ) (hundredths : ℕ) : Type 0 where
+  pub is : word ≡ hundredths_text hundredths
+  pub valid : hundredths ≤ greatest_weight
+
+-- The line is a key, and then this number.
+pub record IsNumberAfter (key text : List ℕ) (least most n : ℕ) : Type 0 where
+  pub is : text ≡ key ++ decimal n
+  pub above : least ≤ n
+  pub below : n ≤ most
+
+-- The line is a key, and then this name.
+pub record IsNameAfter (key text name : List ℕ) : Type 0 where
+  pub is : text ≡ key ++ name
+  pub valid : IsTrue (is_label name)
+
+-- one of some texts, by its place
+abbrev pub text_at : List (List ℕ) → ℕ → List ℕ
+text_at texts place = slice_index_or texts place []
+
+-- These are the first lines of a text.
+pub record IsHead (texts : List (List ℕ)) (head : Head) : Type 0 where
+  pub count : length texts ≡ 6
+  pub form : text_at texts 0 ≡ codes "swift-ring-text 1"
+  pub name : IsNameAfter (codes "ring ") (text_at texts 1) head.name
+  pub version : IsNumberAfter (codes "version ") (text_at texts 2) 0 4294967295 head.version
+  pub power : IsNumberAfter (codes "power ") (text_at texts 3) 1 14 head.power
+  pub replicas : IsNumberAfter (codes "replicas ") (text_at texts 4) 1 5 head.replicas
+  pub devices : IsNumberAfter (codes "devices ") (text_at texts 5) 0 65535 head.devices
+
+-- These are the words of a device.
+pub record IsDevice (words : List (List ℕ)) (device : Device) : Type 0 where
+  pub count : length words ≡ 8
+  pub id : IsNumber (text_at words 0) 0 65535 device.id
+  pub region : IsNumber (text_at words 1) 0 65535 device.row.region
+  pub zone : IsNumber (text_at words 2) 0 65535 device.row.zone
+  pub address : IsAddress (text_at words 3) device.row.address
+  pub port : IsNumber (text_at words 4) 1 65535 device.row.port
+  pub weight : IsWeight (text_at words 5) device.row.weight
+  pub state : text_at words 6 ≡ state_word device.removed
+  pub name : IsName is_device_name (text_at words 7) device.row.name
+
+-- The line, without its line feed, is that of this device.
+pub record IsDeviceLine (text : List ℕ) (device : Device) : Type 0 where
+  pub is : text ≡ join_with_byte 32 (device_line device)
+  pub id : device.id < 2 ^ 16
+  pub limits : IsWithinLimits device
+
+-- These are the lines of these devices.
+pub record AreDeviceLines (texts : List (List ℕ)) (devices : List Device) : Type 0 where
+  pub are : texts ≡ map (join_with_byte 32) (map device_line devices)
+  pub ids : All (λ device. device.id < 2 ^ 16) devices
+  pub limits : All IsWithinLimits devices
+
+-- The words are these numbers of devices.
+pub record AreNumbers (words : List (List ℕ)) (numbers : List ℕ) : Type 0 where
+  pub are : words ≡ map decimal numbers
+  pub limits : All (λ n. n < 2 ^ 16) numbers
+
+-- The line is that of a partition with so many replicas on these devices.
+pub record IsPartitionLine (replicas : ℕ) (text : List ℕ) (numbers : List ℕ) : Type 0 where
+  pub is : text ≡ join_with_byte 32 (map decimal numbers)
+  pub count : length numbers ≡ replicas
+  pub limits : All (λ n. n < 2 ^ 16) numbers
+
+-- These are the lines of partitions with so many replicas and these seats.
+pub record ArePartitionLines (replicas : ℕ) (texts : List (List ℕ)) (seats : List ℕ) : Type 0 where
+  pub are : texts ≡ map (join_with_byte 32) (partition_lines (length texts) replicas seats)
+  pub count : length seats ≡ length texts * replicas
+  pub limits : All (λ n. n < 2 ^ 16) seats
+
+-- What follows the first lines is so many lines of devices, so many lines of partitions, and what stands round these.
+pub record IsCut (device_count partition_count : ℕ) (texts : List (List ℕ)) (parts : List (List ℕ) × List (List ℕ)) : Type 0 where
+  pub is : texts ≡ parts.0 ++ codes "seats" ∷ (parts.1 ++ codes "end" ∷ [] ∷ [])
+  pub devices : length parts.0 ≡ device_count
+  pub partitions : length parts.1 ≡ partition_count
+
+-- the snapshot that these parts make
+abbrev pub made : Head → List Device → List ℕ → SnapshotRecord
+made head devices seats = record {
+  name = head.name;
+  version = head.version;
+  power = head.power;
+  replicas = head.replicas;
+  devices = devices;
+  seats = seats;
+}
+
+-- These are the parts of a snapshot.
+pub record IsMade (head : Head) (devices : List Device) (seats : List ℕ) (snapshot : SnapshotRecord) : Type 0 where
+  pub valid : IsValidSnapshot snapshot
+  pub is : snapshot ≡ made head devices seats
+
+-- These are the lines of a snapshot's text, and nothing follows the last line feed.
+pub record AreLines (texts : List (List ℕ)) (snapshot : SnapshotRecord) : Type 0 where
+  pub valid : IsValidSnapshot snapshot
+  pub are : texts ≡ map (join_with_byte 32) (lines_of snapshot) ++ [] ∷ []

@@ -1,0 +1,49 @@
+-- A snapshot of a ring: what its text tells.
+use Rattle.std.specs.Prelude.{◌≡◌, ℕ, ◌*◌, ◌^◌, ◌<◌, ◌≤◌, List, length, All, IsTrue}
+use Rattle.ring_model.specs.Ring.{RingRecord}
+use Rattle.ring_model.specs.Texts.{is_label, is_device_name, greatest_weight, address_limit}
+use Rattle.ring_model.specs.Valid.{AreDevices, AreSeats}
+use Rattle.ring_model.specs.declared.device.Device.{Device}
+
+pub record SnapshotRecord : Type 0 where
+  pub name : List ℕ
+  pub version : ℕ
+  -- there are 2 ^ power partitions
+  pub power : ℕ
+  -- each with so many seats
+  pub replicas : ℕ
+  -- by rising number
+  pub devices : List Device
+  -- which device is on each seat, by partition and then by replica
+  pub seats : List ℕ
+
+-- The device has an address, a port, a name and a weight such as there are.
+pub record IsWithinLimits (device : Device) : Type 0 where
+  pub region : device.row.region < 2 ^ 16
+  pub zone : device.row.zone < 2 ^ 16
+  pub address : device.row.address < address_limit
+  pub port : (1 ≤ device.row.port) × (device.row.port < 2 ^ 16)
+  pub name : IsTrue (is_device_name device.row.name)
+  pub weight : device.row.weight ≤ greatest_weight
+
+-- Such a snapshot there is: each word is of its form, and all seats are taken by devices that the rules of a ring allow.
+pub record IsValidSnapshot (snapshot : SnapshotRecord) : Type 0 where
+  pub name : IsTrue (is_label snapshot.name)
+  pub version : snapshot.version < 2 ^ 32
+  pub power : (1 ≤ snapshot.power) × (snapshot.power ≤ 14)
+  pub replicas : (1 ≤ snapshot.replicas) × (snapshot.replicas ≤ 5)
+  pub devices : AreDevices 65536 snapshot.devices
+  pub limits : All IsWithinLimits snapshot.devices
+  pub taken : length snapshot.seats ≡ 2 ^ snapshot.power * snapshot.replicas
+  pub seats : AreSeats (2 ^ snapshot.power) snapshot.replicas snapshot.devices snapshot.seats
+
+-- the snapshot of a ring, under a name
+abbrev pub snapshot_of : List ℕ → RingRecord → SnapshotRecord
+snapshot_of name ring = record {
+  name = name;
+  version = ring.version;
+  power = ring.power;
+  replicas = ring.replicas;
+  devices = ring.devices;
+  seats = ring.seats;
+}
