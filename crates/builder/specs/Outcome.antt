@@ -10,4 +10,4 @@ use Rattle.ring_model.specs.declared.command.Command.{Command}
 -- the first refusal that stands, or the effect on the named ring
 abbrev pub IsOutcome : Limits → State → ℕ → Command → Outcome → Type 0
 IsOutcome limits rings hour command (Refused refused) = first_refusal limits rings command ≡ Some refused
-IsOutcome limits rings hour command (Done answer ring) = (first_refusal limits rings command ≡ None) × Effect command.act (ring_at command.ring rings) hour answer ring
+IsOutcome limits rings hour command (Done answer ring) = (first_refusal limits rings command ≡ None) × Effect command.ring command.act (ring_at command.ring rings) hour answer ring

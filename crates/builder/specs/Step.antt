@@ -2,8 +2,9 @@
 use Rattle.std.specs.Prelude.{◌≡◌, ◌+◌, ◌==◌, ◌&&◌, ℕ, Bool, true, false, not, nat_le, List, [], ◌∷◌, ◌++◌, length, find, is_some, Option, Some, None}
 use Rattle.std.specs.Option.{option_map}
 use Rattle.ring_model.specs.Import.{after_row, after_rows}
+use Rattle.ring_model.specs.Publish.{is_published, with_published}
 use Rattle.ring_model.specs.Raise.{IsRaised}
-use Rattle.ring_model.specs.Ring.{RingRecord, changed, has_device, has_place, has_present, new_ring, same_place, with_device, with_hours_passed, with_mark, with_min_hours, with_weight}
+use Rattle.ring_model.specs.Ring.{RingRecord, changed, has_device, has_place, has_present, is_assigned, new_ring, same_place, with_device, with_hours_passed, with_mark, with_min_hours, with_weight}
 use Rattle.ring_model.specs.Rings.{ring_at, with_ring}
 use Rattle.ring_model.specs.declared.request.Limits.{Limits}
 use Rattle.ring_model.specs.declared.command.Command.{Command}
@@ -19,6 +20,8 @@ use Rattle.ring_model.specs.declared.device.Device.{Device}
 use Rattle.ring_model.specs.declared.device.Row.{Row}
 use Rattle.ring_model.specs.declared.command.Reply.{Reply}
 use Rattle.ring_model.specs.declared.command.Reply.TheVariants as reply
+use Rattle.ring_text.specs.Snapshot.{snapshot_of}
+use Rattle.ring_text.specs.Spelling.{spelling}
 
 -- all rings, by rising name
 abbrev pub State : Type 0
@@ -85,6 +88,13 @@ abbrev pub of_rows : Limits → ℕ → RingRecord → List Row → List Cause
 of_rows limits n ring [] = []
 of_rows limits n ring (row ∷ rows) = of_row n (row_refusal limits ring row) ++ of_rows limits (n + 1) (after_row ring row) rows
 
+-- the causes that may stand against publishing a ring: a version that is published already takes no more room
+abbrev pub of_text : Limits → RingRecord → List Cause
+of_text limits ring =
+    record { refused = refusal.NotAssigned; stands = not (is_assigned ring) }
+    ∷ record { refused = refusal.TooManyVersions; stands = not (is_published ring) && nat_le limits.versions (length ring.published) }
+    ∷ []
+
 -- the causes that may stand against a command, in the order in which they are looked at
 abbrev pub causes : Limits → State → List ℕ → Act → List Cause
 causes limits rings name (act.Create new) =
@@ -102,6 +112,7 @@ causes limits rings name (act.SetHours hours) = of_ring (ring_at name rings) (λ
 causes limits rings name act.PretendPassed = of_ring (ring_at name rings) (λ ring. [])
 causes limits rings name act.RaisePower = of_ring (ring_at name rings) (λ ring. record { refused = refusal.PowerLimit; stands = ring.power == 14 } ∷ [])
 causes limits rings name (act.Import rows) = of_ring (ring_at name rings) (λ ring. of_rows limits 1 ring rows)
+causes limits rings name act.Publish = of_ring (ring_at name rings) (of_text limits)
 
 -- the first cause that stands
 abbrev pub first_refusal : Limits → State → Command → Option Refusal
@@ -110,18 +121,20 @@ first_refusal limits rings command = option_map (λ cause. cause.refused) (find 
 -- WHAT A COMMAND DOES
 
 -- On the ring of this name, if there is one, the command has this effect: it is answered so, and leaves that ring.
-abbrev pub Effect : Act → Option RingRecord → ℕ → Done → RingRecord → Type 0
-Effect (act.Create made) old hour (done.Create version) new = (new ≡ new_ring made.power made.replicas made.min_hours) × (version ≡ new.version)
-Effect (act.Add row) (Some old) hour (done.Add id version) new = (new ≡ with_device old row) × (id ≡ old.next_id) × (version ≡ new.version)
-Effect (act.SetWeight to) (Some old) hour (done.SetWeight version) new = (new ≡ with_weight old to.id to.weight) × (version ≡ new.version)
-Effect (act.Remove id) (Some old) hour (done.Remove version) new = (new ≡ with_mark old id) × (version ≡ new.version)
-Effect (act.SetHours hours) (Some old) hour (done.SetHours version) new = (new ≡ with_min_hours old hours) × (version ≡ new.version)
-Effect act.PretendPassed (Some old) hour (done.PretendPassed version) new = (new ≡ with_hours_passed old) × (version ≡ new.version)
-Effect act.RaisePower (Some old) hour (done.RaisePower version) new = IsRaised old new × (version ≡ new.version)
+abbrev pub Effect : List ℕ → Act → Option RingRecord → ℕ → Done → RingRecord → Type 0
+Effect name (act.Create made) old hour (done.Create version) new = (new ≡ new_ring made.power made.replicas made.min_hours) × (version ≡ new.version)
+Effect name (act.Add row) (Some old) hour (done.Add id version) new = (new ≡ with_device old row) × (id ≡ old.next_id) × (version ≡ new.version)
+Effect name (act.SetWeight to) (Some old) hour (done.SetWeight version) new = (new ≡ with_weight old to.id to.weight) × (version ≡ new.version)
+Effect name (act.Remove id) (Some old) hour (done.Remove version) new = (new ≡ with_mark old id) × (version ≡ new.version)
+Effect name (act.SetHours hours) (Some old) hour (done.SetHours version) new = (new ≡ with_min_hours old hours) × (version ≡ new.version)
+Effect name act.PretendPassed (Some old) hour (done.PretendPassed version) new = (new ≡ with_hours_passed old) × (version ≡ new.version)
+Effect name act.RaisePower (Some old) hour (done.RaisePower version) new = IsRaised old new × (version ≡ new.version)
 -- each row that found no device took a number, and every other found one
-Effect (act.Import rows) (Some old) hour (done.Import added reweighted version) new =
+Effect name (act.Import rows) (Some old) hour (done.Import added reweighted version) new =
     (new ≡ changed (after_rows old rows)) × (new.next_id ≡ old.next_id + added) × (added + reweighted ≡ length rows) × (version ≡ new.version)
-Effect other old hour answer new = ⊥
+-- the text is that of the ring as it is, under its name
+Effect name act.Publish (Some old) hour (done.Publish version) new = (new ≡ with_published old (spelling (snapshot_of name old))) × (version ≡ new.version)
+Effect name other old hour answer new = ⊥
 
 -- From these rings, a command at an hour may be given this reply, and leave those rings.
 abbrev pub Step : Limits → State → ℕ → Command → Reply → State → Type 0
@@ -130,7 +143,7 @@ Step limits rings hour command (reply.Refused refused) after = (first_refusal li
 -- done: no cause stands, the named ring is changed by the effect, and the other rings are as they were
 Step limits rings hour command (reply.Done answer) after =
     (first_refusal limits rings command ≡ None)
-    × ((new : RingRecord) × Effect command.act (ring_at command.ring rings) hour answer new × (after ≡ with_ring rings command.ring new))
+    × ((new : RingRecord) × Effect command.ring command.act (ring_at command.ring rings) hour answer new × (after ≡ with_ring rings command.ring new))
 
 -- whether a reply is a refusal
 abbrev pub is_refused : Reply → Bool

@@ -8,6 +8,7 @@ use ring_model::{
     Act, Command, DeviceId, Done, Hour, Limits, NewRing, NewWeight, RaiseFault, Refusal, Reply,
     Ring, Rings, Row,
 };
+use ring_text::{snapshot, write_ring};
 use std::alloc::{AllocError, Global};
 
 /// What a command comes to.
@@ -191,6 +192,35 @@ fn raise_power(
     Ok(Outcome::Done(done, raised))
 }
 
+/// Publishes the text of the ring as it is under its version, unless the seats are empty, or as many other versions are
+/// published as there may be.
+fn publish(
+    alloc: Global,
+    rings: &Rings,
+    hour: Hour,
+    command: &Command,
+    limits: &Limits,
+) -> Result<Outcome, AllocError>
+    requires { command.now.act ≡ Act.Publish }
+    ensures { IfOk result (IsOutcome limits.now rings.now hour command.now) }
+{
+    let Some(ring) = rings.get(&command.ring) else {
+        return Ok(Outcome::Refused(Refusal::NoRing));
+    };
+    if !ring.is_assigned() {
+        return Ok(Outcome::Refused(Refusal::NotAssigned));
+    }
+    if !ring.is_published() && ring.published_list().len() >= limits.versions as usize {
+        return Ok(Outcome::Refused(Refusal::TooManyVersions));
+    }
+    let text = write_ring(alloc, &snapshot(alloc, &command.ring, ring)?)?;
+    let published = ring.with_published(alloc, text.as_str())?;
+    let done = Done::Publish {
+        version: published.version(),
+    };
+    Ok(Outcome::Done(done, published))
+}
+
 /// What a command comes to.
 fn outcome_of(
     alloc: Global,
@@ -210,6 +240,7 @@ fn outcome_of(
         Act::PretendPassed => pretend_passed(rings, hour, command, limits),
         Act::RaisePower => raise_power(rings, hour, command, limits),
         Act::Import(rows) => import(rings, hour, command, rows, limits),
+        Act::Publish => publish(alloc, rings, hour, command, limits),
     }
 }
 

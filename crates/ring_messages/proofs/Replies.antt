@@ -10,9 +10,9 @@ use Rattle.serde_json.specs.Read.{read, of_json, max_depth}
 use Rattle.serde_json.specs.Written.{compact_text, outline}
 use Rattle.serde_json.proofs.Numbers.{number_of-decimal}
 use Rattle.ring_model.specs.declared.command.Done.{Done}
-use Rattle.ring_model.specs.declared.command.Done.TheVariants.{Create, Add, SetWeight, Remove, SetHours, PretendPassed, RaisePower, Import}
+use Rattle.ring_model.specs.declared.command.Done.TheVariants.{Create, Add, SetWeight, Remove, SetHours, PretendPassed, RaisePower, Import, Publish}
 use Rattle.ring_model.specs.declared.command.Refusal.{Refusal}
-use Rattle.ring_model.specs.declared.command.Refusal.TheVariants.{NoRing, RingExists, TooManyRings, NoDevice, DeviceExists, DeviceRemoved, TooManyDevices, IdsUsedUp, RowRefused, PowerLimit}
+use Rattle.ring_model.specs.declared.command.Refusal.TheVariants.{NoRing, RingExists, TooManyRings, NoDevice, DeviceExists, DeviceRemoved, TooManyDevices, IdsUsedUp, NotAssigned, TooManyVersions, RowRefused, PowerLimit}
 use Rattle.ring_model.specs.declared.command.RowCause.{RowCause}
 use Rattle.ring_model.specs.declared.command.RowCause.TheVariants as cause
 use Rattle.ring_model.specs.declared.command.Reply.{Reply}
@@ -33,15 +33,16 @@ same_done d (Remove v) (Remove w) h k = ap Remove (same_number_read _ _ _ _ _ h.
 same_done d (SetHours v) (SetHours w) h k = ap SetHours (same_number_read _ _ _ _ _ h.version k.version)
 same_done d (PretendPassed v) (PretendPassed w) h k = ap PretendPassed (same_number_read _ _ _ _ _ h.version k.version)
 same_done d (RaisePower v) (RaisePower w) h k = ap RaisePower (same_number_read _ _ _ _ _ h.version k.version)
+same_done d (Publish v) (Publish w) h k = ap Publish (same_number_read _ _ _ _ _ h.version k.version)
 same_done d (Import a r v) (Import b s w) h k =
     let first : Import a r v ≡ Import b s v = ap₂ (λ (x y : ℕ). Import x y v) (same_number_read _ _ _ _ _ h.more.0 k.more.0) (same_number_read _ _ _ _ _ h.more.1 k.more.1) in
     first ∙ ap (Import b s) (same_number_read _ _ _ _ _ h.version k.version)
 same_done d a b h k = absurd (apart (done_word a) (done_word b) refl (sym h.word ∙ k.word))
 
--- the refusal by a rule that says no more than its number; there is none by 0 and by 9 to 13
+-- the refusal by a rule that says no more than its number; there is none by 0, 9, 12 and 13
 abbrev refusal_by : ℕ → Refusal
 refusal_by n = get_or (NoRing ∷ NoRing ∷ RingExists ∷ TooManyRings ∷ NoDevice ∷ DeviceExists ∷ DeviceRemoved ∷ TooManyDevices ∷ IdsUsedUp
-    ∷ NoRing ∷ NoRing ∷ NoRing ∷ NoRing ∷ NoRing ∷ PowerLimit ∷ []) n NoRing
+    ∷ NoRing ∷ NotAssigned ∷ TooManyVersions ∷ NoRing ∷ NoRing ∷ PowerLimit ∷ []) n NoRing
 
 by_own_rule : (r : Refusal) → (refusal_rule r ≡ 13 → ⊥) → refusal_by (refusal_rule r) ≡ r
 by_own_rule NoRing n = refl
@@ -53,6 +54,8 @@ by_own_rule DeviceRemoved n = refl
 by_own_rule TooManyDevices n = refl
 by_own_rule IdsUsedUp n = refl
 by_own_rule (RowRefused row why) n = absurd (n refl)
+by_own_rule NotAssigned n = refl
+by_own_rule TooManyVersions n = refl
 by_own_rule PowerLimit n = refl
 
 -- the cause by a rule
@@ -79,6 +82,8 @@ by_rows DeviceExists e = absurd (omega (arith, e))
 by_rows DeviceRemoved e = absurd (omega (arith, e))
 by_rows TooManyDevices e = absurd (omega (arith, e))
 by_rows IdsUsedUp e = absurd (omega (arith, e))
+by_rows NotAssigned e = absurd (omega (arith, e))
+by_rows TooManyVersions e = absurd (omega (arith, e))
 by_rows PowerLimit e = absurd (omega (arith, e))
 
 same_row_refusal : (d : Data) (m n : ℕ) (b c : RowCause) → SaysWhy d (RowRefused m b) → SaysWhy d (RowRefused n c) → RowRefused m b ≡ RowRefused n c
@@ -115,6 +120,7 @@ done_says (Remove v) h = record { word = refl; version = record { is = refl; abo
 done_says (SetHours v) h = record { word = refl; version = record { is = refl; above = omega arith; below = omega arith }; more = tt }
 done_says (PretendPassed v) h = record { word = refl; version = record { is = refl; above = omega arith; below = omega arith }; more = tt }
 done_says (RaisePower v) h = record { word = refl; version = record { is = refl; above = omega arith; below = omega arith }; more = tt }
+done_says (Publish v) h = record { word = refl; version = record { is = refl; above = omega arith; below = omega arith }; more = tt }
 done_says (Import a r v) h = record {
   word = refl;
   version = record { is = refl; above = omega arith; below = omega (arith, h.1.1) };
@@ -129,6 +135,7 @@ no_rule (Remove v) = refl
 no_rule (SetHours v) = refl
 no_rule (PretendPassed v) = refl
 no_rule (RaisePower v) = refl
+no_rule (Publish v) = refl
 no_rule (Import a r v) = refl
 
 refusal_says : (r : Refusal) → IsProperRefusal r → SaysRefusal (refusal_data r) r
@@ -141,6 +148,8 @@ refusal_says DeviceExists h = record { rule = refl; why = tt }
 refusal_says DeviceRemoved h = record { rule = refl; why = tt }
 refusal_says TooManyDevices h = record { rule = refl; why = tt }
 refusal_says IdsUsedUp h = record { rule = refl; why = tt }
+refusal_says NotAssigned h = record { rule = refl; why = tt }
+refusal_says TooManyVersions h = record { rule = refl; why = tt }
 refusal_says PowerLimit h = record { rule = refl; why = tt }
 
 says : (r : Reply) → IsProperReply r → SaysReply (reply_data r) r
@@ -155,6 +164,7 @@ done_proper d (Remove v) h = omega (arith, h.version.below)
 done_proper d (SetHours v) h = omega (arith, h.version.below)
 done_proper d (PretendPassed v) h = omega (arith, h.version.below)
 done_proper d (RaisePower v) h = omega (arith, h.version.below)
+done_proper d (Publish v) h = omega (arith, h.version.below)
 done_proper d (Import a r v) h = (omega (arith, h.more.0.below), (omega (arith, h.more.1.below), omega (arith, h.version.below)))
 
 refusal_proper : (d : Data) (r : Refusal) → SaysRefusal d r → IsProperRefusal r
@@ -167,6 +177,8 @@ refusal_proper d DeviceExists h = tt
 refusal_proper d DeviceRemoved h = tt
 refusal_proper d TooManyDevices h = tt
 refusal_proper d IdsUsedUp h = tt
+refusal_proper d NotAssigned h = tt
+refusal_proper d TooManyVersions h = tt
 refusal_proper d PowerLimit h = tt
 
 pub reply_proper : (d : Data) (r : Reply) → SaysReply d r → IsProperReply r
@@ -186,6 +198,7 @@ done_numbers (Remove v) h = (tt, (IsNumber-decimal v (short v h), tt))
 done_numbers (SetHours v) h = (tt, (IsNumber-decimal v (short v h), tt))
 done_numbers (PretendPassed v) h = (tt, (IsNumber-decimal v (short v h), tt))
 done_numbers (RaisePower v) h = (tt, (IsNumber-decimal v (short v h), tt))
+done_numbers (Publish v) h = (tt, (IsNumber-decimal v (short v h), tt))
 done_numbers (Import a r v) h = (IsNumber-decimal a h.0, (tt, (IsNumber-decimal r h.1.0, (IsNumber-decimal v (short v h.1.1), tt))))
 
 done_back : (x : Done) → IsProperDone x → of_json (outline (done_data x)) ≡ Some (done_data x)
@@ -199,6 +212,7 @@ done_back (Remove v) h = let a = number_of-decimal v (short v h) in rw a refl
 done_back (SetHours v) h = let a = number_of-decimal v (short v h) in rw a refl
 done_back (PretendPassed v) h = let a = number_of-decimal v (short v h) in rw a refl
 done_back (RaisePower v) h = let a = number_of-decimal v (short v h) in rw a refl
+done_back (Publish v) h = let a = number_of-decimal v (short v h) in rw a refl
 done_back (Import x r v) h =
     let a = number_of-decimal x h.0 in
     let b = number_of-decimal r h.1.0 in
@@ -213,6 +227,7 @@ done_low (Remove v) = omega arith
 done_low (SetHours v) = omega arith
 done_low (PretendPassed v) = omega arith
 done_low (RaisePower v) = omega arith
+done_low (Publish v) = omega arith
 done_low (Import a r v) = omega arith
 
 rule_below : (r : Refusal) → refusal_rule r < 2 ^ 32
@@ -225,6 +240,8 @@ rule_below DeviceRemoved = omega arith
 rule_below TooManyDevices = omega arith
 rule_below IdsUsedUp = omega arith
 rule_below (RowRefused row why) = omega arith
+rule_below NotAssigned = omega arith
+rule_below TooManyVersions = omega arith
 rule_below PowerLimit = omega arith
 
 cause_below : (c : RowCause) → cause_rule c < 2 ^ 32
@@ -261,6 +278,8 @@ refusal_reads DeviceExists h = plain_refusal_reads (refusal_name DeviceExists) (
 refusal_reads DeviceRemoved h = plain_refusal_reads (refusal_name DeviceRemoved) (refusal_rule DeviceRemoved) (rule_below DeviceRemoved)
 refusal_reads TooManyDevices h = plain_refusal_reads (refusal_name TooManyDevices) (refusal_rule TooManyDevices) (rule_below TooManyDevices)
 refusal_reads IdsUsedUp h = plain_refusal_reads (refusal_name IdsUsedUp) (refusal_rule IdsUsedUp) (rule_below IdsUsedUp)
+refusal_reads NotAssigned h = plain_refusal_reads (refusal_name NotAssigned) (refusal_rule NotAssigned) (rule_below NotAssigned)
+refusal_reads TooManyVersions h = plain_refusal_reads (refusal_name TooManyVersions) (refusal_rule TooManyVersions) (rule_below TooManyVersions)
 refusal_reads PowerLimit h = plain_refusal_reads (refusal_name PowerLimit) (refusal_rule PowerLimit) (rule_below PowerLimit)
 
 pub read-reply_text : (r : Reply) → IsProperReply r → read (reply_text r) ≡ Some (reply_data r)

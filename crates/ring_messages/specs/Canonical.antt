@@ -9,7 +9,7 @@ use Rattle.ring_model.specs.declared.command.NewRing.{NewRing}
 use Rattle.ring_model.specs.declared.command.NewWeight.{NewWeight}
 use Rattle.ring_model.specs.declared.command.Command.{Command}
 use Rattle.ring_model.specs.declared.command.Act.{Act}
-use Rattle.ring_model.specs.declared.command.Act.TheVariants.{Create, Add, SetWeight, Remove, SetHours, PretendPassed, RaisePower, Import}
+use Rattle.ring_model.specs.declared.command.Act.TheVariants.{Create, Add, SetWeight, Remove, SetHours, PretendPassed, RaisePower, Import, Publish}
 
 -- A whole number.
 abbrev pub whole : ℕ → Data
@@ -62,6 +62,7 @@ act_data ring (Remove id) = remove_data ring id
 act_data ring (SetHours hours) = set_hours_data ring hours
 act_data ring PretendPassed = plain_data (codes "pretend_passed") ring
 act_data ring RaisePower = plain_data (codes "raise_power") ring
+act_data ring Publish = plain_data (codes "publish") ring
 act_data ring (Import rows) = import_data ring rows
 
 -- The members of a message of this command, without the key's.

@@ -13,7 +13,7 @@ use Rattle.ring_model.specs.declared.command.NewRing.{NewRing}
 use Rattle.ring_model.specs.declared.command.NewWeight.{NewWeight}
 use Rattle.ring_model.specs.declared.command.Command.{Command}
 use Rattle.ring_model.specs.declared.command.Act.{Act}
-use Rattle.ring_model.specs.declared.command.Act.TheVariants.{Create, Add, SetWeight, Remove, SetHours, PretendPassed, RaisePower, Import}
+use Rattle.ring_model.specs.declared.command.Act.TheVariants.{Create, Add, SetWeight, Remove, SetHours, PretendPassed, RaisePower, Import, Publish}
 use Rattle.ring_messages.specs.Reads.{IsNumber, IsName, IsAddress, IsWeight}
 
 -- How many members an object has; what is no object has none.
@@ -69,6 +69,7 @@ word_of (Remove id) = codes "remove"
 word_of (SetHours hours) = codes "set_hours"
 word_of PretendPassed = codes "pretend_passed"
 word_of RaisePower = codes "raise_power"
+word_of Publish = codes "publish"
 word_of (Import rows) = codes "import"
 
 -- How many keys there are besides `ring` and `do`.
@@ -80,6 +81,7 @@ fields_count (Remove id) = 1
 fields_count (SetHours hours) = 1
 fields_count PretendPassed = 0
 fields_count RaisePower = 0
+fields_count Publish = 0
 fields_count (Import rows) = 1
 
 -- What stands under those keys.
@@ -91,6 +93,7 @@ HasFields d (Remove id) = IsNumber (get (codes "id") d) 0 65535 id
 HasFields d (SetHours hours) = IsNumber (get (codes "min_hours") d) 0 65535 hours
 HasFields d PretendPassed = ⊤
 HasFields d RaisePower = ⊤
+HasFields d Publish = ⊤
 HasFields d (Import rows) = ListsRows (get (codes "rows") d) rows
 
 -- The object says what is to be done.

@@ -7,7 +7,7 @@ use Rattle.ring_model.specs.declared.command.NewRing.{NewRing}
 use Rattle.ring_model.specs.declared.command.NewWeight.{NewWeight}
 use Rattle.ring_model.specs.declared.command.Command.{Command}
 use Rattle.ring_model.specs.declared.command.Act.{Act}
-use Rattle.ring_model.specs.declared.command.Act.TheVariants.{Create, Add, SetWeight, Remove, SetHours, PretendPassed, RaisePower, Import}
+use Rattle.ring_model.specs.declared.command.Act.TheVariants.{Create, Add, SetWeight, Remove, SetHours, PretendPassed, RaisePower, Import, Publish}
 use Rattle.ring_model.specs.declared.command.Done.{Done}
 use Rattle.ring_model.specs.declared.command.Done.TheVariants as done
 use Rattle.ring_model.specs.declared.command.Refusal.{Refusal}
@@ -44,6 +44,7 @@ IsProperAct (Remove id) = id < 2 ^ 16
 IsProperAct (SetHours hours) = hours < 2 ^ 16
 IsProperAct PretendPassed = ⊤
 IsProperAct RaisePower = ⊤
+IsProperAct Publish = ⊤
 IsProperAct (Import rows) = AllByRecursion IsProperRow rows
 
 -- The ring has a ring's name, and the fields are such as there are.
@@ -60,6 +61,7 @@ IsProperDone (done.Remove v) = v < 2 ^ 32
 IsProperDone (done.SetHours v) = v < 2 ^ 32
 IsProperDone (done.PretendPassed v) = v < 2 ^ 32
 IsProperDone (done.RaisePower v) = v < 2 ^ 32
+IsProperDone (done.Publish v) = v < 2 ^ 32
 IsProperDone (done.Import a r v) = (a < 2 ^ 64) × ((r < 2 ^ 64) × (v < 2 ^ 32))
 
 -- The number of a row has 64 bits.

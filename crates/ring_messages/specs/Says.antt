@@ -3,7 +3,7 @@ use Rattle.std.specs.Prelude.{◌≡◌, ℕ, List, Some, None, codes, ⊤}
 use Rattle.serde_json.specs.Data.{Data, number, unsigned, string}
 use Rattle.serde_json.specs.Find.{get}
 use Rattle.ring_model.specs.declared.command.Done.{Done}
-use Rattle.ring_model.specs.declared.command.Done.TheVariants.{Create, Add, SetWeight, Remove, SetHours, PretendPassed, RaisePower, Import}
+use Rattle.ring_model.specs.declared.command.Done.TheVariants.{Create, Add, SetWeight, Remove, SetHours, PretendPassed, RaisePower, Import, Publish}
 use Rattle.ring_model.specs.declared.command.Refusal.{Refusal}
 use Rattle.ring_model.specs.declared.command.Refusal.TheVariants.{RowRefused}
 use Rattle.ring_model.specs.declared.command.Reply.{Reply}
@@ -20,6 +20,7 @@ done_word (Remove version) = codes "remove"
 done_word (SetHours version) = codes "set_hours"
 done_word (PretendPassed version) = codes "pretend_passed"
 done_word (RaisePower version) = codes "raise_power"
+done_word (Publish version) = codes "publish"
 done_word (Import added reweighted version) = codes "import"
 
 -- The ring's version after the command.
@@ -31,6 +32,7 @@ done_version (Remove version) = version
 done_version (SetHours version) = version
 done_version (PretendPassed version) = version
 done_version (RaisePower version) = version
+done_version (Publish version) = version
 done_version (Import added reweighted version) = version
 
 -- The object says what else is told of what was done.

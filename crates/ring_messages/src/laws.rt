@@ -80,7 +80,7 @@ fn act_is_proper(act: &Act)
         Act::Remove(number) | Act::SetHours(number) => {
             let _number = *number;
         }
-        Act::PretendPassed | Act::RaisePower => {}
+        Act::PretendPassed | Act::RaisePower | Act::Publish => {}
         Act::Import(rows) => rows_are_proper(rows.as_slice()),
     }
 }
@@ -103,7 +103,8 @@ fn done_is_proper(done: &Done)
         }
         Done::SetHours { version }
         | Done::PretendPassed { version }
-        | Done::RaisePower { version } => {
+        | Done::RaisePower { version }
+        | Done::Publish { version } => {
             let _version = version;
         }
         Done::Add { id, version } => {

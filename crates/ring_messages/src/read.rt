@@ -133,6 +133,7 @@ fn act(alloc: Global, value: &Value) -> Result<Act, MessageFault>
         Some("set_hours") => Ok(Act::SetHours(number16(value.get("min_hours"))?)),
         Some("pretend_passed") => Ok(Act::PretendPassed),
         Some("raise_power") => Ok(Act::RaisePower),
+        Some("publish") => Ok(Act::Publish),
         Some("import") => Ok(Act::Import(import(alloc, value.get("rows"))?)),
         _ => Err(MessageFault::Unreadable),
     }
@@ -146,7 +147,7 @@ fn fields_count(act: &Act) -> usize
         Act::Add(_) => 6,
         Act::SetWeight(_) => 2,
         Act::Remove(_) | Act::SetHours(_) | Act::Import(_) => 1,
-        Act::PretendPassed | Act::RaisePower => 0,
+        Act::PretendPassed | Act::RaisePower | Act::Publish => 0,
     }
 }
 

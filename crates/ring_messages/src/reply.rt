@@ -49,6 +49,7 @@ fn done_value(alloc: Global, done: Done) -> Result<Value, AllocError>
         Done::SetHours { version } => version_value(alloc, "set_hours", version),
         Done::PretendPassed { version } => version_value(alloc, "pretend_passed", version),
         Done::RaisePower { version } => version_value(alloc, "raise_power", version),
+        Done::Publish { version } => version_value(alloc, "publish", version),
         Done::Import {
             added,
             reweighted,
@@ -93,6 +94,8 @@ fn refusal_value(alloc: Global, refusal: Refusal) -> Result<Value, AllocError>
         Refusal::TooManyDevices => refused_value(alloc, "TooManyDevices", 7),
         Refusal::IdsUsedUp => refused_value(alloc, "IdsUsedUp", 8),
         Refusal::RowRefused { row, cause } => row_refused_value(alloc, row, cause_rule(cause)),
+        Refusal::NotAssigned => refused_value(alloc, "NotAssigned", 10),
+        Refusal::TooManyVersions => refused_value(alloc, "TooManyVersions", 11),
         Refusal::PowerLimit => refused_value(alloc, "PowerLimit", 14),
     }
 }
@@ -128,6 +131,7 @@ fn done(value: &Value) -> Result<Done, MessageFault>
         Some("set_hours") => Ok(Done::SetHours { version }),
         Some("pretend_passed") => Ok(Done::PretendPassed { version }),
         Some("raise_power") => Ok(Done::RaisePower { version }),
+        Some("publish") => Ok(Done::Publish { version }),
         Some("import") => {
             let added = number(value.get("added"), u64::MAX)?;
             let reweighted = number(value.get("reweighted"), u64::MAX)?;
@@ -155,6 +159,8 @@ fn refusal_by(rule: u64) -> Option<Refusal>
         6 => Some(Refusal::DeviceRemoved),
         7 => Some(Refusal::TooManyDevices),
         8 => Some(Refusal::IdsUsedUp),
+        10 => Some(Refusal::NotAssigned),
+        11 => Some(Refusal::TooManyVersions),
         14 => Some(Refusal::PowerLimit),
         _ => None,
     }

@@ -339,6 +339,10 @@ fn commands_without_a_device_are_read_and_written(rt: HostRuntime) -> Result<(),
             "{\"caller\":\"ann\",\"number\":4,\"ring\":\"object\",\"do\":\"raise_power\"}",
             "{\"do\":\"raise_power\",\"ring\":\"object\"}",
         ),
+        (
+            "{\"caller\":\"ann\",\"number\":5,\"ring\":\"object\",\"do\":\"publish\"}",
+            "{\"do\":\"publish\",\"ring\":\"object\"}",
+        ),
     ] {
         assert!(rt; is_message_of(rt.alloc(), message, written)?, "{written}");
     }
@@ -403,6 +407,10 @@ fn replies_of_every_command_are_written_and_read_back(rt: HostRuntime) -> Result
             "{\"done\":\"raise_power\",\"version\":7}",
         ),
         (
+            Done::Publish { version },
+            "{\"done\":\"publish\",\"version\":7}",
+        ),
+        (
             Done::Import {
                 added: 1,
                 reweighted: 18446744073709551615,
@@ -433,8 +441,25 @@ fn a_row_is_refused_with_its_number_and_cause(rt: HostRuntime) -> Result<(), Fai
             "{rule}"
         );
     }
-    let text = "{\"refused\":\"PowerLimit\",\"rule\":14}";
-    assert!(rt; is_text_of(rt.alloc(), text, Reply::Refused(Refusal::PowerLimit))?);
+    for (refusal, text) in [
+        (
+            Refusal::NotAssigned,
+            "{\"refused\":\"NotAssigned\",\"rule\":10}",
+        ),
+        (
+            Refusal::TooManyVersions,
+            "{\"refused\":\"TooManyVersions\",\"rule\":11}",
+        ),
+        (
+            Refusal::PowerLimit,
+            "{\"refused\":\"PowerLimit\",\"rule\":14}",
+        ),
+    ] {
+        assert!(rt;
+            is_text_of(rt.alloc(), text, Reply::Refused(refusal))?,
+            "{text}"
+        );
+    }
     for text in [
         "{\"cause\":9,\"refused\":\"RowRefused\",\"row\":3,\"rule\":13}",
         "{\"refused\":\"RowRefused\",\"rule\":13}",

@@ -111,6 +111,7 @@ fn command_value(alloc: Global, command: &Command) -> Result<Value, AllocError>
         Act::SetHours(hours) => set_hours_value(alloc, ring, *hours),
         Act::PretendPassed => plain_value(alloc, "pretend_passed", ring),
         Act::RaisePower => plain_value(alloc, "raise_power", ring),
+        Act::Publish => plain_value(alloc, "publish", ring),
         Act::Import(rows) => import_value(alloc, ring, rows),
     }
 }

@@ -1,6 +1,7 @@
 pub mod Decimals
 pub mod Validity
 pub mod Published
+pub mod Amidst
 pub mod Copies
 pub mod Building
 pub mod Changes

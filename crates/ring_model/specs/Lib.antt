@@ -6,3 +6,4 @@ pub mod Raise
 pub mod Rings
 pub mod Import
 pub mod SameRows
+pub mod Publish

@@ -46,6 +46,8 @@ pub enum Act {
     RaisePower,
     /// Adds devices and changes weights, all rows or none.
     Import(Rows),
+    /// Keeps the ring's text under its version.
+    Publish,
 }
 
 impl Act {
@@ -62,6 +64,7 @@ impl Act {
             Act::PretendPassed => matches!(other, Act::PretendPassed),
             Act::RaisePower => matches!(other, Act::RaisePower),
             Act::Import(rows) => matches!(other, Act::Import(also) if also.is(rows)),
+            Act::Publish => matches!(other, Act::Publish),
         }
     }
 }
@@ -122,6 +125,10 @@ pub enum Done {
         reweighted: u64,
         version: u32,
     },
+    /// The ring's text is published under this version.
+    Publish {
+        version: u32,
+    },
 }
 
 /// Why a row of an import is refused, on the ring that the rows before it leave.
@@ -156,6 +163,10 @@ pub enum Refusal {
     TooManyDevices,
     /// The ring has given as many numbers to devices as it may.
     IdsUsedUp,
+    /// The seats are empty.
+    NotAssigned,
+    /// As many other versions of the ring are published as there may be.
+    TooManyVersions,
     /// A row of an import is refused, the first of which this can be said. Rows are counted from 1.
     RowRefused { row: u64, cause: RowCause },
     /// The ring has the greatest power.

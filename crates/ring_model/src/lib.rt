@@ -15,6 +15,7 @@ mod draft;
 pub mod laws;
 mod name;
 mod parts;
+mod publishing;
 mod request;
 mod ring;
 mod rings;

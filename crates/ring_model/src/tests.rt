@@ -227,6 +227,36 @@ fn a_ring_is_made_and_read(rt: HostRuntime) -> Result<(), Fail> {
 }
 
 #[test]
+fn a_text_is_published_once(rt: HostRuntime) -> Result<(), Fail> {
+    let alloc = rt.alloc();
+    let mut parts = small_parts(alloc)?;
+    parts.version = 2;
+    parts.published = vec![in alloc;
+        (1, RcStr::from_str(alloc, "first")?),
+        (3, RcStr::from_str(alloc, "third")?),
+    ]?;
+    let ring = Ring::build(alloc, parts)?;
+    if ring.published_list().len() >= 1000 {
+        return Err("too many texts".into());
+    }
+    assert!(rt; !ring.is_published());
+    let published = ring.with_published(alloc, "second")?;
+    if published.published_list().len() >= 1000 {
+        return Err("too many texts".into());
+    }
+    let again = published.with_published(alloc, "another")?;
+    for ring in [&published, &again] {
+        assert!(rt; ring.is_published());
+        assert_eq!(rt; (ring.version(), ring.published_list().len()), (2, 3));
+        assert_eq!(rt; ring.published(1), Some("first"));
+        assert_eq!(rt; ring.published(2), Some("second"));
+        assert_eq!(rt; ring.published(3), Some("third"));
+    }
+    assert_eq!(rt; ring.published(2), None);
+    Ok(())
+}
+
+#[test]
 fn parts_that_make_no_ring_are_refused(rt: HostRuntime) -> Result<(), Fail> {
     let alloc = rt.alloc();
     for case in 0..14 {
