@@ -5,7 +5,7 @@ use Rattle.serde_json.specs.Written.{has_float, items_have_float}
 use Rattle.ring_model.specs.declared.device.Row.{Row}
 use Rattle.ring_model.specs.declared.command.Command.{Command}
 use Rattle.ring_model.specs.declared.command.Act.{Act}
-use Rattle.ring_model.specs.declared.command.Act.TheVariants.{Create, Add, SetWeight, Remove, SetHours, PretendPassed, RaisePower, Import, Publish}
+use Rattle.ring_model.specs.declared.command.Act.TheVariants.{Create, Add, SetWeight, Remove, SetHours, PretendPassed, RaisePower, Import, Publish, Rebalance}
 use Rattle.ring_messages.specs.Canonical.{act_data, command_data, row_data}
 
 rows_whole : (rows : List Row) → items_have_float (items_of (map row_data rows)) ≡ false
@@ -21,6 +21,7 @@ act_whole ring (SetHours hours) = refl
 act_whole ring PretendPassed = refl
 act_whole ring RaisePower = refl
 act_whole ring Publish = refl
+act_whole ring (Rebalance seed) = refl
 act_whole ring (Import rows) = rw (rows_whole rows) refl
 
 pub no_float : (c : Command) → has_float (command_data c) ≡ false

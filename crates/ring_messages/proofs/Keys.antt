@@ -23,7 +23,7 @@ use Rattle.serde_json.specs.Find.{get, get_member}
 use Rattle.ring_model.specs.declared.request.Key.{Key}
 use Rattle.ring_model.specs.declared.command.Command.{Command}
 use Rattle.ring_model.specs.declared.command.Act.{Act}
-use Rattle.ring_model.specs.declared.command.Act.TheVariants.{Create, Add, SetWeight, Remove, SetHours, PretendPassed, RaisePower, Import, Publish}
+use Rattle.ring_model.specs.declared.command.Act.TheVariants.{Create, Add, SetWeight, Remove, SetHours, PretendPassed, RaisePower, Import, Publish, Rebalance}
 use Rattle.ring_messages.specs.Message.{IsAct, IsDelivery, members_count, fields_count}
 use Rattle.ring_messages.specs.Canonical.{act_data, command_data}
 use Rattle.ring_messages.proofs.RowLists.{rows_found}
@@ -182,6 +182,7 @@ has_act d ring (SetHours hours) r h = let f = h.fields in (h.word, (f.is, (r, tt
 has_act d ring PretendPassed r h = (h.word, (r, tt))
 has_act d ring RaisePower r h = (h.word, (r, tt))
 has_act d ring Publish r h = (h.word, (r, tt))
+has_act d ring (Rebalance seed) r h = let f = h.fields in (h.word, (r, (f.is, tt)))
 has_act d ring (Import rows) r h = (h.word, (r, (rows_found _ rows h.fields, tt)))
 
 abbrev own_keys : List (List ℕ)
@@ -196,6 +197,7 @@ apart_act ring (SetHours hours) = refl
 apart_act ring PretendPassed = refl
 apart_act ring RaisePower = refl
 apart_act ring Publish = refl
+apart_act ring (Rebalance seed) = refl
 apart_act ring (Import rows) = refl
 
 count_act : (ring : List ℕ) (a : Act) → 2 + (2 + fields_count a) ≡ length (own_keys ++ keys (act_data ring a))
@@ -207,6 +209,7 @@ count_act ring (SetHours hours) = refl
 count_act ring PretendPassed = refl
 count_act ring RaisePower = refl
 count_act ring Publish = refl
+count_act ring (Rebalance seed) = refl
 count_act ring (Import rows) = refl
 
 get_act : (name ring : List ℕ) (a : Act) → get_member name (members_of (act_data ring a)) ≡ get name (act_data ring a)
@@ -218,6 +221,7 @@ get_act name ring (SetHours hours) = refl
 get_act name ring PretendPassed = refl
 get_act name ring RaisePower = refl
 get_act name ring Publish = refl
+get_act name ring (Rebalance seed) = refl
 get_act name ring (Import rows) = refl
 
 pub same_members : (d : Data) (k : Key) (c : Command) → IsDelivery d k c → (name : List ℕ) → name ≢ codes "caller" → name ≢ codes "number" → get name d ≡ get name (command_data c)

@@ -14,7 +14,7 @@ use Rattle.serde_json.proofs.Texts.{print-outline}
 use Rattle.serde_json.proofs.Numbers.{number_of-decimal}
 use Rattle.ring_model.specs.declared.command.Command.{Command}
 use Rattle.ring_model.specs.declared.command.Act.{Act}
-use Rattle.ring_model.specs.declared.command.Act.TheVariants.{Create, Add, SetWeight, Remove, SetHours, PretendPassed, RaisePower, Import, Publish}
+use Rattle.ring_model.specs.declared.command.Act.TheVariants.{Create, Add, SetWeight, Remove, SetHours, PretendPassed, RaisePower, Import, Publish, Rebalance}
 use Rattle.ring_messages.specs.Proper.{IsProperAct, IsProperCommand}
 use Rattle.ring_messages.specs.Canonical.{act_data, command_data, canonical}
 use Rattle.ring_messages.proofs.RowLists.{rows_back, rows_low, rows_numbers}
@@ -41,6 +41,7 @@ act_numbers ring (SetHours hours) h = (tt, (IsNumber-decimal hours (short _ h), 
 act_numbers ring PretendPassed h = (tt, (tt, tt))
 act_numbers ring RaisePower h = (tt, (tt, tt))
 act_numbers ring Publish h = (tt, (tt, tt))
+act_numbers ring (Rebalance seed) h = (tt, (tt, (IsNumber-decimal seed (omega (arith, h)), tt)))
 act_numbers ring (Import rows) h = (tt, (tt, (rows_numbers rows h, tt)))
 
 act_back : (ring : List ℕ) (a : Act) → IsProperAct a → of_json (outline (act_data ring a)) ≡ Some (act_data ring a)
@@ -60,6 +61,7 @@ act_back ring (SetHours hours) h = let a = number_of-decimal hours (short _ h) i
 act_back ring PretendPassed h = refl
 act_back ring RaisePower h = refl
 act_back ring Publish h = refl
+act_back ring (Rebalance seed) h = let a = number_of-decimal seed (omega (arith, h)) in rw a refl
 act_back ring (Import rows) h = let a = rows_back rows h in rw a refl
 
 act_low : (ring : List ℕ) (a : Act) → depth (outline (act_data ring a)) ≤ max_depth
@@ -71,6 +73,7 @@ act_low ring (SetHours hours) = omega arith
 act_low ring PretendPassed = omega arith
 act_low ring RaisePower = omega arith
 act_low ring Publish = omega arith
+act_low ring (Rebalance seed) = omega arith
 act_low ring (Import rows) = let low = rows_low rows in omega (arith, low)
 
 pub read-canonical : (c : Command) → IsProperCommand c → read (canonical c) ≡ Some (command_data c)

@@ -10,9 +10,9 @@ use Rattle.serde_json.specs.Read.{read, of_json, max_depth}
 use Rattle.serde_json.specs.Written.{compact_text, outline}
 use Rattle.serde_json.proofs.Numbers.{number_of-decimal}
 use Rattle.ring_model.specs.declared.command.Done.{Done}
-use Rattle.ring_model.specs.declared.command.Done.TheVariants.{Create, Add, SetWeight, Remove, SetHours, PretendPassed, RaisePower, Import, Publish}
+use Rattle.ring_model.specs.declared.command.Done.TheVariants.{Create, Add, SetWeight, Remove, SetHours, PretendPassed, RaisePower, Import, Publish, Rebalance}
 use Rattle.ring_model.specs.declared.command.Refusal.{Refusal}
-use Rattle.ring_model.specs.declared.command.Refusal.TheVariants.{NoRing, RingExists, TooManyRings, NoDevice, DeviceExists, DeviceRemoved, TooManyDevices, IdsUsedUp, NotAssigned, TooManyVersions, RowRefused, PowerLimit}
+use Rattle.ring_model.specs.declared.command.Refusal.TheVariants.{NoRing, RingExists, TooManyRings, NoDevice, DeviceExists, DeviceRemoved, TooManyDevices, IdsUsedUp, TooFewDevices, NotAssigned, TooManyVersions, RowRefused, PowerLimit}
 use Rattle.ring_model.specs.declared.command.RowCause.{RowCause}
 use Rattle.ring_model.specs.declared.command.RowCause.TheVariants as cause
 use Rattle.ring_model.specs.declared.command.Reply.{Reply}
@@ -34,15 +34,18 @@ same_done d (SetHours v) (SetHours w) h k = ap SetHours (same_number_read _ _ _ 
 same_done d (PretendPassed v) (PretendPassed w) h k = ap PretendPassed (same_number_read _ _ _ _ _ h.version k.version)
 same_done d (RaisePower v) (RaisePower w) h k = ap RaisePower (same_number_read _ _ _ _ _ h.version k.version)
 same_done d (Publish v) (Publish w) h k = ap Publish (same_number_read _ _ _ _ _ h.version k.version)
+same_done d (Rebalance b c x v) (Rebalance b' c' x' w) h k =
+    let first : Rebalance b c x v ≡ Rebalance b' c' x v = ap₂ (λ (m n : ℕ). Rebalance m n x v) (same_number_read _ _ _ _ _ h.more.balance k.more.balance) (same_number_read _ _ _ _ _ h.more.changed k.more.changed) in
+    first ∙ ap₂ (Rebalance b' c') (same_number_read _ _ _ _ _ h.more.dispersion k.more.dispersion) (same_number_read _ _ _ _ _ h.version k.version)
 same_done d (Import a r v) (Import b s w) h k =
     let first : Import a r v ≡ Import b s v = ap₂ (λ (x y : ℕ). Import x y v) (same_number_read _ _ _ _ _ h.more.0 k.more.0) (same_number_read _ _ _ _ _ h.more.1 k.more.1) in
     first ∙ ap (Import b s) (same_number_read _ _ _ _ _ h.version k.version)
 same_done d a b h k = absurd (apart (done_word a) (done_word b) refl (sym h.word ∙ k.word))
 
--- the refusal by a rule that says no more than its number; there is none by 0, 9, 12 and 13
+-- the refusal by a rule that says no more than its number; there is none by 0, 12 and 13
 abbrev refusal_by : ℕ → Refusal
 refusal_by n = get_or (NoRing ∷ NoRing ∷ RingExists ∷ TooManyRings ∷ NoDevice ∷ DeviceExists ∷ DeviceRemoved ∷ TooManyDevices ∷ IdsUsedUp
-    ∷ NoRing ∷ NotAssigned ∷ TooManyVersions ∷ NoRing ∷ NoRing ∷ PowerLimit ∷ []) n NoRing
+    ∷ TooFewDevices ∷ NotAssigned ∷ TooManyVersions ∷ NoRing ∷ NoRing ∷ PowerLimit ∷ []) n NoRing
 
 by_own_rule : (r : Refusal) → (refusal_rule r ≡ 13 → ⊥) → refusal_by (refusal_rule r) ≡ r
 by_own_rule NoRing n = refl
@@ -54,6 +57,7 @@ by_own_rule DeviceRemoved n = refl
 by_own_rule TooManyDevices n = refl
 by_own_rule IdsUsedUp n = refl
 by_own_rule (RowRefused row why) n = absurd (n refl)
+by_own_rule TooFewDevices n = refl
 by_own_rule NotAssigned n = refl
 by_own_rule TooManyVersions n = refl
 by_own_rule PowerLimit n = refl
@@ -82,6 +86,7 @@ by_rows DeviceExists e = absurd (omega (arith, e))
 by_rows DeviceRemoved e = absurd (omega (arith, e))
 by_rows TooManyDevices e = absurd (omega (arith, e))
 by_rows IdsUsedUp e = absurd (omega (arith, e))
+by_rows TooFewDevices e = absurd (omega (arith, e))
 by_rows NotAssigned e = absurd (omega (arith, e))
 by_rows TooManyVersions e = absurd (omega (arith, e))
 by_rows PowerLimit e = absurd (omega (arith, e))
@@ -121,6 +126,15 @@ done_says (SetHours v) h = record { word = refl; version = record { is = refl; a
 done_says (PretendPassed v) h = record { word = refl; version = record { is = refl; above = omega arith; below = omega arith }; more = tt }
 done_says (RaisePower v) h = record { word = refl; version = record { is = refl; above = omega arith; below = omega arith }; more = tt }
 done_says (Publish v) h = record { word = refl; version = record { is = refl; above = omega arith; below = omega arith }; more = tt }
+done_says (Rebalance b c x v) h = record {
+  word = refl;
+  version = record { is = refl; above = omega arith; below = omega (arith, h.1.1.1) };
+  more = record {
+    balance = record { is = refl; above = omega arith; below = omega (arith, h.0) };
+    changed = record { is = refl; above = omega arith; below = omega (arith, h.1.0) };
+    dispersion = record { is = refl; above = omega arith; below = omega (arith, h.1.1.0) };
+  };
+}
 done_says (Import a r v) h = record {
   word = refl;
   version = record { is = refl; above = omega arith; below = omega (arith, h.1.1) };
@@ -136,6 +150,7 @@ no_rule (SetHours v) = refl
 no_rule (PretendPassed v) = refl
 no_rule (RaisePower v) = refl
 no_rule (Publish v) = refl
+no_rule (Rebalance b c x v) = refl
 no_rule (Import a r v) = refl
 
 refusal_says : (r : Refusal) → IsProperRefusal r → SaysRefusal (refusal_data r) r
@@ -148,6 +163,7 @@ refusal_says DeviceExists h = record { rule = refl; why = tt }
 refusal_says DeviceRemoved h = record { rule = refl; why = tt }
 refusal_says TooManyDevices h = record { rule = refl; why = tt }
 refusal_says IdsUsedUp h = record { rule = refl; why = tt }
+refusal_says TooFewDevices h = record { rule = refl; why = tt }
 refusal_says NotAssigned h = record { rule = refl; why = tt }
 refusal_says TooManyVersions h = record { rule = refl; why = tt }
 refusal_says PowerLimit h = record { rule = refl; why = tt }
@@ -165,6 +181,7 @@ done_proper d (SetHours v) h = omega (arith, h.version.below)
 done_proper d (PretendPassed v) h = omega (arith, h.version.below)
 done_proper d (RaisePower v) h = omega (arith, h.version.below)
 done_proper d (Publish v) h = omega (arith, h.version.below)
+done_proper d (Rebalance b c x v) h = (omega (arith, h.more.balance.below), (omega (arith, h.more.changed.below), (omega (arith, h.more.dispersion.below), omega (arith, h.version.below))))
 done_proper d (Import a r v) h = (omega (arith, h.more.0.below), (omega (arith, h.more.1.below), omega (arith, h.version.below)))
 
 refusal_proper : (d : Data) (r : Refusal) → SaysRefusal d r → IsProperRefusal r
@@ -177,6 +194,7 @@ refusal_proper d DeviceExists h = tt
 refusal_proper d DeviceRemoved h = tt
 refusal_proper d TooManyDevices h = tt
 refusal_proper d IdsUsedUp h = tt
+refusal_proper d TooFewDevices h = tt
 refusal_proper d NotAssigned h = tt
 refusal_proper d TooManyVersions h = tt
 refusal_proper d PowerLimit h = tt
@@ -199,6 +217,7 @@ done_numbers (SetHours v) h = (tt, (IsNumber-decimal v (short v h), tt))
 done_numbers (PretendPassed v) h = (tt, (IsNumber-decimal v (short v h), tt))
 done_numbers (RaisePower v) h = (tt, (IsNumber-decimal v (short v h), tt))
 done_numbers (Publish v) h = (tt, (IsNumber-decimal v (short v h), tt))
+done_numbers (Rebalance b c x v) h = (IsNumber-decimal b (short b h.0), (IsNumber-decimal c (short c h.1.0), (IsNumber-decimal x (short x h.1.1.0), (tt, (IsNumber-decimal v (short v h.1.1.1), tt)))))
 done_numbers (Import a r v) h = (IsNumber-decimal a h.0, (tt, (IsNumber-decimal r h.1.0, (IsNumber-decimal v (short v h.1.1), tt))))
 
 done_back : (x : Done) → IsProperDone x → of_json (outline (done_data x)) ≡ Some (done_data x)
@@ -213,6 +232,12 @@ done_back (SetHours v) h = let a = number_of-decimal v (short v h) in rw a refl
 done_back (PretendPassed v) h = let a = number_of-decimal v (short v h) in rw a refl
 done_back (RaisePower v) h = let a = number_of-decimal v (short v h) in rw a refl
 done_back (Publish v) h = let a = number_of-decimal v (short v h) in rw a refl
+done_back (Rebalance b c x v) h =
+    let one = number_of-decimal b (short b h.0) in
+    let two = number_of-decimal c (short c h.1.0) in
+    let three = number_of-decimal x (short x h.1.1.0) in
+    let four = number_of-decimal v (short v h.1.1.1) in
+    rw (one, two, three, four) refl
 done_back (Import x r v) h =
     let a = number_of-decimal x h.0 in
     let b = number_of-decimal r h.1.0 in
@@ -228,6 +253,7 @@ done_low (SetHours v) = omega arith
 done_low (PretendPassed v) = omega arith
 done_low (RaisePower v) = omega arith
 done_low (Publish v) = omega arith
+done_low (Rebalance b c x v) = omega arith
 done_low (Import a r v) = omega arith
 
 rule_below : (r : Refusal) → refusal_rule r < 2 ^ 32
@@ -240,6 +266,7 @@ rule_below DeviceRemoved = omega arith
 rule_below TooManyDevices = omega arith
 rule_below IdsUsedUp = omega arith
 rule_below (RowRefused row why) = omega arith
+rule_below TooFewDevices = omega arith
 rule_below NotAssigned = omega arith
 rule_below TooManyVersions = omega arith
 rule_below PowerLimit = omega arith
@@ -278,6 +305,7 @@ refusal_reads DeviceExists h = plain_refusal_reads (refusal_name DeviceExists) (
 refusal_reads DeviceRemoved h = plain_refusal_reads (refusal_name DeviceRemoved) (refusal_rule DeviceRemoved) (rule_below DeviceRemoved)
 refusal_reads TooManyDevices h = plain_refusal_reads (refusal_name TooManyDevices) (refusal_rule TooManyDevices) (rule_below TooManyDevices)
 refusal_reads IdsUsedUp h = plain_refusal_reads (refusal_name IdsUsedUp) (refusal_rule IdsUsedUp) (rule_below IdsUsedUp)
+refusal_reads TooFewDevices h = plain_refusal_reads (refusal_name TooFewDevices) (refusal_rule TooFewDevices) (rule_below TooFewDevices)
 refusal_reads NotAssigned h = plain_refusal_reads (refusal_name NotAssigned) (refusal_rule NotAssigned) (rule_below NotAssigned)
 refusal_reads TooManyVersions h = plain_refusal_reads (refusal_name TooManyVersions) (refusal_rule TooManyVersions) (rule_below TooManyVersions)
 refusal_reads PowerLimit h = plain_refusal_reads (refusal_name PowerLimit) (refusal_rule PowerLimit) (rule_below PowerLimit)

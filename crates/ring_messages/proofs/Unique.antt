@@ -7,7 +7,7 @@ use Rattle.ring_model.specs.declared.command.NewRing.{NewRing}
 use Rattle.ring_model.specs.declared.command.NewWeight.{NewWeight}
 use Rattle.ring_model.specs.declared.command.Command.{Command}
 use Rattle.ring_model.specs.declared.command.Act.{Act}
-use Rattle.ring_model.specs.declared.command.Act.TheVariants.{Create, Add, SetWeight, Remove, SetHours, PretendPassed, RaisePower, Import, Publish}
+use Rattle.ring_model.specs.declared.command.Act.TheVariants.{Create, Add, SetWeight, Remove, SetHours, PretendPassed, RaisePower, Import, Publish, Rebalance}
 use Rattle.ring_messages.specs.Message.{IsNewRing, IsNewWeight, IsAct, IsCommand, IsDelivery, word_of, members_count, fields_count}
 use Rattle.ring_messages.specs.Proper.{IsProperAct, IsProperCommand}
 use Rattle.ring_messages.specs.Canonical.{act_data, command_data}
@@ -41,6 +41,7 @@ same_act d (SetHours m) (SetHours n) h k = ap SetHours (same_number_read _ _ _ _
 same_act d PretendPassed PretendPassed h k = refl
 same_act d RaisePower RaisePower h k = refl
 same_act d Publish Publish h k = refl
+same_act d (Rebalance m) (Rebalance n) h k = ap Rebalance (same_number_read _ _ _ _ _ h.fields k.fields)
 same_act d (Import rs) (Import qs) h k = ap Import (same_rows _ rs qs h.fields k.fields)
 same_act d a b h k = absurd (apart (word_of a) (word_of b) refl (sym h.word ∙ k.word))
 
@@ -82,6 +83,7 @@ act_is ring (SetHours hours) h = record { word = refl; fields = record { is = re
 act_is ring PretendPassed h = record { word = refl; fields = tt }
 act_is ring RaisePower h = record { word = refl; fields = tt }
 act_is ring Publish h = record { word = refl; fields = tt }
+act_is ring (Rebalance seed) h = record { word = refl; fields = record { is = refl; above = omega arith; below = omega arith } }
 act_is ring (Import rows) h = record { word = refl; fields = rows_are rows h }
 
 ring_is : (ring : List ℕ) (a : Act) → get (codes "ring") (act_data ring a) ≡ Some (string ring)
@@ -93,6 +95,7 @@ ring_is ring (SetHours hours) = refl
 ring_is ring PretendPassed = refl
 ring_is ring RaisePower = refl
 ring_is ring Publish = refl
+ring_is ring (Rebalance seed) = refl
 ring_is ring (Import rows) = refl
 
 count_is : (ring : List ℕ) (a : Act) → members_count (act_data ring a) ≡ 0 + (2 + fields_count a)
@@ -104,6 +107,7 @@ count_is ring (SetHours hours) = refl
 count_is ring PretendPassed = refl
 count_is ring RaisePower = refl
 count_is ring Publish = refl
+count_is ring (Rebalance seed) = refl
 count_is ring (Import rows) = refl
 
 pub is_command : (c : Command) → IsProperCommand c → IsCommand 0 (command_data c) c
@@ -120,6 +124,7 @@ act_proper d (SetHours hours) h = omega (arith, h.fields.below)
 act_proper d PretendPassed h = tt
 act_proper d RaisePower h = tt
 act_proper d Publish h = tt
+act_proper d (Rebalance seed) h = omega (arith, h.fields.below)
 act_proper d (Import rows) h = rows_proper _ rows h.fields
 
 pub command_proper : (m : ℕ) (d : Data) (c : Command) → IsCommand m d c → IsProperCommand c

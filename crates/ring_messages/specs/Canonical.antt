@@ -9,7 +9,7 @@ use Rattle.ring_model.specs.declared.command.NewRing.{NewRing}
 use Rattle.ring_model.specs.declared.command.NewWeight.{NewWeight}
 use Rattle.ring_model.specs.declared.command.Command.{Command}
 use Rattle.ring_model.specs.declared.command.Act.{Act}
-use Rattle.ring_model.specs.declared.command.Act.TheVariants.{Create, Add, SetWeight, Remove, SetHours, PretendPassed, RaisePower, Import, Publish}
+use Rattle.ring_model.specs.declared.command.Act.TheVariants.{Create, Add, SetWeight, Remove, SetHours, PretendPassed, RaisePower, Import, Publish, Rebalance}
 
 -- A whole number.
 abbrev pub whole : ℕ → Data
@@ -53,6 +53,10 @@ abbrev pub import_data : List ℕ → List Row → Data
 import_data ring rows = object (member (codes "do") (string (codes "import")) (member (codes "ring") (string ring)
     (member (codes "rows") (array (items_of (map row_data rows))) no_members)))
 
+-- The members of the command that rebalances with this seed.
+abbrev pub rebalance_data : List ℕ → ℕ → Data
+rebalance_data ring seed = object (member (codes "do") (string (codes "rebalance")) (member (codes "ring") (string ring) (member (codes "seed") (whole seed) no_members)))
+
 -- The members of the command that does this to this ring.
 abbrev pub act_data : List ℕ → Act → Data
 act_data ring (Create n) = create_data ring n
@@ -63,6 +67,7 @@ act_data ring (SetHours hours) = set_hours_data ring hours
 act_data ring PretendPassed = plain_data (codes "pretend_passed") ring
 act_data ring RaisePower = plain_data (codes "raise_power") ring
 act_data ring Publish = plain_data (codes "publish") ring
+act_data ring (Rebalance seed) = rebalance_data ring seed
 act_data ring (Import rows) = import_data ring rows
 
 -- The members of a message of this command, without the key's.

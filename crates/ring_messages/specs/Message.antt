@@ -13,7 +13,7 @@ use Rattle.ring_model.specs.declared.command.NewRing.{NewRing}
 use Rattle.ring_model.specs.declared.command.NewWeight.{NewWeight}
 use Rattle.ring_model.specs.declared.command.Command.{Command}
 use Rattle.ring_model.specs.declared.command.Act.{Act}
-use Rattle.ring_model.specs.declared.command.Act.TheVariants.{Create, Add, SetWeight, Remove, SetHours, PretendPassed, RaisePower, Import, Publish}
+use Rattle.ring_model.specs.declared.command.Act.TheVariants.{Create, Add, SetWeight, Remove, SetHours, PretendPassed, RaisePower, Import, Publish, Rebalance}
 use Rattle.ring_messages.specs.Reads.{IsNumber, IsName, IsAddress, IsWeight}
 
 -- How many members an object has; what is no object has none.
@@ -70,6 +70,7 @@ word_of (SetHours hours) = codes "set_hours"
 word_of PretendPassed = codes "pretend_passed"
 word_of RaisePower = codes "raise_power"
 word_of Publish = codes "publish"
+word_of (Rebalance seed) = codes "rebalance"
 word_of (Import rows) = codes "import"
 
 -- How many keys there are besides `ring` and `do`.
@@ -82,6 +83,7 @@ fields_count (SetHours hours) = 1
 fields_count PretendPassed = 0
 fields_count RaisePower = 0
 fields_count Publish = 0
+fields_count (Rebalance seed) = 1
 fields_count (Import rows) = 1
 
 -- What stands under those keys.
@@ -94,6 +96,7 @@ HasFields d (SetHours hours) = IsNumber (get (codes "min_hours") d) 0 65535 hour
 HasFields d PretendPassed = ⊤
 HasFields d RaisePower = ⊤
 HasFields d Publish = ⊤
+HasFields d (Rebalance seed) = IsNumber (get (codes "seed") d) 0 4294967295 seed
 HasFields d (Import rows) = ListsRows (get (codes "rows") d) rows
 
 -- The object says what is to be done.

@@ -7,7 +7,7 @@ use Rattle.ring_model.specs.declared.command.NewRing.{NewRing}
 use Rattle.ring_model.specs.declared.command.NewWeight.{NewWeight}
 use Rattle.ring_model.specs.declared.command.Command.{Command}
 use Rattle.ring_model.specs.declared.command.Act.{Act}
-use Rattle.ring_model.specs.declared.command.Act.TheVariants.{Create, Add, SetWeight, Remove, SetHours, PretendPassed, RaisePower, Import, Publish}
+use Rattle.ring_model.specs.declared.command.Act.TheVariants.{Create, Add, SetWeight, Remove, SetHours, PretendPassed, RaisePower, Import, Publish, Rebalance}
 use Rattle.ring_model.specs.declared.command.Done.{Done}
 use Rattle.ring_model.specs.declared.command.Done.TheVariants as done
 use Rattle.ring_model.specs.declared.command.Refusal.{Refusal}
@@ -45,6 +45,7 @@ IsProperAct (SetHours hours) = hours < 2 ^ 16
 IsProperAct PretendPassed = ⊤
 IsProperAct RaisePower = ⊤
 IsProperAct Publish = ⊤
+IsProperAct (Rebalance seed) = seed < 2 ^ 32
 IsProperAct (Import rows) = AllByRecursion IsProperRow rows
 
 -- The ring has a ring's name, and the fields are such as there are.
@@ -62,6 +63,7 @@ IsProperDone (done.SetHours v) = v < 2 ^ 32
 IsProperDone (done.PretendPassed v) = v < 2 ^ 32
 IsProperDone (done.RaisePower v) = v < 2 ^ 32
 IsProperDone (done.Publish v) = v < 2 ^ 32
+IsProperDone (done.Rebalance b c d v) = (b < 2 ^ 32) × ((c < 2 ^ 32) × ((d < 2 ^ 32) × (v < 2 ^ 32)))
 IsProperDone (done.Import a r v) = (a < 2 ^ 64) × ((r < 2 ^ 64) × (v < 2 ^ 32))
 
 -- The number of a row has 64 bits.

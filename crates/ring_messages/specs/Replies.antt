@@ -3,9 +3,9 @@ use Rattle.std.specs.Prelude.{ℕ, List, codes}
 use Rattle.serde_json.specs.Data.{Data, string, object, no_members, member}
 use Rattle.serde_json.specs.Written.{compact_text}
 use Rattle.ring_model.specs.declared.command.Done.{Done}
-use Rattle.ring_model.specs.declared.command.Done.TheVariants.{Create, Add, SetWeight, Remove, SetHours, PretendPassed, RaisePower, Import, Publish}
+use Rattle.ring_model.specs.declared.command.Done.TheVariants.{Create, Add, SetWeight, Remove, SetHours, PretendPassed, RaisePower, Import, Publish, Rebalance}
 use Rattle.ring_model.specs.declared.command.Refusal.{Refusal}
-use Rattle.ring_model.specs.declared.command.Refusal.TheVariants.{NoRing, RingExists, TooManyRings, NoDevice, DeviceExists, DeviceRemoved, TooManyDevices, IdsUsedUp, NotAssigned, TooManyVersions, RowRefused, PowerLimit}
+use Rattle.ring_model.specs.declared.command.Refusal.TheVariants.{NoRing, RingExists, TooManyRings, NoDevice, DeviceExists, DeviceRemoved, TooManyDevices, IdsUsedUp, TooFewDevices, NotAssigned, TooManyVersions, RowRefused, PowerLimit}
 use Rattle.ring_model.specs.declared.command.RowCause.{RowCause}
 use Rattle.ring_model.specs.declared.command.RowCause.TheVariants as cause
 use Rattle.ring_model.specs.declared.command.Reply.{Reply}
@@ -28,6 +28,8 @@ done_data (SetHours version) = version_data (codes "set_hours") version
 done_data (PretendPassed version) = version_data (codes "pretend_passed") version
 done_data (RaisePower version) = version_data (codes "raise_power") version
 done_data (Publish version) = version_data (codes "publish") version
+done_data (Rebalance balance changed dispersion version) = object (member (codes "balance") (whole balance) (member (codes "changed") (whole changed)
+    (member (codes "dispersion") (whole dispersion) (member (codes "done") (string (codes "rebalance")) (member (codes "version") (whole version) no_members)))))
 done_data (Import added reweighted version) = object (member (codes "added") (whole added) (member (codes "done") (string (codes "import"))
     (member (codes "reweighted") (whole reweighted) (member (codes "version") (whole version) no_members))))
 
@@ -42,6 +44,7 @@ refusal_name DeviceRemoved = codes "DeviceRemoved"
 refusal_name TooManyDevices = codes "TooManyDevices"
 refusal_name IdsUsedUp = codes "IdsUsedUp"
 refusal_name (RowRefused row why) = codes "RowRefused"
+refusal_name TooFewDevices = codes "TooFewDevices"
 refusal_name NotAssigned = codes "NotAssigned"
 refusal_name TooManyVersions = codes "TooManyVersions"
 refusal_name PowerLimit = codes "PowerLimit"
@@ -57,6 +60,7 @@ refusal_rule DeviceRemoved = 6
 refusal_rule TooManyDevices = 7
 refusal_rule IdsUsedUp = 8
 refusal_rule (RowRefused row why) = 13
+refusal_rule TooFewDevices = 9
 refusal_rule NotAssigned = 10
 refusal_rule TooManyVersions = 11
 refusal_rule PowerLimit = 14

@@ -3,7 +3,7 @@ use Rattle.std.specs.Prelude.{◌≡◌, ℕ, List, Some, None, codes, ⊤}
 use Rattle.serde_json.specs.Data.{Data, number, unsigned, string}
 use Rattle.serde_json.specs.Find.{get}
 use Rattle.ring_model.specs.declared.command.Done.{Done}
-use Rattle.ring_model.specs.declared.command.Done.TheVariants.{Create, Add, SetWeight, Remove, SetHours, PretendPassed, RaisePower, Import, Publish}
+use Rattle.ring_model.specs.declared.command.Done.TheVariants.{Create, Add, SetWeight, Remove, SetHours, PretendPassed, RaisePower, Import, Publish, Rebalance}
 use Rattle.ring_model.specs.declared.command.Refusal.{Refusal}
 use Rattle.ring_model.specs.declared.command.Refusal.TheVariants.{RowRefused}
 use Rattle.ring_model.specs.declared.command.Reply.{Reply}
@@ -21,6 +21,7 @@ done_word (SetHours version) = codes "set_hours"
 done_word (PretendPassed version) = codes "pretend_passed"
 done_word (RaisePower version) = codes "raise_power"
 done_word (Publish version) = codes "publish"
+done_word (Rebalance balance changed dispersion version) = codes "rebalance"
 done_word (Import added reweighted version) = codes "import"
 
 -- The ring's version after the command.
@@ -33,13 +34,21 @@ done_version (SetHours version) = version
 done_version (PretendPassed version) = version
 done_version (RaisePower version) = version
 done_version (Publish version) = version
+done_version (Rebalance balance changed dispersion version) = version
 done_version (Import added reweighted version) = version
+
+-- The object says what a rebalance came to.
+pub record SaysFigures (d : Data) (b c x : ℕ) : Type 0 where
+  pub balance : IsNumber (get (codes "balance") d) 0 4294967295 b
+  pub changed : IsNumber (get (codes "changed") d) 0 4294967295 c
+  pub dispersion : IsNumber (get (codes "dispersion") d) 0 4294967295 x
 
 -- The object says what else is told of what was done.
 abbrev pub SaysMore : Data → Done → Type 0
 SaysMore d (Add id version) = IsNumber (get (codes "id") d) 0 65535 id
 SaysMore d (Import added reweighted version) = IsNumber (get (codes "added") d) 0 18446744073709551615 added
     × IsNumber (get (codes "reweighted") d) 0 18446744073709551615 reweighted
+SaysMore d (Rebalance balance changed dispersion version) = SaysFigures d balance changed dispersion
 SaysMore d other = ⊤
 
 -- The object says that this was done.

@@ -80,6 +80,9 @@ fn act_is_proper(act: &Act)
         Act::Remove(number) | Act::SetHours(number) => {
             let _number = *number;
         }
+        Act::Rebalance(seed) => {
+            let _seed = *seed;
+        }
         Act::PretendPassed | Act::RaisePower | Act::Publish => {}
         Act::Import(rows) => rows_are_proper(rows.as_slice()),
     }
@@ -109,6 +112,17 @@ fn done_is_proper(done: &Done)
         }
         Done::Add { id, version } => {
             let _id = id;
+            let _version = version;
+        }
+        Done::Rebalance {
+            balance,
+            changed,
+            dispersion,
+            version,
+        } => {
+            let _balance = balance;
+            let _changed = changed;
+            let _dispersion = dispersion;
             let _version = version;
         }
         Done::Import {

@@ -134,6 +134,7 @@ fn act(alloc: Global, value: &Value) -> Result<Act, MessageFault>
         Some("pretend_passed") => Ok(Act::PretendPassed),
         Some("raise_power") => Ok(Act::RaisePower),
         Some("publish") => Ok(Act::Publish),
+        Some("rebalance") => Ok(Act::Rebalance(number32(value.get("seed"))?)),
         Some("import") => Ok(Act::Import(import(alloc, value.get("rows"))?)),
         _ => Err(MessageFault::Unreadable),
     }
@@ -146,7 +147,7 @@ fn fields_count(act: &Act) -> usize
         Act::Create(_) => 3,
         Act::Add(_) => 6,
         Act::SetWeight(_) => 2,
-        Act::Remove(_) | Act::SetHours(_) | Act::Import(_) => 1,
+        Act::Remove(_) | Act::SetHours(_) | Act::Import(_) | Act::Rebalance(_) => 1,
         Act::PretendPassed | Act::RaisePower | Act::Publish => 0,
     }
 }

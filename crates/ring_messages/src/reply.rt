@@ -1,10 +1,11 @@
 //! The one text of a reply, and back.
 ghost use Rattle.std.specs.Prelude.{◌≡◌, ◌≢◌, IfOk, IfSome, IfNone, Some, codes, string_bytes};
+ghost use Rattle.serde_json.specs.Data.{string};
 ghost use Rattle.serde_json.specs.Find.{get};
 ghost use Rattle.serde_json.specs.View.{view};
 ghost use Rattle.ring_model.specs.declared.command.Refusal.{Refusal};
 ghost use Rattle.ring_model.specs.declared.command.RowCause.{RowCause};
-ghost use Rattle.ring_messages.specs.Reads.{Reads};
+ghost use Rattle.ring_messages.specs.Reads.{IsNumber, Reads};
 ghost use Rattle.ring_messages.specs.Proper.{IsProperReply};
 ghost use Rattle.ring_messages.specs.Replies.{version_data, done_data, cause_rule, refusal_rule, refused_data, refusal_data, row_refused_data, reply_data, reply_text};
 ghost use Rattle.ring_messages.specs.Says.{SaysDone, SaysRefusal, SaysReply, SaysWhy};
@@ -38,6 +39,24 @@ fn imported_value(
     json!(in alloc; {"added": added, "done": "import", "reweighted": reweighted, "version": version})
 }
 
+fn rebalanced_value(
+    alloc: Global,
+    balance: u32,
+    changed: u32,
+    dispersion: u32,
+    version: u32,
+) -> Result<Value, AllocError>
+    ensures { IfOk result (λ v. view v ≡ done_data (Done.Rebalance balance changed dispersion version)) }
+{
+    json!(in alloc; {
+        "balance": balance,
+        "changed": changed,
+        "dispersion": dispersion,
+        "done": "rebalance",
+        "version": version,
+    })
+}
+
 fn done_value(alloc: Global, done: Done) -> Result<Value, AllocError>
     ensures { IfOk result (λ v. view v ≡ done_data done) }
 {
@@ -50,6 +69,12 @@ fn done_value(alloc: Global, done: Done) -> Result<Value, AllocError>
         Done::PretendPassed { version } => version_value(alloc, "pretend_passed", version),
         Done::RaisePower { version } => version_value(alloc, "raise_power", version),
         Done::Publish { version } => version_value(alloc, "publish", version),
+        Done::Rebalance {
+            balance,
+            changed,
+            dispersion,
+            version,
+        } => rebalanced_value(alloc, balance, changed, dispersion, version),
         Done::Import {
             added,
             reweighted,
@@ -94,6 +119,7 @@ fn refusal_value(alloc: Global, refusal: Refusal) -> Result<Value, AllocError>
         Refusal::TooManyDevices => refused_value(alloc, "TooManyDevices", 7),
         Refusal::IdsUsedUp => refused_value(alloc, "IdsUsedUp", 8),
         Refusal::RowRefused { row, cause } => row_refused_value(alloc, row, cause_rule(cause)),
+        Refusal::TooFewDevices => refused_value(alloc, "TooFewDevices", 9),
         Refusal::NotAssigned => refused_value(alloc, "NotAssigned", 10),
         Refusal::TooManyVersions => refused_value(alloc, "TooManyVersions", 11),
         Refusal::PowerLimit => refused_value(alloc, "PowerLimit", 14),
@@ -116,6 +142,38 @@ pub fn reply_text(alloc: Global, reply: &Reply) -> Result<String, AllocError>
     reply_value(alloc, *reply)?.to_string(alloc)
 }
 
+/// What an import's reply tells, at this version of the ring.
+fn imported(value: &Value, version: u32) -> Result<Done, MessageFault>
+    requires word { get (codes "done") (view value.now) ≡ Some (string (codes "import")) }
+    requires version { IsNumber (get (codes "version") (view value.now)) 0 4294967295 version }
+    ensures { Reads (SaysDone (view value.now)) result }
+{
+    let added = number(value.get("added"), u64::MAX)?;
+    let reweighted = number(value.get("reweighted"), u64::MAX)?;
+    Ok(Done::Import {
+        added,
+        reweighted,
+        version,
+    })
+}
+
+/// What a rebalance's reply tells, at this version of the ring.
+fn rebalanced(value: &Value, version: u32) -> Result<Done, MessageFault>
+    requires word { get (codes "done") (view value.now) ≡ Some (string (codes "rebalance")) }
+    requires version { IsNumber (get (codes "version") (view value.now)) 0 4294967295 version }
+    ensures { Reads (SaysDone (view value.now)) result }
+{
+    let balance = number32(value.get("balance"))?;
+    let changed = number32(value.get("changed"))?;
+    let dispersion = number32(value.get("dispersion"))?;
+    Ok(Done::Rebalance {
+        balance,
+        changed,
+        dispersion,
+        version,
+    })
+}
+
 fn done(value: &Value) -> Result<Done, MessageFault>
     ensures { Reads (SaysDone (view value.now)) result }
 {
@@ -132,15 +190,8 @@ fn done(value: &Value) -> Result<Done, MessageFault>
         Some("pretend_passed") => Ok(Done::PretendPassed { version }),
         Some("raise_power") => Ok(Done::RaisePower { version }),
         Some("publish") => Ok(Done::Publish { version }),
-        Some("import") => {
-            let added = number(value.get("added"), u64::MAX)?;
-            let reweighted = number(value.get("reweighted"), u64::MAX)?;
-            Ok(Done::Import {
-                added,
-                reweighted,
-                version,
-            })
-        }
+        Some("rebalance") => rebalanced(value, version),
+        Some("import") => imported(value, version),
         _ => Err(MessageFault::Unreadable),
     }
 }
@@ -159,6 +210,7 @@ fn refusal_by(rule: u64) -> Option<Refusal>
         6 => Some(Refusal::DeviceRemoved),
         7 => Some(Refusal::TooManyDevices),
         8 => Some(Refusal::IdsUsedUp),
+        9 => Some(Refusal::TooFewDevices),
         10 => Some(Refusal::NotAssigned),
         11 => Some(Refusal::TooManyVersions),
         14 => Some(Refusal::PowerLimit),

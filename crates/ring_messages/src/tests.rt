@@ -343,6 +343,10 @@ fn commands_without_a_device_are_read_and_written(rt: HostRuntime) -> Result<(),
             "{\"caller\":\"ann\",\"number\":5,\"ring\":\"object\",\"do\":\"publish\"}",
             "{\"do\":\"publish\",\"ring\":\"object\"}",
         ),
+        (
+            "{\"caller\":\"ann\",\"number\":6,\"seed\":4294967295,\"ring\":\"object\",\"do\":\"rebalance\"}",
+            "{\"do\":\"rebalance\",\"ring\":\"object\",\"seed\":4294967295}",
+        ),
     ] {
         assert!(rt; is_message_of(rt.alloc(), message, written)?, "{written}");
     }
@@ -411,6 +415,15 @@ fn replies_of_every_command_are_written_and_read_back(rt: HostRuntime) -> Result
             "{\"done\":\"publish\",\"version\":7}",
         ),
         (
+            Done::Rebalance {
+                balance: 99999,
+                changed: 4,
+                dispersion: 0,
+                version,
+            },
+            "{\"balance\":99999,\"changed\":4,\"dispersion\":0,\"done\":\"rebalance\",\"version\":7}",
+        ),
+        (
             Done::Import {
                 added: 1,
                 reweighted: 18446744073709551615,
@@ -442,6 +455,10 @@ fn a_row_is_refused_with_its_number_and_cause(rt: HostRuntime) -> Result<(), Fai
         );
     }
     for (refusal, text) in [
+        (
+            Refusal::TooFewDevices,
+            "{\"refused\":\"TooFewDevices\",\"rule\":9}",
+        ),
         (
             Refusal::NotAssigned,
             "{\"refused\":\"NotAssigned\",\"rule\":10}",

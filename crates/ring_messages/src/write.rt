@@ -2,7 +2,7 @@
 ghost use Rattle.std.specs.Prelude.{◌≡◌, IfOk, map, string_bytes};
 ghost use Rattle.serde_json.specs.View.{items_of, view};
 ghost use Rattle.serde_json.specs.Data.{array};
-ghost use Rattle.ring_messages.specs.Canonical.{create_data, add_data, set_weight_data, remove_data, set_hours_data, plain_data, row_data, import_data, command_data, canonical};
+ghost use Rattle.ring_messages.specs.Canonical.{create_data, add_data, set_weight_data, remove_data, set_hours_data, plain_data, row_data, import_data, rebalance_data, command_data, canonical};
 
 use ring_model::{Act, Command, DeviceId, NewRing, NewWeight, RingName, Row, Rows};
 use serde_json::{Value, json};
@@ -99,6 +99,12 @@ fn import_value(alloc: Global, ring: &RingName, rows: &Rows) -> Result<Value, Al
     json!(in alloc; {"do": "import", "ring": ring.as_str(), "rows": rows})
 }
 
+fn rebalance_value(alloc: Global, ring: &RingName, seed: u32) -> Result<Value, AllocError>
+    ensures { IfOk result (λ v. view v ≡ rebalance_data ring.now seed) }
+{
+    json!(in alloc; {"do": "rebalance", "ring": ring.as_str(), "seed": seed})
+}
+
 fn command_value(alloc: Global, command: &Command) -> Result<Value, AllocError>
     ensures { IfOk result (λ v. view v ≡ command_data command.now) }
 {
@@ -112,6 +118,7 @@ fn command_value(alloc: Global, command: &Command) -> Result<Value, AllocError>
         Act::PretendPassed => plain_value(alloc, "pretend_passed", ring),
         Act::RaisePower => plain_value(alloc, "raise_power", ring),
         Act::Publish => plain_value(alloc, "publish", ring),
+        Act::Rebalance(seed) => rebalance_value(alloc, ring, *seed),
         Act::Import(rows) => import_value(alloc, ring, rows),
     }
 }

@@ -48,6 +48,8 @@ pub enum Act {
     Import(Rows),
     /// Keeps the ring's text under its version.
     Publish,
+    /// Moves seats to where they should be. The seed varies which of several equally good rings it gives.
+    Rebalance(u32),
 }
 
 impl Act {
@@ -65,6 +67,7 @@ impl Act {
             Act::RaisePower => matches!(other, Act::RaisePower),
             Act::Import(rows) => matches!(other, Act::Import(also) if also.is(rows)),
             Act::Publish => matches!(other, Act::Publish),
+            Act::Rebalance(seed) => matches!(other, Act::Rebalance(also) if also == seed),
         }
     }
 }
@@ -129,6 +132,14 @@ pub enum Done {
     Publish {
         version: u32,
     },
+    /// Seats are where they should be: so many of them changed. Balance and dispersion are the new ring's, in
+    /// hundredths of a percent.
+    Rebalance {
+        balance: u32,
+        changed: u32,
+        dispersion: u32,
+        version: u32,
+    },
 }
 
 /// Why a row of an import is refused, on the ring that the rows before it leave.
@@ -163,6 +174,8 @@ pub enum Refusal {
     TooManyDevices,
     /// The ring has given as many numbers to devices as it may.
     IdsUsedUp,
+    /// Fewer devices are open than each partition has replicas.
+    TooFewDevices,
     /// The seats are empty.
     NotAssigned,
     /// As many other versions of the ring are published as there may be.
