@@ -1,34 +1,15 @@
 #!/usr/bin/env python3
 """Times imports through the built program: bench/import.py [ROWS [TIMES]]
 
-Each import goes to a ring of its own run of `ringd run`, as a message of numbered requests. The time told is that of the
-answer alone, from the line's last byte written to the answer's last byte read.
+Each import goes to a run of its own, as a message of numbered requests.
 """
-import json
-import subprocess
 import sys
-import time
-from pathlib import Path
 
-PROGRAM = Path(__file__).resolve().parent.parent / "crates" / "ringd" / "out" / "ringd"
-
-
-def message(number, do, **more):
-    body = {"caller": "bench", "number": number, "do": do, "ring": "object", **more}
-    return "0 " + json.dumps(body, separators=(",", ":")) + "\n"
+from program import ask, message, start
 
 
 def rows(count):
     return [[1, place // 16, f"10.{place // 250}.1.{place % 250}", 6200, f"disk{place}", "100.00"] for place in range(count)]
-
-
-def ask(program, line):
-    """The answer to a line, and the seconds that it took."""
-    program.stdin.write(line.encode())
-    start = time.perf_counter()
-    program.stdin.flush()
-    answer = program.stdout.readline().decode().rstrip("\n")
-    return answer, time.perf_counter() - start
 
 
 def main():
@@ -36,7 +17,7 @@ def main():
     times = int(sys.argv[2]) if len(sys.argv) > 2 else 5
     print(f"{'rows':>6} {'bytes':>7} {'add ms':>8} {'reweigh ms':>11}  answer")
     for _ in range(times):
-        with subprocess.Popen([PROGRAM, "run"], stdin=subprocess.PIPE, stdout=subprocess.PIPE) as program:
+        with start() as program:
             ask(program, message(1, "create", power=14, replicas=5, min_hours=24))
             line = message(2, "import", rows=rows(count))
             answer, added = ask(program, line)

@@ -1,4 +1,5 @@
 pub mod Step
+pub mod Safety
 pub use Rattle.ring_model.specs.Ring
 pub use Rattle.ring_model.specs.Rings
 pub use Rattle.ring_model.specs.Valid

@@ -1,11 +1,14 @@
 -- One step of the builder: what a command is replied, and what it does to the rings.
-use Rattle.std.specs.Prelude.{◌≡◌, ◌+◌, ◌==◌, ◌&&◌, ℕ, Bool, true, false, not, nat_le, List, [], ◌∷◌, ◌++◌, length, find, is_some, Option, Some, None}
+use Rattle.std.specs.Prelude.{◌≡◌, ◌+◌, ◌==◌, ◌&&◌, ℕ, Bool, true, false, not, nat_le, nat_lt, count_by, List, [], ◌∷◌, ◌++◌, length, find, is_some, Option, Some, None}
 use Rattle.std.specs.Option.{option_map}
 use Rattle.ring_model.specs.Import.{after_row, after_rows}
 use Rattle.ring_model.specs.Publish.{is_published, with_published}
 use Rattle.ring_model.specs.Raise.{IsRaised}
 use Rattle.ring_model.specs.Ring.{RingRecord, changed, has_device, has_place, has_present, is_assigned, new_ring, same_place, with_device, with_hours_passed, with_mark, with_min_hours, with_weight}
 use Rattle.ring_model.specs.Rings.{ring_at, with_ring}
+use Rattle.ring_place.specs.Rebalance.{IsRebalance, changed_seats}
+use Rattle.ring_share.specs.Figures.{ring_balance, ring_dispersion}
+use Rattle.ring_share.specs.Want.{is_open}
 use Rattle.ring_model.specs.declared.request.Limits.{Limits}
 use Rattle.ring_model.specs.declared.command.Command.{Command}
 use Rattle.ring_model.specs.declared.command.Act.{Act}
@@ -112,6 +115,8 @@ causes limits rings name (act.SetHours hours) = of_ring (ring_at name rings) (λ
 causes limits rings name act.PretendPassed = of_ring (ring_at name rings) (λ ring. [])
 causes limits rings name act.RaisePower = of_ring (ring_at name rings) (λ ring. record { refused = refusal.PowerLimit; stands = ring.power == 14 } ∷ [])
 causes limits rings name (act.Import rows) = of_ring (ring_at name rings) (λ ring. of_rows limits 1 ring rows)
+causes limits rings name (act.Rebalance seed) = of_ring (ring_at name rings) (λ ring.
+    record { refused = refusal.TooFewDevices; stands = nat_lt (count_by is_open ring.devices) ring.replicas } ∷ [])
 causes limits rings name act.Publish = of_ring (ring_at name rings) (of_text limits)
 
 -- the first cause that stands
@@ -132,6 +137,9 @@ Effect name act.RaisePower (Some old) hour (done.RaisePower version) new = IsRai
 -- each row that found no device took a number, and every other found one
 Effect name (act.Import rows) (Some old) hour (done.Import added reweighted version) new =
     (new ≡ changed (after_rows old rows)) × (new.next_id ≡ old.next_id + added) × (added + reweighted ≡ length rows) × (version ≡ new.version)
+-- any rebalance, whatever the seed; what is told is how many seats differ, and the figures of the new ring
+Effect name (act.Rebalance seed) (Some old) hour (done.Rebalance balance seats dispersion version) new =
+    IsRebalance old hour new × (seats ≡ changed_seats old new) × (balance ≡ ring_balance new) × (dispersion ≡ ring_dispersion new) × (version ≡ new.version)
 -- the text is that of the ring as it is, under its name
 Effect name act.Publish (Some old) hour (done.Publish version) new = (new ≡ with_published old (spelling (snapshot_of name old))) × (version ≡ new.version)
 Effect name other old hour answer new = ⊥

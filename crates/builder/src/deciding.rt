@@ -4,6 +4,7 @@ ghost use Rattle.builder.specs.Step.{Step};
 ghost use Rattle.builder.specs.Outcome.{IsOutcome};
 
 use crate::importing::import;
+use crate::rebalancing::move_seats;
 use ring_model::{
     Act, Command, DeviceId, Done, Hour, Limits, NewRing, NewWeight, RaiseFault, Refusal, Reply,
     Ring, Rings, Row,
@@ -241,6 +242,7 @@ fn outcome_of(
         Act::RaisePower => raise_power(rings, hour, command, limits),
         Act::Import(rows) => import(rings, hour, command, rows, limits),
         Act::Publish => publish(alloc, rings, hour, command, limits),
+        Act::Rebalance(seed) => move_seats(alloc, rings, hour, command, *seed, limits),
     }
 }
 

@@ -10,6 +10,7 @@ mod deciding;
 mod importing;
 pub mod laws;
 mod machine;
+mod rebalancing;
 
 pub use deciding::decide;
 pub use machine::RingMachine;

@@ -109,7 +109,7 @@ none_at_end load at row start same lt none id = subst (λ r. is_free_in load r i
     decide true is = let step = free_step load at start id lt is in subst (λ n. is_free_in load at n ≡ false) step.2 (none step.0 step.1)
 
 -- so it is where the places are the first of an array
-pub seats_first : (devices : List Device) (ids places : List ℕ) → length ids ≤ 4 → length places ≡ 4
+pub seats_first : (devices : List Device) (ids places : List ℕ) → length ids ≤ 5 → length places ≡ 5
     → ((k : ℕ) → k < length ids → (get_or places k 0 < length devices) × (id_at devices (get_or places k 0) ≡ get_or ids k 0)) → seats_at devices (take (length ids) places) ≡ seats_of ids
 seats_first devices ids places few long all = seats_same devices ids (take (length ids) places) (length-take-le (length ids) places (omega (arith, few, long)))
     (λ k lt. ap (id_at devices) (get_or-take (length ids) places k 0 lt) ∙ (all k lt).1)

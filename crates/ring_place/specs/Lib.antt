@@ -1,3 +1,7 @@
 pub mod Rebalance
 pub mod Load
 pub mod Places
+pub mod Rows
+pub mod Gathering
+pub mod Placing
+pub mod Finishing

@@ -5,9 +5,15 @@
 #![tactic(auto)]
 
 pub mod laws;
+mod gather;
+mod order;
+mod place;
 mod places;
+mod rebalances;
 mod rooms;
+mod seats;
 
+pub use rebalances::{PlaceError, Rebalanced, rebalance};
 pub use rooms::Room;
 
 #[cfg(test)]

@@ -1,9 +1,9 @@
 //! How many seats devices want and have, and where one more stands farthest from others.
-ghost use Rattle.std.specs.Prelude.{◌≡◌, ◌<◌, ◌≤◌, ◌==◌, ◌&&◌, ◌||◌, ◌+◌, ℕ, [], ◌∷◌, true, false, All, length, map, nat_lt, not, slice_get, slice_index, replicate, Option, Some, None, IfOk, IfSome, IfNone, if◌then◌else◌};
+ghost use Rattle.std.specs.Prelude.{◌≡◌, ◌<◌, ◌≤◌, ◌==◌, ◌&&◌, ◌||◌, ◌+◌, ℕ, [], ◌∷◌, true, false, All, length, map, nat_lt, not, slice_get, slice_index, replicate, count_by, Option, Some, None, IfOk, IfSome, IfNone, if◌then◌else◌};
 ghost use Rattle.std.specs.List.{list_any};
 ghost use Rattle.ring_model.specs.Ring.{has_device, has_present};
-ghost use Rattle.ring_share.specs.Crowd.{in_region, in_zone, on_server, is_less as is_less_crowded};
-ghost use Rattle.ring_share.specs.Room.{have, place_of as place_of_device};
+ghost use Rattle.ring_share.specs.Crowd.{in_region, in_zone, is_outside, on_server, is_less as is_less_crowded};
+ghost use Rattle.ring_share.specs.Room.{has_open, have, place_of as place_of_device};
 ghost use Rattle.ring_share.specs.Want.{is_open as is_open_device, AreWanted};
 ghost use Rattle.ring_place.specs.Load.{IsLoad, have_in, want_in, has_room_in, load_put, load_take, seats_of, is_free_in, crowd_in, IsLeast};
 ghost use Rattle.ring_place.specs.Places.{id_at, seats_at, IsBestSoFar, turned};
@@ -175,7 +175,7 @@ impl Room {
     /// How crowded the device at a place is for a seat whose other seats are on the devices at these places.
     fn crowd_at(&self, others: &[usize], place: usize) -> Crowd
         requires others { All (λ other. other < length self.now.devices) others.now }
-        requires few { length others.now ≤ 4 }
+        requires few { length others.now ≤ 5 }
         requires place { place < length self.now.devices }
         ensures { result ≡ crowd_in self.now (seats_at self.now.devices others.now) (id_at self.now.devices place) }
     {
@@ -187,14 +187,14 @@ impl Room {
         crowd
     }
 
-    /// The places of at most four devices of the ring.
-    fn places_of(&self, ids: &[DeviceId]) -> [usize; 4]
+    /// The places of at most five devices of the ring.
+    fn places_of(&self, ids: &[DeviceId]) -> [usize; 5]
         requires known { All (λ id. has_device id self.now.devices ≡ true) ids.now }
-        requires few { length ids.now ≤ 4 }
-        ensures long { length result ≡ 4 }
+        requires few { length ids.now ≤ 5 }
+        ensures long { length result ≡ 5 }
         ensures stand { (index : ℕ) → index < length ids.now → (slice_index result index < length self.now.devices) × (id_at self.now.devices (slice_index result index) ≡ slice_index ids.now index) }
     {
-        let mut places = [0; 4];
+        let mut places = [0; 5];
         for (index, id) in ids.iter().enumerate() {
             places[index] = self.place_of(*id);
         }
@@ -204,7 +204,7 @@ impl Room {
     /// How crowded a device of the ring is for a seat whose other seats are on these devices.
     pub(crate) fn crowd(&self, others: &[DeviceId], device: DeviceId) -> Crowd
         requires others { All (λ id. has_device id self.now.devices ≡ true) others.now }
-        requires few { length others.now ≤ 4 }
+        requires few { length others.now ≤ 5 }
         requires device { has_device device self.now.devices ≡ true }
         ensures { result ≡ crowd_in self.now (seats_of others.now) device }
     {
@@ -212,12 +212,12 @@ impl Room {
         self.crowd_at(&places[..others.len()], self.place_of(device))
     }
 
-    /// A device with room that isn't among `others`, at most four distinct devices of the ring, and than which no other
+    /// A device with room that isn't among `others`, at most five distinct devices of the ring, and than which no other
     /// such device is less crowded for a seat whose other seats are on `others`. `None` exactly where no device outside has
     /// room. Of several such devices the draw takes one.
     pub fn least(&self, others: &[DeviceId], draw: u32) -> Option<DeviceId>
         requires others { All (λ id. has_device id self.now.devices ≡ true) others.now }
-        requires few { length others.now ≤ 4 }
+        requires few { length others.now ≤ 5 }
         ensures found { IfSome result (λ id. IsLeast self.now (seats_of others.now) id) }
         ensures none { IfNone result ((id : ℕ) → is_free_in self.now (seats_of others.now) id ≡ false) }
     {
@@ -230,11 +230,26 @@ impl Room {
         Some(self.devices[best].id)
     }
 
+    /// An open device that isn't among `others`, of which there are fewer than open devices.
+    pub(crate) fn any_open(&self, others: &[DeviceId]) -> DeviceId
+        requires { length others.now < count_by is_open_device self.now.devices }
+        ensures takes_seats { has_open result self.now.devices ≡ true }
+        ensures outside { is_outside (seats_of others.now) result ≡ true }
+    {
+        for device in &self.devices {
+            if is_open(device) && !others.contains(&device.id) {
+                return device.id;
+            }
+        }
+        prove!(false);
+        0
+    }
+
     /// The place of a free device than which none is less crowded, the first after a place.
     fn least_from(&self, start: usize, others: &[usize]) -> Option<usize>
         requires start { start < length self.now.devices }
         requires others { All (λ other. other < length self.now.devices) others.now }
-        requires few { length others.now ≤ 4 }
+        requires few { length others.now ≤ 5 }
         ensures best { IsBestSoFar start (length self.now.devices) self.now (seats_at self.now.devices others.now) result }
         ensures start { start < length self.now.devices }
     {
@@ -271,7 +286,7 @@ impl Room {
         requires start { start < length self.now.devices }
         requires step { step < length self.now.devices }
         requires others { All (λ other. other < length self.now.devices) others.now }
-        requires few { length others.now ≤ 4 }
+        requires few { length others.now ≤ 5 }
         requires best { IsBestSoFar start step self.now (seats_at self.now.devices others.now) best }
         ensures { IsBestSoFar start (step + 1) self.now (seats_at self.now.devices others.now) result }
     {

@@ -2,4 +2,5 @@ pub mod Asking
 pub mod Tasks
 pub mod Constants
 pub mod Serving
+pub mod Tables
 pub mod Stopping

@@ -16,8 +16,8 @@ use Rattle.builder.specs.Step.{State}
 use Rattle.builder.specs.declared.machine.RingMachine.{RingMachine}
 use Rattle.ring_messages.specs.declared.told.Told.TheVariants as told
 use Rattle.line_stream.specs.Answers.{Answered, Chain}
-use Rattle.ringd.specs.Lines.{AreAnswered, Asked, Gets, answer_line}
-use Rattle.ringd.specs.Served.{Answers, Loses, Moves, Runs, Serves, Served, Stopped, is_closed, steps_of}
+use Rattle.ringd.specs.Lines.{Asked, answer_line}
+use Rattle.ringd.specs.Served.{Answers, AreAnswered, Loses, Moves, Runs, Serves, Served, Stopped, Turns, is_closed, steps_of}
 use Rattle.line_stream.specs.Serving as stream
 use Rattle.line_stream.specs.declared.fault.StreamFault.{StreamFault}
 use Rattle.line_stream.specs.declared.fault.StreamFault.TheVariants.{NoMemory, ReadFailed, WriteFailed}
@@ -51,10 +51,10 @@ module _ {K : Type 0} (content : K → Content State Command Reply) (sound : K �
   stays : (old : Book) → Moved old old None
   stays old = record { machine = refl; limits = refl; stays_sound = λ s. s; closed = or_false (is_closed content sound limit faults old); called = λ s. refl }
 
-  gets : (old : Book) (line text : List ℕ) (new : Book) → Gave old line text new → (asked : Asked) × Gets line asked text × Moved old new asked
-  gets old line text new (inl (short, inl answered)) = (answered.0, inl (short, inl answered.1), answered.2)
-  gets old line text new (inl (short, inr lost)) = (lost.0.0, inl (short, inr (lost.0.1, lost.1)), lost.0.2)
-  gets old line text new (inr (long, text_is, same)) = (None, inr (long, refl, text_is), subst (λ b. Moved old b None) (sym same) (stays old))
+  turns : (old : Book) (line text : List ℕ) (new : Book) → Gave old line text new → (asked : Asked) × Turns content sound limit faults old new line asked text
+  turns old line text new (inl (short, inl answered)) = (answered.0, record { gets = inl (short, inl answered.1); moves = answered.2 })
+  turns old line text new (inl (short, inr lost)) = (lost.0.0, record { gets = inl (short, inr (lost.0.1, lost.1)); moves = lost.0.2 })
+  turns old line text new (inr (long, text_is, same)) = (None, record { gets = inr (long, refl, text_is); moves = subst (λ b. Moved old b None) (sym same) (stays old) })
 
   starts : (old : Book) → Ran old old []
   starts old = record { machine = refl; limits = refl; stays_sound = λ s. s; closed = or_false (is_closed content sound limit faults old); run = λ s. run_none (steps_of old.machine) (limit old.keeper) (is_closed content sound limit faults old) (content old.keeper) }
@@ -82,12 +82,12 @@ module _ {K : Type 0} (content : K → Content State Command Reply) (sound : K �
         (subst (λ b. Called (steps_of mid.machine) (limit mid.keeper) b (content mid.keeper) call (content new.keeper)) ran.closed called)) in
         run_snoc (steps_of start.machine) (limit start.keeper) closed (content start.keeper) done (content mid.keeper) call (content new.keeper) r c
 
-  chain_runs : (start mid new : Book) (done : List (Call Command Reply)) (lines texts : List (List ℕ)) → Ran start mid done → Chain Gave mid lines texts new → (calls : List (Call Command Reply)) × AreAnswered lines calls texts × Ran start new (done ++ calls)
-  chain_runs start mid new done [] texts ran chain = ([], (refl, chain.0), subst (λ b. Ran start b (done ++ [])) (sym chain.1) (subst (λ calls. Ran start mid calls) (sym (append-nil done)) ran))
+  chain_runs : (start mid new : Book) (done : List (Call Command Reply)) (lines texts : List (List ℕ)) → Ran start mid done → Chain Gave mid lines texts new → (calls : List (Call Command Reply)) × AreAnswered content sound limit faults start done mid lines calls texts new × Ran start new (done ++ calls)
+  chain_runs start mid new done [] texts ran chain = ([], (refl, chain.0, chain.1), subst (λ b. Ran start b (done ++ [])) (sym chain.1) (subst (λ calls. Ran start mid calls) (sym (append-nil done)) ran))
   chain_runs start mid new done (line ∷ lines) texts ran (text, next, more, gave, texts_are, rest) =
-      let got = gets mid line text next gave in
-      let r = chain_runs start next new (done ++ option_to_list got.0) lines more (goes_on start mid next done got.0 ran got.2) rest in
-      (option_to_list got.0 ++ r.0, (got.0, r.0, text, more, refl, texts_are, got.1, r.1), subst (λ calls. Ran start new calls) (append_assoc done (option_to_list got.0) r.0) r.2)
+      let turn = turns mid line text next gave in
+      let r = chain_runs start next new (done ++ option_to_list turn.0) lines more (goes_on start mid next done turn.0 ran turn.1.moves) rest in
+      (option_to_list turn.0 ++ r.0, (turn.0, r.0, text, more, next, refl, texts_are, ran, turn.1, r.1), subst (λ calls. Ran start new calls) (append_assoc done (option_to_list turn.0) r.0) r.2)
 
   -- a chain of answers is one run
   pub chain_serves : (old new : Book) (lines texts : List (List ℕ)) → Chain Gave old lines texts new → Serves content sound limit faults old new lines texts

@@ -1,18 +1,17 @@
 -- The task that words ask for, from what `clap` says of them.
-use Rattle.std.proofs.Common.{◌≡◌, ℕ, List, [], Bool, true, false, Option, Some, None, codes, refl, sym, ap, subst, ◌∙◌, ⊎_elim}
+use Rattle.std.proofs.Common.{◌≡◌, ℕ, List, [], true, Option, Some, None, codes, refl, sym, ap, subst, ◌∙◌, ⊎_elim}
 use Rattle.std.specs.Option.{option_map}
 use Rattle.clap.specs.Faults.{fault_of, is_simple_and_free}
 use Rattle.clap.specs.Kinds.{HasKind, IsAmong, Kinds}
 use Rattle.clap.specs.Matches.{subcommand_name_of}
-use Rattle.clap.specs.Simple.{App, HasMatchesOf, subcommand_of, subcommand_rows_of}
+use Rattle.clap.specs.Simple.{App, HasMatchesOf, subcommand_of}
 use Rattle.clap.specs.Values.{kind_of}
 use Rattle.clap.specs.declared.error.Error.{Error}
 use Rattle.clap.specs.declared.error.kind.ErrorKind.TheVariants.{OutOfMemory}
 use Rattle.clap.specs.declared.parser.matches.ArgMatches.{ArgMatches}
-use Rattle.ringd.specs.Programs.{AskFor, AskForNothing, IfBad, program_of, programs}
+use Rattle.ringd.specs.Programs.{AskForNothing, IfBad, programs}
 use Rattle.ringd.specs.declared.words.ArgsFault.{ArgsFault}
 use Rattle.ringd.specs.declared.words.ArgsFault.TheVariants.{Bad, NoMemory}
-use Rattle.ringd.specs.declared.words.Task.{Task}
 use Rattle.ringd.specs.declared.words.Task.TheVariants.{Run}
 
 map_twice : {A B C : Type 0} (f : B → C) (g : A → B) (o : Option A) → option_map f (option_map g o) ≡ option_map (λ x. f (g x)) o

@@ -1,5 +1,5 @@
 -- What serving lines does to a book, and what it writes.
-use Rattle.std.specs.Prelude.{◌≡◌, ℕ, ◌^◌, ◌-◌, min, ◌++◌, ◌||◌, Bool, List, MatchOption, Option, Some, Result, is_some, length, nat_lt}
+use Rattle.std.specs.Prelude.{◌≡◌, ℕ, ◌^◌, ◌-◌, min, ◌++◌, ◌∷◌, ◌||◌, [], Bool, List, MatchOption, Option, Some, Result, is_some, length, nat_lt}
 use Rattle.std.specs.Option.{option_to_list}
 use Rattle.std.specs.Io.KnownBytes.{Appends, Consumes}
 use Rattle.line_stream.specs.Lines.{AreLines, Divides, ended}
@@ -18,7 +18,7 @@ use Rattle.request_book.specs.Content.{Content}
 use Rattle.request_book.specs.Run.{Run}
 use Rattle.builder.specs.Step.{State, Step}
 use Rattle.builder.specs.declared.machine.RingMachine.{RingMachine}
-use Rattle.ringd.specs.Lines.{AreAnswered, Asked, IsAnswer, IsLost, told_of}
+use Rattle.ringd.specs.Lines.{Asked, Gets, IsAnswer, IsLost, told_of}
 
 -- the steps of a builder
 abbrev pub steps_of : RingMachine → State → ℕ → Command → Reply → State → Type 0
@@ -44,9 +44,13 @@ module _ {K : Type 0} (content : K → Content State Command Reply) (sound : K �
     pub told_is : told ≡ told_of answer
     pub moves : Moves old new (Some (Deliver delivery answer))
 
+  -- the rings that are found where one book becomes the other: those that the one holds
+  abbrev pub Finds : Parts RingMachine K → Parts RingMachine K → State → Type 0
+  Finds old new rings = sound new.keeper → rings ≡ (content old.keeper).state
+
   -- a line is answered by this text, and one book becomes the other
   abbrev pub Answers : Parts RingMachine K → List ℕ → List ℕ → Parts RingMachine K → Type 0
-  Answers old line text new = (asked : Asked) × IsAnswer line asked text × Moves old new asked
+  Answers old line text new = (asked : Asked) × IsAnswer (Finds old new) line asked text × Moves old new asked
 
   -- the answer to a line is lost for want of memory, and one book becomes the other
   abbrev pub Loses : Parts RingMachine K → List ℕ → Parts RingMachine K → Type 0
@@ -60,10 +64,25 @@ module _ {K : Type 0} (content : K → Content State Command Reply) (sound : K �
     pub closed : is_closed new ≡ (is_closed old || is_some (failed calls))
     pub run : sound new.keeper → Run (steps_of old.machine) (limit old.keeper) (is_closed old) (content old.keeper) calls (content new.keeper)
 
-  -- The lines get these texts, and the deliveries that they ask for are one run.
+  -- A line that finds the one book and leaves the other leads to this call, if any, and gets this text.
+  pub record Turns (old new : Parts RingMachine K) (line : List ℕ) (asked : Asked) (text : List ℕ) : Type 0 where
+    pub gets : Gets (Finds old new) line asked text
+    pub moves : Moves old new asked
+
+  -- The lines get these texts, one each, and lead to these calls, in their order. Each line finds a book to which the
+  -- calls so far are one run from the first book, and leaves the one that the next line finds.
+  abbrev pub AreAnswered : Parts RingMachine K → List (Call Command Reply) → Parts RingMachine K → List (List ℕ) → List (Call Command Reply) → List (List ℕ) → Parts RingMachine K → Type 0
+  AreAnswered first done old [] calls texts new = (calls ≡ []) × (texts ≡ []) × (new ≡ old)
+  AreAnswered first done old (line ∷ lines) calls texts new =
+      (asked : Asked) × (later : List (Call Command Reply)) × (text : List ℕ) × (more : List (List ℕ)) × (next : Parts RingMachine K)
+      × (calls ≡ option_to_list asked ++ later) × (texts ≡ text ∷ more)
+      × Runs first old done × Turns old next line asked text
+      × AreAnswered first (done ++ option_to_list asked) next lines later more new
+
+  -- The lines get these texts, and the calls that they lead to are one run.
   pub record Serves (old new : Parts RingMachine K) (lines texts : List (List ℕ)) : Type 0 where
     pub calls : List (Call Command Reply)
-    pub answered : AreAnswered lines calls texts
+    pub answered : AreAnswered old [] old lines calls texts new
     pub runs : Runs old new calls
 
   -- Each line of the bytes that the reader gave was answered, and what was written is the answers in order and nothing

@@ -3,6 +3,7 @@
 
 mod lines;
 mod performing;
+mod questions;
 #[cfg(test)]
 mod tests;
 mod words;

@@ -1,12 +1,15 @@
 //! The program on lines, as an operator sends them.
 mod changes;
+mod failing;
+mod questions;
+mod rebalancing;
 mod streams;
 
 use crate::lines::run_lines;
 use crate::performing::perform;
 use builder::{MessageFault, RingMachine, read_delivery};
 use line_stream::StreamFault;
-use request_book::{Book, MemKeeper};
+use request_book::{Book, Keeper, MemKeeper};
 use ring_model::{Command, Delivery, Done, Hour, Limits, Refusal, Reply, Rings};
 use std::alloc::{AllocError, Global};
 use std::test::Fail;
@@ -47,9 +50,9 @@ fn open(alloc: Global, limits: Limits) -> Book<RingMachine, Memory> {
 }
 
 /// What lines are answered.
-fn ask(
+fn ask<K: Keeper<RingMachine>>(
     alloc: Global,
-    book: &mut Book<RingMachine, Memory>,
+    book: &mut Book<RingMachine, K>,
     lines: &[u8],
 ) -> Result<Vec<u8>, StreamFault> {
     let mut reader = lines;
@@ -188,7 +191,7 @@ fn hostile_lines(alloc: Global) -> Result<Vec<u8>, AllocError> {
     lines.extend_from_slice(
         b"0 {\"caller\":\"ops\",\"do\":\"set_weight\",\"number\":1,\"ring\":\"object\",\"weight\":\"1.00\"}\n",
     )?;
-    lines.extend_from_slice(b"0 {\"do\":\"rebalance\"}\n? devices object\n0\t{}\n")?;
+    lines.extend_from_slice(b"0 {\"do\":\"rebalance\"}\n? devices \xff\n0\t{}\n")?;
     Ok(lines)
 }
 

@@ -14,14 +14,14 @@ const ADD_D1: &str =
     "0 {\"address\":\"10.0.0.2\",\"caller\":\"ops\",\"do\":\"add\",\"name\":\"d1\",\"number\":3,\"port\":6200,\"region\":1,\"ring\":\"object\",\"weight\":\"100.00\",\"zone\":1}";
 
 /// What comes before each run of lines here: a ring with devices 0 and 1, at version 2.
-const BEFORE: [(&str, &str); 3] = [
+pub const BEFORE: [(&str, &str); 3] = [
     (CREATE, "200 {\"done\":\"create\",\"version\":0}"),
     (ADD_D0, "200 {\"done\":\"add\",\"id\":0,\"version\":1}"),
     (ADD_D1, "200 {\"done\":\"add\",\"id\":1,\"version\":2}"),
 ];
 
 /// The lines and the answers of two lists of both.
-fn runs(
+pub fn runs(
     alloc: Global,
     limits: Limits,
     before: &[(&str, &str)],

@@ -1,5 +1,4 @@
-use Rattle.std.proofs.Common.{◌≡◌, codes, Some, true, false, true≢false, sym, ◌∙◌}
-use Rattle.clap.specs.Matches.{subcommand_name_of}
+use Rattle.std.proofs.Common.{true≢false, sym, ◌∙◌}
 use Rattle.ringd.proofs.Tasks.{bad_by, bad_if, named, other_name, refused, right}
 use Rattle.ringd.proofs.words.task_of.Goals as goal
 

@@ -1,0 +1,39 @@
+use Rattle.std.proofs.Common.{◌≡◌, ◌<◌, ◌+◌, ℕ, List, Option, length, get_or, take, sym, ap, subst, ◌∙◌, true, false, arith}
+use Rattle.std.specs.List.{range_with_len}
+use Rattle.std.specs.List.Sorted.{IsPermutation}
+use Rattle.ring_place.specs.Rows.{AreKnown, row_at}
+use Rattle.ring_place.proofs.Orders.{among_more, order_fresh, order_below}
+use Rattle.ring_place.proofs.Passes.{first_start, first_step}
+use Rattle.ring_place.proofs.gather.gather_crowded.Goals as goal
+
+pub loop-partition-init : goal.loop-partition-init
+loop-partition-init c = first_start c.args.was.now c.args.kept.now c.args.locked.now c.args.seats.now c.requires.filled
+
+pub bounds-locked-partition : goal.bounds-locked-partition
+bounds-locked-partition c =
+    let within = order_below (length c.args.seats.now) c.args.order.now c.requires.order c.loop-partition.partition-index (omega arith) in
+    let same = c.requires.locked in
+    omega (arith, within, same)
+
+pub gather_first-requires-clause-partition : goal.gather_first-requires-clause-partition
+gather_first-requires-clause-partition c =
+    let within = order_below (length c.args.seats.now) c.args.order.now c.requires.order c.loop-partition.partition-index (omega arith) in
+    let same = c.loop-partition.invariant.as_many in
+    omega (arith, within, same)
+
+pub gather_first-requires-clause-row : goal.gather_first-requires-clause-row
+gather_first-requires-clause-row c =
+    let partition = get_or c.args.order.now c.loop-partition.partition-index 0 in
+    let within = order_below (length c.args.seats.now) c.args.order.now c.requires.order c.loop-partition.partition-index (omega arith) in
+    let once = order_fresh (length c.args.seats.now) c.args.order.now c.requires.order c.loop-partition.partition-index (omega arith) in
+    subst (λ r. AreKnown c.args.was.now.devices r) (sym (c.loop-partition.invariant.rest partition once)) (c.requires.rows.known partition within)
+
+pub loop-partition-preserved : goal.loop-partition-preserved
+loop-partition-preserved c =
+    let order = c.args.order.now in
+    let i = c.loop-partition.partition-index in
+    let lt : i < length order = omega arith in
+    let within = order_below (length c.args.seats.now) order c.requires.order i lt in
+    let once = order_fresh (length c.args.seats.now) order c.requires.order i lt in
+    first_step (take i order) (take (i + 1) order) (get_or order i 0) c.args.was.now c.loop-partition.kept c.gather_first.new.kept c.args.locked.now c.args.seats.now c.loop-partition.seats c.gather_first.new.self
+    c.loop-partition.invariant within once (λ p. among_more order i p lt) c.gather_first.ensures.rows c.gather_first.ensures.first c.gather_first.ensures.takes

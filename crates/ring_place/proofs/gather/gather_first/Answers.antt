@@ -1,0 +1,39 @@
+use Rattle.std.proofs.Common.{◌≡◌, ◌∙◌, sym, ap, subst, refl, ◌<◌, arith, map, true, false}
+use Rattle.std.specs.List.{list_any}
+use Rattle.ring_model.specs.Ring.{has_device}
+use Rattle.ring_place.specs.Load.{have_in, load_take}
+use Rattle.ring_place.specs.Gathering.{Calm, Crowded, LostFirst, Takes, is_lost_in, present_only}
+use Rattle.ring_place.proofs.Roomier.{one_here}
+use Rattle.ring_place.proofs.Taking.{takes_none, takes_seat}
+use Rattle.ring_place.proofs.gather.gather_first.Goals as goal
+
+pub returns-then-has_lost-clause-first : goal.returns-then-has_lost-clause-first
+returns-then-has_lost-clause-first c = LostFirst
+    (ap (λ ds. list_any (is_lost_in ds) c.args.row.now) (sym c.requires.same) ∙ sym c.has_lost.ensures ∙ c.if-has_lost.true)
+    (c.lift_lost.ensures.row ∙ ap (λ ds. map (present_only ds) c.args.row.now) c.requires.same)
+
+pub returns-in-Some-clause-first : goal.returns-in-Some-clause-first
+returns-in-Some-clause-first c =
+    let found = c.in-Some.ensures.some in
+    Crowded (ap (λ ds. list_any (is_lost_in ds) c.args.row.now) (sym c.requires.same) ∙ sym c.has_lost.ensures ∙ c.if-has_lost.false) c.if-not-locked.true found.0 c.in-Some.device found.1 found.2
+
+pub returns-in-Some-clause-takes : goal.returns-in-Some-clause-takes
+returns-in-Some-clause-takes c =
+    let before = c.args.kept.now in
+    let row = c.args.row.now in
+    let found = c.in-Some.ensures.some in
+    let known : has_device c.in-Some.device before.devices ≡ true = ap (has_device c.in-Some.device) c.requires.same ∙ c.requires.row found.0 c.in-Some.device found.1.at in
+    subst (λ k. Takes before k row c.lift_crowded.new.row) (sym c.take.ensures)
+    (subst (λ r. Takes before (load_take before c.in-Some.device) row r) (sym found.1.lifted)
+    (takes_seat before before row row found.0 c.in-Some.device (takes_none before row c.requires.load) known
+    (omega (arith, one_here row found.0 c.in-Some.device found.1.at, c.requires.has c.in-Some.device known)) found.1.at))
+
+pub returns-in_default-clause-first : goal.returns-in_default-clause-first
+returns-in_default-clause-first c =
+    Calm (ap (λ ds. list_any (is_lost_in ds) c.args.row.now) (sym c.requires.same) ∙ sym c.has_lost.ensures ∙ c.if-has_lost.false)
+    c.in_default.ensures.none.0 (λ unlocked. c.in_default.ensures.none.1)
+
+pub returns-else-not-locked-clause-first : goal.returns-else-not-locked-clause-first
+returns-else-not-locked-clause-first c =
+    Calm (ap (λ ds. list_any (is_lost_in ds) c.args.row.now) (sym c.requires.same) ∙ sym c.has_lost.ensures ∙ c.if-has_lost.false)
+    refl (λ unlocked. absurd (cc (unlocked, c.if-not-locked.false)))

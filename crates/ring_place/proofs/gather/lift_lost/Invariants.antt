@@ -1,0 +1,15 @@
+use Rattle.std.proofs.Common.{◌≡◌, ℕ, ◌≤◌, true}
+use Rattle.ring_model.specs.Ring.{has_device}
+use Rattle.ring_share.specs.Crowd.{seats_on}
+use Rattle.ring_place.specs.Load.{have_in}
+use Rattle.ring_place.specs.Gathering.{present_only, Takes}
+use Rattle.ring_place.proofs.RowFront.{front}
+use Rattle.ring_place.proofs.gather.lift_lost.Given as goal
+
+-- the lost seats so far are lifted
+abbrev pub invariant-loop-replica : goal.invariant-loop-replica
+invariant-loop-replica l = record {
+  row : l.row ≡ front l.replica (present_only l.fn.kept.devices) l.fn.row;
+  takes : Takes l.fn.kept l.kept l.fn.row l.row;
+  has : (id : ℕ) → has_device id l.fn.kept.devices ≡ true → seats_on id l.row ≤ have_in l.kept id;
+}

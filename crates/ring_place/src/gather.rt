@@ -1,0 +1,283 @@
+//! Which seats are gathered: each is lifted, which leaves it empty.
+ghost use Rattle.std.specs.Prelude.{◌≡◌, ◌<◌, ◌≤◌, ℕ, false, true, length, map, slice_set, IfOk, IfSome, IfNone};
+ghost use Rattle.std.specs.List.{list_any, range_with_len};
+ghost use Rattle.std.specs.Option.{ForSome};
+ghost use Rattle.std.specs.List.Sorted.{IsPermutation};
+ghost use Rattle.ring_model.specs.Ring.{has_device, partition_count};
+ghost use Rattle.ring_share.specs.Crowd.{seats_on};
+ghost use Rattle.ring_place.specs.Load.{IsLoad, have_in, want_in, IsLeast, is_free_in};
+ghost use Rattle.ring_place.specs.Rebalance.{is_recent};
+ghost use Rattle.ring_place.specs.Rows.{is_empty, row_at, AreKnown};
+ghost use Rattle.ring_place.specs.Gathering.{is_lost_in, present_only, has_free_in, has_less_in, is_crowded_in, Lifts, Takes, AreUncrowded, HaveNoSurplus, Falls, IsFirst, IsSecond, IsFilled, AreRows, IsFirstPass, IsSecondPass, IsGathered};
+
+use crate::rooms::{Room, is_less};
+use crate::seats::{Seats, Taken};
+use ring_model::{DeviceId, Hour, Ring};
+use ring_share::wanted;
+use std::alloc::{AllocError, Global};
+
+/// Whether a seat is empty or on a device that is marked to be removed.
+fn is_lost(room: &Room, seat: Option<DeviceId>) -> bool
+    requires { ForSome seat (λ id. has_device id room.now.devices ≡ true) }
+    ensures { result ≡ is_lost_in room.now.devices seat }
+{
+    match seat {
+        None => true,
+        Some(device) => !room.is_present(device),
+    }
+}
+
+/// Whether a partition has such a seat.
+fn has_lost(room: &Room, row: &[Option<DeviceId>]) -> bool
+    requires { AreKnown room.now.devices row.now }
+    ensures { result ≡ list_any (is_lost_in room.now.devices) row.now }
+{
+    for seat in row {
+        if is_lost(room, *seat) {
+            return true;
+        }
+    }
+    false
+}
+
+fn has_empty(row: &[Option<DeviceId>]) -> bool
+    ensures { result ≡ list_any is_empty row.now }
+{
+    for seat in row {
+        if seat.is_none() {
+            return true;
+        }
+    }
+    false
+}
+
+/// Whether some device outside a partition has room.
+fn has_free(room: &Room, row: &[Option<DeviceId>]) -> bool
+    requires row { AreKnown room.now.devices row.now }
+    requires few { length row.now ≤ 5 }
+    ensures { result ≡ has_free_in room.now row.now }
+{
+    room.least(Taken::of(row).ids(), 0).is_some()
+}
+
+/// Whether a device outside with room is less crowded than this one. The partition is without the seat on it.
+fn has_less_crowded(room: &Room, row: &[Option<DeviceId>], device: DeviceId) -> bool
+    requires row { AreKnown room.now.devices row.now }
+    requires few { length row.now ≤ 5 }
+    requires device { has_device device room.now.devices ≡ true }
+    ensures { result ≡ has_less_in room.now row.now row.now device }
+{
+    let others = Taken::of(row);
+    match room.least(others.ids(), 0) {
+        None => false,
+        Some(best) => is_less(
+            room.crowd(others.ids(), best),
+            room.crowd(others.ids(), device),
+        ),
+    }
+}
+
+/// Lifts the lost seats of a partition.
+fn lift_lost(kept: &mut Room, row: &mut [Option<DeviceId>])
+    requires load { IsLoad kept.old }
+    requires row { AreKnown kept.old.devices row.old }
+    requires has { (id : ℕ) → has_device id kept.old.devices ≡ true → seats_on id row.old ≤ have_in kept.old id }
+    ensures row { row.new ≡ map (present_only kept.old.devices) row.old }
+    ensures takes { Takes kept.old kept.new row.old row.new }
+{
+    for replica in 0..row.len() {
+        if let Some(device) = row[replica] {
+            if !kept.is_present(device) {
+                kept.take(device);
+                row[replica] = None;
+            }
+        }
+    }
+}
+
+/// Lifts a seat for which a device outside with room is less crowded, if there is one, and says what device it was on.
+fn lift_crowded(was: &Room, row: &mut [Option<DeviceId>]) -> Option<DeviceId>
+    requires row { AreKnown was.now.devices row.old }
+    requires few { length row.old ≤ 5 }
+    ensures some { IfSome result (λ id. (replica : ℕ) × Lifts row.old row.new replica id × (is_crowded_in was.now row.old replica id ≡ true)) }
+    ensures none { IfNone result ((row.new ≡ row.old) × AreUncrowded was.now row.old) }
+{
+    for replica in 0..row.len() {
+        if let Some(device) = row[replica] {
+            row[replica] = None;
+            if has_less_crowded(was, row, device) {
+                return Some(device);
+            }
+            row[replica] = Some(device);
+        }
+    }
+    None
+}
+
+/// Lifts a seat on a device that keeps more than it wants, if there is one, and says what device that was.
+fn lift_surplus(kept: &Room, row: &mut [Option<DeviceId>]) -> Option<DeviceId>
+    requires { AreKnown kept.now.devices row.old }
+    ensures some { IfSome result (λ id. (replica : ℕ) × Lifts row.old row.new replica id × (want_in kept.now id < have_in kept.now id)) }
+    ensures none { IfNone result ((row.new ≡ row.old) × HaveNoSurplus kept.now row.old) }
+{
+    for replica in 0..row.len() {
+        if let Some(device) = row[replica] {
+            if kept.is_over(device) {
+                row[replica] = None;
+                return Some(device);
+            }
+        }
+    }
+    None
+}
+
+/// The first pass at a partition: lifts its lost seats or, if it has none and isn't locked, one for which a device outside
+/// with room is less crowded.
+fn gather_first(was: &Room, kept: &mut Room, locked: bool, row: &mut [Option<DeviceId>])
+    requires load { IsLoad kept.old }
+    requires same { kept.old.devices ≡ was.now.devices }
+    requires row { AreKnown was.now.devices row.old }
+    requires few { length row.old ≤ 5 }
+    requires has { (id : ℕ) → has_device id kept.old.devices ≡ true → seats_on id row.old ≤ have_in kept.old id }
+    ensures first { IsFirst was.now locked row.old row.new }
+    ensures takes { Takes kept.old kept.new row.old row.new }
+{
+    if has_lost(kept, row) {
+        lift_lost(kept, row);
+    } else if !locked {
+        if let Some(device) = lift_crowded(was, row) {
+            kept.take(device);
+        }
+    }
+}
+
+/// The second pass at a partition: if nothing was lifted from it, it isn't locked and a device outside has room, lifts one
+/// seat of a device that keeps more than it wants.
+fn gather_second(was: &Room, kept: &mut Room, locked: bool, row: &mut [Option<DeviceId>])
+    requires load { IsLoad kept.old }
+    requires same { kept.old.devices ≡ was.now.devices }
+    requires row { AreKnown was.now.devices row.old }
+    requires few { length row.old ≤ 5 }
+    ensures second { IsSecond was.now kept.new locked row.old row.new }
+    ensures takes { Takes kept.old kept.new row.old row.new }
+    ensures falls { Falls kept.old kept.new }
+{
+    if locked || has_empty(row) || !has_free(was, row) {
+        return;
+    }
+    if let Some(device) = lift_surplus(kept, row) {
+        kept.take(device);
+    }
+}
+
+impl Seats {
+    /// The first pass at one partition.
+    fn gather_first(&mut self, was: &Room, kept: &mut Room, locked: bool, partition: usize)
+        requires load { IsLoad kept.old }
+        requires same { kept.old.devices ≡ was.now.devices }
+        requires partition { partition < length self.old }
+        requires row { AreKnown was.now.devices (row_at self.old partition) }
+        requires few { length (row_at self.old partition) ≤ 5 }
+        requires has { (id : ℕ) → has_device id kept.old.devices ≡ true → seats_on id (row_at self.old partition) ≤ have_in kept.old id }
+        ensures rows { self.new ≡ slice_set self.old partition (row_at self.new partition) }
+        ensures first { IsFirst was.now locked (row_at self.old partition) (row_at self.new partition) }
+        ensures takes { Takes kept.old kept.new (row_at self.old partition) (row_at self.new partition) }
+    {
+        let first = partition * self.replicas;
+        gather_first(
+            was,
+            kept,
+            locked,
+            &mut self.seats[first..first + self.replicas],
+        );
+    }
+
+    /// The second pass at one partition.
+    fn gather_second(&mut self, was: &Room, kept: &mut Room, locked: bool, partition: usize)
+        requires load { IsLoad kept.old }
+        requires same { kept.old.devices ≡ was.now.devices }
+        requires partition { partition < length self.old }
+        requires row { AreKnown was.now.devices (row_at self.old partition) }
+        requires few { length (row_at self.old partition) ≤ 5 }
+        ensures rows { self.new ≡ slice_set self.old partition (row_at self.new partition) }
+        ensures second { IsSecond was.now kept.new locked (row_at self.old partition) (row_at self.new partition) }
+        ensures takes { Takes kept.old kept.new (row_at self.old partition) (row_at self.new partition) }
+        ensures falls { Falls kept.old kept.new }
+    {
+        let first = partition * self.replicas;
+        gather_second(
+            was,
+            kept,
+            locked,
+            &mut self.seats[first..first + self.replicas],
+        );
+    }
+}
+
+/// Lifts lost seats and seats for which a device outside with room is less crowded, in an order of the partitions.
+fn gather_crowded(was: &Room, kept: &mut Room, locked: &[bool], order: &[usize], seats: &mut Seats)
+    requires locked { length locked.now ≡ length seats.old }
+    requires order { IsPermutation (range_with_len 0 (length seats.old)) order.now }
+    requires rows { AreRows was.now.devices seats.old }
+    requires filled { IsFilled kept.old was.now.devices was.now.wanted seats.old }
+    ensures { IsFirstPass order.now was.now kept.new locked.now seats.old seats.new }
+{
+    for partition in order {
+        seats.gather_first(was, kept, locked[*partition], *partition);
+    }
+}
+
+/// Lifts seats of devices that keep more than they want, after the first pass.
+fn gather_surplus(was: &Room, kept: &mut Room, locked: &[bool], order: &[usize], seats: &mut Seats)
+    requires locked { length locked.now ≡ length seats.old }
+    requires order { IsPermutation (range_with_len 0 (length seats.old)) order.now }
+    requires rows { AreRows was.now.devices seats.old }
+    requires filled { IsFilled kept.old was.now.devices was.now.wanted seats.old }
+    ensures { IsSecondPass order.now was.now kept.new locked.now seats.old seats.new }
+{
+    for partition in order {
+        seats.gather_second(was, kept, locked[*partition], *partition);
+    }
+}
+
+/// Whether fewer hours passed since a move than a moved partition is kept.
+fn is_recent(min_hours: u16, hour: Hour, moved: Option<Hour>) -> bool
+    ensures { result ≡ is_recent min_hours hour moved }
+{
+    match moved {
+        None => false,
+        Some(moved) => u64::from(hour) < u64::from(moved) + u64::from(min_hours),
+    }
+}
+
+/// For each partition whether it is locked at an hour.
+fn locks(alloc: Global, ring: &Ring, hour: Hour) -> Result<Vec<bool>, AllocError>
+    ensures { IfOk result (λ locked. locked.items ≡ map (is_recent ring.now.min_hours hour) ring.now.moved) }
+{
+    let mut locked = Vec::new(alloc);
+    for moved in ring.moves() {
+        locked.push(is_recent(ring.min_hours(), hour, *moved))?;
+    }
+    Ok(locked)
+}
+
+/// The devices and the seats of a ring without what a rebalance at an hour gathers. The partitions are gone through in an
+/// order that has each once.
+pub(crate) fn gathered(
+    alloc: Global,
+    ring: &Ring,
+    hour: Hour,
+    order: &[usize],
+) -> Result<(Room, Seats), AllocError>
+    requires { IsPermutation (range_with_len 0 (partition_count ring.now)) order.now }
+    ensures { IfOk result (λ done. IsGathered ring.now hour done.0 done.1) }
+{
+    let wanted = wanted(alloc, ring)?;
+    let was = Room::of(alloc, ring, wanted.as_slice())?;
+    let mut kept = Room::of(alloc, ring, wanted.as_slice())?;
+    let mut seats = Seats::of(alloc, ring)?;
+    let locked = locks(alloc, ring, hour)?;
+    gather_crowded(&was, &mut kept, locked.as_slice(), order, &mut seats);
+    gather_surplus(&was, &mut kept, locked.as_slice(), order, &mut seats);
+    Ok((kept, seats))
+}

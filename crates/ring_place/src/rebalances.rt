@@ -1,0 +1,181 @@
+//! One rebalance.
+ghost use Rattle.std.specs.Prelude.{◌≡◌, ◌<◌, ◌≤◌, ◌↔◌, ℕ, None, count_by, length, sum_by, IfOk, IsErrOf, filter, map, not, slice_index_or};
+ghost use Rattle.std.specs.List.{range_with_len};
+ghost use Rattle.ring_model.specs.Ring.{partition_count as partition_count_of, risen};
+ghost use Rattle.ring_model.specs.Valid.{IsValid};
+ghost use Rattle.ring_share.specs.Crowd.{rows_of};
+ghost use Rattle.ring_share.specs.Want.{is_open as is_open_device};
+ghost use Rattle.ring_place.specs.Finishing.{AreAlike, AreWhole, changed_in, stamped};
+ghost use Rattle.ring_place.specs.Rebalance.{IsAfter, IsRebalance, changed_seats};
+ghost use Rattle.ring_place.specs.Rows.{row_at};
+
+use crate::gather::gathered;
+use crate::order::{draws_of, shuffled};
+use crate::place::place_all;
+use crate::rooms::is_open;
+use crate::seats::{Seats, partition_count};
+use ring_model::{BuildFault, Device, DeviceId, Hour, Ring};
+use std::alloc::{AllocError, Global};
+
+/// Why a ring isn't rebalanced.
+#[derive(Clone, Copy, Debug, PartialEq, Eq)]
+pub enum PlaceError {
+    /// It has fewer open devices than replicas.
+    TooFewDevices,
+    /// A growth of memory was refused.
+    NoMemory,
+}
+
+impl From<AllocError> for PlaceError {
+    ghost use Rattle.std.specs.Prelude.{◌≡◌};
+    ghost use Rattle.ring_place.specs.declared.rebalances.PlaceError.TheVariants.{NoMemory};
+
+    ghost from_gives = { λ _ error. error ≡ NoMemory };
+
+    fn from(_refused: AllocError) -> PlaceError {
+        PlaceError::NoMemory
+    }
+}
+
+/// A ring after a rebalance.
+#[derive(Drop)]
+pub struct Rebalanced {
+    /// The new ring.
+    pub ring: Ring,
+    /// How many seats are on another device than before, or were empty.
+    pub changed: u32,
+}
+
+fn open_count(devices: &[Device]) -> usize
+    ensures { result ≡ count_by is_open_device devices.now }
+{
+    devices.iter().filter(|device| is_open(device)).count()
+}
+
+/// How many seats of a partition differ.
+fn count_changed(old: &[Option<DeviceId>], new: &[Option<DeviceId>]) -> u32
+    requires as_many { length new.now ≡ length old.now }
+    requires few { length old.now ≤ 5 }
+    ensures count { result ≡ changed_in old.now new.now }
+    ensures few { result ≤ 5 }
+{
+    let mut changed = 0;
+    for (replica, seat) in old.iter().enumerate() {
+        if *seat != new[replica] {
+            changed += 1;
+        }
+    }
+    changed
+}
+
+/// The hour of a partition's last move, where so many seats of it differ.
+fn stamp(hour: Hour, changed: u32, before: Option<Hour>) -> Option<Hour>
+    ensures { result ≡ stamped hour changed before }
+{
+    if changed > 0 { Some(hour) } else { before }
+}
+
+/// The hours of the last moves, and how many seats differ.
+fn moves(
+    alloc: Global,
+    ring: &Ring,
+    hour: Hour,
+    old: &Seats,
+    new: &Seats,
+) -> Result<(Vec<Option<Hour>>, u32), AllocError>
+    requires partitions { length old.now ≡ length ring.now.moved }
+    requires alike { AreAlike old.now new.now }
+    ensures moved { IfOk result (λ done. done.0.items ≡ map (λ partition. stamped hour (changed_in (row_at old.now partition) (row_at new.now partition)) (slice_index_or ring.now.moved partition None)) (range_with_len 0 (length old.now))) }
+    ensures changed { IfOk result (λ done. done.1 ≡ sum_by (λ partition. changed_in (row_at old.now partition) (row_at new.now partition)) (range_with_len 0 (length old.now))) }
+{
+    let mut moved = Vec::new(alloc);
+    let mut changed = 0;
+    for (partition, before) in ring.moves().iter().enumerate() {
+        let count = count_changed(old.row(partition), new.row(partition));
+        moved.push(stamp(hour, count, *before))?;
+        changed += count;
+    }
+    Ok((moved, changed))
+}
+
+/// One more, and the greatest version stays.
+fn risen(version: u32) -> u32
+    ensures { result ≡ risen version }
+{
+    if version == u32::MAX {
+        version
+    } else {
+        version + 1
+    }
+}
+
+/// The devices that aren't marked to be removed.
+fn remaining(alloc: Global, devices: &[Device]) -> Result<Vec<Device>, AllocError>
+    ensures { IfOk result (λ remaining. remaining.items ≡ filter (λ device. not device.removed) devices.now) }
+{
+    let mut remaining = Vec::new(alloc);
+    for device in devices {
+        if !device.removed {
+            remaining.push(device.clone()?)?;
+        }
+    }
+    Ok(remaining)
+}
+
+/// The ring with the new seats.
+fn finish(
+    alloc: Global,
+    ring: &Ring,
+    hour: Hour,
+    old: &Seats,
+    new: &Seats,
+) -> Result<Rebalanced, PlaceError>
+    requires old { old.now ≡ rows_of ring.now }
+    requires new { AreWhole ring.now new.now }
+    requires valid { IsValid ring.now }
+    ensures rows { IfOk result (λ done. rows_of done.ring ≡ new.now) }
+    ensures valid { IfOk result (λ done. IsValid done.ring) }
+    ensures after { IfOk result (λ done. IsAfter ring.now hour done.ring) }
+    ensures changed { IfOk result (λ done. done.changed ≡ changed_seats ring.now done.ring) }
+    ensures memory { IsErrOf result PlaceError.TooFewDevices → ⊥ }
+{
+    let (moved, changed) = moves(alloc, ring, hour, old, new)?;
+    let mut parts = ring.parts()?;
+    parts.devices = remaining(alloc, ring.devices())?;
+    parts.seats = new.devices(alloc)?;
+    parts.moved = moved;
+    parts.version = risen(parts.version);
+    match Ring::build(alloc, parts) {
+        Ok(ring) => Ok(Rebalanced { ring, changed }),
+        Err(BuildFault::NoMemory) => Err(PlaceError::NoMemory),
+        Err(BuildFault::Invalid) => {
+            prove!(false);
+            Err(PlaceError::NoMemory)
+        }
+    }
+}
+
+/// Rebalances a ring at an hour. Seats that are empty or on devices that are marked to be removed are put on open devices.
+/// Of any other partition that isn't locked at most one seat moves, to where it is less crowded or off a device with more
+/// seats than it wants. TooFewDevices exactly where fewer devices are open than the ring has replicas. The seed varies
+/// which of several such rings it is.
+pub fn rebalance(
+    alloc: Global,
+    ring: &Ring,
+    hour: Hour,
+    seed: u32,
+) -> Result<Rebalanced, PlaceError>
+    ensures few { IsErrOf result PlaceError.TooFewDevices ↔ (count_by is_open_device ring.now.devices < ring.now.replicas) }
+    ensures rebalance { IfOk result (λ done. IsRebalance ring.now hour done.ring) }
+    ensures changed { IfOk result (λ done. done.changed ≡ changed_seats ring.now done.ring) }
+{
+    if open_count(ring.devices()) < usize::from(ring.replicas().get()) {
+        return Err(PlaceError::TooFewDevices);
+    }
+    let mut draws = draws_of(seed);
+    let order = shuffled(alloc, partition_count(ring), &mut draws)?;
+    let old = Seats::of(alloc, ring)?;
+    let (mut room, mut seats) = gathered(alloc, ring, hour, order.as_slice())?;
+    place_all(&mut room, order.as_slice(), &old, &mut seats, &mut draws);
+    finish(alloc, ring, hour, &old, &seats)
+}
