@@ -1,7 +1,7 @@
 -- A text among those that are published.
-use Rattle.std.proofs.Common.{◌≡◌, ℕ, ◌+◌, ◌<◌, ◌≤◌, Bool, true, false, cond, List, [], ◌∷◌, ◌++◌, length, get_or, map, refl, sym, ap, ap₂, ◌∙◌, subst, ⊎_elim, arith, lit≤, zero, suc, ◌-◌, filter, nat_lt, count_by}
+use Rattle.std.proofs.Common.{◌≡◌, ℕ, ◌+◌, ◌<◌, ◌≤◌, Bool, true, false, cond, List, [], ◌∷◌, ◌++◌, length, map, refl, ap, ⊎_elim, arith, lit≤, zero, suc, ◌-◌, filter, nat_lt, count_by}
 use native.Mathlib.Numerals.{unary_clauses}
-use Rattle.std.specs.Prelude.{All, slice_index}
+use Rattle.std.specs.Prelude.{All}
 use Rattle.std.specs.List.Sorted.{IsStrictlyIncreasing}
 use Rattle.std.specs.Rc.{rc_str_bytes}
 use Rattle.std.specs.declared.rc.RcStr.{RcStr}
@@ -14,7 +14,7 @@ use Rattle.std.proofs.lemmas.List.Kept.{IsStrictlyIncreasing-filter}
 use Rattle.ring_model.specs.Parts.{texts_of}
 use Rattle.ring_model.specs.Publish.{among}
 use Rattle.ring_model.specs.Ring.{RingRecord}
-use Rattle.ring_model.specs.Valid.{ArePublished, IsValid}
+use Rattle.ring_model.specs.Valid.{IsValid}
 
 -- what is kept by its version is seen as what is kept of what is seen
 pub texts_filter : (p : ℕ → Bool) (xs : List (ℕ × RcStr Global)) → texts_of (filter (λ e. p e.0) xs) ≡ filter (λ e. p e.0) (texts_of xs)

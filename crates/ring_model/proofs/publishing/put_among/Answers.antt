@@ -1,6 +1,4 @@
-use Rattle.std.proofs.Common.{◌≡◌, ℕ, List, [], ◌∷◌, ◌++◌, filter, nat_lt, rules, ap, ap₂, ◌∙◌, map, refl}
-use Rattle.std.proofs.lemmas.List.{map-append}
-use Rattle.std.specs.Rc.{rc_str_bytes}
+use Rattle.std.proofs.Common.{◌≡◌, ℕ, List, [], ◌∷◌, ◌++◌, filter, nat_lt, rules, ap, ◌∙◌}
 use Rattle.std.specs.declared.rc.RcStr.{RcStr}
 use Rattle.std.specs.declared.alloc.Global.{Global}
 use Rattle.ring_model.specs.Parts.{texts_of}

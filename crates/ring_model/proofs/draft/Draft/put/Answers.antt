@@ -1,10 +1,8 @@
-use Rattle.std.proofs.Common.{◌≡◌, ℕ, ◌+◌, ◌<◌, ◌++◌, ◌∷◌, [], List, map, length, false, refl, ap, sym, ◌∙◌, subst}
+use Rattle.std.proofs.Common.{◌≡◌, map, false, ap, sym, ◌∙◌}
 use Rattle.std.proofs.lemmas.List.{length-map}
-use Rattle.ring_model.specs.Ring.{RingRecord, added, has_place}
+use Rattle.ring_model.specs.Ring.{RingRecord, has_place}
 use Rattle.ring_model.specs.Import.{reweighed_by}
 use Rattle.ring_model.specs.Parts.{record_of}
-use Rattle.ring_model.specs.Valid.{IsValid}
-use Rattle.ring_model.specs.declared.device.Device.{Device}
 use Rattle.ring_model.proofs.Changes.{added_valid, altered_valid, reweighed_by_keeps, same_row, written_all}
 use Rattle.ring_model.proofs.draft.Draft.put.Goals as goal
 

@@ -1,8 +1,6 @@
-use Rattle.std.proofs.Common.{◌≡◌, sym, subst, ap, rules}
+use Rattle.std.proofs.Common.{rules}
 use Rattle.std.specs.Rc.{rc_str_bytes}
-use Rattle.ring_model.specs.Ring.{RingRecord}
 use Rattle.ring_model.specs.Parts.{record_of}
-use Rattle.ring_model.specs.Valid.{IsValid}
 use Rattle.ring_model.proofs.Amidst.{among_valid}
 use Rattle.ring_model.proofs.ring.Ring.with_published.Goals as goal
 
