@@ -1,12 +1,12 @@
 -- Rows that are put into a ring one after another, up to the first that is refused.
-use Rattle.std.proofs.Common.{◌≡◌, ℕ, ◌+◌, ◌<◌, ◌≤◌, Bool, true, false, cond, List, [], ◌∷◌, ◌++◌, length, take, drop, get_or, Option, Some, None, refl, sym, ap, ◌∙◌, subst, arith}
+use Rattle.std.proofs.Common.{◌≡◌, ℕ, ◌+◌, ◌<◌, ◌≤◌, Bool, true, false, cond, List, [], ◌∷◌, ◌++◌, length, take, drop, get_or, Option, Some, None, refl, sym, ap, ◌∙◌, arith}
 use Rattle.std.specs.Prelude.{find}
 use Rattle.std.specs.List.{list_any}
 use Rattle.std.specs.Option.{option_map}
 use Rattle.std.proofs.lemmas.Bool.{leb-false, or_parts}
 use Rattle.std.proofs.lemmas.List.{drop_all, drop_more, take_all, take_more}
 use Rattle.std.proofs.lemmas.List.Sums.{fold-append}
-use Rattle.ring_model.specs.Import.{after_row, after_rows, reweighed_by}
+use Rattle.ring_model.specs.Import.{after_row, after_rows}
 use Rattle.ring_model.specs.Ring.{RingRecord, added, has_place}
 use Rattle.ring_model.specs.declared.device.Device.{Device}
 use Rattle.ring_model.specs.declared.device.Row.{Row}

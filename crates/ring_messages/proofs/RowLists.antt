@@ -1,9 +1,9 @@
 -- Lists of rows, and the JSON that they are.
-use Rattle.std.proofs.Common.{◌≡◌, ℕ, zero, suc, ◌^◌, ◌<◌, ◌≤◌, ◌+◌, max, List, [], ◌∷◌, ◌++◌, map, length, take, get_or, Option, Some, None, Err, Vec, Global, refl, sym, ap, ap₂, ◌∙◌, subst, arith}
+use Rattle.std.proofs.Common.{◌≡◌, ℕ, zero, suc, ◌^◌, ◌<◌, ◌≤◌, ◌+◌, List, [], ◌∷◌, ◌++◌, map, length, take, get_or, Option, Some, None, Err, Vec, Global, refl, sym, ap, ap₂, ◌∙◌, subst, arith}
 use Rattle.std.specs.List.{All, AllByRecursion, AllZip}
 use Rattle.std.proofs.lemmas.List.{map-append, take_more}
 use Rattle.std.proofs.lemmas.List.Elements.{recursion_from_All}
-use Rattle.json.specs.Tree.{depth, items_depth, HasNumbers, ItemsHaveNumbers}
+use Rattle.json.specs.Tree.{items_depth, HasNumbers, ItemsHaveNumbers}
 use Rattle.json.proofs.Printed.Decimals.{IsNumber-decimal}
 use Rattle.serde_json.specs.Data.{Data, null, boolean, number, unsigned, string, array, object, Items, no_items, item}
 use Rattle.serde_json.specs.Find.{as_array, at}

@@ -1,8 +1,8 @@
 -- All partitions: those that were gone through are put, and the step to the next.
-use Rattle.std.proofs.Common.{◌≡◌, ◌≢◌, ◌==◌, ℕ, zero, suc, ◌+◌, ◌-◌, ◌<◌, ◌≤◌, ◌^◌, ◌&&◌, ◌||◌, Bool, true, false, cond, List, [], ◌∷◌, length, Option, Some, None, refl, sym, ◌∙◌, ap, subst, arith, inl, inr, ⊎_elim, sum_by, slice_get, slice_index, set, get_or, take}
+use Rattle.std.proofs.Common.{◌≡◌, ◌≢◌, ◌==◌, ℕ, zero, suc, ◌+◌, ◌-◌, ◌<◌, ◌≤◌, ◌||◌, Bool, true, false, cond, List, [], ◌∷◌, length, Option, Some, None, refl, sym, ◌∙◌, ap, subst, arith, ⊎_elim, sum_by, slice_get, set, get_or, take}
 use Rattle.std.specs.List.{range_with_len}
 use Rattle.std.specs.List.Sorted.{IsPermutation}
-use Rattle.std.proofs.lemmas.Bool.{cases_eq, eq-eqb, ne_eqb, eqb-true}
+use Rattle.std.proofs.lemmas.Bool.{cases_eq, eq-eqb, ne_eqb}
 use Rattle.std.proofs.lemmas.List.{length-set, get_or-set_other, take_all}
 use Rattle.std.proofs.lemmas.List.Sums.{sum_by-cons, sum_by-set, sum_by-le-sum_by, count_by-le-length, get_or-le-sum_by}
 use Rattle.ring_model.specs.Ring.{has_device}
@@ -14,7 +14,7 @@ use Rattle.ring_place.specs.Rows.{row_at}
 use Rattle.ring_place.specs.Gathering.{has_free_in, is_among}
 use Rattle.ring_place.specs.Placing.{AllPlaced, Fills, OpenWant, RowPlaced, RowSeated, draws, drawn, drawn_in, have_on}
 use Rattle.ring_place.proofs.Filling.{fills_self, fills_trans, free_shrinks, free_some, row_fills, some_free, want_fills}
-use Rattle.ring_place.proofs.Orders.{among_more, order_all, order_below, order_fresh, order_length}
+use Rattle.ring_place.proofs.Orders.{among_more, order_all, order_below, order_fresh}
 use Rattle.ring_place.proofs.RowSteps.{nothing_drawn, drawn_less, one_le, draws_seat}
 
 pub record AllUpTo (done : List ℕ) (before now : Load) (old lifted rows : List (List (Option ℕ))) : Type 0 where

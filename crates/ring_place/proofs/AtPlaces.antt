@@ -1,13 +1,13 @@
 -- Devices at their places.
-use Rattle.std.proofs.Common.{◌≡◌, ◌≢◌, ◌==◌, ℕ, ◌+◌, ◌<◌, ◌≤◌, Bool, true, false, not, cond, ◌&&◌, List, length, get_or, take, map, count_by, Option, Some, None, refl, sym, ap, subst, ◌∙◌, ⊎_elim, arith}
+use Rattle.std.proofs.Common.{◌≡◌, ◌≢◌, ◌==◌, ℕ, ◌+◌, ◌<◌, ◌≤◌, Bool, true, false, not, cond, ◌&&◌, List, length, get_or, take, map, count_by, Some, None, refl, sym, ap, subst, ◌∙◌, ⊎_elim, arith}
 use Rattle.std.specs.Prelude.{slice_get, slice_index, nat_lt, if◌then◌else◌}
-use Rattle.std.specs.List.{list_any, position_or_len}
+use Rattle.std.specs.List.{list_any}
 use Rattle.std.specs.List.Sorted.{IsStrictlyIncreasing}
 use Rattle.std.proofs.lemmas.Bool.{cases_eq, eq-eqb, ne_eqb}
 use Rattle.std.proofs.lemmas.List.Folds.{list_any_at, list_any_none}
 use Rattle.std.proofs.lemmas.List.{get_or-map, length-map}
 use Rattle.std.proofs.lemmas.List.Sums.{position_or_len_is, sum_by_more}
-use Rattle.std.proofs.lemmas.Option.{slice_get_within, get_or_from_slice_get, slice_get-get_or, same_Some}
+use Rattle.std.proofs.lemmas.Option.{slice_get_within, get_or_from_slice_get, slice_get-get_or}
 use Rattle.ring_model.specs.Ring.{has_present}
 use Rattle.ring_model.specs.declared.device.Device.{Device}
 use Rattle.ring_share.specs.Crowd.{device_of, is_on, pass_both}
@@ -85,19 +85,15 @@ read_in load now same place x lt is = read_at now.devices place x lt (is ∙ ap 
 pub is_load : (load now : Load) → load ≡ now → IsLoad load → IsLoad now
 is_load load now same is = subst (λ l. IsLoad l) same is
 
-pub room_yes : (load now : Load) → load ≡ now → IsLoad load → (place count want : ℕ) (x : Device) → place < length now.devices → x ≡ get_or load.devices place x → is_open x ≡ true
-    → count ≡ get_or load.counts place count → want ≡ get_or load.wanted place want → nat_lt count want ≡ has_room_in now (id_at now.devices place)
-room_yes load now same is place count want x lt read opens counts wants =
+-- the device at a place has room where it is open and its count is below its want
+pub room_of : (load now : Load) → load ≡ now → IsLoad load → (place count want : ℕ) (x : Device) → place < length now.devices → x ≡ get_or load.devices place x
+    → count ≡ get_or load.counts place count → want ≡ get_or load.wanted place want → (is_open x && nat_lt count want) ≡ has_room_in now (id_at now.devices place)
+room_of load now same is place count want x lt read counts wants =
     let there = is_load load now same is in
     let at = read_in load now same place x lt read in
     let has = index_is now.counts place count (let n = there.counted in omega (arith, n, lt)) (counts ∙ ap (λ (l : Load). get_or l.counts place count) same) in
     let wanted = index_is now.wanted place want (let n = there.wants in omega (arith, n, lt)) (wants ∙ ap (λ (l : Load). get_or l.wanted place want) same) in
-    sym (room_at now there place x at ∙ rw (opens, has, wanted) refl)
-
-pub room_no : (load now : Load) → load ≡ now → IsLoad load → (place : ℕ) (x : Device) → place < length now.devices → x ≡ get_or load.devices place x → is_open x ≡ false
-    → false ≡ has_room_in now (id_at now.devices place)
-room_no load now same is place x lt read closed =
-    sym (room_at now (is_load load now same is) place x (read_in load now same place x lt read) ∙ rw closed refl)
+    sym (room_at now there place x at ∙ rw (has, wanted) refl)
 
 pub present_in : (load now : Load) → load ≡ now → IsLoad load → (place id : ℕ) (x : Device) → place < length now.devices → x ≡ get_or load.devices place x → id_at now.devices place ≡ id
     → not x.removed ≡ has_present id now.devices

@@ -1,5 +1,5 @@
 -- The best device of the first steps.
-use Rattle.std.proofs.Common.{◌≡◌, ◌==◌, ℕ, ◌+◌, ◌<◌, ◌≤◌, true, false, ◌&&◌, List, length, Option, Some, None, ap, subst, sym, ◌∙◌, arith, below_more, below_none}
+use Rattle.std.proofs.Common.{◌≡◌, ℕ, ◌+◌, ◌<◌, true, false, List, length, Option, Some, None, ap, subst, sym, ◌∙◌, arith, below_more}
 use Rattle.std.proofs.lemmas.Bool.Decides.{nat_tests}
 use Rattle.ring_share.specs.Crowd.{is_less}
 use Rattle.ring_place.specs.Load.{Load, is_free_in, crowd_in}
@@ -24,15 +24,18 @@ ComesAt load start step place = place ≡ turned (length load.devices) start ste
 free_step : (load : Load) (row : List (Option ℕ)) (start step place : ℕ) → ComesAt load start step place → is_free_in load row (id_after load start step) ≡ is_free_in load row (id_at load.devices place)
 free_step load row start step place at = ap (λ p. is_free_in load row (id_at load.devices p)) (sym at)
 
-pub best_skip : (load : Load) (row : List (Option ℕ)) (start step place : ℕ) (best : Option ℕ) → ComesAt load start step place → IsBestSoFar start step load row best
+pub best_skip : (load : Load) (row : List (Option ℕ)) (start step place : ℕ) (best : Option (ℕ × (ℕ × ℕ × ℕ))) → ComesAt load start step place → IsBestSoFar start step load row best
     → is_free_in load row (id_at load.devices place) ≡ false → IsBestSoFar start (step + 1) load row best
 best_skip load row start step place None at so_far fails = below_more (λ s. is_free_in load row (id_after load start s) ≡ false) step so_far (free_step load row start step place at ∙ fails)
-best_skip load row start step place (Some best) at so_far fails = record {
-  within = so_far.within;
-  free = so_far.free;
-  least = below_more (λ s. is_free_in load row (id_after load start s) ≡ true → is_less (crowd_in load row (id_after load start s)) (crowd_in load row (id_at load.devices best)) ≡ false)
-      step so_far.least (λ free. absurd (cc (free, free_step load row start step place at, fails)));
-}
+best_skip load row start step place (Some best) at so_far fails = (
+  record {
+    within = so_far.0.within;
+    free = so_far.0.free;
+    least = below_more (λ s. is_free_in load row (id_after load start s) ≡ true → is_less (crowd_in load row (id_after load start s)) (crowd_in load row (id_at load.devices best.0)) ≡ false)
+        step so_far.0.least (λ free. absurd (cc (free, free_step load row start step place at, fails)));
+  },
+  so_far.1,
+)
 
 pub best_first : (load : Load) (row : List (Option ℕ)) (start step place : ℕ) → ComesAt load start step place → place < length load.devices → IsBestSoFar start step load row None
     → is_free_in load row (id_at load.devices place) ≡ true → IsBestOf start (step + 1) load row place

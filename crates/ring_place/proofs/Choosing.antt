@@ -1,11 +1,11 @@
 -- Where a lifted seat goes.
-use Rattle.std.proofs.Common.{◌≡◌, ◌≢◌, ◌==◌, ℕ, zero, suc, ◌+◌, ◌<◌, ◌≤◌, Bool, true, false, not, cond, ◌&&◌, ◌||◌, All, List, [], ◌∷◌, length, get_or, map, count_by, Option, Some, None, IfSome, refl, sym, ap, subst, ◌∙◌, inl, inr, arith, slice_get}
+use Rattle.std.proofs.Common.{◌≡◌, ◌≢◌, ◌==◌, ℕ, ◌+◌, ◌<◌, ◌≤◌, Bool, true, false, not, cond, ◌&&◌, ◌||◌, All, List, [], ◌∷◌, length, get_or, map, count_by, Option, Some, None, IfSome, refl, sym, ap, subst, ◌∙◌, inl, inr, arith}
 use Rattle.std.specs.Prelude.{nat_eq}
 use Rattle.std.specs.List.{AllPairs, filter, list_any, IsDistinct}
 use Rattle.std.specs.List.Sorted.{IsStrictlyIncreasing}
 use Rattle.std.specs.Cmp.{nat_eq_equiv}
 use Rattle.std.proofs.lemmas.Bool.Decides.{nat_tests}
-use Rattle.std.proofs.lemmas.Bool.{cases_Bool, eq-eqb, eqb-true, ne_eqb}
+use Rattle.std.proofs.lemmas.Bool.{eq-eqb, eqb-true, ne_eqb}
 use Rattle.std.proofs.lemmas.List.{get_or-map, length-map}
 use Rattle.std.proofs.lemmas.List.Elements.{All-filter, filter_passes}
 use Rattle.std.proofs.lemmas.List.Folds.{Any-from_list_any, list_any-from_Any}
@@ -22,11 +22,12 @@ use Rattle.ring_share.specs.Want.{is_open}
 use Rattle.ring_share.proofs.Sharing.{ids_rise}
 use Rattle.ring_place.specs.Rows.{is_empty}
 use Rattle.ring_place.specs.Load.{Load, IsLeast, crowd_in, has_room_in, is_free_in, seats_of}
-use Rattle.ring_place.specs.Placing.{IsChosen, NoneIsLess, OwnWins}
+use Rattle.ring_place.specs.Placing.{IsChosen, OwnWins}
 use Rattle.ring_place.specs.Rows.{devices_on}
 use Rattle.ring_place.proofs.Best.{not_less_trans}
-use Rattle.ring_place.proofs.Filling.{free_outside, free_room, open_known, present_known, room_open}
+use Rattle.ring_place.proofs.Filling.{free_outside, free_room, present_known, room_open}
 use Rattle.ring_place.proofs.Outside.{device_there}
+use Rattle.ring_place.proofs.Roomier.{open_known}
 use Rattle.ring_place.proofs.TakenRows.{count_taken, crowd_taken, free_taken, least_taken}
 
 -- ---- outside a list of devices

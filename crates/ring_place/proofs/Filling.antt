@@ -1,15 +1,15 @@
 -- Devices as they fill up.
-use Rattle.std.proofs.Common.{◌≡◌, ◌≢◌, ◌==◌, ℕ, zero, suc, ◌+◌, ◌<◌, ◌≤◌, Bool, true, false, not, cond, ◌&&◌, ◌||◌, List, [], ◌∷◌, length, Option, Some, None, refl, sym, ◌∙◌, ap, subst, arith, inl, inr, slice_get, slice_index, set, get_or, nat_lt}
+use Rattle.std.proofs.Common.{◌≡◌, ◌==◌, ℕ, zero, suc, ◌+◌, ◌<◌, ◌≤◌, Bool, true, false, not, cond, ◌&&◌, List, [], ◌∷◌, length, Option, Some, None, refl, sym, ◌∙◌, ap, subst, arith, inl, inr, slice_get, slice_index, set, get_or, nat_lt}
 use Rattle.std.specs.List.{list_any}
 use Rattle.std.proofs.lemmas.Bool.Decides.{nat_tests}
-use Rattle.std.proofs.lemmas.Bool.{eq-eqb, eqb-true}
+use Rattle.std.proofs.lemmas.Bool.{and_parts, eq-eqb, eqb-true}
 use Rattle.std.proofs.lemmas.List.Folds.{Any-from_list_any, list_any_at}
 use Rattle.ring_model.specs.Ring.{has_device, has_present}
 use Rattle.ring_model.specs.declared.device.Device.{Device}
 use Rattle.ring_share.specs.Crowd.{crowd, device_of, in_region, in_zone, is_less, is_outside, on_server, others, pass_both, seats_on, tiers_of}
 use Rattle.ring_share.specs.Room.{has_open, place_of}
 use Rattle.ring_share.specs.Want.{is_open}
-use Rattle.ring_place.specs.Load.{Load, crowd_in, has_room_in, have_in, is_free_in, load_put, want_in, with_count}
+use Rattle.ring_place.specs.Load.{Load, has_room_in, have_in, is_free_in, load_put, want_in}
 use Rattle.ring_place.specs.Placing.{Fills, IsPlaced, MayTakeSeat, RowSeated}
 use Rattle.ring_place.specs.Gathering.{has_free_in}
 use Rattle.ring_place.specs.Rows.{AreKnown}
@@ -79,27 +79,23 @@ tiers_hold devices = record {
 
 -- ---- free devices
 
-both_true : (a b : Bool) → (a && b) ≡ true → (a ≡ true) × (b ≡ true)
-both_true true b h = (refl, h)
-both_true false b h = absurd (cc h)
-
 true_both : (a b : Bool) → a ≡ true → b ≡ true → (a && b) ≡ true
 true_both a b h k = rw (h, k) refl
 
 pub free_room : (load : Load) (row : List (Option ℕ)) (id : ℕ) → is_free_in load row id ≡ true → has_room_in load id ≡ true
-free_room load row id free = (both_true (has_room_in load id) (is_outside row id) free).0
+free_room load row id free = (and_parts (has_room_in load id) (is_outside row id) free).0
 
 pub free_outside : (load : Load) (row : List (Option ℕ)) (id : ℕ) → is_free_in load row id ≡ true → seats_on id row ≡ 0
-free_outside load row id free = eqb-true (seats_on id row) 0 (both_true (has_room_in load id) (is_outside row id) free).1
+free_outside load row id free = eqb-true (seats_on id row) 0 (and_parts (has_room_in load id) (is_outside row id) free).1
 
 pub free_if : (load : Load) (row : List (Option ℕ)) (id : ℕ) → has_room_in load id ≡ true → seats_on id row ≡ 0 → is_free_in load row id ≡ true
 free_if load row id room outside = true_both (has_room_in load id) (is_outside row id) room (eq-eqb (seats_on id row) 0 outside)
 
 pub room_open : (load : Load) (id : ℕ) → has_room_in load id ≡ true → has_open id load.devices ≡ true
-room_open load id room = (both_true (has_open id load.devices) (nat_lt (have_in load id) (want_in load id)) room).0
+room_open load id room = (and_parts (has_open id load.devices) (nat_lt (have_in load id) (want_in load id)) room).0
 
 pub room_less : (load : Load) (id : ℕ) → has_room_in load id ≡ true → have_in load id < want_in load id
-room_less load id room = let less = (both_true (has_open id load.devices) (nat_lt (have_in load id) (want_in load id)) room).1 in below (have_in load id) (want_in load id) less
+room_less load id room = let less = (and_parts (has_open id load.devices) (nat_lt (have_in load id) (want_in load id)) room).1 in below (have_in load id) (want_in load id) less
   where
     below : (m n : ℕ) → nat_lt m n ≡ true → m < n
     below m n h = grind (arith, nat_tests)
@@ -116,14 +112,11 @@ pub record Stands (test : Device → Bool) (devices : List Device) (id : ℕ) : 
 pub stands : (test : Device → Bool) (devices : List Device) (id : ℕ) → list_any (λ (device : Device). (device.id == id) && test device) devices ≡ true → Stands test devices id
 stands test devices id h =
     let found = Any-from_list_any (λ (device : Device). (device.id == id) && test device) devices h in
-    let both = both_true (found.1.id == id) (test found.1) found.4 in
+    let both = and_parts (found.1.id == id) (test found.1) found.4 in
     record { place = found.0; device = found.1; within = found.2; at = found.3; named = eqb-true _ _ both.0; passes = both.1 }
 
 pub stands_any : (test also : Device → Bool) (devices : List Device) (id : ℕ) (s : Stands test devices id) → also s.device ≡ true → list_any also devices ≡ true
 stands_any test also devices id s passes = list_any_at also devices s.place s.device s.within (ap also s.at ∙ passes)
-
-pub open_known : (devices : List Device) (id : ℕ) → has_open id devices ≡ true → has_device id devices ≡ true
-open_known devices id h = let s = stands is_open devices id h in stands_any is_open (λ (device : Device). device.id == id) devices id s (eq-eqb _ _ s.named)
 
 pub present_known : (devices : List Device) (id : ℕ) → has_present id devices ≡ true → has_device id devices ≡ true
 present_known devices id h =

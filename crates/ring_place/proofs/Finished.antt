@@ -1,7 +1,7 @@
 -- The ring that is made of whole rows.
-use Rattle.std.proofs.Common.{◌≡◌, ◌≢◌, ◌==◌, ℕ, zero, suc, ◌+◌, ◌*◌, ◌^◌, ◌<◌, ◌≤◌, All, Bool, true, false, not, cond, ◌&&◌, ◌||◌, List, [], ◌∷◌, ◌++◌, length, get_or, map, count_by, sum_by, Option, Some, None, refl, sym, ap, subst, ◌∙◌, inl, inr, ⊎_elim, arith, slice_get}
-use Rattle.std.specs.Prelude.{if◌then◌else◌, nat_lt, slice_index, slice_index_or}
-use Rattle.std.specs.List.{AllPairs, filter, flat_map, list_any, range_with_len}
+use Rattle.std.proofs.Common.{◌≡◌, ℕ, zero, suc, ◌+◌, ◌*◌, ◌^◌, ◌<◌, ◌≤◌, All, Bool, true, false, not, cond, List, [], ◌∷◌, ◌++◌, length, get_or, map, count_by, sum_by, Option, Some, None, refl, sym, ap, subst, ◌∙◌, ⊎_elim, arith, slice_get}
+use Rattle.std.specs.Prelude.{if◌then◌else◌, nat_lt, slice_index_or}
+use Rattle.std.specs.List.{AllPairs, flat_map, range_with_len}
 use Rattle.std.specs.List.Sorted.{IsStrictlyIncreasing}
 use Rattle.std.specs.Option.{option_eq}
 use Rattle.std.proofs.Math.Dec.{eqb}
@@ -13,17 +13,17 @@ use Rattle.std.proofs.lemmas.List.Elements.{All-append, All-filter, All-nil}
 use Rattle.std.proofs.lemmas.List.FromFn.{fill_by_all, get_or-map-range_with_len, length-map-range_with_len}
 use Rattle.std.proofs.lemmas.List.Kept.{AllPairs-filter}
 use Rattle.std.proofs.lemmas.List.Sums.{count_by-le-length, length-filter}
-use Rattle.std.proofs.lemmas.Option.{get_or_from_slice_get, same_Some, slice_get-get_or, slice_get_past, slice_get_within}
+use Rattle.std.proofs.lemmas.Option.{get_or_from_slice_get, same_Some, slice_get_within}
 use Rattle.ring_model.specs.Ring.{RingRecord, has_device, has_present, moved_at, partition_count, risen, same_place, seat}
 use Rattle.ring_model.specs.Valid.{AreDevices, ArePublished, AreSeats, IsValid}
 use Rattle.ring_model.specs.declared.device.Device.{Device}
-use Rattle.ring_share.specs.Crowd.{row_of, rows_of, seats_on}
+use Rattle.ring_share.specs.Crowd.{row_of, rows_of}
 use Rattle.ring_place.specs.Finishing.{AreAlike, AreWhole, changed_in, stamped}
 use Rattle.ring_place.specs.Rebalance.{IsAfter, IsSeat, changed_seats, differs, has_changed}
 use Rattle.ring_place.specs.Rows.{AreKnown, devices_on, row_at}
 use Rattle.ring_place.proofs.Choosing.{pairs}
 use Rattle.ring_place.proofs.Outside.{device_there}
-use Rattle.ring_place.proofs.Ranges.{any_counted, count_more, count_same, one_seat, range_get, sum_more, sum_same}
+use Rattle.ring_place.proofs.Ranges.{any_counted, count_more, count_same, one_seat, range_get, sum_same}
 use Rattle.ring_place.proofs.Remaining.{present_remaining, remaining}
 use Rattle.ring_place.proofs.TakenRows.{known_taken}
 

@@ -1,22 +1,19 @@
 -- The rows that the passes leave are gathered as a rebalance gathers.
-use Rattle.std.proofs.Common.{◌≡◌, ◌≢◌, ◌==◌, ℕ, zero, suc, ◌+◌, ◌<◌, ◌≤◌, Bool, true, false, not, cond, ◌⊎◌, inl, inr, List, [], ◌∷◌, length, get_or, map, sum_by, Option, Some, None, refl, sym, ap, subst, ◌∙◌, ⊎_elim, arith}
+use Rattle.std.proofs.Common.{◌≡◌, ℕ, ◌+◌, ◌<◌, ◌≤◌, Bool, true, false, not, ◌⊎◌, inl, inr, List, [], length, get_or, map, sum_by, Option, Some, None, refl, sym, ap, subst, ◌∙◌, ⊎_elim, arith}
 use Rattle.std.specs.Prelude.{slice_get, if◌then◌else◌}
 use Rattle.std.specs.List.{list_any, range_with_len}
-use Rattle.std.proofs.lemmas.Bool.{cases_Bool}
 use Rattle.std.proofs.lemmas.List.{get_or-set_same}
 use Rattle.std.proofs.lemmas.List.Folds.{fold-map}
 use Rattle.std.proofs.lemmas.List.FromFn.{fill_by_all}
-use Rattle.std.proofs.lemmas.Option.{get_or_from_slice_get, same_Some, slice_get-get_or, slice_get_within}
+use Rattle.std.proofs.lemmas.Option.{slice_get_within}
 use Rattle.ring_model.specs.Ring.{RingRecord, has_device, has_present, partition_count, seat}
-use Rattle.ring_model.specs.declared.device.Device.{Device}
 use Rattle.ring_share.specs.Crowd.{row_of, seats_on}
 use Rattle.ring_share.specs.Room.{have, want_of}
-use Rattle.ring_share.specs.Want.{AreWanted}
 use Rattle.ring_share.proofs.Rows.{length-row_of, row_of_at}
 use Rattle.ring_place.specs.Load.{Load, have_in, want_in}
-use Rattle.ring_place.specs.Rebalance.{AreReasons, HasReason, IsLawfulGathering, IsLeft, IsSeat, IsWhole, has_free, has_less_crowded, has_lost, is_locked, is_lost, kept, kept_row}
+use Rattle.ring_place.specs.Rebalance.{AreReasons, HasReason, IsLawfulGathering, IsWhole, has_free, has_less_crowded, has_lost, is_locked, is_lost, kept, kept_row}
 use Rattle.ring_place.specs.Rows.{is_empty, row_at}
-use Rattle.ring_place.specs.Gathering.{IsFilled, IsGathered, Lifts, gathered_in, has_free_in, is_crowded_in, is_lost_in, present_only}
+use Rattle.ring_place.specs.Gathering.{IsFilled, Lifts, gathered_in, has_free_in, is_crowded_in, is_lost_in}
 use Rattle.ring_place.proofs.Both.{IsBoth, Left, Lost, Taken, both_kept, both_length}
 use Rattle.ring_place.proofs.Gathers.{crowded_same, has_free_same, has_lost_same, lost_empty, lost_found, lost_same, not_empty, one_lifted, seat_in_row, want_same}
 use Rattle.ring_place.proofs.Lifted.{same_device}

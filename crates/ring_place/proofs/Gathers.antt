@@ -1,23 +1,21 @@
 -- What the passes lift is what a rebalance gathers.
-use Rattle.std.proofs.Common.{◌≡◌, ◌≢◌, ◌==◌, ℕ, zero, suc, ◌+◌, ◌-◌, ◌*◌, ◌<◌, ◌≤◌, Bool, true, false, not, cond, ◌&&◌, ◌||◌, ◌⊎◌, inl, inr, List, [], ◌∷◌, length, get_or, map, set, sum_by, Option, Some, None, refl, sym, ap, subst, ◌∙◌, ⊎_elim, arith}
-use Rattle.std.specs.Prelude.{slice_get, slice_index, nat_lt, if◌then◌else◌}
-use Rattle.std.specs.List.{list_any, range_with_len}
-use Rattle.std.proofs.lemmas.Bool.{and_left, cases_Bool, cases_eq}
+use Rattle.std.proofs.Common.{◌≡◌, ℕ, ◌<◌, Bool, true, false, not, ◌&&◌, List, get_or, map, Option, Some, None, refl, sym, ap, ◌∙◌, ⊎_elim, arith}
+use Rattle.std.specs.Prelude.{slice_get, nat_lt}
+use Rattle.std.specs.List.{list_any}
+use Rattle.std.proofs.lemmas.Bool.{and_left, cases_eq}
 use Rattle.std.proofs.lemmas.List.{get_or-map, get_or-set_other}
-use Rattle.std.proofs.lemmas.List.Folds.{fold-map, list_any_at}
-use Rattle.std.proofs.lemmas.List.FromFn.{fill_by_all}
-use Rattle.std.proofs.lemmas.Option.{get_or_from_slice_get, slice_get-get_or, slice_get_within}
-use Rattle.ring_model.specs.Ring.{RingRecord, has_device, has_present, partition_count, seat}
+use Rattle.std.proofs.lemmas.List.Folds.{list_any_at}
+use Rattle.std.proofs.lemmas.Option.{slice_get-get_or}
+use Rattle.ring_model.specs.Ring.{RingRecord, has_device, has_present, seat}
 use Rattle.ring_model.specs.declared.device.Device.{Device}
-use Rattle.ring_share.specs.Crowd.{crowd_for, is_less, is_outside, others, row_of, rows_of, seats_on}
+use Rattle.ring_share.specs.Crowd.{crowd_for, is_less, is_outside, others, row_of}
 use Rattle.ring_share.specs.Room.{has_open, has_room, have, want_of}
 use Rattle.ring_share.proofs.Rows.{length-row_of, row_of_at}
-use Rattle.ring_place.specs.Load.{Load, IsLoad, crowd_in, has_room_in, have_in, is_free_in, want_in}
-use Rattle.ring_place.specs.Rebalance.{AreReasons, HasReason, IsLawfulGathering, IsLeft, IsSeat, IsWhole, has_free, has_less_crowded, has_lost, is_free, is_locked, is_lost, kept, kept_row}
-use Rattle.ring_place.specs.Rows.{is_empty, row_at}
-use Rattle.ring_place.specs.Gathering.{IsFilled, Lifts, gathered_in, has_free_in, has_less_in, is_crowded_in, is_lost_in, present_only}
-use Rattle.ring_place.proofs.Both.{IsBoth, Left, Lost, Taken, both_kept, both_length, empty_lost, none_empty}
-use Rattle.ring_place.proofs.Lifted.{same_device}
+use Rattle.ring_place.specs.Load.{Load, crowd_in, has_room_in, have_in, is_free_in, want_in}
+use Rattle.ring_place.specs.Rebalance.{has_free, has_less_crowded, has_lost, is_free, is_lost}
+use Rattle.ring_place.specs.Rows.{is_empty}
+use Rattle.ring_place.specs.Gathering.{Lifts, has_free_in, is_crowded_in, is_lost_in, present_only}
+use Rattle.ring_place.proofs.Both.{empty_lost}
 use Rattle.ring_place.proofs.Roomier.{list_any_agree, open_known}
 
 -- ---- the ring as a load

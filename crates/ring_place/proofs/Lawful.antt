@@ -1,8 +1,8 @@
 -- What a lawful rebalance allows.
-use Rattle.std.proofs.Common.{◌≡◌, ◌==◌, ℕ, Bool, true, false, not, ◌&&◌, Option, Some, None, refl, sym, ap, subst, ◌∙◌}
+use Rattle.std.proofs.Common.{◌≡◌, ◌==◌, ℕ, Bool, true, false, not, ◌&&◌, Option, Some, None, refl, ap, subst}
 use Rattle.std.proofs.lemmas.Bool.{eq-eqb}
 use Rattle.ring_model.specs.Ring.{RingRecord, has_present, seat}
-use Rattle.ring_place.specs.Rebalance.{Gathered, IsSeat, IsSeated, IsLawfulGathering, IsLawfulRebalance, IsRebalance, Leaves, differs, has_left, has_lost, is_locked, is_lost}
+use Rattle.ring_place.specs.Rebalance.{IsLawfulRebalance, IsRebalance, Leaves, differs, has_left, has_lost, is_locked, is_lost}
 
 pub lawful : (old new : RingRecord) (hour : ℕ) → IsRebalance old hour new → IsLawfulRebalance old hour new
 lawful old new hour r = record { gathered = r.gathered; lawful = r.lawful; seated = r.seated; after = r.after }

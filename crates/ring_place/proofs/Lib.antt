@@ -28,3 +28,4 @@ pub mod Ranges
 pub mod Placeable
 pub mod NewRing
 pub mod Finished
+pub mod Unchanged

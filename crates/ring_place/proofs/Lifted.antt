@@ -1,12 +1,12 @@
 -- What holds of a row of which seats are lifted.
-use Rattle.std.proofs.Common.{◌≡◌, ◌≢◌, ℕ, zero, suc, ◌+◌, ◌<◌, ◌≤◌, Bool, true, false, not, cond, List, [], ◌∷◌, length, get_or, map, set, Option, Some, None, refl, sym, ap, subst, ◌∙◌, ⊎_elim, arith}
+use Rattle.std.proofs.Common.{◌≡◌, ℕ, zero, suc, ◌<◌, true, false, List, [], ◌∷◌, length, get_or, set, Option, Some, None, refl, sym, ap, ◌∙◌, ⊎_elim, arith}
 use Rattle.std.specs.Prelude.{slice_get}
 use Rattle.std.proofs.lemmas.Bool.{cases_eq}
 use Rattle.std.proofs.lemmas.Option.{same_Some, slice_get-get_or}
-use Rattle.ring_model.specs.Ring.{has_device, has_present}
+use Rattle.ring_model.specs.Ring.{has_present}
 use Rattle.ring_model.specs.declared.device.Device.{Device}
-use Rattle.ring_place.specs.Rows.{AreKnown, is_empty}
-use Rattle.ring_place.specs.Gathering.{is_lost_in, present_only}
+use Rattle.ring_place.specs.Rows.{AreKnown}
+use Rattle.ring_place.specs.Gathering.{present_only}
 use Rattle.ring_place.proofs.Writes.{get_set_other}
 
 pub seat_at : (row : List (Option ℕ)) (replica : ℕ) (seat : Option ℕ) → replica < length row → get_or row replica None ≡ seat → slice_get row replica ≡ Some seat

@@ -1,32 +1,30 @@
 -- From the rows that are put to what one rebalance says of the old ring and the new one.
-use Rattle.std.proofs.Common.{◌≡◌, ◌≢◌, ◌==◌, ℕ, zero, suc, ◌+◌, ◌-◌, ◌*◌, ◌^◌, ◌<◌, ◌≤◌, Bool, true, false, not, cond, ◌&&◌, ◌||◌, ◌⊎◌, List, [], ◌∷◌, length, get_or, map, count_by, sum_by, Option, Some, None, refl, sym, ap, subst, ◌∙◌, inl, inr, arith, slice_get}
-use Rattle.std.specs.Prelude.{if◌then◌else◌, nat_lt, slice_index, slice_index_or}
-use Rattle.std.specs.List.{filter, list_any, range_with_len}
+use Rattle.std.proofs.Common.{◌≡◌, ◌==◌, ℕ, zero, suc, ◌+◌, ◌*◌, ◌^◌, ◌<◌, Bool, true, false, ◌&&◌, ◌||◌, List, [], ◌∷◌, length, get_or, map, count_by, sum_by, Option, Some, None, refl, sym, ap, subst, ◌∙◌, inl, inr, arith, slice_get}
+use Rattle.std.specs.Prelude.{if◌then◌else◌, nat_lt, slice_index}
+use Rattle.std.specs.List.{list_any, range_with_len}
 use Rattle.std.specs.List.Sorted.{IsStrictlyIncreasing}
-use Rattle.std.proofs.lemmas.Bool.{cases_Bool, cases_eq, eq-eqb}
+use Rattle.std.proofs.lemmas.Bool.{cases_Bool, cases_eq}
 use Rattle.std.proofs.lemmas.Bool.Decides.{nat_tests}
 use Rattle.std.proofs.lemmas.Nat.{pow_pos}
-use Rattle.std.proofs.lemmas.List.{length-set}
-use Rattle.std.proofs.lemmas.List.Folds.{list_any_none, list_any_at, Any-from_list_any}
+use Rattle.std.proofs.lemmas.List.Folds.{list_any_none}
 use Rattle.std.proofs.lemmas.List.FromFn.{get_or-map-range_with_len, length-map-range_with_len}
-use Rattle.std.proofs.lemmas.Option.{slice_get-get_or, slice_get_within, same_Some, get_or_from_slice_get}
+use Rattle.std.proofs.lemmas.Option.{slice_get_within, same_Some}
 use Rattle.ring_model.specs.Ring.{RingRecord, has_device, has_present, is_assigned, partition_count, seat}
 use Rattle.ring_model.specs.Valid.{IsValid}
 use Rattle.ring_model.specs.declared.device.Device.{Device}
 use Rattle.ring_share.specs.Crowd.{crowd, crowd_for, device_of, in_region, in_zone, on_server, is_less, is_on, is_outside, others, pass_both, row_of, rows_of, seats_on, tiers_of}
 use Rattle.ring_share.specs.Room.{has_open, has_room, have, place_of, want_of}
-use Rattle.ring_share.specs.Want.{AreWanted, is_open}
 use Rattle.ring_share.proofs.AllSeats.{have_is_rows}
 use Rattle.ring_place.specs.Gathering.{IsGathered, gathered_in, has_free_in}
 use Rattle.ring_place.specs.Load.{Load, crowd_in, has_room_in, have_in, is_free_in, want_in}
-use Rattle.ring_place.specs.Placing.{AllPlaced, IsLifted, MayTakeSeat, RowSeated, draws, drawn, drawn_in, has_left_from, have_on}
-use Rattle.ring_place.specs.Rebalance.{AreSettled, Gathered, IsAfter, IsGain, IsRebalance, IsSeat, IsSeated, IsWithinRoom, MayTake, count_seats, has_free, has_left, has_less_crowded, is_free, is_lost, kept, kept_row, takes_room}
-use Rattle.ring_place.specs.Rows.{is_empty, row_at}
-use Rattle.ring_place.proofs.Filling.{Stands, free_room, present_known, room_open, some_free, free_some, stands, stands_any, want_fills}
+use Rattle.ring_place.specs.Placing.{AllPlaced, MayTakeSeat, RowSeated, draws, drawn, drawn_in, has_left_from, have_on}
+use Rattle.ring_place.specs.Rebalance.{AreSettled, Gathered, IsAfter, IsGain, IsRebalance, IsSeat, IsSeated, IsWithinRoom, MayTake, count_seats, has_free, has_left, is_free, kept, kept_row, takes_room}
+use Rattle.ring_place.specs.Rows.{row_at}
+use Rattle.ring_place.proofs.Filling.{free_room, present_known, room_open, want_fills}
 use Rattle.ring_place.proofs.Placeable.{is_kept, is_up, old_get, open_present, put_there, row_put, stays_on}
 use Rattle.ring_place.proofs.Ranges.{count_same, drawn_is, drawn_row_is, one_seat, range_get, row_count_same, sum_map, sum_same}
-use Rattle.ring_place.proofs.Remaining.{IsRest, Remains, device_of_remaining, open_remaining, present_remains, present_remaining, remaining, want_remaining, wanted_left, wants_left}
-use Rattle.ring_place.proofs.Writes.{get_set_other, get_set_same}
+use Rattle.ring_place.proofs.Remaining.{IsRest, Remains, any_alike, device_of_remaining, listed_remains, open_remaining, present_remains, remaining, want_remaining, wanted_left, wants_left}
+use Rattle.ring_place.proofs.Writes.{get_set_other}
 
 -- ---- crowds on the devices that remain
 
@@ -57,17 +55,8 @@ pub crowd_remaining : (devices : List Device) → IsStrictlyIncreasing (map (λ 
 crowd_remaining devices rise row all id present =
     let here = present_remains devices rise id present in
     let same = λ (test : Device → Device → Bool). row_count_same (λ y. pass_both test (device_of id (remaining devices)) (device_of y (remaining devices))) (λ y. pass_both test (device_of id devices) (device_of y devices)) row
-        (λ k y at. tier_same test devices id y here (present_remains devices rise y (all k y at))) in
+    (λ k y at. tier_same test devices id y here (present_remains devices rise y (all k y at))) in
     rw (same in_region, same in_zone, same on_server) refl
-
-bool_ext : (a b : Bool) → (a ≡ true → b ≡ true) → (b ≡ true → a ≡ true) → a ≡ b
-bool_ext true b h k = sym (h refl)
-bool_ext false true h k = k refl
-bool_ext false false h k = refl
-
--- a device of the list is there
-listed : (devices : List Device) (k : ℕ) (d : Device) → k < length devices → has_device (get_or devices k d).id devices ≡ true
-listed devices k d lt = list_any_at (λ (device : Device). device.id == (get_or devices k d).id) devices k d lt (eq-eqb _ _ refl)
 
 left_same : (old : RingRecord) (devices : List Device) → devices ≡ old.devices → (before to : Option ℕ) → has_left_from devices before to ≡ has_left old before to
 left_same old devices same None to = refl
@@ -206,9 +195,7 @@ module _ (old next : RingRecord) (hour : ℕ) (left after : Load) (rows : List (
       ∙ ap (λ (ds : List Device). crowd (tiers_of ds) (others (row_of next p) r) id) (sym devices_after)
 
   listed_present : (k : ℕ) (d : Device) → k < length next.devices → has_present (get_or next.devices k d).id old.devices ≡ true
-  listed_present k d lt =
-      let id = (get_or next.devices k d).id in
-      sym (present_remaining id old.devices) ∙ ap (has_device id) (sym rest.devices) ∙ listed next.devices k d lt
+  listed_present k d lt = subst (λ (ds : List Device). k < length ds → has_present (get_or ds k d).id old.devices ≡ true) (sym rest.devices) (listed_remains old.devices k d) lt
 
   -- ---- settled
 
@@ -229,20 +216,14 @@ module _ (old next : RingRecord) (hour : ℕ) (left after : Load) (rows : List (
 
   -- ---- within room
 
+  free_open : (p id : ℕ) → is_free_in after (row_of next p) id ≡ true → has_open id old.devices ≡ true
+  free_open p id free = ap (has_open id) (sym devices_after) ∙ room_open after id (free_room after (row_of next p) id free)
+
   free_any : (p : ℕ) → has_free_in after (row_of next p) ≡ has_free next (wants_left old.devices left.wanted) p
-  free_any p = bool_ext (has_free_in after (row_of next p)) (has_free next (wants_left old.devices left.wanted) p)
-      (λ some.
-      let r = free_some after (row_of next p) some in
-      let opens = room_open after r.0 (free_room after (row_of next p) r.0 r.1) in
-      let s = stands is_open next.devices r.0 (open_same r.0 ∙ opens) in
-      let present = open_present old.devices r.0 (ap (has_open r.0) (sym devices_after) ∙ opens) in
-      stands_any is_open (λ device. is_free next (wants_left old.devices left.wanted) p device.id) next.devices r.0 s
-      (ap (is_free next (wants_left old.devices left.wanted) p) s.named ∙ free_same p r.0 present ∙ r.1))
-      (λ some.
-      let found = Any-from_list_any (λ (device : Device). is_free next (wants_left old.devices left.wanted) p device.id) next.devices some in
-      let is : get_or next.devices found.0 found.1 ≡ found.1 = found.3 in
-      let present = subst (λ (d : Device). has_present d.id old.devices ≡ true) is (listed_present found.0 found.1 found.2) in
-      some_free after (row_of next p) found.1.id (sym (free_same p found.1.id present) ∙ found.4))
+  free_any p =
+      ap (λ (ds : List Device). list_any (λ device. is_free_in after (row_of next p) device.id) ds) devices_after
+      ∙ sym (any_alike old.devices (is_free next (wants_left old.devices left.wanted) p) (is_free_in after (row_of next p)) (free_same p) (free_open p) (open_present old.devices))
+      ∙ ap (λ (ds : List Device). list_any (λ device. is_free next (wants_left old.devices left.wanted) p device.id) ds) (sym rest.devices)
 
   takes_same : (id p r : ℕ) → IsSeat old p r → (b : Bool) → gathered_in rows p r ≡ b
       → draws after.devices (has_free_in after (row_of next p)) id (seat old p r) (if b then None else seat old p r) (seat next p r) ≡ takes_room old (gathered_in rows) next (wants_left old.devices left.wanted) id p r

@@ -1,5 +1,5 @@
 -- Devices outside a partition, by their places.
-use Rattle.std.proofs.Common.{◌≡◌, ◌≢◌, ◌==◌, ℕ, zero, suc, ◌+◌, ◌-◌, ◌<◌, ◌≤◌, Bool, true, false, not, cond, ◌&&◌, ◌||◌, All, List, [], ◌∷◌, length, get_or, take, map, count_by, Option, Some, None, refl, sym, ap, subst, ◌∙◌, ⊎_elim, arith}
+use Rattle.std.proofs.Common.{◌≡◌, ◌==◌, ℕ, zero, suc, ◌+◌, ◌-◌, ◌<◌, ◌≤◌, Bool, true, false, not, cond, ◌&&◌, ◌||◌, All, List, [], ◌∷◌, length, get_or, take, map, Option, Some, None, refl, sym, ap, subst, ◌∙◌, ⊎_elim, arith}
 use Rattle.std.specs.Prelude.{slice_get}
 use Rattle.std.specs.List.{list_any}
 use Rattle.std.proofs.lemmas.List.Folds.{Any-from_list_any}
@@ -16,7 +16,7 @@ use Rattle.ring_share.specs.Want.{is_open}
 use Rattle.ring_share.proofs.Counting.{apart}
 use Rattle.ring_place.specs.Load.{Load, IsLeast, IsLoad, crowd_in, has_room_in, is_free_in, seats_of}
 use Rattle.ring_place.specs.Places.{id_after, id_at, IsBestOf, IsBestSoFar, seats_at, turned}
-use Rattle.ring_place.proofs.AtPlaces.{id_at_is, is_load}
+use Rattle.ring_place.proofs.AtPlaces.{id_at_is}
 
 -- a device stands at each place
 pub device_there : (devices : List Device) (place : ℕ) → place < length devices → (x : Device) × (slice_get devices place ≡ Some x)

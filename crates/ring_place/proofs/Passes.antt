@@ -1,13 +1,13 @@
 -- The two passes over all partitions.
-use Rattle.std.proofs.Common.{◌≡◌, ◌≢◌, ◌==◌, ℕ, zero, suc, ◌+◌, ◌-◌, ◌<◌, ◌≤◌, Bool, true, false, cond, ◌||◌, List, [], ◌∷◌, length, get_or, map, set, Option, Some, None, refl, sym, ◌∙◌, ap, subst, ⊎_elim, sum_by, arith}
+use Rattle.std.proofs.Common.{◌≡◌, ◌≢◌, ◌==◌, ℕ, zero, suc, ◌+◌, ◌<◌, ◌≤◌, Bool, true, false, ◌||◌, List, [], ◌∷◌, length, map, set, Option, Some, None, refl, sym, ◌∙◌, ap, subst, ⊎_elim, sum_by, arith}
 use Rattle.std.specs.Prelude.{slice_get, slice_index_or}
-use Rattle.std.proofs.lemmas.Bool.{cases_Bool, cases_eq, eqb-true, eqb-false, or_cases, or_parts}
+use Rattle.std.proofs.lemmas.Bool.{cases_Bool, eqb-true, eqb-false, or_cases, or_parts}
 use Rattle.std.proofs.lemmas.List.{get_or-set_other, length-map, length-set}
-use Rattle.std.proofs.lemmas.List.Sums.{get_or-le-sum_by, sum_by-set}
+use Rattle.std.proofs.lemmas.List.Sums.{sum_by-set}
 use Rattle.ring_model.specs.Ring.{has_device, has_present}
 use Rattle.ring_model.specs.declared.device.Device.{Device}
 use Rattle.ring_share.specs.Crowd.{seats_on}
-use Rattle.ring_place.specs.Load.{Load, IsLoad, have_in, want_in}
+use Rattle.ring_place.specs.Load.{Load, want_in}
 use Rattle.ring_place.specs.Rows.{AreKnown, row_at}
 use Rattle.ring_place.specs.Gathering.{AreRows, Calm, Crowded, Falls, IsFilled, IsFirst, IsFirstPass, IsSecond, IsSecondPass, LostFirst, Same, Surplus, Takes, is_among, present_only}
 use Rattle.ring_place.proofs.Lifted.{known_lifted}
@@ -26,14 +26,6 @@ filled_step before after devices wanted rows next n filled within written takes 
       let before_counts = filled.counts id known in
       omega (arith, e', counted, before_counts);
 }
-
--- a partition has no more seats on a device than the device has
-pub has_seats : (filled : Load) (devices : List Device) (wanted : List ℕ) (rows : List (List (Option ℕ))) (n : ℕ) → IsFilled filled devices wanted rows → n < length rows
-    → (id : ℕ) → has_device id filled.devices ≡ true → seats_on id (row_at rows n) ≤ have_in filled id
-has_seats filled devices wanted rows n is within id known =
-    let counted = is.counts id (ap (has_device id) (sym is.devices_are) ∙ known) in
-    let part = get_or-le-sum_by (seats_on id) rows n [] within in
-    omega (arith, counted, part)
 
 other_row : (rows next : List (List (Option ℕ))) (n p : ℕ) → next ≡ set rows n (row_at next n) → p ≢ n → row_at next p ≡ row_at rows p
 other_row rows next n p written ne = ap (λ r. row_at r p) written ∙ get_or-set_other rows n p (row_at next n) [] ne

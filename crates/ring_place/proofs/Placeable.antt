@@ -1,9 +1,9 @@
 -- What is gathered of a ring can be put.
-use Rattle.std.proofs.Common.{◌≡◌, ◌≢◌, ◌==◌, ℕ, zero, suc, ◌+◌, ◌*◌, ◌<◌, ◌≤◌, Bool, true, false, not, cond, ◌&&◌, ◌||◌, List, [], ◌∷◌, length, get_or, map, count_by, sum_by, Option, Some, None, refl, sym, ap, subst, ◌∙◌, inl, inr, ⊎_elim, arith, slice_get}
-use Rattle.std.specs.Prelude.{if◌then◌else◌, nat_lt, slice_index, slice_index_or}
-use Rattle.std.specs.List.{list_any, range_with_len}
+use Rattle.std.proofs.Common.{◌≡◌, ◌≢◌, ◌==◌, ℕ, zero, suc, ◌+◌, ◌*◌, ◌<◌, ◌≤◌, Bool, true, false, not, cond, ◌&&◌, List, [], ◌∷◌, length, count_by, sum_by, Option, Some, None, refl, sym, ap, subst, ◌∙◌, inl, inr, ⊎_elim, arith, slice_get}
+use Rattle.std.specs.Prelude.{if◌then◌else◌, nat_lt, slice_index}
+use Rattle.std.specs.List.{range_with_len}
 use Rattle.std.proofs.Math.Nat.{add-mul}
-use Rattle.std.proofs.lemmas.Bool.{cases_Bool, cases_eq, eq-eqb, ne_eqb, eqb-true}
+use Rattle.std.proofs.lemmas.Bool.{cases_Bool, cases_eq, eq-eqb, ne_eqb}
 use Rattle.std.proofs.lemmas.List.Folds.{list_any_at}
 use Rattle.std.proofs.lemmas.List.FromFn.{get_or-map-range_with_len, length-map-range_with_len}
 use Rattle.std.proofs.lemmas.List.Sums.{sum_by-cons}
@@ -12,18 +12,17 @@ use Rattle.ring_model.specs.Ring.{RingRecord, has_device, has_present, partition
 use Rattle.ring_model.specs.Valid.{IsValid}
 use Rattle.ring_model.specs.declared.device.Device.{Device}
 use Rattle.ring_share.specs.Crowd.{is_on, row_of, rows_of, seats_on}
-use Rattle.ring_share.specs.Near.{StandsAt}
 use Rattle.ring_share.specs.Room.{has_open, place_of}
-use Rattle.ring_share.specs.Want.{AreWanted, is_open, seat_count}
+use Rattle.ring_share.specs.Want.{AreWanted, is_open}
 use Rattle.ring_share.proofs.Balances.{few_seats}
 use Rattle.ring_share.proofs.Rows.{length-row_of, row_of_at}
 use Rattle.ring_share.proofs.Standing.{found_device, position_or_len_none}
 use Rattle.ring_place.specs.Gathering.{IsGathered, gathered_in}
-use Rattle.ring_place.specs.Load.{Load, have_in, want_in}
+use Rattle.ring_place.specs.Load.{Load, have_in}
 use Rattle.ring_place.specs.Placing.{AllPlaced, CanPlace, IsAlone, IsLifted, MayTakeSeat, OpenWant, RowSeated, have_on}
 use Rattle.ring_place.specs.Finishing.{AreWhole}
-use Rattle.ring_place.specs.Rebalance.{Gathered, IsLawfulGathering, IsSeat, has_lost, is_lost, kept, kept_row}
-use Rattle.ring_place.specs.Rows.{AreKnown, row_at}
+use Rattle.ring_place.specs.Rebalance.{IsSeat, has_lost, is_lost, kept, kept_row}
+use Rattle.ring_place.specs.Rows.{row_at}
 use Rattle.ring_place.proofs.AtPlaces.{open_at, place_stands}
 use Rattle.ring_place.proofs.Filling.{stands}
 use Rattle.ring_place.proofs.Ranges.{range_get, sum_map}
@@ -68,7 +67,7 @@ sum_const f c a (suc n) same =
     let next : suc n * c ≡ n * c + c = (let up : suc n ≡ n + 1 = omega arith in ap (λ (k : ℕ). k * c) up) ∙ add-mul n 1 c ∙ omega arith in
     omega (arith, one, rest, here, next)
 
-fails : (b : Bool) → (b ≡ true → ⊥) → b ≡ false
+pub fails : (b : Bool) → (b ≡ true → ⊥) → b ≡ false
 fails true h = absurd (h refl)
 fails false h = refl
 
@@ -91,7 +90,7 @@ open_want old left valid wanted same id shut =
           ap (slice_index left.wanted) here ∙ wanted.shares.closed found.place s.device s.at closed
       | inr none ↦
           let past = position_or_len_none (λ (device : Device). device.id == id) old.devices (length old.devices) (omega arith) (omega arith)
-              (λ k d lt. fails _ (λ yes. let some = list_any_at (λ (device : Device). device.id == id) old.devices k d lt yes in cc (some, none))) in
+          (λ k d lt. fails _ (λ yes. let some = list_any_at (λ (device : Device). device.id == id) old.devices k d lt yes in cc (some, none))) in
           let count = wanted.shares.count in
           beyond left.wanted (place_of id old.devices) (omega (arith, past, count))
     ]
@@ -109,7 +108,7 @@ open_present devices id h =
     both true false c h k = k
     both false b c h k = absurd (cc h)
 
-lost_cases : (old : RingRecord) (o : Option ℕ) → is_lost old o ≡ false → (id : ℕ) × (o ≡ Some id) × (has_present id old.devices ≡ true)
+pub lost_cases : (old : RingRecord) (o : Option ℕ) → is_lost old o ≡ false → (id : ℕ) × (o ≡ Some id) × (has_present id old.devices ≡ true)
 lost_cases old None h = absurd (cc h)
 lost_cases old (Some id) h = (id, refl, not_not (has_present id old.devices) h)
   where
@@ -180,16 +179,17 @@ module _ (old : RingRecord) (hour : ℕ) (left : Load) (rows : List (List (Optio
       let some : seat old p r ≢ None = (λ e. let is = read.1 in cc (e, is)) in
       let taken : gathered_in rows p r ≡ true = up_or_empty (gathered_in rows p r) (seat old p r) (kept_read p r None up).1 some in
       let there : is_lost old (seat old p r) ≡ false = ap (is_lost old) read.1 ∙ ap not present in
-      let none : has_lost old p ≡ false = fails _ (λ yes. let lost = gathered.lawful.only_lost p r s yes taken in cc (lost, there)) in
-      (none_on id (kept_row old (gathered_in rows) p)
-      (λ k kt. let same = old_distinct p id k r (kept_old p k id kt) at in
-      let here = subst (λ x. slice_get (kept_row old (gathered_in rows) p) x ≡ Some (Some id)) same kt in absurd (cc (here, up))),
-      λ other up_too.
-      let read_too = kept_read p other None up_too in
-      let s_too : IsSeat old p other = record { partition_there = lt; replica_there = read_too.0 } in
-      let full : seat old p other ≢ None = (λ e. let lost = lost_there p other read_too.0 (ap (is_lost old) e) in cc (lost, none)) in
-      let taken_too = up_or_empty (gathered_in rows p other) (seat old p other) read_too.1 full in
-      gathered.lawful.one p other r s_too s none taken_too taken)
+      let none : has_lost old p ≡ false = fails _ (λ yes. let lost = gathered.lawful.only_lost p r s yes taken in cc (lost, there)) in (
+        none_on id (kept_row old (gathered_in rows) p)
+            (λ k kt. let same = old_distinct p id k r (kept_old p k id kt) at in
+            let here = subst (λ x. slice_get (kept_row old (gathered_in rows) p) x ≡ Some (Some id)) same kt in absurd (cc (here, up))),
+        λ other up_too.
+            let read_too = kept_read p other None up_too in
+            let s_too : IsSeat old p other = record { partition_there = lt; replica_there = read_too.0 } in
+            let full : seat old p other ≢ None = (λ e. let lost = lost_there p other read_too.0 (ap (is_lost old) e) in cc (lost, none)) in
+            let taken_too = up_or_empty (gathered_in rows p other) (seat old p other) read_too.1 full in
+            gathered.lawful.one p other r s_too s none taken_too taken,
+      )
 
   can_place : (p : ℕ) → p < partition_count old → old.replicas ≤ count_by is_open old.devices → CanPlace old.devices (row_of old p) (kept_row old (gathered_in rows) p)
   can_place p lt enough = record {

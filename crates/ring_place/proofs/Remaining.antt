@@ -1,19 +1,18 @@
 -- The devices that remain, beside all devices of a ring: those that aren't marked to be removed.
-use Rattle.std.proofs.Common.{◌≡◌, ◌≢◌, ◌==◌, ℕ, zero, suc, ◌+◌, ◌*◌, ◌/◌, ◌%◌, ◌^◌, ◌<◌, ◌≤◌, Bool, true, false, not, cond, ◌&&◌, ◌||◌, List, [], ◌∷◌, length, get_or, map, sum_by, Option, Some, None, refl, sym, ap, subst, ◌∙◌, inl, inr, ◌⊎◌, ⊎_elim, arith, slice_get}
-use Rattle.std.specs.Prelude.{find, nat_lt, slice_index, sum, if◌then◌else◌}
-use Rattle.std.specs.List.{filter, list_any, position_or_len}
+use Rattle.std.proofs.Common.{◌≡◌, ◌==◌, ℕ, zero, suc, ◌+◌, ◌*◌, ◌/◌, ◌%◌, ◌^◌, ◌<◌, Bool, true, false, not, cond, ◌&&◌, ◌||◌, List, [], ◌∷◌, length, get_or, map, Some, refl, sym, ap, subst, ◌∙◌, inl, inr, arith, slice_get}
+use Rattle.std.specs.Prelude.{nat_lt, slice_index, sum, if◌then◌else◌}
+use Rattle.std.specs.List.{filter, list_any}
 use Rattle.std.specs.List.Sorted.{IsStrictlyIncreasing}
 use Rattle.std.proofs.lemmas.Bool.{cases_Bool, eq-eqb, eqb-true}
 use Rattle.std.proofs.lemmas.List.Folds.{Any-from_list_any, list_any_at}
 use Rattle.std.proofs.lemmas.List.Sums.{sum_by-cons}
-use Rattle.std.proofs.lemmas.Option.{slice_get-get_or}
-use Rattle.ring_model.specs.Ring.{RingRecord, has_device, has_present, partition_count}
+use Rattle.ring_model.specs.Ring.{RingRecord, has_device, has_present}
 use Rattle.ring_model.specs.declared.device.Device.{Device}
-use Rattle.ring_share.specs.Crowd.{device_of, pass_both}
+use Rattle.ring_share.specs.Crowd.{device_of}
 use Rattle.ring_share.specs.Room.{has_open, place_of}
 use Rattle.ring_share.specs.Want.{AreShares, AreWanted, IsBefore, is_open, open_weight, seat_count, share_rest, total_weight, whole_share}
 use Rattle.ring_place.proofs.AtPlaces.{present_at}
-use Rattle.ring_place.proofs.Filling.{Stands, stands, stands_any}
+use Rattle.ring_place.proofs.Filling.{stands, stands_any}
 
 abbrev pub stays : Device → Bool
 stays device = not device.removed
@@ -244,3 +243,35 @@ module _ (old new : RingRecord) (rest : IsRest old new) where
         let all = are.total (any_remaining old.devices (ap (list_any is_open) (sym rest.devices) ∙ some)) in
         sum_left old.devices wanted are.shares.count are.shares.closed ∙ all ∙ sym seats_same;
   }
+
+-- ---- what some device passes
+
+bool_ext : (a b : Bool) → (a ≡ true → b ≡ true) → (b ≡ true → a ≡ true) → a ≡ b
+bool_ext true b h k = sym (h refl)
+bool_ext false true h k = k refl
+bool_ext false false h k = refl
+
+-- a device of a list is there
+listed : (devices : List Device) (k : ℕ) (d : Device) → k < length devices → has_device (get_or devices k d).id devices ≡ true
+listed devices k d lt = list_any_at (λ (device : Device). device.id == (get_or devices k d).id) devices k d lt (eq-eqb _ _ refl)
+
+-- and remains, where it is among those that do
+pub listed_remains : (devices : List Device) (k : ℕ) (d : Device) → k < length (remaining devices) → has_present (get_or (remaining devices) k d).id devices ≡ true
+listed_remains devices k d lt = sym (present_remaining (get_or (remaining devices) k d).id devices) ∙ listed (remaining devices) k d lt
+
+-- Two tests of numbers that agree on those that remain, of which the second passes open devices alone, find one alike.
+pub any_alike : (devices : List Device) (test also : ℕ → Bool) → ((id : ℕ) → has_present id devices ≡ true → test id ≡ also id) → ((id : ℕ) → also id ≡ true → has_open id devices ≡ true)
+    → ((id : ℕ) → has_open id devices ≡ true → has_present id devices ≡ true) → list_any (λ (device : Device). test device.id) (remaining devices) ≡ list_any (λ (device : Device). also device.id) devices
+any_alike devices test also same opens present = bool_ext (list_any (λ (device : Device). test device.id) (remaining devices)) (list_any (λ (device : Device). also device.id) devices)
+    (λ some.
+    let found = Any-from_list_any (λ (device : Device). test device.id) (remaining devices) some in
+    let is : get_or (remaining devices) found.0 found.1 ≡ found.1 = found.3 in
+    let there = subst (λ (d : Device). has_present d.id devices ≡ true) is (listed_remains devices found.0 found.1 found.2) in
+    let passes = sym (same found.1.id there) ∙ found.4 in
+    let s = stands is_open devices found.1.id (opens found.1.id passes) in
+    stands_any is_open (λ (device : Device). also device.id) devices found.1.id s (ap also s.named ∙ passes))
+    (λ some.
+    let found = Any-from_list_any (λ (device : Device). also device.id) devices some in
+    let opened = opens found.1.id found.4 in
+    let s = stands is_open (remaining devices) found.1.id (open_remaining found.1.id devices ∙ opened) in
+    stands_any is_open (λ (device : Device). test device.id) (remaining devices) found.1.id s (ap test s.named ∙ same found.1.id (present found.1.id opened) ∙ found.4))

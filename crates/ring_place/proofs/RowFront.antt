@@ -1,5 +1,5 @@
 -- A row of which the first seats are changed.
-use Rattle.std.proofs.Common.{◌≡◌, ℕ, zero, suc, ◌+◌, ◌<◌, ◌≤◌, List, [], ◌∷◌, length, map, Option, Some, None, refl, sym, ◌∙◌, ap, arith, set, add-one}
+use Rattle.std.proofs.Common.{◌≡◌, ℕ, zero, suc, ◌+◌, ◌≤◌, List, [], ◌∷◌, length, map, Option, Some, None, refl, sym, ◌∙◌, ap, arith, set, add-one}
 use Rattle.std.specs.Prelude.{slice_get}
 use Rattle.std.proofs.lemmas.List.{set-get_or}
 use Rattle.std.proofs.lemmas.Option.{get_or_from_slice_get}
@@ -29,11 +29,6 @@ front_all zero f [] h = refl
 front_all zero f (x ∷ xs) h = absurd (omega arith)
 front_all (suc n) f [] h = refl
 front_all (suc n) f (x ∷ xs) h = ap (λ r. f x ∷ r) (front_all n f xs (omega arith))
-
-pub length-front : (n : ℕ) (f : Option ℕ → Option ℕ) (xs : List (Option ℕ)) → length (front n f xs) ≡ length xs
-length-front zero f xs = refl
-length-front (suc n) f [] = refl
-length-front (suc n) f (x ∷ xs) = ap suc (length-front n f xs)
 
 pub front_lift : (row old : List (Option ℕ)) (n : ℕ) (f : Option ℕ → Option ℕ) (x y : Option ℕ) → row ≡ front n f old → slice_get row n ≡ Some x → f x ≡ y → set row n y ≡ front (n + 1) f old
 front_lift row old n f x y is at gives =

@@ -1,10 +1,10 @@
 -- A partition whose lifted seats before the n-th are put, and the step to the next.
-use Rattle.std.proofs.Common.{◌≡◌, ◌≢◌, ◌==◌, ℕ, zero, suc, ◌+◌, ◌-◌, ◌<◌, ◌≤◌, Bool, true, false, cond, not, ◌&&◌, ◌||◌, ◌⊎◌, List, [], ◌∷◌, length, Option, Some, None, refl, sym, ◌∙◌, ap, subst, arith, inl, inr, if◌then◌else◌, slice_get, slice_index, set, get_or, below_more, IfSome, is_some, count_by, nat_lt}
+use Rattle.std.proofs.Common.{◌≡◌, ◌≢◌, ◌==◌, ℕ, zero, suc, ◌+◌, ◌-◌, ◌<◌, ◌≤◌, Bool, true, false, cond, not, ◌&&◌, ◌||◌, ◌⊎◌, List, [], ◌∷◌, length, Option, Some, None, refl, sym, ◌∙◌, ap, subst, arith, inl, inr, if◌then◌else◌, slice_get, set, get_or, below_more, IfSome, is_some, nat_lt}
 use Rattle.std.proofs.lemmas.Bool.Decides.{nat_tests}
-use Rattle.std.proofs.lemmas.Bool.{cases_eq, eq-eqb, ne_eqb}
+use Rattle.std.proofs.lemmas.Bool.{cases_Bool, cases_eq, eq-eqb, ne_eqb}
 use Rattle.std.proofs.lemmas.List.{length-set}
 use Rattle.std.proofs.lemmas.List.Sums.{sum_by-cons, count_by-le-length}
-use Rattle.std.proofs.lemmas.Option.{slice_get_within, get_or_from_slice_get, slice_get-get_or, same_Some}
+use Rattle.std.proofs.lemmas.Option.{slice_get_within, get_or_from_slice_get, slice_get-get_or}
 use Rattle.ring_model.specs.Ring.{has_device, has_present}
 use Rattle.ring_model.specs.declared.device.Device.{Device}
 use Rattle.ring_share.specs.Crowd.{is_less, is_on, others, seats_on, tiers_of}
@@ -13,15 +13,10 @@ use Rattle.ring_place.specs.Load.{Load, IsLoad, crowd_in, has_room_in, have_in, 
 use Rattle.ring_place.specs.Placing.{Fills, IsAlone, IsChosen, IsLifted, IsPlaced, MayTakeSeat, OpenWant, RowPlaced, draws, drawn_in, has_left_from}
 use Rattle.ring_place.specs.Gathering.{has_free_in}
 use Rattle.ring_place.specs.Rows.{AreKnown}
-use Rattle.ring_place.specs.Rebalance.{differs}
 use Rattle.ring_place.proofs.Counts.{put_more}
 use Rattle.ring_place.proofs.Filling.{fills_put, fills_self, fills_trans, free_if, free_outside, free_room, free_shrinks, free_some, room_less, some_free, tiers_hold}
 use Rattle.ring_place.proofs.Settling.{seats_put, settled_step}
 use Rattle.ring_place.proofs.Writes.{get_set_other, get_set_same, set_back}
-
-cases_bool : (b : Bool) → (b ≡ true) ⊎ (b ≡ false)
-cases_bool true = inl refl
-cases_bool false = inr refl
 
 pub record PlacedUpTo (n : ℕ) (before now : Load) (old lifted row : List (Option ℕ)) : Type 0 where
   pub as_many : length row ≡ length lifted
@@ -190,7 +185,7 @@ module _ (n : ℕ) (before now : Load) (old lifted row : List (Option ℕ)) (own
 
   own_full : (from : ℕ) → own ≡ Some from → has_present from now.devices ≡ true → d ≢ from →
       (is_less (crowd_in now row d) (crowd_in now row from) ≡ true) ⊎ (want_in now from ≤ have_in (load_put now d) from)
-  own_full from is present ne = elim (cases_bool (has_room_in now from)) [
+  own_full from is present ne = elim (cases_Bool (has_room_in now from)) [
     | inl room ↦ inl (chosen.own_wins from is (free_if now row from room (so_far.apart n from (omega arith) up (was ∙ ap Some is) present)) ne)
     | inr full ↦ inr (let more = fuller.counts from in let enough = no_room_full (has_open from now.devices) (have_in now from) (want_in now from) (closed from) full in omega (arith, more, enough))
   ]
@@ -238,7 +233,7 @@ module _ (n : ℕ) (before now : Load) (old lifted row : List (Option ℕ)) (own
   drawn_before x = drawn_less now.devices (has_free_in (load_put now d) (set row n (Some d))) (has_free_in now row) x old lifted row free_before
 
   draws_free : draws now.devices (has_free_in (load_put now d) (set row n (Some d))) d own None (Some d) ≡ true → is_free_in now row d ≡ true
-  draws_free h = elim (cases_bool (has_free_in (load_put now d) (set row n (Some d)))) [
+  draws_free h = elim (cases_Bool (has_free_in (load_put now d) (set row n (Some d)))) [
     | inl some ↦ chosen_free (free_before some)
     | inr none ↦ left_free now row own d chosen.stays (left_or_free now.devices (has_free_in (load_put now d) (set row n (Some d))) d own h none)
   ]
@@ -248,7 +243,7 @@ module _ (n : ℕ) (before now : Load) (old lifted row : List (Option ℕ)) (own
       let e = drawn_set now.devices (has_free_in (load_put now d) (set row n (Some d))) d old lifted row n d own was up empty in
       let few = drawn_seats now.devices (has_free_in (load_put now d) (set row n (Some d))) d old lifted row in
       let outside = chosen.outside in
-      elim (cases_bool (draws now.devices (has_free_in (load_put now d) (set row n (Some d))) d own None (Some d))) [
+      elim (cases_Bool (draws now.devices (has_free_in (load_put now d) (set row n (Some d))) d own None (Some d))) [
         | inl drawn ↦
             let e1 = rw drawn at e in
             let less = room_less now d (free_room now row d (draws_free drawn)) in

@@ -3,6 +3,7 @@ use Rattle.std.proofs.Common.{◌≡◌, ◌≢◌, ◌==◌, ℕ, ◌+◌, ◌<
 use Rattle.std.proofs.lemmas.List.{set_comm}
 use Rattle.std.proofs.lemmas.List.Sums.{sum_by-set}
 use Rattle.std.proofs.lemmas.Option.{slice_get_within, get_or_from_slice_get}
+use Rattle.std.proofs.lemmas.Bool.{cases_Bool}
 use Rattle.std.proofs.lemmas.Bool.Decides.{nat_tests}
 use Rattle.ring_share.specs.Crowd.{Tiers, is_on, seats_on, crowd, others, is_less}
 use Rattle.ring_place.proofs.Writes.{get_set_other, get_set_same, set_back}
@@ -66,10 +67,6 @@ bool_ext true b h k = sym (h refl)
 bool_ext false true h k = k refl
 bool_ext false false h k = refl
 
-true_or_false : (b : Bool) → (b ≡ true) ⊎ (b ≡ false)
-true_or_false true = inl refl
-true_or_false false = inr refl
-
 not_true : (b : Bool) → (b ≡ true → ⊥) → b ≡ false
 not_true true h = absurd (h refl)
 not_true false h = refl
@@ -95,14 +92,14 @@ one false c h = omega arith
 share_cases : (t : Tiers) → AreTiers t → (d e f : ℕ) → IsWithin (shared t e f) (shared t d f) ⊎ (shared t d f ≡ shared t d e)
 unfolding shared
 share_cases t laws d e f =
-    elim (true_or_false (t.server e f)) [
+    elim (cases_Bool (t.server e f)) [
       | inl s ↦ inr (shared_same t d e f (record {
         region = alike t.region laws.region d e f (laws.zone_in_region e f (laws.server_in_zone e f s));
         zone = alike t.zone laws.zone d e f (laws.server_in_zone e f s);
         server = alike t.server laws.server d e f s;
       }))
-      | inr ns ↦ elim (true_or_false (t.zone e f)) [
-        | inl z ↦ elim (true_or_false (t.zone d f)) [
+      | inr ns ↦ elim (cases_Bool (t.zone e f)) [
+        | inl z ↦ elim (cases_Bool (t.zone d f)) [
           | inl zdf ↦ inl (record { region = one _ _ (λ _. laws.zone_in_region d f zdf); zone = one _ _ (λ _. zdf); server = rw ns (omega arith) })
           | inr nzdf ↦ inr (shared_same t d e f (record {
             region = alike t.region laws.region d e f (laws.zone_in_region e f z);
@@ -110,9 +107,9 @@ share_cases t laws d e f =
             server = not_true _ (λ s. absurd (cc (laws.server_in_zone d f s))) ∙ sym (not_true _ (λ s. absurd (cc (laws.server_in_zone d e s, alike t.zone laws.zone d e f z))));
           }))
         ]
-        | inr nz ↦ elim (true_or_false (t.region d f)) [
+        | inr nz ↦ elim (cases_Bool (t.region d f)) [
           | inl rdf ↦ inl (record { region = one _ _ (λ _. rdf); zone = rw nz (omega arith); server = rw ns (omega arith) })
-          | inr nrdf ↦ elim (true_or_false (t.region e f)) [
+          | inr nrdf ↦ elim (cases_Bool (t.region e f)) [
             | inl ref ↦ inr (shared_same t d e f (record {
               region = alike t.region laws.region d e f ref;
               zone = not_true _ (λ z. absurd (cc (laws.zone_in_region d f z))) ∙ sym (not_true _ (λ z. absurd (cc (laws.zone_in_region d e z, alike t.region laws.region d e f ref))));

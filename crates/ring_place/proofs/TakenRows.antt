@@ -1,6 +1,5 @@
 -- The devices of a row's seats count as the row does.
-use Rattle.std.proofs.Common.{◌≡◌, ℕ, zero, suc, ◌+◌, ◌==◌, ◌<◌, ◌≤◌, Bool, true, false, ◌&&◌, cond, All, List, [], ◌∷◌, length, count_by, map, Option, Some, None, refl, sym, ap, subst, ◌∙◌, arith}
-use Rattle.std.specs.Prelude.{slice_get}
+use Rattle.std.proofs.Common.{◌≡◌, ℕ, zero, suc, ◌==◌, Bool, true, ◌&&◌, cond, All, List, [], ◌∷◌, count_by, Option, Some, None, refl, sym, ap, ◌∙◌, arith}
 use Rattle.std.proofs.lemmas.List.Elements.{All-cons, All-nil}
 use Rattle.std.proofs.lemmas.List.Sums.{sum_by-cons}
 use Rattle.ring_model.specs.Ring.{has_device}
@@ -35,11 +34,6 @@ least_taken load row id is = record {
       ∙ ap (λ c. is_less (crowd_in load (seats_of (devices_on row)) other) c) (sym (crowd_taken load row id))
       ∙ is.least other (free_taken load row other ∙ free);
 }
-
-pub length-devices_on : (row : List (Option ℕ)) → length (devices_on row) ≤ length row
-length-devices_on [] = omega arith
-length-devices_on (None ∷ row) = omega (arith, length-devices_on row)
-length-devices_on (Some id ∷ row) = omega (arith, length-devices_on row)
 
 pub known_taken : (devices : List Device) (row : List (Option ℕ)) → AreKnown devices row → All (λ id. has_device id devices ≡ true) (devices_on row)
 known_taken devices [] known = All-nil (λ (id : ℕ). has_device id devices ≡ true)

@@ -1,15 +1,15 @@
 -- Seats that are taken off devices.
-use Rattle.std.proofs.Common.{◌≡◌, ◌≢◌, ◌==◌, ℕ, ◌+◌, ◌-◌, ◌<◌, ◌≤◌, true, false, cond, List, length, get_or, set, Option, Some, None, refl, sym, ap, subst, ◌∙◌, ⊎_elim, arith}
+use Rattle.std.proofs.Common.{◌≡◌, ◌≢◌, ◌==◌, ℕ, ◌+◌, ◌-◌, ◌<◌, ◌≤◌, true, cond, List, set, Option, Some, None, refl, sym, ap, ◌∙◌, ⊎_elim, arith}
 use Rattle.std.specs.Prelude.{slice_get}
 use Rattle.std.proofs.lemmas.Bool.{cases_eq, eq-eqb, ne_eqb}
 use Rattle.std.proofs.lemmas.List.{get_or-set_other, get_or-set_same, length-set}
 use Rattle.ring_model.specs.Ring.{has_device}
-use Rattle.ring_share.specs.Crowd.{others, seats_on}
+use Rattle.ring_share.specs.Crowd.{seats_on}
 use Rattle.ring_share.specs.Room.{place_of}
-use Rattle.ring_place.specs.Load.{Load, IsLoad, have_in, load_take, want_in}
-use Rattle.ring_place.specs.Gathering.{Falls, Takes}
+use Rattle.ring_place.specs.Load.{Load, IsLoad, have_in, load_take}
+use Rattle.ring_place.specs.Gathering.{Takes}
 use Rattle.ring_place.proofs.Counts.{place_within, places_differ}
-use Rattle.ring_place.proofs.Roomier.{one_here, seats_with}
+use Rattle.ring_place.proofs.Roomier.{seats_with}
 
 pub load_taken : (load : Load) (id : ℕ) → IsLoad load → IsLoad (load_take load id)
 load_taken load id is = record {
@@ -66,23 +66,3 @@ has_taken left row replica id other is known also at some has =
     let lifted = seats_with row replica id other at in
     let less = take_less left is id other known also some in
     omega (arith, lifted, less, has)
-
-pub falls_same : (load : Load) → Falls load load
-falls_same load = record { down = λ id known. omega arith; floor = λ id known h. h }
-
--- a device that has more than it wants has as many as it wants after one is taken off
-pub falls_taken : (load : Load) (id : ℕ) → IsLoad load → has_device id load.devices ≡ true → want_in load id < have_in load id → Falls load (load_take load id)
-falls_taken load id is known over = record {
-  down = λ other also.
-      let less = take_less load is id other known also (omega (arith, over)) in
-      omega (arith, less);
-  floor = λ other also wants. ⊎_elim
-      (λ same.
-      let new = ap (have_in (load_take load id)) same ∙ have_taken_same load is id known in
-      let want = ap (want_in load) same in
-      omega (arith, new, want, over))
-      (λ apart.
-      let new = have_taken_other load is id other known also apart in
-      omega (arith, new, wants))
-      (cases_eq other id);
-}

@@ -1,5 +1,5 @@
 -- What a rebalance writes of the rows of a ring once their seats are put.
-use Rattle.std.specs.Prelude.{◌≡◌, ℕ, ◌<◌, ◌≤◌, nat_lt, if◌then◌else◌, List, length, count_by, true, Option, Some, None, slice_get, slice_index_or}
+use Rattle.std.specs.Prelude.{◌≡◌, ℕ, ◌<◌, ◌≤◌, nat_lt, if◌then◌else◌, List, length, map, count_by, sum_by, true, Option, Some, None, slice_get, slice_index_or}
 use Rattle.std.specs.List.{range_with_len}
 use Rattle.ring_model.specs.Ring.{RingRecord, has_present, partition_count}
 use Rattle.ring_share.specs.Crowd.{seats_on}
@@ -13,6 +13,14 @@ changed_in old new = count_by (λ replica. differs (slice_index_or old replica N
 -- the hour of a partition's last move: this one if seats of it differ
 abbrev pub stamped : ℕ → ℕ → Option ℕ → Option ℕ
 stamped hour count before = if nat_lt 0 count then Some hour else before
+
+-- the hours of the last moves of all partitions
+abbrev pub stamps : ℕ → List (Option ℕ) → List (List (Option ℕ)) → List (List (Option ℕ)) → List (Option ℕ)
+stamps hour moved old new = map (λ partition. stamped hour (changed_in (row_at old partition) (row_at new partition)) (slice_index_or moved partition None)) (range_with_len 0 (length old))
+
+-- how many seats of all partitions differ
+abbrev pub changed_over : List (List (Option ℕ)) → List (List (Option ℕ)) → ℕ
+changed_over old new = sum_by (λ partition. changed_in (row_at old partition) (row_at new partition)) (range_with_len 0 (length old))
 
 -- Partition by partition two lists of rows have as many seats, at most five.
 pub record AreAlike (old new : List (List (Option ℕ))) : Type 0 where

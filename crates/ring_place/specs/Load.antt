@@ -1,5 +1,5 @@
 -- How many seats the devices of a ring want and have, while seats are put on them and taken off.
-use Rattle.std.specs.Prelude.{◌≡◌, ℕ, ◌+◌, ◌-◌, ◌==◌, ◌&&◌, ◌≤◌, Bool, true, false, nat_lt, if◌then◌else◌, List, length, map, Option, Some, None, slice_get, slice_index, slice_set}
+use Rattle.std.specs.Prelude.{◌≡◌, ℕ, ◌+◌, ◌-◌, ◌&&◌, ◌≤◌, Bool, true, false, nat_lt, if◌then◌else◌, List, length, map, Option, Some, slice_index, slice_set}
 use Rattle.std.specs.List.Sorted.{IsStrictlyIncreasing}
 use Rattle.ring_model.specs.declared.device.Device.{Device}
 use Rattle.ring_share.specs.Crowd.{crowd, is_less, is_outside, tiers_of}

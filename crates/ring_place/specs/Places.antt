@@ -36,7 +36,7 @@ pub record IsBestOf (start steps : ℕ) (load : Load) (row : List (Option ℕ)) 
   pub free : is_free_in load row (id_at load.devices best) ≡ true
   pub least : AreNoLess start steps load row best
 
--- So is this, or none of them is free.
-abbrev pub IsBestSoFar : ℕ → ℕ → Load → List (Option ℕ) → Option ℕ → Type 0
+-- So is this, with how crowded it is, or none of them is free.
+abbrev pub IsBestSoFar : ℕ → ℕ → Load → List (Option ℕ) → Option (ℕ × (ℕ × ℕ × ℕ)) → Type 0
 IsBestSoFar start steps load row None = (step : ℕ) → step < steps → is_free_in load row (id_after load start step) ≡ false
-IsBestSoFar start steps load row (Some best) = IsBestOf start steps load row best
+IsBestSoFar start steps load row (Some best) = IsBestOf start steps load row best.0 × (best.1 ≡ crowd_in load row (id_at load.devices best.0))

@@ -1,6 +1,6 @@
 -- One rebalance of a ring at an hour: which seats are gathered, and where they are put.
 -- Seats are named by partition and replica, devices by their numbers.
-use Rattle.std.specs.Prelude.{◌≡◌, ◌≢◌, ℕ, ◌+◌, ◌-◌, ◌<◌, ◌≤◌, ◌⊎◌, ◌==◌, ◌&&◌, ◌||◌, Bool, not, true, false, nat_lt, nat_le, if◌then◌else◌, List, map, filter, count_by, sum_by, Option, Some, None}
+use Rattle.std.specs.Prelude.{◌≡◌, ◌≢◌, ℕ, ◌+◌, ◌-◌, ◌<◌, ◌≤◌, ◌⊎◌, ◌==◌, ◌&&◌, ◌||◌, Bool, not, true, false, nat_lt, if◌then◌else◌, List, map, filter, count_by, sum_by, Option, Some, None}
 use Rattle.std.specs.List.{list_any, range_with_len}
 use Rattle.ring_model.specs.Ring.{RingRecord, has_present, moved_at, partition_count, risen, seat}
 use Rattle.ring_share.specs.Crowd.{crowd_for, is_less, is_on, is_outside, row_of, seats_on}

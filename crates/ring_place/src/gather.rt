@@ -1,11 +1,11 @@
 //! Which seats are gathered: each is lifted, which leaves it empty.
-ghost use Rattle.std.specs.Prelude.{◌≡◌, ◌<◌, ◌≤◌, ℕ, false, true, length, map, slice_set, IfOk, IfSome, IfNone};
+ghost use Rattle.std.specs.Prelude.{◌≡◌, ◌<◌, ◌≤◌, ℕ, true, length, map, slice_set, IfOk, IfSome, IfNone};
 ghost use Rattle.std.specs.List.{list_any, range_with_len};
-ghost use Rattle.std.specs.Option.{ForSome};
 ghost use Rattle.std.specs.List.Sorted.{IsPermutation};
+ghost use Rattle.std.specs.Option.{ForSome};
 ghost use Rattle.ring_model.specs.Ring.{has_device, partition_count};
 ghost use Rattle.ring_share.specs.Crowd.{seats_on};
-ghost use Rattle.ring_place.specs.Load.{IsLoad, have_in, want_in, IsLeast, is_free_in};
+ghost use Rattle.ring_place.specs.Load.{IsLoad, have_in, want_in};
 ghost use Rattle.ring_place.specs.Rebalance.{is_recent};
 ghost use Rattle.ring_place.specs.Rows.{is_empty, row_at, AreKnown};
 ghost use Rattle.ring_place.specs.Gathering.{is_lost_in, present_only, has_free_in, has_less_in, is_crowded_in, Lifts, Takes, AreUncrowded, HaveNoSurplus, Falls, IsFirst, IsSecond, IsFilled, AreRows, IsFirstPass, IsSecondPass, IsGathered};

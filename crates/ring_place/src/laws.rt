@@ -1,7 +1,9 @@
 //! What follows from the definitions alone.
-ghost use Rattle.std.specs.Prelude.{◌≡◌, ℕ, false};
-ghost use Rattle.ring_model.specs.Ring.{RingRecord};
-ghost use Rattle.ring_place.specs.Rebalance.{IsLawfulRebalance, IsRebalance, Leaves, is_locked};
+ghost use Rattle.std.specs.Prelude.{◌≡◌, ℕ, List, Some, false};
+ghost use Rattle.ring_model.specs.Ring.{RingRecord, seat};
+ghost use Rattle.ring_model.specs.Valid.{IsValid};
+ghost use Rattle.ring_share.specs.Want.{AreWanted};
+ghost use Rattle.ring_place.specs.Rebalance.{IsAtRest, IsLawfulRebalance, IsRebalance, IsSeat, Leaves, changed_seats, is_locked};
 
 /// A rebalance moves seats of no more than a lawful gathering.
 pub fn a_rebalance_is_lawful()
@@ -17,4 +19,11 @@ pub fn locked_replicas_stay()
 pub fn one_replica_leaves()
     ensures { (old new : RingRecord) (hour partition replica other : ℕ) → IsLawfulRebalance old hour new
         → Leaves old new partition replica → Leaves old new partition other → replica ≡ other }
+{}
+
+/// Where a rebalance changes no seat, each seat of an unlocked partition is where it should be.
+pub fn unchanged_is_settled()
+    ensures { (old new : RingRecord) (hour : ℕ) (wanted : List ℕ) → IsValid old → IsValid new → IsRebalance old hour new → AreWanted new wanted
+        → changed_seats old new ≡ 0 → (partition replica id : ℕ) → IsSeat new partition replica → is_locked new hour partition ≡ false
+        → seat new partition replica ≡ Some id → IsAtRest new wanted partition replica id }
 {}

@@ -4,8 +4,8 @@
 //! this project's own rule. The definitions that contracts cite stand in `specs/`, and `docs/definitions.md` lists them.
 #![tactic(auto)]
 
-pub mod laws;
 mod gather;
+pub mod laws;
 mod order;
 mod place;
 mod places;
@@ -16,5 +16,7 @@ mod seats;
 pub use rebalances::{PlaceError, Rebalanced, rebalance};
 pub use rooms::Room;
 
+#[cfg(test)]
+mod checker;
 #[cfg(test)]
 mod tests;

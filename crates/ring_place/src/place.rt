@@ -107,7 +107,12 @@ impl Seats {
         ensures placed { RowPlaced room.old room.new old.now (row_at self.old partition) (row_at self.new partition) }
     {
         let first = partition * self.replicas;
-        place_row(room, old, &mut self.seats[first..first + self.replicas], draws);
+        place_row(
+            room,
+            old,
+            &mut self.seats[first..first + self.replicas],
+            draws,
+        );
     }
 }
 

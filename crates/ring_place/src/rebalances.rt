@@ -1,13 +1,11 @@
 //! One rebalance.
-ghost use Rattle.std.specs.Prelude.{◌≡◌, ◌<◌, ◌≤◌, ◌↔◌, ℕ, None, count_by, length, sum_by, IfOk, IsErrOf, filter, map, not, slice_index_or};
-ghost use Rattle.std.specs.List.{range_with_len};
-ghost use Rattle.ring_model.specs.Ring.{partition_count as partition_count_of, risen};
+ghost use Rattle.std.specs.Prelude.{◌≡◌, ◌<◌, ◌≤◌, ◌↔◌, count_by, length, IfOk, IsErrOf, filter, not};
+ghost use Rattle.ring_model.specs.Ring.{risen};
 ghost use Rattle.ring_model.specs.Valid.{IsValid};
 ghost use Rattle.ring_share.specs.Crowd.{rows_of};
 ghost use Rattle.ring_share.specs.Want.{is_open as is_open_device};
-ghost use Rattle.ring_place.specs.Finishing.{AreAlike, AreWhole, changed_in, stamped};
+ghost use Rattle.ring_place.specs.Finishing.{AreAlike, AreWhole, changed_in, changed_over, stamped, stamps};
 ghost use Rattle.ring_place.specs.Rebalance.{IsAfter, IsRebalance, changed_seats};
-ghost use Rattle.ring_place.specs.Rows.{row_at};
 
 use crate::gather::gathered;
 use crate::order::{draws_of, shuffled};
@@ -85,8 +83,8 @@ fn moves(
 ) -> Result<(Vec<Option<Hour>>, u32), AllocError>
     requires partitions { length old.now ≡ length ring.now.moved }
     requires alike { AreAlike old.now new.now }
-    ensures moved { IfOk result (λ done. done.0.items ≡ map (λ partition. stamped hour (changed_in (row_at old.now partition) (row_at new.now partition)) (slice_index_or ring.now.moved partition None)) (range_with_len 0 (length old.now))) }
-    ensures changed { IfOk result (λ done. done.1 ≡ sum_by (λ partition. changed_in (row_at old.now partition) (row_at new.now partition)) (range_with_len 0 (length old.now))) }
+    ensures moved { IfOk result (λ done. done.0.items ≡ stamps hour ring.now.moved old.now new.now) }
+    ensures changed { IfOk result (λ done. done.1 ≡ changed_over old.now new.now) }
 {
     let mut moved = Vec::new(alloc);
     let mut changed = 0;

@@ -160,7 +160,8 @@ impl Room {
         ensures value { result ≡ has_room_in self.now (id_at self.now.devices place) }
         ensures load { IsLoad self.now }
     {
-        is_open(&self.devices[place]) && self.counts[place] < self.wanted[place]
+        let device = &self.devices[place];
+        self.counts[place] < self.wanted[place] && is_open(device)
     }
 
     /// Whether the device at a place has room and isn't among those at these places.
@@ -227,7 +228,7 @@ impl Room {
         }
         let places = self.places_of(others);
         let best = self.least_from(draw as usize % count, &places[..others.len()])?;
-        Some(self.devices[best].id)
+        Some(self.devices[best.0].id)
     }
 
     /// An open device that isn't among `others`, of which there are fewer than open devices.
@@ -245,8 +246,8 @@ impl Room {
         0
     }
 
-    /// The place of a free device than which none is less crowded, the first after a place.
-    fn least_from(&self, start: usize, others: &[usize]) -> Option<usize>
+    /// The place of a free device than which none is less crowded, the first after a place, and how crowded it is.
+    fn least_from(&self, start: usize, others: &[usize]) -> Option<(usize, Crowd)>
         requires start { start < length self.now.devices }
         requires others { All (λ other. other < length self.now.devices) others.now }
         requires few { length others.now ≤ 5 }
@@ -275,14 +276,15 @@ impl Room {
         }
     }
 
-    /// The place at a step if the device there is free and less crowded than the best before it, else that one.
+    /// The place at a step if the device there is free and less crowded than the best before it, else that one, with how
+    /// crowded it is.
     fn better(
         &self,
         start: usize,
         step: usize,
         others: &[usize],
-        best: Option<usize>,
-    ) -> Option<usize>
+        best: Option<(usize, Crowd)>,
+    ) -> Option<(usize, Crowd)>
         requires start { start < length self.now.devices }
         requires step { step < length self.now.devices }
         requires others { All (λ other. other < length self.now.devices) others.now }
@@ -294,11 +296,12 @@ impl Room {
         if !self.is_free_at(others, place) {
             return best;
         }
+        let crowd = self.crowd_at(others, place);
         match best {
-            None => Some(place),
+            None => Some((place, crowd)),
             Some(other) => {
-                if is_less(self.crowd_at(others, place), self.crowd_at(others, other)) {
-                    Some(place)
+                if is_less(crowd, other.1) {
+                    Some((place, crowd))
                 } else {
                     best
                 }

@@ -1,8 +1,330 @@
-//! What no contract says: that calls succeed where there is memory.
-use crate::Room;
-use ring_model::{Address, DeviceName, Port, Power, Replicas, Ring, Row, Weight};
+//! What no contract says: worked examples, that calls succeed where there is memory, and random rings against plain scans.
+ghost use Rattle.std.specs.Prelude.{◌<◌};
+
+use crate::checker::check;
+use crate::gather::gathered;
+use crate::order::{draws_of, shuffled};
+use crate::seats::partition_count;
+use crate::{PlaceError, Rebalanced, Room, rebalance};
+use rand_core::Rng;
+use rand_pcg::Pcg32;
+use ring_model::{
+    Address, Device, DeviceName, Hour, Port, Power, Replicas, Ring, RingParts, Row, Weight,
+};
 use ring_share::wanted;
+use std::alloc::Global;
 use std::test::Fail;
+
+/// Device `dN` at 10.0.0.(S+1), port 6200, in a region and zone, of a weight in hundredths.
+fn device_at(
+    alloc: Global,
+    number: u8,
+    region: u16,
+    zone: u16,
+    server: u8,
+    weight: u32,
+) -> Result<Device, Fail> {
+    let address = format!(in alloc; "10.0.0.{}", server.saturating_add(1))?;
+    let name = format!(in alloc; "d{number}")?;
+    Ok(Device {
+        id: u16::from(number),
+        row: Row {
+            region,
+            zone,
+            address: Address::parse(address.as_str()).ok_or("an address")?,
+            port: Port::new(6200).ok_or("a port")?,
+            name: DeviceName::new(alloc, name.as_str())?,
+            weight: Weight::of(weight).ok_or("a weight")?,
+        },
+        removed: false,
+    })
+}
+
+/// Device `dN` on a server of its own in zone 1 of a region.
+fn device(alloc: Global, number: u8, region: u16, weight: u32) -> Result<Device, Fail> {
+    device_at(alloc, number, region, 1, number, weight)
+}
+
+/// A ring without seats, of devices of region 1 with these weights in hundredths.
+fn ring(
+    alloc: Global,
+    power: u16,
+    replicas: u16,
+    min_hours: u16,
+    weights: &[u32],
+) -> Result<Ring, Fail> {
+    let new = Ring::new(
+        alloc,
+        Power::new(power).ok_or("a power")?,
+        Replicas::new(replicas).ok_or("replicas")?,
+        min_hours,
+    )?;
+    let mut ring = new;
+    let mut number = 0u8;
+    for weight in weights {
+        ring = with_device(alloc, &ring, device(alloc, number, 1, *weight)?)?;
+        number = number.saturating_add(1);
+    }
+    Ok(ring)
+}
+
+fn with_device(alloc: Global, ring: &Ring, device: Device) -> Result<Ring, Fail> {
+    let mut parts = ring.parts()?;
+    parts.next_id = u32::from(device.id).saturating_add(1);
+    parts.devices.push(device)?;
+    Ok(Ring::build(alloc, parts)?)
+}
+
+/// The ring with the device of a number marked to be removed.
+fn marked(alloc: Global, ring: &Ring, id: u16) -> Result<Ring, Fail> {
+    let mut parts = ring.parts()?;
+    for device in parts.devices.iter_mut() {
+        if device.id == id {
+            device.removed = true;
+        }
+    }
+    Ok(Ring::build(alloc, parts)?)
+}
+
+/// The ring with another weight at the device of a number.
+fn weighed(alloc: Global, ring: &Ring, id: u16, weight: u32) -> Result<Ring, Fail> {
+    let mut parts = ring.parts()?;
+    let weight = Weight::of(weight).ok_or("a weight")?;
+    for device in parts.devices.iter_mut() {
+        if device.id == id {
+            device.row.weight = weight;
+        }
+    }
+    Ok(Ring::build(alloc, parts)?)
+}
+
+fn have(ring: &Ring, id: u16) -> usize {
+    ring.seats().iter().filter(|seat| **seat == id).count()
+}
+
+/// The rebalanced ring, once it is seen to be one, with the number of changed seats.
+fn seen(alloc: Global, ring: &Ring, hour: Hour, seed: u32) -> Result<(Ring, u32), Fail> {
+    let mut draws = draws_of(seed);
+    let order = shuffled(alloc, partition_count(ring), &mut draws)?;
+    let (_, lifted) = gathered(alloc, ring, hour, order.as_slice())?;
+    let done = done(alloc, ring, hour, seed)?;
+    check(
+        alloc,
+        ring,
+        hour,
+        lifted.seats.as_slice(),
+        &done.ring,
+        done.changed,
+    )?;
+    Ok((done.ring, done.changed))
+}
+
+fn done(alloc: Global, ring: &Ring, hour: Hour, seed: u32) -> Result<Rebalanced, Fail> {
+    match rebalance(alloc, ring, hour, seed) {
+        Ok(done) => Ok(done),
+        Err(PlaceError::TooFewDevices) => Ok(None.ok_or("too few devices")?),
+        Err(PlaceError::NoMemory) => Ok(None.ok_or("no memory")?),
+    }
+}
+
+#[test]
+fn a_first_rebalance_takes_every_seat(rt: HostRuntime) -> Result<(), Fail> {
+    let alloc = rt.alloc();
+    let ring = ring(alloc, 1, 2, 0, [10_000, 10_000].as_slice())?;
+    let (new, changed) = seen(alloc, &ring, 5, 7)?;
+    assert_eq!(rt; changed, 4);
+    assert_eq!(rt; (have(&new, 0), have(&new, 1)), (2, 2));
+    assert_eq!(rt; new.moves(), [Some(5), Some(5)].as_slice());
+    Ok(())
+}
+
+#[test]
+fn power_two_takes_eight_seats(rt: HostRuntime) -> Result<(), Fail> {
+    let alloc = rt.alloc();
+    let ring = ring(alloc, 2, 2, 24, [10_000, 10_000].as_slice())?;
+    let (ring, changed) = seen(alloc, &ring, 0, 7)?;
+    assert_eq!(rt; changed, 8);
+    let third = device(alloc, 2, 1, 10_000)?;
+    let ring = marked(alloc, &with_device(alloc, &ring, third)?, 0)?;
+    let (ring, changed) = seen(alloc, &ring, 1, 7)?;
+    assert_eq!(rt; changed, 4);
+    assert_eq!(rt;
+        (have(&ring, 1), have(&ring, 2), ring.devices().len()),
+        (4, 4, 2)
+    );
+    Ok(())
+}
+
+#[test]
+fn a_moved_partition_stays_for_its_hours(rt: HostRuntime) -> Result<(), Fail> {
+    let alloc = rt.alloc();
+    let ring = ring(alloc, 2, 1, 24, [10_000].as_slice())?;
+    let (ring, _) = seen(alloc, &ring, 100, 7)?;
+    let ring = with_device(alloc, &ring, device(alloc, 1, 1, 10_000)?)?;
+    let (ring, changed) = seen(alloc, &ring, 123, 7)?;
+    assert_eq!(rt; changed, 0);
+    let (_, changed) = seen(alloc, &ring, 124, 7)?;
+    assert_eq!(rt; changed, 2);
+    Ok(())
+}
+
+#[test]
+fn a_drained_device_keeps_its_seats_while_they_are_locked(rt: HostRuntime) -> Result<(), Fail> {
+    let alloc = rt.alloc();
+    let ring = ring(alloc, 2, 2, 24, [10_000, 10_000].as_slice())?;
+    let (ring, _) = seen(alloc, &ring, 0, 7)?;
+    let ring = with_device(alloc, &ring, device(alloc, 2, 1, 10_000)?)?;
+    let ring = weighed(alloc, &ring, 1, 0)?;
+    let (ring, changed) = seen(alloc, &ring, 1, 7)?;
+    assert_eq!(rt; (changed, have(&ring, 1)), (0, 4));
+    let (ring, changed) = seen(alloc, &ring, 24, 7)?;
+    assert_eq!(rt; (changed, have(&ring, 1)), (4, 0));
+    Ok(())
+}
+
+#[test]
+fn a_want_beyond_reach_leaves_room(rt: HostRuntime) -> Result<(), Fail> {
+    let alloc = rt.alloc();
+    let ring = ring(alloc, 2, 2, 0, [30_000, 10_000].as_slice())?;
+    let (ring, changed) = seen(alloc, &ring, 0, 7)?;
+    assert_eq!(rt; changed, 8);
+    assert_eq!(rt; (have(&ring, 0), have(&ring, 1)), (4, 4));
+    let (_, changed) = seen(alloc, &ring, 0, 7)?;
+    assert_eq!(rt; changed, 0);
+    Ok(())
+}
+
+#[test]
+fn one_seat_a_partition_leaves_overfull_devices(rt: HostRuntime) -> Result<(), Fail> {
+    let alloc = rt.alloc();
+    let ring = ring(alloc, 1, 2, 0, [10_000, 10_000].as_slice())?;
+    let (ring, _) = seen(alloc, &ring, 0, 7)?;
+    let ring = with_device(alloc, &ring, device(alloc, 2, 1, 10_000)?)?;
+    let ring = with_device(alloc, &ring, device(alloc, 3, 1, 10_000)?)?;
+    let (ring, changed) = seen(alloc, &ring, 0, 7)?;
+    assert_eq!(rt; changed, 2);
+    for id in 0..4 {
+        assert_eq!(rt; have(&ring, id), 1);
+    }
+    let (_, changed) = seen(alloc, &ring, 0, 8)?;
+    assert_eq!(rt; changed, 0);
+    Ok(())
+}
+
+#[test]
+fn one_place_takes_one_of_two_seats(rt: HostRuntime) -> Result<(), Fail> {
+    let alloc = rt.alloc();
+    let ring = ring(alloc, 1, 2, 0, [10_000, 10_000].as_slice())?;
+    let (ring, _) = seen(alloc, &ring, 0, 7)?;
+    let ring = with_device(alloc, &ring, device(alloc, 2, 2, 5_000)?)?;
+    let (ring, changed) = seen(alloc, &ring, 0, 7)?;
+    assert_eq!(rt; (changed, have(&ring, 2)), (1, 1));
+    Ok(())
+}
+
+#[test]
+fn fewer_open_devices_than_replicas_are_too_few(rt: HostRuntime) -> Result<(), Fail> {
+    let alloc = rt.alloc();
+    let ring = ring(alloc, 1, 2, 0, [10_000, 0].as_slice())?;
+    assert!(rt;
+        matches!(
+            rebalance(alloc, &ring, 0, 7),
+            Err(PlaceError::TooFewDevices)
+        )
+    );
+    Ok(())
+}
+
+/// A number below a bound that isn't 0.
+fn below(draws: &mut Pcg32, bound: u32) -> u32
+    requires { 0 < bound }
+    ensures { result < bound }
+{
+    draws.next_u32() % bound
+}
+
+/// A device anywhere in two regions, of some weight.
+fn any_device(alloc: Global, draws: &mut Pcg32, number: u8) -> Result<Device, Fail> {
+    let region = below(draws, 2) as u16;
+    let zone = below(draws, 2) as u16;
+    let server = below(draws, 3) as u8;
+    let weight = below(draws, 5) * 50;
+    device_at(alloc, number, region, zone, server, weight)
+}
+
+fn any_ring(alloc: Global, draws: &mut Pcg32) -> Result<Ring, Fail> {
+    let power = 1 + below(draws, 3) as u16;
+    let replicas = 1 + below(draws, 3) as u16;
+    let mut new = ring(
+        alloc,
+        power,
+        replicas,
+        below(draws, 3) as u16,
+        [].as_slice(),
+    )?;
+    for number in 0..1 + below(draws, 5) as u8 {
+        new = with_device(alloc, &new, any_device(alloc, draws, number)?)?;
+    }
+    Ok(new)
+}
+
+/// The ring with a device marked, reweighed or added.
+fn any_change(alloc: Global, draws: &mut Pcg32, ring: &Ring) -> Result<Ring, Fail> {
+    let id = below(draws, 8) as u16;
+    match below(draws, 4) {
+        0 => marked(alloc, ring, id),
+        1 => weighed(alloc, ring, id, below(draws, 4) * 50),
+        _ => {
+            let device = any_device(alloc, draws, u8::try_from(ring.next_id()).unwrap_or(255))?;
+            with_device(alloc, ring, device)
+        }
+    }
+}
+
+#[test]
+fn random_rings_meet_the_definitions(rt: HostRuntime) -> Result<(), Fail> {
+    let alloc = rt.alloc();
+    let mut draws = draws_of(1);
+    let mut rebalances = 0u32;
+    for _ in 0..20_000 {
+        let mut ring = any_ring(alloc, &mut draws)?;
+        let mut hour = 0u32;
+        for _ in 0..5 {
+            let seed = draws.next_u32();
+            if !matches!(
+                rebalance(alloc, &ring, hour, seed),
+                Err(PlaceError::TooFewDevices)
+            ) {
+                ring = seen(alloc, &ring, hour, seed)?.0;
+                rebalances = rebalances.saturating_add(1);
+            }
+            hour = hour.saturating_add(below(&mut draws, 3));
+            ring = any_change(alloc, &mut draws, &ring)?;
+        }
+    }
+    assert!(rt; rebalances > 50_000);
+    Ok(())
+}
+
+#[test]
+fn a_ring_of_full_size_is_assigned(rt: HostRuntime) -> Result<(), Fail> {
+    let alloc = rt.alloc();
+    let mut ring = ring(alloc, 14, 5, 0, [].as_slice())?;
+    for number in 0..=255u8 {
+        let weight = 10_000 + u32::from(number) * 10;
+        let device = device_at(
+            alloc,
+            number,
+            u16::from(number % 3),
+            u16::from(number % 7),
+            number / 2,
+            weight,
+        )?;
+        ring = with_device(alloc, &ring, device)?;
+    }
+    assert_eq!(rt; done(alloc, &ring, 0, 7)?.changed, 81_920);
+    Ok(())
+}
 
 #[test]
 fn a_room_is_filled_and_emptied(rt: HostRuntime) -> Result<(), Fail> {

@@ -112,7 +112,8 @@ fn show<K: Keeper<RingMachine>>(
 ) -> Result<String, AllocError>
     ensures { (answer : Result (Unit {0}) Fault)
         × Moves K.content K.sound K.limit K.fault_count book.old book.new (Some (Load answer))
-        × IfOk result (λ text. IsTold (Finds K.content K.sound K.limit K.fault_count book.old book.new) question.now answer (string_bytes text)) }
+        × IfOk result (λ text. IsTold (Finds K.content K.sound K.limit K.fault_count book.old book.new)
+        question.now answer (string_bytes text)) }
 {
     match book.load() {
         Ok(()) => shown(alloc, book.state(), question),

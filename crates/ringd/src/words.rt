@@ -43,9 +43,9 @@ it gets the answer that was given first.";
 
 /// What `ringd run --help` tells.
 const ABOUT_RUN: &str =
-    "Answers numbered requests, one line each, from standard input on standard output.
+    "Answers numbered requests and questions, one a line, from standard input on standard output.
 
-A line is the hour, a space, and a JSON object: who asks, the caller's number of this request, what to do, and the ring.
+A request is the hour, a space, and a JSON object: who asks, the caller's number of this request, what to do, and the ring.
 
   0 {\"caller\":\"ops\",\"number\":1,\"do\":\"create\",\"ring\":\"object\",\"power\":4,\"replicas\":3,\"min_hours\":24}
   0 {\"caller\":\"ops\",\"number\":2,\"do\":\"add\",\"ring\":\"object\",\"region\":1,\"zone\":1,\"address\":\"10.0.0.1\",\"port\":6200,\"name\":\"d0\",\"weight\":\"100.00\"}

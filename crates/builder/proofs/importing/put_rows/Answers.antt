@@ -1,4 +1,4 @@
-use Rattle.std.proofs.Common.{◌≡◌, Option, None, sym, ◌∙◌, arith}
+use Rattle.std.proofs.Common.{◌≡◌, None, sym, arith}
 use Rattle.builder.specs.Step.{row_refusal}
 use Rattle.builder.proofs.Imports.{row_fits}
 use Rattle.builder.proofs.importing.put_rows.Goals as goal

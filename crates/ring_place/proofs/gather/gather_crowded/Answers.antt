@@ -1,7 +1,5 @@
-use Rattle.std.proofs.Common.{◌≡◌, ◌<◌, ◌+◌, ℕ, List, Option, length, get_or, take, sym, ap, subst, ◌∙◌, true, false, arith}
-use Rattle.std.specs.List.{range_with_len}
-use Rattle.std.specs.List.Sorted.{IsPermutation}
-use Rattle.ring_place.specs.Rows.{AreKnown, row_at}
+use Rattle.std.proofs.Common.{◌<◌, ◌+◌, length, get_or, take, sym, subst, arith}
+use Rattle.ring_place.specs.Rows.{AreKnown}
 use Rattle.ring_place.proofs.Orders.{among_more, order_fresh, order_below}
 use Rattle.ring_place.proofs.Passes.{first_start, first_step}
 use Rattle.ring_place.proofs.gather.gather_crowded.Goals as goal

@@ -1,7 +1,7 @@
-use Rattle.std.proofs.Common.{◌≡◌, ◌∙◌, sym, ap, subst, refl, ◌<◌, arith, map, true, false}
+use Rattle.std.proofs.Common.{◌≡◌, ◌∙◌, sym, ap, subst, refl, arith, map, true}
 use Rattle.std.specs.List.{list_any}
 use Rattle.ring_model.specs.Ring.{has_device}
-use Rattle.ring_place.specs.Load.{have_in, load_take}
+use Rattle.ring_place.specs.Load.{load_take}
 use Rattle.ring_place.specs.Gathering.{Calm, Crowded, LostFirst, Takes, is_lost_in, present_only}
 use Rattle.ring_place.proofs.Roomier.{one_here}
 use Rattle.ring_place.proofs.Taking.{takes_none, takes_seat}

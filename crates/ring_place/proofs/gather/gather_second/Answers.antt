@@ -1,4 +1,4 @@
-use Rattle.std.proofs.Common.{◌≡◌, ◌∙◌, sym, ap, subst, refl, ◌<◌, ◌≤◌, arith, true, false}
+use Rattle.std.proofs.Common.{◌≡◌, ◌∙◌, sym, ap, subst, ◌≤◌, arith, true}
 use Rattle.ring_model.specs.Ring.{has_device}
 use Rattle.ring_place.specs.Load.{have_in, load_take, want_in}
 use Rattle.ring_place.specs.Gathering.{IsSecond, Surplus, Takes}

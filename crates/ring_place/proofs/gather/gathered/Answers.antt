@@ -1,12 +1,10 @@
-use Rattle.std.proofs.Common.{◌≡◌, ◌∙◌, ℕ, Bool, List, length, map, sym, ap, subst, true, arith}
+use Rattle.std.proofs.Common.{◌≡◌, ◌∙◌, ℕ, Bool, List, length, map, sym, ap, subst, arith}
 use Rattle.std.specs.List.{range_with_len}
 use Rattle.std.specs.List.Sorted.{IsPermutation}
 use Rattle.std.proofs.lemmas.List.{length-map}
-use Rattle.ring_model.specs.Ring.{has_device, partition_count}
+use Rattle.ring_model.specs.Ring.{partition_count}
 use Rattle.ring_model.specs.Valid.{IsValid}
 use Rattle.ring_share.specs.Crowd.{rows_of}
-use Rattle.ring_share.specs.Room.{have}
-use Rattle.ring_place.specs.Load.{have_in}
 use Rattle.ring_place.specs.Rebalance.{is_recent}
 use Rattle.ring_place.specs.Gathering.{AreRows, IsFilled, IsFirstPass, IsSecondPass}
 use Rattle.ring_place.proofs.GatheredRing.{is_gathered}

@@ -1,7 +1,5 @@
-use Rattle.std.proofs.Common.{◌≡◌, ◌≢◌, ◌∙◌, ℕ, sym, ap, subst, ◌<◌, arith, length, get_or, set, Some, None, true, false, below_more, ⊎_elim}
+use Rattle.std.proofs.Common.{◌≡◌, ◌∙◌, ℕ, sym, ap, ◌<◌, arith, length, get_or, set, Some, None, false, below_more}
 use Rattle.std.specs.Prelude.{slice_get}
-use Rattle.std.proofs.lemmas.Bool.{cases_eq}
-use Rattle.std.proofs.lemmas.List.{length-set}
 use Rattle.std.proofs.lemmas.Option.{slice_get_within}
 use Rattle.ring_place.specs.Gathering.{has_less_in, is_crowded_in}
 use Rattle.ring_place.proofs.Lifted.{known_lifted, same_device, seat_at}

@@ -1,5 +1,4 @@
-use Rattle.std.proofs.Common.{◌≡◌, ◌∙◌, sym, ap, subst, refl, ◌<◌, ◌≤◌, arith, length, Some, None, false, true}
-use Rattle.std.specs.Prelude.{slice_get}
+use Rattle.std.proofs.Common.{◌≡◌, ◌∙◌, sym, ap, subst, refl, ◌<◌, ◌≤◌, arith, Some, None, false, true}
 use Rattle.ring_model.specs.Ring.{has_device, has_present}
 use Rattle.ring_share.specs.Crowd.{seats_on}
 use Rattle.ring_place.specs.Load.{have_in, load_take}

@@ -1,5 +1,4 @@
-use Rattle.std.proofs.Common.{◌≡◌, ◌∙◌, sym, ap, ◌<◌, arith, length, get_or, set, Some, None, below_more}
-use Rattle.std.specs.Prelude.{slice_get}
+use Rattle.std.proofs.Common.{◌∙◌, sym, ap, arith, get_or, Some, None}
 use Rattle.ring_place.proofs.Lifted.{seat_at}
 use Rattle.ring_place.proofs.gather.lift_surplus.Goals as goal
 

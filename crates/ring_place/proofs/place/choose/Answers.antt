@@ -1,11 +1,9 @@
-use Rattle.std.proofs.Common.{◌≡◌, ◌<◌, ◌≤◌, ℕ, All, length, true, false, sym, ap, subst, ◌∙◌, arith, count_by, List, Option, Some, None, IfSome}
+use Rattle.std.proofs.Common.{◌≡◌, ℕ, All, length, true, false, sym, ap, subst, ◌∙◌, arith, List, Option, Some, None, IfSome}
 use Rattle.std.proofs.lemmas.Option.{same_Some}
 use Rattle.ring_model.specs.Ring.{has_device, has_present}
 use Rattle.ring_model.specs.declared.device.Device.{Device}
 use Rattle.ring_share.specs.Crowd.{seats_on}
-use Rattle.ring_place.specs.Rows.{is_empty}
 use Rattle.ring_place.specs.Load.{is_free_in, seats_of}
-use Rattle.ring_place.specs.Rows.{devices_on}
 use Rattle.ring_place.proofs.Choosing.{chosen_back, chosen_least, chosen_open, taken_count}
 use Rattle.ring_place.proofs.TakenRows.{known_taken}
 use Rattle.ring_place.proofs.place.choose.Goals as goal
@@ -54,7 +52,7 @@ none_owns devices own id is at = absurd (cc (is, at))
 pub returns : goal.returns
 returns c =
     let chosen = chosen_open c.args.room.now c.args.row.now c.args.own c.any_open.result c.ids-2.result.now (c.ids-2.ensures ∙ c.of-others.ensures)
-        (λ x. ap (λ ids. is_free_in c.args.room.now (seats_of ids) x) (c.ids-2.ensures ∙ sym c.ids.ensures) ∙ c.in_default.ensures.none x) in
+    (λ x. ap (λ ids. is_free_in c.args.room.now (seats_of ids) x) (c.ids-2.ensures ∙ sym c.ids.ensures) ∙ c.in_default.ensures.none x) in
     elim c.match-own.branch [
       | in-Some-own+else-is_present w ↦ chosen (λ o at. none_stays c.args.room.now.devices c.args.own w.in-Some-own.own o w.in-Some-own.is (sym w.is_present.ensures ∙ w.if-is_present.false) at) c.any_open.ensures.takes_seats c.any_open.ensures.outside
       | in_default-own w ↦ chosen (λ o at. none_owns c.args.room.now.devices c.args.own o w.in_default-own.is at) c.any_open.ensures.takes_seats c.any_open.ensures.outside

@@ -1,4 +1,4 @@
-use Rattle.std.proofs.Common.{◌≡◌, ◌<◌, List, Option, get_or, length, sym, ap, subst, ◌∙◌, arith}
+use Rattle.std.proofs.Common.{◌≡◌, List, get_or, length, sym, subst, arith}
 use Rattle.ring_model.specs.declared.device.Device.{Device}
 use Rattle.ring_place.specs.Placing.{CanPlace, RowPlaced}
 use Rattle.ring_place.specs.Rows.{row_at}

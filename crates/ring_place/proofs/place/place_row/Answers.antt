@@ -1,4 +1,4 @@
-use Rattle.std.proofs.Common.{◌≡◌, ◌∙◌, sym, subst, None, ◌+◌, arith, length, get_or, true, List}
+use Rattle.std.proofs.Common.{◌≡◌, ◌∙◌, sym, subst, None, ◌+◌, arith, get_or, List}
 use Rattle.std.proofs.lemmas.Option.{slice_get-get_or}
 use Rattle.ring_model.specs.declared.device.Device.{Device}
 use Rattle.ring_place.specs.Rows.{AreKnown}

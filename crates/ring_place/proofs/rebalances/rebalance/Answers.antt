@@ -1,12 +1,9 @@
-use Rattle.std.proofs.Common.{◌≡◌, ◌<◌, ◌≤◌, ℕ, List, Option, IfOk, Result, Ok, Err, length, count_by, sym, ap, subst, ◌∙◌, arith}
+use Rattle.std.proofs.Common.{◌≡◌, ℕ, List, Option, IfOk, Result, Ok, Err, length, count_by, sym, ap, subst, ◌∙◌, arith}
 use Rattle.std.specs.List.{range_with_len}
 use Rattle.std.specs.List.Sorted.{IsPermutation}
-use Rattle.ring_model.specs.Ring.{RingRecord, partition_count}
 use Rattle.ring_model.specs.Valid.{IsValid}
 use Rattle.ring_share.specs.Crowd.{rows_of}
 use Rattle.ring_share.specs.Want.{is_open}
-use Rattle.ring_place.specs.Gathering.{IsGathered}
-use Rattle.ring_place.specs.Load.{Load}
 use Rattle.ring_place.specs.Placing.{AllPlaced, CanPlace}
 use Rattle.ring_place.specs.Rebalance.{IsAfter, IsRebalance}
 use Rattle.ring_place.specs.Rows.{row_at}

@@ -1,4 +1,4 @@
-use Rattle.std.proofs.Common.{sym, subst}
+use Rattle.std.proofs.Common.{◌∙◌, sym, subst}
 use Rattle.ring_place.specs.Places.{seats_at, IsBestSoFar}
 use Rattle.ring_place.proofs.Best.{best_skip, best_first, best_take, best_keep}
 use Rattle.ring_place.proofs.rooms.Room.better.Goals as goal
@@ -9,20 +9,28 @@ returns-then-not-is_free_at c =
 
 pub returns-in-None : goal.returns-in-None
 returns-in-None c =
-    let row = seats_at c.args.self.now.devices c.args.others.now in
-    best_first c.args.self.now row c.args.start c.args.step c.turned-place.result c.turned-place.ensures.value c.turned-place.ensures.within
-    (subst (λ b. IsBestSoFar c.args.start c.args.step c.args.self.now row b) c.in-None.is c.requires.best) (sym c.if-not-is_free_at.ensures)
+    let row = seats_at c.args.self.now.devices c.args.others.now in (
+      best_first c.args.self.now row c.args.start c.args.step c.turned-place.result c.turned-place.ensures.value c.turned-place.ensures.within
+          (subst (λ b. IsBestSoFar c.args.start c.args.step c.args.self.now row b) c.in-None.is c.requires.best) (sym c.if-not-is_free_at.ensures),
+      c.crowd_at-crowd.ensures,
+    )
 
 pub returns-then-is_less : goal.returns-then-is_less
 returns-then-is_less c =
     let row = seats_at c.args.self.now.devices c.args.others.now in
-    best_take c.args.self.now row c.args.start c.args.step c.turned-place.result c.in-Some.other c.turned-place.ensures.value c.turned-place.ensures.within
-    (subst (λ b. IsBestSoFar c.args.start c.args.step c.args.self.now row b) c.in-Some.is c.requires.best) (sym c.if-not-is_free_at.ensures)
-    (cc (c.if-is_less.ensures, c.crowd_at.ensures, c.crowd_at-in-Some.ensures))
+    let so_far = subst (λ b. IsBestSoFar c.args.start c.args.step c.args.self.now row b) c.in-Some.is c.requires.best in (
+      best_take c.args.self.now row c.args.start c.args.step c.turned-place.result c.in-Some.other.0 c.turned-place.ensures.value c.turned-place.ensures.within
+          so_far.0 (sym c.if-not-is_free_at.ensures)
+          (cc (c.if-is_less.ensures, c.crowd_at-crowd.ensures, so_far.1)),
+      c.crowd_at-crowd.ensures,
+    )
 
 pub returns-else-is_less : goal.returns-else-is_less
 returns-else-is_less c =
     let row = seats_at c.args.self.now.devices c.args.others.now in
-    best_keep c.args.self.now row c.args.start c.args.step c.turned-place.result c.in-Some.other c.turned-place.ensures.value
-    (subst (λ b. IsBestSoFar c.args.start c.args.step c.args.self.now row b) c.in-Some.is c.requires.best)
-    (cc (c.if-is_less.ensures, c.crowd_at.ensures, c.crowd_at-in-Some.ensures))
+    let so_far = subst (λ b. IsBestSoFar c.args.start c.args.step c.args.self.now row b) c.in-Some.is c.requires.best in (
+      best_keep c.args.self.now row c.args.start c.args.step c.turned-place.result c.in-Some.other.0 c.turned-place.ensures.value
+          so_far.0
+          (cc (c.if-is_less.ensures, c.crowd_at-crowd.ensures, so_far.1)),
+      so_far.1,
+    )

@@ -1,6 +1,6 @@
-use Rattle.std.proofs.Common.{◌≡◌, ap, ◌∙◌, take, length}
+use Rattle.std.proofs.Common.{ap, ◌∙◌}
 use Rattle.ring_place.specs.Load.{crowd_in, seats_of}
-use Rattle.ring_place.specs.Places.{seats_at, id_at}
+use Rattle.ring_place.specs.Places.{id_at}
 use Rattle.ring_place.proofs.Outside.{seats_first}
 use Rattle.ring_place.proofs.rooms.Room.crowd.Goals as goal
 

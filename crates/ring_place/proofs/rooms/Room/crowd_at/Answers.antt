@@ -1,9 +1,6 @@
-use Rattle.std.proofs.Common.{get_or, length, ap, sym, ◌∙◌, ◌≡◌, ◌<◌, take, arith}
-use Rattle.std.proofs.lemmas.List.{take_all, length-map}
-use Rattle.std.specs.Prelude.{Some}
+use Rattle.std.proofs.Common.{get_or, length, ◌<◌, arith}
 use Rattle.ring_share.specs.Crowd.{in_region, in_zone, on_server, tiers_of}
-use Rattle.ring_share.proofs.Rows.{crowd_is}
-use Rattle.ring_place.specs.Places.{id_at, seats_at}
+use Rattle.ring_place.specs.Places.{id_at}
 use Rattle.ring_place.proofs.AtPlaces.{is_load, read_in, tier_at, seats_more, at_most_one}
 use Rattle.ring_place.proofs.rooms.Room.crowd_at.Goals as goal
 

@@ -1,7 +1,4 @@
-use Rattle.std.proofs.Common.{◌≡◌, ◌<◌, ◌+◌, ◌*◌, ◌≤◌, ℕ, List, Option, true, length, refl, set, sym, ap, subst, ◌∙◌, arith}
-use Rattle.ring_model.specs.Ring.{has_device}
-use Rattle.ring_share.specs.Crowd.{seats_on}
-use Rattle.ring_place.specs.Load.{have_in}
+use Rattle.std.proofs.Common.{length, set, sym, ap, subst, ◌∙◌, arith}
 use Rattle.ring_place.specs.Rows.{AreKnown, row_at}
 use Rattle.ring_place.specs.Gathering.{IsSecond, Takes}
 use Rattle.ring_place.proofs.SeatRows.{row_fits}

@@ -1,9 +1,8 @@
-use Rattle.std.proofs.Common.{◌≡◌, ◌≤◌, ◌+◌, ◌*◌, ◌++◌, ◌∷◌, [], ℕ, length, map, sym, ap, ◌∙◌, rules, arith}
+use Rattle.std.proofs.Common.{◌≡◌, ◌*◌, ◌++◌, ◌∷◌, [], ℕ, length, map, sym, ap, ◌∙◌, arith}
 use Rattle.std.specs.Prelude.{slice_get}
 use Rattle.std.specs.List.{range_with_len}
 use Rattle.std.proofs.lemmas.List.FromFn.{length-map-range_with_len, map-range_with_len_more}
 use Rattle.ring_model.specs.Ring.{partition_count}
-use Rattle.ring_share.specs.Crowd.{rows_of}
 use Rattle.ring_place.specs.Rows.{rows_in}
 use Rattle.ring_place.proofs.SeatRows.{rows_of_ring}
 use Rattle.ring_place.proofs.seats.Seats.of.Goals as goal
