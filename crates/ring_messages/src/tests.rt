@@ -438,22 +438,7 @@ fn replies_of_every_command_are_written_and_read_back(rt: HostRuntime) -> Result
 }
 
 #[test]
-fn a_row_is_refused_with_its_number_and_cause(rt: HostRuntime) -> Result<(), Fail> {
-    for (cause, rule) in [
-        (RowCause::DeviceRemoved, 6u8),
-        (RowCause::TooManyDevices, 7),
-        (RowCause::IdsUsedUp, 8),
-        (RowCause::TierDiffers, 12),
-    ] {
-        let text = format!(in rt.alloc();
-            "{{\"cause\":{rule},\"refused\":\"RowRefused\",\"row\":3,\"rule\":13}}"
-        )?;
-        let refusal = Refusal::RowRefused { row: 3, cause };
-        assert!(rt;
-            is_text_of(rt.alloc(), text.as_str(), Reply::Refused(refusal))?,
-            "{rule}"
-        );
-    }
+fn refusals_have_a_name_and_a_rule(rt: HostRuntime) -> Result<(), Fail> {
     for (refusal, text) in [
         (
             Refusal::TooFewDevices,
@@ -475,6 +460,26 @@ fn a_row_is_refused_with_its_number_and_cause(rt: HostRuntime) -> Result<(), Fai
         assert!(rt;
             is_text_of(rt.alloc(), text, Reply::Refused(refusal))?,
             "{text}"
+        );
+    }
+    Ok(())
+}
+
+#[test]
+fn a_row_is_refused_with_its_number_and_cause(rt: HostRuntime) -> Result<(), Fail> {
+    for (cause, rule) in [
+        (RowCause::DeviceRemoved, 6u8),
+        (RowCause::TooManyDevices, 7),
+        (RowCause::IdsUsedUp, 8),
+        (RowCause::TierDiffers, 12),
+    ] {
+        let text = format!(in rt.alloc();
+            "{{\"cause\":{rule},\"refused\":\"RowRefused\",\"row\":3,\"rule\":13}}"
+        )?;
+        let refusal = Refusal::RowRefused { row: 3, cause };
+        assert!(rt;
+            is_text_of(rt.alloc(), text.as_str(), Reply::Refused(refusal))?,
+            "{rule}"
         );
     }
     for text in [

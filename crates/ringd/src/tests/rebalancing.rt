@@ -345,6 +345,12 @@ fn too_few_open_devices_change_nothing(rt: HostRuntime) -> Result<(), Fail> {
         ),
     ];
     assert!(rt; runs(rt.alloc(), &[&three_replicas])?);
+    Ok(())
+}
+
+#[test]
+fn a_marked_device_is_none_to_put_seats_on(rt: HostRuntime) -> Result<(), Fail> {
+    let too_few = "422 {'refused':'TooFewDevices','rule':9}";
     let marked = [
         (
             0,
@@ -586,22 +592,51 @@ fn a_version_is_published_once(rt: HostRuntime) -> Result<(), Fail> {
 const TINY_TEXT: &str =
     "swift-ring-text 1\nring tiny\nversion 2\npower 1\nreplicas 1\ndevices 1\n0 1 1 10.0.0.1 6200 100.00 present d0\nseats\n0\n0\nend\n";
 
+/// The rings after commands on one ring.
+fn rings_after(alloc: Global, ring: &str, commands: &[&str]) -> Result<Rings, Fail> {
+    let limits = Limits::full();
+    let mut rings = Rings::new(alloc);
+    for what in commands {
+        let mut message = String::new(alloc);
+        let text = format!(in alloc; "{{'caller':'ops','number':1,'ring':'{ring}',{what}}}")?;
+        push_quoted(&mut message, text.as_str())?;
+        let (_, command) = read_delivery(alloc, message.as_bytes())?;
+        let (after, _) = decide(alloc, &rings, 0, &command, &limits)?;
+        rings = after;
+    }
+    Ok(rings)
+}
+
 #[test]
 fn the_text_of_a_version_is_published(rt: HostRuntime) -> Result<(), Fail> {
     let alloc = rt.alloc();
-    let limits = Limits::full();
-    let mut rings = Rings::new(alloc);
-    for (hour, _, what, _) in TINY.iter() {
-        let mut message = String::new(alloc);
-        let text = format!(in alloc; "{{'caller':'ops','number':1,'ring':'tiny',{what}}}")?;
-        push_quoted(&mut message, text.as_str())?;
-        let (_, command) = read_delivery(alloc, message.as_bytes())?;
-        let (after, _) = decide(alloc, &rings, *hour, &command, &limits)?;
-        rings = after;
-    }
-    let name = RingName::new(alloc, "tiny")?;
-    let ring = rings.get(&name).ok_or("the ring")?;
+    let create = "'do':'create','power':1,'replicas':1,'min_hours':0";
+    let commands = [create, ADD_D0, REBALANCE, PUBLISH, PUBLISH];
+    let rings = rings_after(alloc, "tiny", &commands)?;
+    let ring = rings.get(&RingName::new(alloc, "tiny")?).ok_or("the ring")?;
     assert_eq!(rt; ring.published(2), Some(TINY_TEXT));
     assert_eq!(rt; ring.published_list().len(), 1);
+    Ok(())
+}
+
+/// The seats of a ring of four devices that is assigned with a seed.
+fn seats_of(alloc: Global, seed: u32) -> Result<Vec<u16>, Fail> {
+    let create = "'do':'create','power':4,'replicas':2,'min_hours':0";
+    let rebalance = format!(in alloc; "'do':'rebalance','seed':{seed}")?;
+    let commands = [create, ADD_D0, ADD_D1, ADD_D2, ADD_D3, rebalance.as_str()];
+    let rings = rings_after(alloc, "object", &commands)?;
+    let ring = rings
+        .get(&RingName::new(alloc, "object")?)
+        .ok_or("the ring")?;
+    Ok(Vec::from_slice(alloc, ring.seats())?)
+}
+
+#[test]
+fn a_seed_gives_one_ring_and_another_seed_another(rt: HostRuntime) -> Result<(), Fail> {
+    let alloc = rt.alloc();
+    let first = seats_of(alloc, 1)?;
+    assert_eq!(rt; first.len(), 32);
+    assert_eq!(rt; first.as_slice(), seats_of(alloc, 1)?.as_slice());
+    assert!(rt; first.as_slice() != seats_of(alloc, 2)?.as_slice());
     Ok(())
 }
