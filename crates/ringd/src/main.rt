@@ -9,12 +9,15 @@ mod tests;
 mod words;
 
 use performing::perform;
+use std::alloc::AllocError;
 use std::env;
+use std::io::ErrorKind;
 use std::process::ExitCode;
 
 fn main(rt: HostRuntime) -> ExitCode {
     let words: Result<Vec<String>, _> = match env::args(&rt) {
         Ok(words) => words.collect(rt.alloc()),
+        Err(error) if error.kind() == ErrorKind::OutOfMemory => Err(AllocError),
         Err(_) => Ok(Vec::new(rt.alloc())),
     };
     let Ok(words) = words else {

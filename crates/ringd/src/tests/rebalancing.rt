@@ -619,24 +619,26 @@ fn the_text_of_a_version_is_published(rt: HostRuntime) -> Result<(), Fail> {
     Ok(())
 }
 
-/// The seats of a ring of four devices that is assigned with a seed.
-fn seats_of(alloc: Global, seed: u32) -> Result<Vec<u16>, Fail> {
+/// The seats of a ring of four devices after a rebalance.
+fn seats_after(alloc: Global, rebalance: &'static str) -> Result<Vec<u16>, Fail> {
     let create = "'do':'create','power':4,'replicas':2,'min_hours':0";
-    let rebalance = format!(in alloc; "'do':'rebalance','seed':{seed}")?;
-    let commands = [create, ADD_D0, ADD_D1, ADD_D2, ADD_D3, rebalance.as_str()];
+    let commands = [create, ADD_D0, ADD_D1, ADD_D2, ADD_D3, rebalance];
     let rings = rings_after(alloc, "object", &commands)?;
-    let ring = rings
-        .get(&RingName::new(alloc, "object")?)
-        .ok_or("the ring")?;
-    Ok(Vec::from_slice(alloc, ring.seats())?)
+    let name = RingName::new(alloc, "object")?;
+    match rings.get(&name) {
+        Some(ring) => Ok(Vec::from_slice(alloc, ring.seats())?),
+        None => Err("the ring".into()),
+    }
 }
 
 #[test]
 fn a_seed_gives_one_ring_and_another_seed_another(rt: HostRuntime) -> Result<(), Fail> {
     let alloc = rt.alloc();
-    let first = seats_of(alloc, 1)?;
+    let first = seats_after(alloc, REBALANCE)?;
+    let again = seats_after(alloc, REBALANCE)?;
+    let other = seats_after(alloc, "'do':'rebalance','seed':8")?;
     assert_eq!(rt; first.len(), 32);
-    assert_eq!(rt; first.as_slice(), seats_of(alloc, 1)?.as_slice());
-    assert!(rt; first.as_slice() != seats_of(alloc, 2)?.as_slice());
+    assert_eq!(rt; first.as_slice(), again.as_slice());
+    assert!(rt; first.as_slice() != other.as_slice());
     Ok(())
 }
