@@ -1,7 +1,9 @@
 //! What follows from the definitions alone.
-ghost use Rattle.std.specs.Prelude.{◌≡◌, ◌≢◌, ℕ, List};
+ghost use Rattle.std.specs.Prelude.{◌≡◌, ◌≢◌, ◌∷◌, ◌++◌, ℕ, List};
 ghost use Rattle.builder.specs.Safety.{FewLeft};
 ghost use Rattle.builder.specs.Step.{State, Step};
+ghost use Rattle.request_book.specs.Run.{Chain};
+ghost use Rattle.request_book.specs.declared.entry.Entry.{Entry};
 ghost use Rattle.ring_model.specs.Rings.{ring_at};
 ghost use Rattle.ring_model.specs.declared.request.Limits.{Limits};
 ghost use Rattle.ring_model.specs.declared.command.Command.{Command};
@@ -21,4 +23,13 @@ pub fn other_rings_stay()
 pub fn few_replicas_leave()
     ensures { (limits : Limits) (rings after : State) (hour seed : ℕ) (name : List ℕ) (answer : Done)
         → Step limits rings hour (record { ring = name; act = act.Rebalance seed }) (reply.Done answer) after → FewLeft rings name hour after }
+{}
+
+/// On the way of a run, in each rebalance that was done at most one replica of a partition left a device that remains, and
+/// none before its hours had passed. The entries are the decided requests in their order, and the steps lead from the old
+/// rings to the new ones.
+pub fn few_replicas_leave_in_a_run()
+    ensures { (limits : Limits) (old new : State) (before after : List (Entry Command Reply)) (entry : Entry Command Reply) (seed : ℕ) (answer : Done)
+        → Chain (Step limits) old (before ++ entry ∷ after) new → entry.command.act ≡ act.Rebalance seed → entry.reply ≡ reply.Done answer
+        → (rings : State) × ((later : State) × (Chain (Step limits) old before rings × (FewLeft rings entry.command.ring entry.hour later × Chain (Step limits) later after new))) }
 {}
