@@ -25,3 +25,14 @@ def ask(program, line):
     program.stdin.flush()
     answer = program.stdout.readline().decode().rstrip("\n")
     return answer, time.perf_counter() - begun
+
+
+def ask_balance(program):
+    """The last line of the table of balances of the ring `object`, and the seconds until it was read."""
+    program.stdin.write(b"? balance object\n")
+    begun = time.perf_counter()
+    program.stdin.flush()
+    line = ""
+    while not line.startswith("balance "):
+        line = program.stdout.readline().decode().rstrip("\n")
+    return line, time.perf_counter() - begun

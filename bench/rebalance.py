@@ -2,11 +2,11 @@
 """Times rebalances through the built program: bench/rebalance.py [POWER [REPLICAS [DEVICES]]]
 
 A ring of devices in three regions is assigned, takes one more device and is rebalanced, is rebalanced again with nothing
-to do, shown, and published. Each line tells what was asked, how long the answer took, and the answer.
+to do, published, and shown with its figures. Each line tells what was asked, how long the answer took, and the answer.
 """
 import sys
 
-from program import ask, message, start
+from program import ask, ask_balance, message, start
 
 
 def row(place):
@@ -31,6 +31,8 @@ def main():
         for what, line in steps:
             answer, seconds = ask(program, line)
             print(f"{what:>16} {1000 * seconds:>9.2f} ms  {answer}")
+        figures, seconds = ask_balance(program)
+        print(f"{'? balance':>16} {1000 * seconds:>9.2f} ms  {figures}")
         program.stdin.close()
 
 
