@@ -1,6 +1,8 @@
 pub mod AtPlaces
 pub mod Best
 pub mod Outside
+pub mod Nearest
+pub mod Listed
 pub mod Counts
 pub mod Lawful
 pub mod SeatRows

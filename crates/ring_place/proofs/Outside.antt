@@ -15,7 +15,7 @@ use Rattle.ring_share.specs.Room.{has_open}
 use Rattle.ring_share.specs.Want.{is_open}
 use Rattle.ring_share.proofs.Counting.{apart}
 use Rattle.ring_place.specs.Load.{Load, IsLeast, IsLoad, crowd_in, has_room_in, is_free_in, seats_of}
-use Rattle.ring_place.specs.Places.{id_after, id_at, IsBestOf, IsBestSoFar, seats_at, turned}
+use Rattle.ring_place.specs.Places.{AreRoomy, id_after, id_at, IsBestOf, IsBestSoFar, seats_at, turned}
 use Rattle.ring_place.proofs.AtPlaces.{id_at_is}
 
 -- a device stands at each place
@@ -84,29 +84,50 @@ step_to count start place lt mt = ⊎_elim
 free_open : (load : Load) (row : List (Option ℕ)) (id : ℕ) → is_free_in load row id ≡ true → has_open id load.devices ≡ true
 free_open load row id free = grind (arith, nat_tests)
 
--- a free device comes at some step
-free_step : (load : Load) (row : List (Option ℕ)) (start id : ℕ) → start < length load.devices → is_free_in load row id ≡ true → (step : ℕ) × (step < length load.devices) × (id_after load start step ≡ id)
-free_step load row start id lt free =
-    let place = place_of_open load.devices id (free_open load row id free) in
-    let step = step_to (length load.devices) start place.0 lt place.1 in
-    (step.0, step.1, ap (id_at load.devices) step.2 ∙ place.2)
+free_room : (load : Load) (row : List (Option ℕ)) (id : ℕ) → is_free_in load row id ≡ true → has_room_in load id ≡ true
+free_room load row id free = grind (arith, nat_tests)
 
-pub least_at_end : (load : Load) (at row : List (Option ℕ)) (start best id : ℕ) → at ≡ row → start < length load.devices → id_at load.devices best ≡ id → IsBestOf start (length load.devices) load at best → IsLeast load row id
-least_at_end load at row start best id same lt named is =
+-- a free device comes at some step
+free_step : (load : Load) (row : List (Option ℕ)) (places : List ℕ) (start id : ℕ) → AreRoomy load places → start < length places → is_free_in load row id ≡ true
+    → (step : ℕ) × (step < length places) × (id_after load places start step ≡ id)
+free_step load row places start id are lt free =
+    let place = place_of_open load.devices id (free_open load row id free) in
+    let listed = are.covered place.0 place.1 (ap (has_room_in load) place.2 ∙ free_room load row id free) in
+    let step = step_to (length places) start listed.0 lt listed.1 in
+    (step.0, step.1, ap (λ index. id_at load.devices (get_or places index 0)) step.2 ∙ ap (id_at load.devices) listed.2 ∙ place.2)
+
+pub least_at_end : (load : Load) (at row : List (Option ℕ)) (places : List ℕ) (start best id : ℕ) → at ≡ row → AreRoomy load places → start < length places → id_at load.devices best ≡ id
+    → IsBestOf places start (length places) load at best → IsLeast load row id
+least_at_end load at row places start best id same are lt named is =
     subst (λ r. IsLeast load r id) same (subst (λ n. IsLeast load at n) named record {
       free = is.free;
       least = λ other free.
-          let step = free_step load at start other lt free in
+          let step = free_step load at places start other are lt free in
           subst (λ n. is_less (crowd_in load at n) (crowd_in load at (id_at load.devices best)) ≡ false) step.2
           (is.least step.0 step.1 (subst (λ n. is_free_in load at n ≡ true) (sym step.2) free));
     })
 
-pub none_at_end : (load : Load) (at row : List (Option ℕ)) (start : ℕ) → at ≡ row → start < length load.devices → IsBestSoFar start (length load.devices) load at None → (id : ℕ) → is_free_in load row id ≡ false
-none_at_end load at row start same lt none id = subst (λ r. is_free_in load r id ≡ false) same (decide (is_free_in load at id) refl)
+-- none is free where none of the roomy is
+pub none_free : (load : Load) (row : List (Option ℕ)) (id : ℕ) → (is_free_in load row id ≡ true → ⊥) → is_free_in load row id ≡ false
+none_free load row id never = decide (is_free_in load row id) refl
   where
-    decide : (b : Bool) → is_free_in load at id ≡ b → is_free_in load at id ≡ false
+    decide : (b : Bool) → is_free_in load row id ≡ b → is_free_in load row id ≡ false
     decide false is = is
-    decide true is = let step = free_step load at start id lt is in subst (λ n. is_free_in load at n ≡ false) step.2 (none step.0 step.1)
+    decide true is = absurd (never is)
+
+pub none_at_end : (load : Load) (at row : List (Option ℕ)) (places : List ℕ) (start : ℕ) → at ≡ row → AreRoomy load places → start < length places → IsBestSoFar places start (length places) load at None
+    → (id : ℕ) → is_free_in load row id ≡ false
+none_at_end load at row places start same are lt none id = subst (λ r. is_free_in load r id ≡ false) same
+    (none_free load at id (λ free. let step = free_step load at places start id are lt free in let shut = none step.0 step.1 in let open' = subst (λ n. is_free_in load at n ≡ true) (sym step.2) free in cc (shut, open')))
+
+-- where no device has room none is free
+pub none_roomy : (load : Load) (row : List (Option ℕ)) (places : List ℕ) → AreRoomy load places → length places ≡ 0 → (id : ℕ) → is_free_in load row id ≡ false
+none_roomy load row places are none id =
+    none_free load row id (λ free.
+    let place = place_of_open load.devices id (free_open load row id free) in
+    let listed = are.covered place.0 place.1 (ap (has_room_in load) place.2 ∙ free_room load row id free) in
+    let lt = listed.1 in
+    absurd (omega (arith, lt, none)))
 
 -- so it is where the places are the first of an array
 pub seats_first : (devices : List Device) (ids places : List ℕ) → length ids ≤ 5 → length places ≡ 5

@@ -59,8 +59,12 @@ fn is_outside(ring: &Ring, partition: usize, id: DeviceId) -> bool {
     (0..width(ring)).all(|replica| seat(ring, partition, replica) != Some(id))
 }
 
+pub(crate) fn has_room(ring: &Ring, wanted: &[u32], id: DeviceId) -> bool {
+    is_open(ring, id) && have(ring, id) < want(ring, wanted, id)
+}
+
 fn is_free(ring: &Ring, wanted: &[u32], partition: usize, id: DeviceId) -> bool {
-    is_open(ring, id) && have(ring, id) < want(ring, wanted, id) && is_outside(ring, partition, id)
+    has_room(ring, wanted, id) && is_outside(ring, partition, id)
 }
 
 fn has_free(ring: &Ring, wanted: &[u32], partition: usize) -> bool {
@@ -69,23 +73,39 @@ fn has_free(ring: &Ring, wanted: &[u32], partition: usize) -> bool {
         .any(|device| is_free(ring, wanted, partition, device.id))
 }
 
-/// How many other seats of the partition are in the device's region, in its zone, on its server, as one number.
-fn crowd(ring: &Ring, partition: usize, replica: usize, id: DeviceId) -> usize {
+/// 1 for each tier that two devices share, as one number: regions count ten thousands, zones hundreds.
+fn near(one: &Device, other: &Device) -> usize {
+    if one.row.region != other.row.region {
+        0
+    } else if one.row.zone != other.row.zone {
+        10_000
+    } else if one.row.address != other.row.address {
+        10_100
+    } else {
+        10_101
+    }
+}
+
+/// How many of these devices are in a device's region, in its zone, on its server, as one number.
+pub(crate) fn crowd_among(ring: &Ring, others: &[DeviceId], id: DeviceId) -> usize {
     let Some(own) = device(ring, id) else {
         return 0;
     };
     let mut crowd = 0usize;
+    for other in others {
+        let shared = device(ring, *other).map_or(0, |other| near(own, other));
+        crowd = crowd.saturating_add(shared);
+    }
+    crowd
+}
+
+/// How many other seats of the partition are in the device's region, in its zone, on its server, as one number.
+fn crowd(ring: &Ring, partition: usize, replica: usize, id: DeviceId) -> usize {
+    let mut crowd = 0usize;
     for other in 0..width(ring) {
-        let seat = seat(ring, partition, other).and_then(|id| device(ring, id));
-        if let Some(seat) = seat {
-            if other != replica && seat.row.region == own.row.region {
-                crowd = crowd.saturating_add(10_000);
-                if seat.row.zone == own.row.zone {
-                    crowd = crowd.saturating_add(100);
-                    if seat.row.address == own.row.address {
-                        crowd = crowd.saturating_add(1);
-                    }
-                }
+        if other != replica {
+            if let Some(seat) = seat(ring, partition, other) {
+                crowd = crowd.saturating_add(crowd_among(ring, [seat].as_slice(), id));
             }
         }
     }

@@ -10,8 +10,9 @@ ghost use Rattle.ring_place.specs.Rebalance.{is_recent};
 ghost use Rattle.ring_place.specs.Rows.{is_empty, row_at, AreKnown};
 ghost use Rattle.ring_place.specs.Gathering.{is_lost_in, present_only, has_free_in, has_less_in, is_crowded_in, Lifts, Takes, AreUncrowded, HaveNoSurplus, Falls, IsFirst, IsSecond, IsFilled, AreRows, IsFirstPass, IsSecondPass, IsGathered};
 
-use crate::rooms::{Room, is_less};
+use crate::rooms::Room;
 use crate::seats::{Seats, Taken};
+use crate::tally::is_less;
 use ring_model::{DeviceId, Hour, Ring};
 use ring_share::wanted;
 use std::alloc::{AllocError, Global};

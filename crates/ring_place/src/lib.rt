@@ -12,6 +12,7 @@ mod places;
 mod rebalances;
 mod rooms;
 mod seats;
+mod tally;
 
 pub use rebalances::{PlaceError, Rebalanced, rebalance};
 pub use rooms::Room;

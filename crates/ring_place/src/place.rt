@@ -9,8 +9,9 @@ ghost use Rattle.ring_place.specs.Rows.{AreKnown, is_empty, row_at};
 ghost use Rattle.ring_place.specs.Load.{IsLeast, IsLoad, have_in, is_free_in, seats_of};
 ghost use Rattle.ring_place.specs.Placing.{AllPlaced, CanPlace, IsChosen, OpenWant, OwnWins, RowPlaced, have_on};
 
-use crate::rooms::{Room, is_less};
+use crate::rooms::Room;
 use crate::seats::{Seats, Taken};
+use crate::tally::is_less;
 use rand_core::Rng;
 use rand_pcg::Pcg32;
 use ring_model::DeviceId;

@@ -10,8 +10,8 @@ ghost use Rattle.ring_place.specs.Rebalance.{IsAfter, IsRebalance, changed_seats
 use crate::gather::gathered;
 use crate::order::{draws_of, shuffled};
 use crate::place::place_all;
-use crate::rooms::is_open;
 use crate::seats::{Seats, partition_count};
+use crate::tally::is_open;
 use ring_model::{BuildFault, Device, DeviceId, Hour, Ring};
 use std::alloc::{AllocError, Global};
 

@@ -1,7 +1,7 @@
 //! What no contract says: worked examples, that calls succeed where there is memory, and random rings against plain scans.
-ghost use Rattle.std.specs.Prelude.{◌<◌};
+ghost use Rattle.std.specs.Prelude.{◌≡◌, ◌<◌};
 
-use crate::checker::check;
+use crate::checker::{check, crowd_among, has_room};
 use crate::gather::gathered;
 use crate::order::{draws_of, shuffled};
 use crate::seats::partition_count;
@@ -306,10 +306,9 @@ fn random_rings_meet_the_definitions(rt: HostRuntime) -> Result<(), Fail> {
     Ok(())
 }
 
-#[test]
-fn a_ring_of_full_size_is_assigned(rt: HostRuntime) -> Result<(), Fail> {
-    let alloc = rt.alloc();
-    let mut ring = ring(alloc, 14, 5, 0, [].as_slice())?;
+/// A ring of 5 replicas without seats, of 256 devices in three regions of seven zones, two on a server.
+fn wide_ring(alloc: Global, power: u16) -> Result<Ring, Fail> {
+    let mut ring = ring(alloc, power, 5, 0, [].as_slice())?;
     for number in 0..=255u8 {
         let weight = 10_000 + u32::from(number) * 10;
         let device = device_at(
@@ -322,7 +321,69 @@ fn a_ring_of_full_size_is_assigned(rt: HostRuntime) -> Result<(), Fail> {
         )?;
         ring = with_device(alloc, &ring, device)?;
     }
+    Ok(ring)
+}
+
+#[test]
+fn a_ring_of_full_size_is_assigned(rt: HostRuntime) -> Result<(), Fail> {
+    let alloc = rt.alloc();
+    let ring = wide_ring(alloc, 14)?;
     assert_eq!(rt; done(alloc, &ring, 0, 7)?.changed, 81_920);
+    Ok(())
+}
+
+/// For a seat with up to four others anywhere: the crowd of the device that is found is the least of a scan of all devices.
+fn least_is_scanned(
+    room: &Room,
+    ring: &Ring,
+    wanted: &[u32],
+    draws: &mut Pcg32,
+) -> Result<bool, Fail>
+    requires { room.now.devices ≡ ring.now.devices }
+{
+    let others = [
+        below(draws, 256) as u16,
+        below(draws, 256) as u16,
+        below(draws, 256) as u16,
+        below(draws, 256) as u16,
+    ];
+    if !ring.has_device(others[0])
+        || !ring.has_device(others[1])
+        || !ring.has_device(others[2])
+        || !ring.has_device(others[3])
+    {
+        return Ok(false);
+    }
+    let others = &others[..below(draws, 5) as usize];
+    let is_free = |id: u16| has_room(ring, wanted, id) && !others.contains(&id);
+    let least = room.least(others, draws.next_u32());
+    let scanned = ring
+        .devices()
+        .iter()
+        .filter(|device| is_free(device.id))
+        .map(|device| crowd_among(ring, others, device.id))
+        .min();
+    let found = least.map(|id| crowd_among(ring, others, id));
+    Ok(found == scanned && least.is_none_or(is_free))
+}
+
+#[test]
+fn the_least_crowded_of_256_devices_is_that_of_a_scan(rt: HostRuntime) -> Result<(), Fail> {
+    let alloc = rt.alloc();
+    let mut draws = draws_of(3);
+    let mut ring = wide_ring(alloc, 6)?;
+    for round in 0..30u32 {
+        let wants = wanted(alloc, &ring)?;
+        let room = Room::of(alloc, &ring, &wants)?;
+        for _ in 0..20 {
+            assert!(rt; least_is_scanned(&room, &ring, &wants, &mut draws)?);
+        }
+        if round % 10 == 0 {
+            ring = done(alloc, &ring, round, 7)?.ring;
+        }
+        let id = below(&mut draws, 256) as u16;
+        ring = weighed(alloc, &ring, id, below(&mut draws, 40_000))?;
+    }
     Ok(())
 }
 
