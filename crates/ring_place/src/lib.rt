@@ -8,7 +8,6 @@ mod gather;
 pub mod laws;
 mod order;
 mod place;
-mod places;
 mod rebalances;
 mod rooms;
 mod seats;

@@ -8,8 +8,8 @@ ghost use Rattle.ring_share.specs.Want.{is_open as is_open_device, AreWanted};
 ghost use Rattle.ring_place.specs.Load.{IsLoad, have_in, want_in, has_room_in, load_put, load_take, seats_of, is_free_in, crowd_in};
 ghost use Rattle.ring_place.specs.Places.{id_at, seats_at, region_at, AreRegions, AreRoomy, IsBestSoFar, is_best, turned};
 
-use crate::places::place_in;
 use ring_model::{Device, DeviceId, Ring};
+use ring_share::place_in;
 use std::alloc::{AllocError, Global};
 use std::marker::Model;
 

@@ -15,7 +15,8 @@ mod wants;
 
 pub use crowds::crowd;
 pub use figures::{balance, balance_of, dispersion};
-pub use rooms::has_room;
+pub use places::place_in;
+pub use rooms::{has_room, have};
 pub use wants::wanted;
 
 #[cfg(test)]

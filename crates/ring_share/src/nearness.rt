@@ -103,15 +103,16 @@ fn row_at(table: &Table, place: usize) -> &[u8; 256]
 /// Whether a device may be less crowded than the one at a place, by the sums, the row of that place, how near that device
 /// is to itself, and its sum. No device is where it answers false.
 ///
-/// This goes through all places without a branch, which compilers do many at a time.
-fn may_be_less(sums: &[u16; 256], row: &[u8; 256], same: u16, least: u16) -> bool
+/// This goes through the places of so many devices without a branch, which compilers do many at a time.
+fn may_be_less(count: usize, sums: &[u16; 256], row: &[u8; 256], same: u16, least: u16) -> bool
+    requires count { count ≤ 256 }
     requires sums { (k : ℕ) → slice_index sums.now k ≤ 215 }
     requires same { same < 256 }
     requires least { least ≤ 215 }
-    ensures { result ≡ false → (k : ℕ) → k < 256 → least + slice_index row.now k ≤ slice_index sums.now k + same }
+    ensures { result ≡ false → (k : ℕ) → k < count → least + slice_index row.now k ≤ slice_index sums.now k + same }
 {
     let mut some = false;
-    for place in 0..256 {
+    for place in 0..count {
         some |= sums[place] + same < least + u16::from(row[place]);
     }
     some
@@ -143,7 +144,7 @@ fn has_less(
     let row = row_at(table, own);
     let least = sums[own];
     let same = u16::from(row[own]);
-    if !may_be_less(sums, row, same, least) {
+    if !may_be_less(devices.len(), sums, row, same, least) {
         return false;
     }
     for other in 0..devices.len() {

@@ -6,13 +6,18 @@ ghost use Rattle.ring_share.specs.Near.{StandsAt};
 
 use ring_model::{Device, DeviceId};
 
-/// The place of the device of a number, by halving.
-pub(crate) fn place_in(devices: &[Device], id: DeviceId) -> usize
+/// The place of the device of a number among the devices of a ring, which stand by rising number. It is looked for at the
+/// place that it has while no device was dropped, and then by halving.
+pub fn place_in(devices: &[Device], id: DeviceId) -> usize
     requires rise { IsStrictlyIncreasing (map (λ device. device.id) devices.now) }
     requires known { has_device id devices.now ≡ true }
     ensures stands { StandsAt devices.now id result }
     ensures within { result < length devices.now }
 {
+    let guess = usize::from(id);
+    if guess < devices.len() && devices[guess].id == id {
+        return guess;
+    }
     let mut low = 0;
     let mut high = devices.len();
     while high - low > 1 {

@@ -9,7 +9,7 @@ use crate::wants::is_open;
 use ring_model::{Device, DeviceId, Ring};
 
 /// How many seats are on the device of a number.
-pub(crate) fn have(ring: &Ring, id: DeviceId) -> u32
+pub fn have(ring: &Ring, id: DeviceId) -> u32
     ensures value { result ≡ have ring.now id }
     ensures small { result ≤ 81920 }
 {

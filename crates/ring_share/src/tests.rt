@@ -2,7 +2,7 @@
 //! scans.
 ghost use Rattle.std.specs.Prelude.{◌<◌};
 
-use crate::{balance, balance_of, crowd, dispersion, has_room, wanted};
+use crate::{balance, balance_of, crowd, dispersion, has_room, have, place_in, wanted};
 use ring_model::{
     Address, Device, DeviceName, Port, Power, Replicas, Ring, RingParts, Row, Weight,
 };
@@ -143,6 +143,23 @@ fn room_is_up_to_the_want(rt: HostRuntime) -> Result<(), Fail> {
             return Err(Fail::from("a device"));
         }
         assert_eq!(rt; has_room(&ring, &wants, id), room);
+    }
+    Ok(())
+}
+
+#[test]
+fn devices_close_up_where_one_was_dropped(rt: HostRuntime) -> Result<(), Fail> {
+    let alloc = rt.alloc();
+    let mut devices = devices(alloc, &["100.00"])?;
+    devices.push(device(alloc, 2, 1, "100.00")?)?;
+    devices.push(device(alloc, 3, 1, "100.00")?)?;
+    let ring = ring(alloc, 2, 1, devices, vec![in alloc; 0, 3, 3, 2]?)?;
+    for (id, place, seats) in [(0, 0, 1), (2, 1, 1), (3, 2, 2)] {
+        if !ring.has_device(id) {
+            return Err(Fail::from("a device"));
+        }
+        assert_eq!(rt; place_in(ring.devices(), id), place);
+        assert_eq!(rt; have(&ring, id), seats);
     }
     Ok(())
 }

@@ -1,29 +1,15 @@
 //! The table of wants and balances.
-ghost use Rattle.std.specs.Prelude.{◌≡◌, ◌≤◌, ◌==◌, ℕ, List, IfOk, Some, length, count_by, string_bytes};
+ghost use Rattle.std.specs.Prelude.{◌≡◌, ℕ, List, IfOk, Some, length, string_bytes};
 ghost use Rattle.ring_share.specs.Want.{AreWanted};
-ghost use Rattle.ring_share.specs.Room.{have};
 ghost use Rattle.ring_share.specs.Crowd.{device_of};
 ghost use Rattle.ring_share.specs.Figures.{device_balance};
 ghost use Rattle.ring_tables.specs.Layout.{row};
 ghost use Rattle.ring_tables.specs.Tables.{balance_columns, balance_titles, balance_texts, figures_line, balance_table};
 
 use crate::cells::{hundredths_cell, hundredths_text, number_cell};
-use ring_model::{Device, DeviceId, Ring};
-use ring_share::{balance, balance_of, dispersion, wanted};
+use ring_model::{Device, Ring};
+use ring_share::{balance, balance_of, dispersion, have, wanted};
 use std::alloc::{AllocError, Global};
-
-/// How many seats are on the device of a number.
-fn have(ring: &Ring, id: DeviceId) -> u32
-    ensures { result ≡ have ring.now id }
-{
-    count_of(ring.seats(), id) as u32
-}
-
-fn count_of(seats: &[DeviceId], id: DeviceId) -> usize
-    ensures { result ≡ count_by (λ seat. seat == id) seats.now }
-{
-    seats.iter().filter(|seat| **seat == id).count()
-}
 
 /// The balance of a device of the ring.
 fn balance_of_known(ring: &Ring, device: &Device) -> u32

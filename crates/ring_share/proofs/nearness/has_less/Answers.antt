@@ -30,4 +30,4 @@ returns-then-not-may_be_less c =
     let row : (k : ℕ) → get_or c.row_at-row.result.now k 0 ≡ near_at c.args.devices.now c.args.own k = λ k. ap (λ (r : List ℕ). get_or r k 0) c.row_at-row.ensures ∙ c.requires.table c.args.own k in
     sym (none_below (λ other. is_better_at c.args.devices.now c.args.places.now c.args.own other) (length c.args.devices.now)
     (λ k lt. better_not_less c.args.devices.now c.args.places.now c.args.own k _ _ _ _ (c.requires.sums k) (c.from-same.ensures ∙ row c.args.own) (c.requires.sums c.args.own) (row k)
-    (c.may_be_less.ensures c.if-not-may_be_less.true k (omega (arith, lt, c.requires.count)))))
+    (c.may_be_less.ensures c.if-not-may_be_less.true k lt)))
