@@ -1,5 +1,5 @@
 -- The best device of the first steps.
-use Rattle.std.proofs.Common.{◌≡◌, ℕ, ◌+◌, ◌<◌, ◌≤◌, true, false, List, length, Option, Some, None, ap, subst, sym, ◌∙◌, arith, below_more}
+use Rattle.std.proofs.Common.{◌≡◌, ℕ, ◌+◌, ◌<◌, true, false, List, length, Option, Some, None, ap, subst, sym, ◌∙◌, arith, below_more}
 use Rattle.std.specs.Prelude.{slice_index}
 use Rattle.std.proofs.lemmas.Bool.Decides.{nat_tests}
 use Rattle.ring_share.specs.Crowd.{is_less}
@@ -68,6 +68,6 @@ best_keep load row places start step place best at so_far fails = record {
       step so_far.least (λ passes. subst (λ p. is_less (crowd_in load row (id_at load.devices p)) (crowd_in load row (id_at load.devices best)) ≡ false) at fails);
 }
 
--- with no more of the others in its region than any, and none in its zone, a device is less crowded than no other
-pub no_less : (a b : ℕ × ℕ × ℕ) (fewest : ℕ) → fewest ≤ a.0 → b.0 ≤ fewest → b.1 ≡ 0 → b.2 ≡ 0 → is_less a b ≡ false
-no_less a b fewest least few zone server = grind (arith, nat_tests)
+-- nothing is less crowded than no seat near
+pub none_less_empty : (a : ℕ × ℕ × ℕ) → is_less a (0, 0, 0) ≡ false
+none_less_empty a = grind (arith, nat_tests)

@@ -10,7 +10,8 @@ use Rattle.ring_model.specs.declared.device.Device.{Device}
 use Rattle.ring_share.specs.Room.{has_open, place_of}
 use Rattle.ring_share.proofs.Standing.{found_device}
 use Rattle.ring_place.specs.Load.{Load, IsLoad, has_room_in, want_in, with_count}
-use Rattle.ring_place.specs.Places.{IsRoom, id_at}
+use Rattle.ring_place.specs.Lists.{AreRoomy, IsRoom}
+use Rattle.ring_place.specs.Places.{id_at}
 use Rattle.ring_place.proofs.AtPlaces.{id_at_is, id_stands, place_is, place_stands}
 use Rattle.ring_place.proofs.Outside.{device_there}
 
@@ -41,16 +42,18 @@ room_stays load is id count known same place lt =
     (room_elsewhere load is id count place lt)
     (cases_eq place (place_of id load.devices))
 
-pub room_kept : (load : Load) (roomy : List ℕ) (listed : ℕ) (regions : List ℕ) → IsRoom load roomy listed regions → (id count : ℕ) → has_device id load.devices ≡ true
-    → has_room_in (with_count load id count) id ≡ has_room_in load id → IsRoom (with_count load id count) roomy listed regions
-room_kept load roomy listed regions is id count known same =
+pub room_kept : (load : Load) (roomy : List ℕ) (listed : ℕ) (regions zones servers : List ℕ) → IsRoom load roomy listed regions zones servers → (id count : ℕ) → has_device id load.devices ≡ true
+    → has_room_in (with_count load id count) id ≡ has_room_in load id → IsRoom (with_count load id count) roomy listed regions zones servers
+room_kept load roomy listed regions zones servers is id count known same =
     let before = is.counted in
     record {
       counted = record { rise = before.rise; few = before.few; wants = before.wants; counted = length-set load.counts (place_of id load.devices) count ∙ before.counted };
       long = is.long;
       few = is.few;
       listed = record { within = is.listed.within; covered = λ place lt room. is.listed.covered place lt (sym (room_stays load before id count known same place lt) ∙ room) };
-      one_each = is.one_each;
+      regions_have = is.regions_have;
+      zones_have = is.zones_have;
+      servers_have = is.servers_have;
     }
 
 -- the first of some places are places of devices
@@ -62,3 +65,19 @@ places_within devices ids places few long all k d lt =
     let read : get_or (take (length ids) places) k d ≡ get_or places k 0 = get_or_default_zero (take (length ids) places) k d lt ∙ get_or-take (length ids) places k 0 below in
     let there = (all k below).0 in
     omega (arith, there, read)
+
+-- the first places of an array are roomy
+pub roomy_first : (load : Load) (places : List ℕ) (count : ℕ) → count ≤ length places → ((k : ℕ) → k < count → get_or places k 0 < length load.devices)
+    → ((place : ℕ) → place < length load.devices → has_room_in load (id_at load.devices place) ≡ true → (k : ℕ) × (k < count) × (get_or places k 0 ≡ place)) → AreRoomy load (take count places)
+roomy_first load places count few within covered =
+    let long : length (take count places) ≡ count = length-take-le count places few in
+    record {
+      within = λ k d lt.
+          let below : k < count = omega (arith, lt, long) in
+          let read : get_or (take count places) k d ≡ get_or places k 0 = get_or_default_zero (take count places) k d lt ∙ get_or-take count places k 0 below in
+          let there = within k below in
+          omega (arith, there, read);
+      covered = λ place lt room.
+          let listed = covered place lt room in
+          (listed.0, omega (arith, listed.1, long), get_or-take count places listed.0 0 listed.1 ∙ listed.2);
+    }

@@ -1,96 +1,152 @@
--- How many seats are in the region of a device at the least.
-use Rattle.std.proofs.Common.{◌≡◌, ◌==◌, ◌&&◌, ◌||◌, ◌++◌, Bool, false, ℕ, ◌<◌, ◌≤◌, true, cond, List, [], ◌∷◌, length, get_or, count_by, Option, Some, None, refl, sym, ap, subst, ◌∙◌, arith}
+-- How crowded open devices are at the least.
+use Rattle.std.proofs.Common.{◌≡◌, ◌==◌, ◌&&◌, ◌||◌, ◌++◌, ℕ, ◌<◌, Bool, true, false, cond, List, [], ◌∷◌, length, get_or, count_by, Option, Some, None, refl, sym, ap, subst, ◌∙◌, arith}
 use Rattle.std.specs.Prelude.{slice_get}
 use Rattle.std.specs.List.{list_any}
 use Rattle.std.proofs.lemmas.Bool.{eq-eqb, eqb-true}
 use Rattle.std.proofs.lemmas.Bool.Decides.{nat_tests}
 use Rattle.std.proofs.lemmas.Grind.{get_or_default_zero}
-use Rattle.std.proofs.lemmas.List.Folds.{Any-from_list_any, list_any-append}
+use Rattle.std.proofs.lemmas.List.Folds.{Any-from_list_any, list_any-append, list_any_at}
 use Rattle.std.proofs.lemmas.List.Sums.{sum_by-cons}
 use Rattle.std.proofs.lemmas.Option.{slice_get-get_or}
 use Rattle.ring_model.specs.declared.device.Device.{Device}
-use Rattle.ring_share.specs.Crowd.{device_of, in_region, is_on, pass_both, tiers_of}
+use Rattle.ring_share.specs.Crowd.{device_of, in_region, in_zone, is_less, is_on, on_server, pass_both}
 use Rattle.ring_share.specs.Room.{has_open}
 use Rattle.ring_share.specs.Want.{is_open}
 use Rattle.ring_share.proofs.Bridge.{device_of_at}
+use Rattle.ring_place.specs.declared.tiers.Tier.{Tier}
+use Rattle.ring_place.specs.declared.tiers.Tier.TheVariants.{Region, Zone, Server}
 use Rattle.ring_place.specs.Load.{Load, IsLoad, crowd_in}
-use Rattle.ring_place.specs.Places.{AreRegions, id_at, region_at, region_of}
+use Rattle.ring_place.specs.Lists.{AreTier, IsFloor, cut, shares}
+use Rattle.ring_place.specs.Places.{id_at}
 use Rattle.ring_place.proofs.AtPlaces.{id_at_is}
 use Rattle.ring_place.proofs.Outside.{device_there}
 
-pub region_read : (devices : List Device) (place : ℕ) (x : Device) → place < length devices → region_at devices place ≡ (get_or devices place x).row.region
-region_read devices place x lt = ap region_of (slice_get-get_or devices place x lt)
+-- ---- lists with one device of each tier
 
--- a region with a place in a list has one in a longer list, and the region of a place that is added has one
-pub more_regions : (devices : List Device) (places : List ℕ) (place region : ℕ) → list_any (λ p. region_at devices p == region) places ≡ true → list_any (λ p. region_at devices p == region) (places ++ place ∷ []) ≡ true
-more_regions devices places place region found =
-    list_any-append (λ p. region_at devices p == region) places (place ∷ []) ∙ ap (λ b. b || list_any (λ p. region_at devices p == region) (place ∷ [])) found
+pub shared_read : (tier : Tier) (devices : List Device) (place : ℕ) (x device : Device) → place < length devices → pass_both (shares tier) (slice_get devices place) (Some device) ≡ shares tier (get_or devices place x) device
+shared_read tier devices place x device lt = ap (λ found. pass_both (shares tier) found (Some device)) (slice_get-get_or devices place x lt)
 
-pub own_region : (devices : List Device) (places : List ℕ) (place : ℕ) (x : Device) → place < length devices → list_any (λ p. region_at devices p == (get_or devices place x).row.region) (places ++ place ∷ []) ≡ true
-own_region devices places place x lt =
-    let test = λ (p : ℕ). region_at devices p == (get_or devices place x).row.region in
-    let own : test place ≡ true = eq-eqb _ _ (region_read devices place x lt) in
-    list_any-append test places (place ∷ []) ∙ (rw own (or_true (list_any test places)))
+-- what a list has a longer one has
+pub more_any : (test : ℕ → Bool) (places : List ℕ) (place : ℕ) → list_any test places ≡ true → list_any test (places ++ place ∷ []) ≡ true
+more_any test places place found = list_any-append test places (place ∷ []) ∙ ap (λ b. b || list_any test (place ∷ [])) found
+
+pub last_any : (test : ℕ → Bool) (places : List ℕ) (place : ℕ) → test place ≡ true → list_any test (places ++ place ∷ []) ≡ true
+last_any test places place own = list_any-append test places (place ∷ []) ∙ (rw own (or_true (list_any test places)))
   where
     or_true : (b : Bool) → (b || (true || false)) ≡ true
     or_true true = refl
     or_true false = refl
 
--- devices in one region have the same others in it
-near_same : (x y : Device) → y.row.region ≡ x.row.region → (other : Option Device) → pass_both in_region (Some x) other ≡ pass_both in_region (Some y) other
-near_same x y same None = refl
-near_same x y same (Some other) = ap (λ region. region == other.row.region) (sym same)
+both_true : (a b : Bool) → a ≡ true → b ≡ true → (a && b) ≡ true
+both_true true b h k = k
+both_true false b h k = h
 
-on_same : (devices : List Device) (a b : ℕ) → ((other : ℕ) → (tiers_of devices).region a other ≡ (tiers_of devices).region b other) → (seat : Option ℕ)
-    → is_on ((tiers_of devices).region a) seat ≡ is_on ((tiers_of devices).region b) seat
-on_same devices a b same None = refl
-on_same devices a b same (Some other) = same other
+and_first : (a b : Bool) → (a && b) ≡ true → a ≡ true
+and_first true b h = refl
+and_first false b h = h
 
-count_same : (devices : List Device) (a b : ℕ) → ((other : ℕ) → (tiers_of devices).region a other ≡ (tiers_of devices).region b other) → (row : List (Option ℕ))
-    → count_by (is_on ((tiers_of devices).region a)) row ≡ count_by (is_on ((tiers_of devices).region b)) row
-count_same devices a b same [] = refl
-count_same devices a b same (seat ∷ row) =
-    let one = sum_by-cons (λ s. cond (is_on ((tiers_of devices).region a) s) 1 0) seat row in
-    let other = sum_by-cons (λ s. cond (is_on ((tiers_of devices).region b) s) 1 0) seat row in
-    let head = ap {B = ℕ} (λ test. cond test 1 0) (on_same devices a b same seat) in
-    let tail = count_same devices a b same row in
+and_second : (a b : Bool) → (a && b) ≡ true → b ≡ true
+and_second true b h = h
+and_second false b h = absurd (cc h)
+
+-- a device shares its tiers with itself
+pub shares_self : (tier : Tier) (x : Device) → shares tier x x ≡ true
+shares_self Region x = eq-eqb x.row.region x.row.region refl
+shares_self Zone x = both_true _ _ (eq-eqb x.row.region x.row.region refl) (eq-eqb x.row.zone x.row.zone refl)
+shares_self Server x = both_true _ _ (both_true _ _ (eq-eqb x.row.region x.row.region refl) (eq-eqb x.row.zone x.row.zone refl)) (eq-eqb x.row.address x.row.address refl)
+
+-- an open device at a place is one of its number
+pub open_there : (devices : List Device) (place : ℕ) (x : Device) → place < length devices → is_open (get_or devices place x) ≡ true → has_open (id_at devices place) devices ≡ true
+open_there devices place x lt opens =
+    let named : id_at devices place ≡ (get_or devices place x).id = id_at_is devices place (get_or devices place x) (slice_get-get_or devices place x lt) in
+    list_any_at (λ (device : Device). (device.id == id_at devices place) && is_open device) devices place x lt (both_true _ _ (eq-eqb _ _ (sym named)) opens)
+
+-- ---- devices that share a tier have the same others in it
+
+region_same : (x y : Device) → in_region y x ≡ true → (other : Option Device) → pass_both in_region (Some x) other ≡ pass_both in_region (Some y) other
+region_same x y same None = refl
+region_same x y same (Some other) = ap (λ region. region == other.row.region) (sym (eqb-true y.row.region x.row.region same))
+
+zone_same : (x y : Device) → in_zone y x ≡ true → (other : Option Device) → pass_both in_zone (Some x) other ≡ pass_both in_zone (Some y) other
+zone_same x y same None = refl
+zone_same x y same (Some other) =
+    ap (λ b. b && (x.row.zone == other.row.zone)) (region_same x y (and_first _ _ same) (Some other))
+    ∙ ap (λ zone. in_region y other && (zone == other.row.zone)) (sym (eqb-true y.row.zone x.row.zone (and_second (in_region y x) _ same)))
+
+server_same : (x y : Device) → on_server y x ≡ true → (other : Option Device) → pass_both on_server (Some x) other ≡ pass_both on_server (Some y) other
+server_same x y same None = refl
+server_same x y same (Some other) =
+    ap (λ b. b && (x.row.address == other.row.address)) (zone_same x y (and_first _ _ same) (Some other))
+    ∙ ap (λ address. in_zone y other && (address == other.row.address)) (sym (eqb-true y.row.address x.row.address (and_second (in_zone y x) _ same)))
+
+on_same : (f g : ℕ → Bool) → ((other : ℕ) → f other ≡ g other) → (seat : Option ℕ) → is_on f seat ≡ is_on g seat
+on_same f g same None = refl
+on_same f g same (Some other) = same other
+
+count_same : (f g : ℕ → Bool) → ((other : ℕ) → f other ≡ g other) → (row : List (Option ℕ)) → count_by (is_on f) row ≡ count_by (is_on g) row
+count_same f g same [] = refl
+count_same f g same (seat ∷ row) =
+    let one = sum_by-cons (λ s. cond (is_on f s) 1 0) seat row in
+    let other = sum_by-cons (λ s. cond (is_on g s) 1 0) seat row in
+    let head = ap {B = ℕ} (λ test. cond test 1 0) (on_same f g same seat) in
+    let tail = count_same f g same row in
     omega (arith, one, other, head, tail)
 
--- a device has as many of the others in its region as another device there
-near_there : (load : Load) → IsLoad load → (row : List (Option ℕ)) (place other : ℕ) (x y : Device) → slice_get load.devices place ≡ Some x → slice_get load.devices other ≡ Some y → y.row.region ≡ x.row.region
-    → (crowd_in load row x.id).0 ≡ (crowd_in load row y.id).0
-near_there load is row place other x y at bt same =
-    let there : device_of x.id load.devices ≡ Some x = device_of_at load.devices is.rise place x at in
-    let other_there : device_of y.id load.devices ≡ Some y = device_of_at load.devices is.rise other y bt in
-    count_same load.devices x.id y.id
-    (λ n. ap (λ o. pass_both in_region o (device_of n load.devices)) there ∙ near_same x y same (device_of n load.devices) ∙ ap (λ o. pass_both in_region o (device_of n load.devices)) (sym other_there)) row
+tier_same : (tier : Device → Device → Bool) (devices : List Device) (one other : ℕ) (x y : Device) → device_of one devices ≡ Some x → device_of other devices ≡ Some y
+    → ((found : Option Device) → pass_both tier (Some x) found ≡ pass_both tier (Some y) found) → (row : List (Option ℕ))
+    → count_by (is_on (λ n. pass_both tier (device_of one devices) (device_of n devices))) row ≡ count_by (is_on (λ n. pass_both tier (device_of other devices) (device_of n devices))) row
+tier_same tier devices one other x y there other_there same =
+    count_same (λ n. pass_both tier (device_of one devices) (device_of n devices)) (λ n. pass_both tier (device_of other devices) (device_of n devices))
+    (λ n. ap (λ found. pass_both tier found (device_of n devices)) there ∙ same (device_of n devices) ∙ ap (λ found. pass_both tier found (device_of n devices)) (sym other_there))
 
--- so it has no fewer than the region with the fewest
-near_one : (load : Load) → IsLoad load → (row : List (Option ℕ)) (regions : List ℕ) (fewest place r : ℕ) (x : Device) → slice_get load.devices place ≡ Some x
-    → get_or regions r 0 < length load.devices → region_at load.devices (get_or regions r 0) ≡ x.row.region → fewest ≤ (crowd_in load row (id_at load.devices (get_or regions r 0))).0
-    → fewest ≤ (crowd_in load row x.id).0
-near_one load is row regions fewest place r x at within region least =
-    let y = device_there load.devices (get_or regions r 0) within in
-    let same : y.0.row.region ≡ x.row.region = sym (ap region_of y.1) ∙ region in
-    let counts = near_there load is row place (get_or regions r 0) x y.0 at y.1 same in
-    let named = ap (λ n. (crowd_in load row n).0) (id_at_is load.devices (get_or regions r 0) y.0 y.1) in
-    omega (arith, counts, named, least)
+-- ---- so they are as crowded, down to it
 
-near_found : (load : Load) → IsLoad load → (row : List (Option ℕ)) (regions : List ℕ) (fewest place : ℕ) (x : Device) → AreRegions load.devices regions
-    → ((k : ℕ) → k < length regions → fewest ≤ (crowd_in load row (id_at load.devices (get_or regions k 0))).0) → slice_get load.devices place ≡ Some x
-    → list_any (λ p. region_at load.devices p == x.row.region) regions ≡ true → fewest ≤ (crowd_in load row x.id).0
-near_found load is row regions fewest place x are least at covered =
-    let near = Any-from_list_any (λ p. region_at load.devices p == x.row.region) regions covered in
-    let read : get_or regions near.0 0 ≡ near.1 = sym (get_or_default_zero regions near.0 near.1 near.2) ∙ near.3 in
-    near_one load is row regions fewest place near.0 x at (are.within near.0 0 near.2) (ap (region_at load.devices) read ∙ eqb-true _ _ near.4) (least near.0 near.2)
+region_floor : (a b least : ℕ × ℕ × ℕ) → a.0 ≡ b.0 → is_less b least ≡ false → is_less a (least.0, 0, 0) ≡ false
+region_floor a b least region no_less = grind (arith, nat_tests)
 
-pub near_at : (load : Load) → IsLoad load → (row : List (Option ℕ)) (regions : List ℕ) (fewest id : ℕ) → AreRegions load.devices regions
-    → ((k : ℕ) → k < length regions → fewest ≤ (crowd_in load row (id_at load.devices (get_or regions k 0))).0) → has_open id load.devices ≡ true → fewest ≤ (crowd_in load row id).0
-near_at load is row regions fewest id are least passes =
+zone_floor : (a b least : ℕ × ℕ × ℕ) → a.0 ≡ b.0 → a.1 ≡ b.1 → is_less b least ≡ false → is_less a (least.0, least.1, 0) ≡ false
+zone_floor a b least region zone no_less = grind (arith, nat_tests)
+
+server_floor : (a b least : ℕ × ℕ × ℕ) → a.0 ≡ b.0 → a.1 ≡ b.1 → a.2 ≡ b.2 → is_less b least ≡ false → is_less a least ≡ false
+server_floor a b least region zone server no_less = grind (arith, nat_tests)
+
+by_tier : (tier : Tier) (load : Load) (row : List (Option ℕ)) (one other : ℕ) (x y : Device) (least : ℕ × ℕ × ℕ) → device_of one load.devices ≡ Some x → device_of other load.devices ≡ Some y
+    → shares tier y x ≡ true → is_less (crowd_in load row other) least ≡ false → is_less (crowd_in load row one) (cut tier least) ≡ false
+by_tier Region load row one other x y least there other_there same no_less =
+    region_floor (crowd_in load row one) (crowd_in load row other) least (tier_same in_region load.devices one other x y there other_there (region_same x y same) row) no_less
+by_tier Zone load row one other x y least there other_there same no_less =
+    zone_floor (crowd_in load row one) (crowd_in load row other) least (tier_same in_region load.devices one other x y there other_there (region_same x y (and_first _ _ same)) row)
+    (tier_same in_zone load.devices one other x y there other_there (zone_same x y same) row) no_less
+by_tier Server load row one other x y least there other_there same no_less =
+    server_floor (crowd_in load row one) (crowd_in load row other) least (tier_same in_region load.devices one other x y there other_there (region_same x y (and_first _ _ (and_first _ _ same))) row)
+    (tier_same in_zone load.devices one other x y there other_there (zone_same x y (and_first _ _ same)) row) (tier_same on_server load.devices one other x y there other_there (server_same x y same) row) no_less
+
+-- a device is as crowded as the one of its tier in a list
+floor_one : (tier : Tier) (load : Load) → IsLoad load → (row : List (Option ℕ)) (places : List ℕ) (least : ℕ × ℕ × ℕ) (place k : ℕ) (x : Device) → slice_get load.devices place ≡ Some x
+    → get_or places k 0 < length load.devices → pass_both (shares tier) (slice_get load.devices (get_or places k 0)) (Some x) ≡ true → is_less (crowd_in load row (id_at load.devices (get_or places k 0))) least ≡ false
+    → is_less (crowd_in load row x.id) (cut tier least) ≡ false
+floor_one tier load is row places least place k x at within shared no_less =
+    let y = device_there load.devices (get_or places k 0) within in
+    let named = id_at_is load.devices (get_or places k 0) y.0 y.1 in
+    by_tier tier load row x.id y.0.id x y.0 least (device_of_at load.devices is.rise place x at) (device_of_at load.devices is.rise (get_or places k 0) y.0 y.1)
+    (ap (λ found. pass_both (shares tier) found (Some x)) (sym y.1) ∙ shared) (ap (λ n. is_less (crowd_in load row n) least) (sym named) ∙ no_less)
+
+floor_found : (tier : Tier) (load : Load) → IsLoad load → (row : List (Option ℕ)) (places : List ℕ) (least : ℕ × ℕ × ℕ) (place : ℕ) (x : Device) → AreTier tier load.devices places
+    → ((k : ℕ) → k < length places → is_less (crowd_in load row (id_at load.devices (get_or places k 0))) least ≡ false) → slice_get load.devices place ≡ Some x
+    → list_any (λ p. pass_both (shares tier) (slice_get load.devices p) (Some x)) places ≡ true → is_less (crowd_in load row x.id) (cut tier least) ≡ false
+floor_found tier load is row places least place x are no_less at covered =
+    let near = Any-from_list_any (λ p. pass_both (shares tier) (slice_get load.devices p) (Some x)) places covered in
+    let read : get_or places near.0 0 ≡ near.1 = sym (get_or_default_zero places near.0 near.1 near.2) ∙ near.3 in
+    floor_one tier load is row places least place near.0 x at (are.within near.0 0 near.2) (ap (λ p. pass_both (shares tier) (slice_get load.devices p) (Some x)) read ∙ near.4) (no_less near.0 near.2)
+
+-- what no device of a list with one in each tier is less crowded than no open device is, down to that tier
+pub floor_at : (tier : Tier) (load : Load) → IsLoad load → (row : List (Option ℕ)) (places : List ℕ) (least : ℕ × ℕ × ℕ) → AreTier tier load.devices places
+    → ((k : ℕ) → k < length places → is_less (crowd_in load row (id_at load.devices (get_or places k 0))) least ≡ false) → IsFloor load row (cut tier least)
+floor_at tier load is row places least are no_less id passes =
     let found = Any-from_list_any (λ (device : Device). (device.id == id) && is_open device) load.devices passes in
     let at : slice_get load.devices found.0 ≡ Some found.1 = slice_get-get_or load.devices found.0 found.1 found.2 ∙ ap Some found.3 in
-    let named : (found.1.id == id) ≡ true = (let both = found.4 in grind (arith, nat_tests)) in
-    let opens : is_open found.1 ≡ true = (let both = found.4 in grind (arith, nat_tests)) in
+    let named : (found.1.id == id) ≡ true = and_first _ _ found.4 in
+    let opens : is_open found.1 ≡ true = and_second (found.1.id == id) _ found.4 in
     let covered = are.covered found.0 found.1 found.2 (ap is_open found.3 ∙ opens) in
-    let region = subst (λ (d : Device). list_any (λ place. region_at load.devices place == d.row.region) regions ≡ true) found.3 covered in
-    subst (λ n. fewest ≤ (crowd_in load row n).0) (eqb-true _ _ named) (near_found load is row regions fewest found.0 found.1 are least at region)
+    let shared = subst (λ (d : Device). list_any (λ place. pass_both (shares tier) (slice_get load.devices place) (Some d)) places ≡ true) found.3 covered in
+    subst (λ n. is_less (crowd_in load row n) (cut tier least) ≡ false) (eqb-true _ _ named) (floor_found tier load is row places least found.0 found.1 are no_less at shared)

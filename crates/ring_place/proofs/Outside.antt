@@ -15,7 +15,8 @@ use Rattle.ring_share.specs.Room.{has_open}
 use Rattle.ring_share.specs.Want.{is_open}
 use Rattle.ring_share.proofs.Counting.{apart}
 use Rattle.ring_place.specs.Load.{Load, IsLeast, IsLoad, crowd_in, has_room_in, is_free_in, seats_of}
-use Rattle.ring_place.specs.Places.{AreRoomy, id_after, id_at, IsBestOf, IsBestSoFar, seats_at, turned}
+use Rattle.ring_place.specs.Lists.{AreRoomy}
+use Rattle.ring_place.specs.Places.{id_after, id_at, IsBestOf, IsBestSoFar, seats_at, turned}
 use Rattle.ring_place.proofs.AtPlaces.{id_at_is}
 
 -- a device stands at each place

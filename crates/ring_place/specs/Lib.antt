@@ -1,6 +1,7 @@
 pub mod Rebalance
 pub mod Load
 pub mod Places
+pub mod Lists
 pub mod Rows
 pub mod Gathering
 pub mod Placing

@@ -12,7 +12,7 @@ ghost use Rattle.ring_place.specs.Gathering.{is_lost_in, present_only, has_free_
 
 use crate::rooms::Room;
 use crate::seats::{Seats, Taken};
-use crate::tally::is_less;
+use crate::tiers::is_less;
 use ring_model::{DeviceId, Hour, Ring};
 use ring_share::wanted;
 use std::alloc::{AllocError, Global};

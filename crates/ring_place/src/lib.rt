@@ -12,6 +12,7 @@ mod rebalances;
 mod rooms;
 mod seats;
 mod tally;
+mod tiers;
 
 pub use rebalances::{PlaceError, Rebalanced, rebalance};
 pub use rooms::Room;

@@ -11,7 +11,7 @@ ghost use Rattle.ring_place.specs.Placing.{AllPlaced, CanPlace, IsChosen, OpenWa
 
 use crate::rooms::Room;
 use crate::seats::{Seats, Taken};
-use crate::tally::is_less;
+use crate::tiers::is_less;
 use rand_core::Rng;
 use rand_pcg::Pcg32;
 use ring_model::DeviceId;

@@ -11,8 +11,8 @@ use crate::gather::gathered;
 use crate::order::{draws_of, shuffled};
 use crate::place::place_all;
 use crate::seats::{Seats, partition_count};
-use crate::tally::is_open;
 use ring_model::{BuildFault, Device, DeviceId, Hour, Ring};
+use ring_share::is_open;
 use std::alloc::{AllocError, Global};
 
 /// Why a ring isn't rebalanced.

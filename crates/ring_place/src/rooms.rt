@@ -5,8 +5,11 @@ ghost use Rattle.ring_share.specs.Crowd.{is_outside};
 ghost use Rattle.ring_share.specs.Room.{has_open, have};
 ghost use Rattle.ring_share.specs.Want.{is_open as is_open_device, AreWanted};
 ghost use Rattle.ring_place.specs.Load.{IsLoad, have_in, want_in, has_room_in, load_put, load_take, seats_of, is_free_in, crowd_in, IsLeast};
+ghost use Rattle.ring_place.specs.Places.{seats_at};
+ghost use Rattle.ring_place.specs.Lists.{IsFloor};
 
-use crate::tally::{Crowd, Tally};
+use crate::tally::Tally;
+use crate::tiers::{Crowd, Tier};
 use ring_model::{DeviceId, Ring};
 use std::alloc::{AllocError, Global};
 use std::marker::Model;
@@ -20,19 +23,21 @@ pub struct Room {
     roomy: Vec<usize>,
     /// How many devices have room.
     count: usize,
-    /// The place of one open device in each region that has any.
+    /// The place of one open device in each region, in each zone and on each server that has any.
     regions: Vec<usize>,
+    zones: Vec<usize>,
+    servers: Vec<usize>,
 }
 
 impl Model for Room {
     ghost use Rattle.ring_place.specs.Load.{Load};
-    ghost use Rattle.ring_place.specs.Places.{IsRoom};
+    ghost use Rattle.ring_place.specs.Lists.{IsRoom};
 
     ghost Value = { Load };
 
     ghost view = { λ r. r.tally };
 
-    ghost invariant = { λ r. IsRoom r.tally r.roomy.items r.count r.regions.items };
+    ghost invariant = { λ r. IsRoom r.tally r.roomy.items r.count r.regions.items r.zones.items r.servers.items };
 }
 
 impl Room {
@@ -45,7 +50,9 @@ impl Room {
         ensures load { IfOk result (λ room. IsLoad room) }
     {
         let tally = Tally::of(alloc, ring, wanted)?;
-        let regions = tally.regions(alloc)?;
+        let regions = tally.one_each(alloc, Tier::Region)?;
+        let zones = tally.one_each(alloc, Tier::Zone)?;
+        let servers = tally.one_each(alloc, Tier::Server)?;
         let mut roomy = vec![in alloc; 0; ring.devices().len()]?;
         let count = tally.list_roomy(&mut roomy);
         Ok(Room {
@@ -53,6 +60,8 @@ impl Room {
             roomy,
             count,
             regions,
+            zones,
+            servers,
         })
     }
 
@@ -129,12 +138,24 @@ impl Room {
         }
         let places = self.tally.places_of(others);
         let others = &places[..others.len()];
-        let fewest = self.tally.fewest_near(&self.regions, others);
+        let floor = self.floor_for(others);
         let start = draw as usize % self.count;
         let best = self
             .tally
-            .least_of(&self.roomy[..self.count], start, others, fewest)?;
+            .least_of(&self.roomy[..self.count], start, others, floor)?;
         Some(self.tally.id_at(best.0))
+    }
+
+    /// How crowded open devices are at the least for a seat whose other seats are on the devices at these places.
+    fn floor_for(&self, others: &[usize]) -> Crowd
+        requires others { All (λ other. other < length self.now.devices) others.now }
+        requires few { length others.now ≤ 5 }
+        ensures { IsFloor self.now (seats_at self.now.devices others.now) result }
+    {
+        let tally = &self.tally;
+        let floor = tally.floor_by(Tier::Region, &self.regions, others, (0, 0, 0));
+        let floor = tally.floor_by(Tier::Zone, &self.zones, others, floor);
+        tally.floor_by(Tier::Server, &self.servers, others, floor)
     }
 
     /// An open device that isn't among `others`, of which there are fewer than open devices.

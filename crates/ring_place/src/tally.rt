@@ -2,52 +2,18 @@
 ghost use Rattle.std.specs.Prelude.{◌≡◌, ◌<◌, ◌≤◌, ◌==◌, ◌&&◌, ◌||◌, ◌+◌, ℕ, [], ◌∷◌, true, false, All, length, map, nat_lt, not, slice_get, slice_index, take, replicate, count_by, Option, Some, None, IfOk, IfSome, IfNone, if◌then◌else◌};
 ghost use Rattle.std.specs.List.{list_any};
 ghost use Rattle.ring_model.specs.Ring.{has_device, has_present};
-ghost use Rattle.ring_share.specs.Crowd.{in_region, in_zone, is_outside, on_server, is_less as is_less_crowded};
+ghost use Rattle.ring_share.specs.Crowd.{is_outside};
 ghost use Rattle.ring_share.specs.Room.{has_open, have, place_of as place_of_device};
 ghost use Rattle.ring_share.specs.Want.{is_open as is_open_device, AreWanted};
 ghost use Rattle.ring_place.specs.Load.{IsLoad, have_in, want_in, has_room_in, load_put, load_take, seats_of, is_free_in, crowd_in};
-ghost use Rattle.ring_place.specs.Places.{id_at, seats_at, region_at, AreRegions, AreRoomy, IsBestSoFar, is_best, turned};
+ghost use Rattle.ring_place.specs.Places.{id_at, seats_at, IsBestSoFar, is_within, turned};
+ghost use Rattle.ring_place.specs.Lists.{AreRoomy, AreTier, IsFloor};
 
+use crate::tiers::{Crowd, Tier, cut, is_less, lesser, one_each};
 use ring_model::{Device, DeviceId, Ring};
-use ring_share::place_in;
+use ring_share::{is_open, place_in, shared_tiers};
 use std::alloc::{AllocError, Global};
 use std::marker::Model;
-
-/// How many seats are in a device's region, in its zone and on its server.
-pub(crate) type Crowd = (u32, u32, u32);
-
-/// Whether the one is less crowded: compared by region, then by zone, then by server.
-pub(crate) fn is_less(one: Crowd, other: Crowd) -> bool
-    ensures { result ≡ is_less_crowded one other }
-{
-    one.0 < other.0
-        || (one.0 == other.0 && (one.1 < other.1 || (one.1 == other.1 && one.2 < other.2)))
-}
-
-fn one_if(yes: bool) -> u32
-    ensures { result ≡ (if yes then 1 else 0) }
-{
-    if yes { 1 } else { 0 }
-}
-
-/// What a seat on one device adds to the crowd of the other: 1 for each tier that they share.
-fn shared(one: &Device, other: &Device) -> Crowd
-    ensures region { result.0 ≡ (if in_region one.now other.now then 1 else 0) }
-    ensures zone { result.1 ≡ (if in_zone one.now other.now then 1 else 0) }
-    ensures server { result.2 ≡ (if on_server one.now other.now then 1 else 0) }
-{
-    let region = one.row.region == other.row.region;
-    let zone = region && one.row.zone == other.row.zone;
-    let server = zone && one.row.address == other.row.address;
-    (one_if(region), one_if(zone), one_if(server))
-}
-
-/// Whether seats may go to a device: it isn't marked to be removed, and it weighs something.
-pub(crate) fn is_open(device: &Device) -> bool
-    ensures { result ≡ is_open_device device.now }
-{
-    !device.removed && device.row.weight.hundredths() > 0
-}
 
 /// The place so many steps after another, where the first place comes after the last.
 fn turned(count: usize, start: usize, step: usize) -> usize
@@ -64,41 +30,14 @@ fn turned(count: usize, start: usize, step: usize) -> usize
     }
 }
 
-/// Whether a device is found with no more of the others in its region than this, and with none in its zone.
-fn is_best(best: Option<(usize, Crowd)>, fewest: u32) -> bool
-    ensures { result ≡ is_best best fewest }
+/// Whether a device is found that is no more crowded than this.
+fn is_within(best: Option<(usize, Crowd)>, floor: Crowd) -> bool
+    ensures { result ≡ is_within best floor }
 {
     match best {
         None => false,
-        Some(found) => found.1.0 <= fewest && found.1.1 == 0 && found.1.2 == 0,
+        Some(found) => !is_less(floor, found.1),
     }
-}
-
-/// Whether a device at one of these places is in a region.
-fn has_region(devices: &[Device], places: &[usize], region: u16) -> bool
-    requires { All (λ place. place < length devices.now) places.now }
-    ensures { result ≡ list_any (λ place. region_at devices.now place == region) places.now }
-{
-    for place in places {
-        if devices[*place].row.region == region {
-            return true;
-        }
-    }
-    false
-}
-
-/// The place of one open device in each region that has any.
-fn regions_of(alloc: Global, devices: &[Device]) -> Result<Vec<usize>, AllocError>
-    ensures { IfOk result (λ places. AreRegions devices.now places.items) }
-{
-    let mut places = Vec::new(alloc);
-    for (place, device) in devices.iter().enumerate() {
-        if !is_open(device) || has_region(devices, places.as_slice(), device.row.region) {
-            continue;
-        }
-        places.push(place)?;
-    }
-    Ok(places)
 }
 
 /// The devices of a ring, with how many seats each of them wants and has.
@@ -242,7 +181,7 @@ impl Tally {
     {
         let mut crowd = (0, 0, 0);
         for other in others {
-            let more = shared(&self.devices[place], &self.devices[*other]);
+            let more = shared_tiers(&self.devices[place], &self.devices[*other]);
             crowd = (crowd.0 + more.0, crowd.1 + more.1, crowd.2 + more.2);
         }
         crowd
@@ -306,55 +245,61 @@ impl Tally {
         count
     }
 
-    /// The place of one open device in each region that has any.
-    pub(crate) fn regions(&self, alloc: Global) -> Result<Vec<usize>, AllocError>
-        ensures { IfOk result (λ places. AreRegions self.now.devices places.items) }
+    /// The place of one open device in each tier of a kind that has any.
+    pub(crate) fn one_each(&self, alloc: Global, tier: Tier) -> Result<Vec<usize>, AllocError>
+        ensures { IfOk result (λ places. AreTier tier self.now.devices places.items) }
     {
-        regions_of(alloc, self.devices.as_slice())
+        one_each(alloc, self.devices.as_slice(), tier)
     }
 
-    /// How many of the devices at some places are in the region of an open device at the least. `regions` has a place in
-    /// each region.
-    pub(crate) fn fewest_near(&self, regions: &[usize], others: &[usize]) -> u32
+    /// How crowded open devices are at the least, down to a tier, for a seat whose other seats are on the devices at these
+    /// places. `places` has one in each tier of that kind. The search ends at the floor of a wider tier.
+    pub(crate) fn floor_by(
+        &self,
+        tier: Tier,
+        places: &[usize],
+        others: &[usize],
+        floor: Crowd,
+    ) -> Crowd
         requires load { IsLoad self.now }
-        requires regions { AreRegions self.now.devices regions.now }
+        requires tier { AreTier tier self.now.devices places.now }
         requires others { All (λ other. other < length self.now.devices) others.now }
         requires few { length others.now ≤ 5 }
-        ensures { (id : ℕ) → has_open id self.now.devices ≡ true → result ≤ (crowd_in self.now (seats_at self.now.devices others.now) id).0 }
+        requires floor { IsFloor self.now (seats_at self.now.devices others.now) floor }
+        ensures { IsFloor self.now (seats_at self.now.devices others.now) result }
     {
-        let mut fewest = 5;
-        for place in regions {
-            let near = self.crowd_at(others, *place).0;
-            if near == 0 {
-                return 0;
+        let mut least = (6, 6, 6);
+        for place in places {
+            let crowd = self.crowd_at(others, *place);
+            if !is_less(floor, crowd) {
+                return cut(tier, crowd);
             }
-            fewest = near.min(fewest);
+            least = lesser(crowd, least);
         }
-        fewest
+        cut(tier, least)
     }
 
     /// Of the devices at some places, the place of a free one than which no other is less crowded, and how crowded it is. The
-    /// search begins at one of the places, and ends at a device with the fewest of the others that any has in its region and
-    /// with none in its zone.
+    /// search begins at one of the places, and ends at a device than which no open device is less crowded by this floor.
     pub(crate) fn least_of(
         &self,
         places: &[usize],
         start: usize,
         others: &[usize],
-        fewest: u32,
+        floor: Crowd,
     ) -> Option<(usize, Crowd)>
         requires places { All (λ place. place < length self.now.devices) places.now }
         requires start { start < length places.now }
         requires others { All (λ other. other < length self.now.devices) others.now }
         requires few { length others.now ≤ 5 }
-        requires fewest { (id : ℕ) → has_open id self.now.devices ≡ true → fewest ≤ (crowd_in self.now (seats_at self.now.devices others.now) id).0 }
+        requires floor { IsFloor self.now (seats_at self.now.devices others.now) floor }
         ensures best { IsBestSoFar places.now start (length places.now) self.now (seats_at self.now.devices others.now) result }
         ensures start { start < length places.now }
     {
         let mut best = None;
         for step in 0..places.len() {
             best = self.better(places, start, step, others, best);
-            if is_best(best, fewest) {
+            if is_within(best, floor) {
                 return best;
             }
         }

@@ -6,19 +6,22 @@ ghost use Rattle.ring_share.specs.Crowd.{in_region, in_zone, on_server, device_o
 
 use ring_model::{Device, DeviceId, Ring};
 
-pub(crate) fn in_region(a: &Device, b: &Device) -> bool
+/// Whether two devices stand in one region.
+pub fn in_region(a: &Device, b: &Device) -> bool
     ensures { result ≡ in_region a.now b.now }
 {
     a.row.region == b.row.region
 }
 
-pub(crate) fn in_zone(a: &Device, b: &Device) -> bool
+/// Whether they stand in one zone of one region.
+pub fn in_zone(a: &Device, b: &Device) -> bool
     ensures { result ≡ in_zone a.now b.now }
 {
     in_region(a, b) && a.row.zone == b.row.zone
 }
 
-pub(crate) fn on_server(a: &Device, b: &Device) -> bool
+/// Whether they stand on one server: at one address in one zone.
+pub fn on_server(a: &Device, b: &Device) -> bool
     ensures { result ≡ on_server a.now b.now }
 {
     in_zone(a, b) && a.row.address == b.row.address
@@ -37,7 +40,20 @@ fn one_if(yes: bool) -> u32
     if yes { 1 } else { 0 }
 }
 
-/// What one seat adds to a device's crowd: 1 for each tier that the device shares with the seat's.
+/// What a seat on one device adds to the crowd of the other: 1 for each tier that they share.
+pub fn shared_tiers(one: &Device, other: &Device) -> (u32, u32, u32)
+    ensures region { result.0 ≡ (if in_region one.now other.now then 1 else 0) }
+    ensures zone { result.1 ≡ (if in_zone one.now other.now then 1 else 0) }
+    ensures server { result.2 ≡ (if on_server one.now other.now then 1 else 0) }
+{
+    (
+        one_if(in_region(one, other)),
+        one_if(in_zone(one, other)),
+        one_if(on_server(one, other)),
+    )
+}
+
+/// What one seat adds to the crowd of the device of a number.
 fn shared(devices: &[Device], id: DeviceId, seat: Option<DeviceId>) -> (u32, u32, u32)
     ensures same { result ≡ crowd (tiers_of devices.now) (seat ∷ []) id }
     ensures few { (result.0 ≤ 1) × (result.1 ≤ 1) × (result.2 ≤ 1) }
@@ -51,11 +67,7 @@ fn shared(devices: &[Device], id: DeviceId, seat: Option<DeviceId>) -> (u32, u32
     let Some(other) = device_of(devices, seat) else {
         return (0, 0, 0);
     };
-    (
-        one_if(in_region(device, other)),
-        one_if(in_zone(device, other)),
-        one_if(on_server(device, other)),
-    )
+    shared_tiers(device, other)
 }
 
 /// A seat of a partition, as one of its seats sees it: that seat itself is taken as empty.

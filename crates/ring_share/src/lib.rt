@@ -13,11 +13,11 @@ mod places;
 mod rooms;
 mod wants;
 
-pub use crowds::crowd;
+pub use crowds::{crowd, in_region, in_zone, on_server, shared_tiers};
 pub use figures::{balance, balance_of, dispersion};
 pub use places::place_in;
 pub use rooms::{has_room, have};
-pub use wants::wanted;
+pub use wants::{is_open, wanted};
 
 #[cfg(test)]
 mod tests;

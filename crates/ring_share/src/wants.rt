@@ -11,7 +11,7 @@ use ring_model::{Device, Ring};
 use std::alloc::{AllocError, Global};
 
 /// Whether seats may go to a device: it isn't marked to be removed, and it weighs something.
-pub(crate) fn is_open(device: &Device) -> bool
+pub fn is_open(device: &Device) -> bool
     ensures { result ≡ is_open device.now }
 {
     !device.removed && device.row.weight.hundredths() > 0

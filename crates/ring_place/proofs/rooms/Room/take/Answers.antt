@@ -1,7 +1,7 @@
 use Rattle.std.proofs.Common.{◌≡◌, ◌-◌, true, sym, subst, ap, ◌∙◌}
 use Rattle.ring_model.specs.Ring.{has_device}
 use Rattle.ring_place.specs.Load.{Load, has_room_in, have_in}
-use Rattle.ring_place.specs.Places.{IsRoom}
+use Rattle.ring_place.specs.Lists.{IsRoom}
 use Rattle.ring_place.proofs.Listed.{room_kept, same_if}
 use Rattle.ring_place.proofs.rooms.Room.take.Goals as goal
 
@@ -11,7 +11,9 @@ invariant_of-self-else-has_room-had_room c =
     let roomy = c.self.inside.roomy.items in
     let count = c.self.inside.count in
     let regions = c.self.inside.regions.items in
+    let zones = c.self.inside.zones.items in
+    let servers = c.self.inside.servers.items in
     let told = same_if c.has_room.result c.has_room-had_room.result c.if-has_room-had_room.false in
     let same = ap (λ (l : Load). has_room_in l c.args.device) (sym c.take.ensures) ∙ sym c.has_room.ensures ∙ told ∙ c.has_room-had_room.ensures in
-    subst (λ l. IsRoom l roomy count regions) (sym c.take.ensures)
-    (room_kept load roomy count regions c.self.invariant c.args.device (have_in load c.args.device - 1) (subst (λ (l : Load). has_device c.args.device l.devices ≡ true) (sym c.self.view_is) c.requires) same)
+    subst (λ l. IsRoom l roomy count regions zones servers) (sym c.take.ensures)
+    (room_kept load roomy count regions zones servers c.self.invariant c.args.device (have_in load c.args.device - 1) (subst (λ (l : Load). has_device c.args.device l.devices ≡ true) (sym c.self.view_is) c.requires) same)

@@ -20,10 +20,10 @@ loop-other-preserved c =
     let zone = seats_more ((tiers_of now.devices).zone id) now.devices c.args.others.now i (in_zone x y) lt (tier_at in_zone now.devices rise c.args.place other x y at bt) in
     let server = seats_more ((tiers_of now.devices).server id) now.devices c.args.others.now i (on_server x y) lt (tier_at on_server now.devices rise c.args.place other x y at bt) in
     record {
-      region = omega (arith, region, c.loop-other.invariant.region, c.shared-more.ensures.region);
-      zone = omega (arith, zone, c.loop-other.invariant.zone, c.shared-more.ensures.zone);
-      server = omega (arith, server, c.loop-other.invariant.server, c.shared-more.ensures.server);
-      regions = omega (arith, at_most_one (in_region x y), c.loop-other.invariant.regions, c.shared-more.ensures.region);
-      zones = omega (arith, at_most_one (in_zone x y), c.loop-other.invariant.zones, c.shared-more.ensures.zone);
-      servers = omega (arith, at_most_one (on_server x y), c.loop-other.invariant.servers, c.shared-more.ensures.server);
+      region = omega (arith, region, c.loop-other.invariant.region, c.shared_tiers-more.ensures.region);
+      zone = omega (arith, zone, c.loop-other.invariant.zone, c.shared_tiers-more.ensures.zone);
+      server = omega (arith, server, c.loop-other.invariant.server, c.shared_tiers-more.ensures.server);
+      regions = omega (arith, at_most_one (in_region x y), c.loop-other.invariant.regions, c.shared_tiers-more.ensures.region);
+      zones = omega (arith, at_most_one (in_zone x y), c.loop-other.invariant.zones, c.shared_tiers-more.ensures.zone);
+      servers = omega (arith, at_most_one (on_server x y), c.loop-other.invariant.servers, c.shared_tiers-more.ensures.server);
     }
