@@ -1,6 +1,5 @@
 //! How many seats devices want and have, and how near to others one more would stand.
-ghost use Rattle.std.specs.Prelude.{◌≡◌, ◌<◌, ◌≤◌, ◌==◌, ◌&&◌, ◌||◌, ◌+◌, ℕ, [], ◌∷◌, true, false, All, length, map, nat_lt, not, slice_get, slice_index, take, replicate, count_by, Option, Some, None, IfOk, IfSome, IfNone, if◌then◌else◌};
-ghost use Rattle.std.specs.List.{list_any};
+ghost use Rattle.std.specs.Prelude.{◌≡◌, ◌<◌, ◌≤◌, ◌+◌, ℕ, true, All, length, nat_lt, slice_index, take, replicate, count_by, IfOk};
 ghost use Rattle.ring_model.specs.Ring.{has_device, has_present};
 ghost use Rattle.ring_share.specs.Crowd.{is_outside};
 ghost use Rattle.ring_share.specs.Room.{has_open, have, place_of as place_of_device};
@@ -268,6 +267,7 @@ impl Tally {
         requires floor { IsFloor self.now (seats_at self.now.devices others.now) floor }
         ensures { IsFloor self.now (seats_at self.now.devices others.now) result }
     {
+        // more crowded than any: a partition has at most five other seats
         let mut least = (6, 6, 6);
         for place in places {
             let crowd = self.crowd_at(others, *place);
