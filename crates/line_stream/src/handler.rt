@@ -20,8 +20,8 @@ pub trait Handler {
     // The answer to a line that is too long.
     ghost too_long: { List ℕ };
 
-    /// Answers a line, which comes without its line feed. The answer too has no line feed at its end, since one is
-    /// written after it. The error says that the answer is lost for want of memory; what the line asked for may have
+    /// Answers a line, which comes without its line feed. The answer may have several lines, as a table does; it too has no
+    /// line feed at its end, since one is written after it. The error says that the answer is lost for want of memory; what the line asked for may have
     /// been done or not, as `loses` says.
     fn answer(alloc: Global, state: &mut Self::State, line: &[u8]) -> Result<String, AllocError>
         ensures { MatchResult result
