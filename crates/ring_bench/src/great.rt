@@ -86,7 +86,7 @@ fn seats(alloc: Global) -> Result<Vec<DeviceId>, AllocError> {
 }
 
 /// An assigned ring of power 14 with 5 replicas on 256 devices.
-pub fn great_ring(alloc: Global) -> Result<Ring, Trouble> {
+pub(crate) fn great_ring(alloc: Global) -> Result<Ring, Trouble> {
     let parts = RingParts {
         power: Power::new(14).ok_or(Trouble::Wrong)?,
         replicas: Replicas::new(5).ok_or(Trouble::Wrong)?,
@@ -102,7 +102,7 @@ pub fn great_ring(alloc: Global) -> Result<Ring, Trouble> {
 }
 
 /// Writes the ring's text and reads it back, and tells its length in bytes.
-pub fn there_and_back(alloc: Global, ring: &Ring) -> Result<usize, Trouble> {
+pub(crate) fn there_and_back(alloc: Global, ring: &Ring) -> Result<usize, Trouble> {
     if !ring.is_assigned() {
         return Err(Trouble::Wrong);
     }

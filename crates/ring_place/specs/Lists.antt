@@ -37,7 +37,7 @@ pub record AreRoomy (load : Load) (places : List ℕ) : Type 0 where
   pub within : All (λ place. place < length load.devices) places
   pub covered : (place : ℕ) → place < length load.devices → has_room_in load (id_at load.devices place) ≡ true → (index : ℕ) × (index < length places) × (slice_index places index ≡ place)
 
--- The first places of a list of as many as there are devices are those of the devices that have room, beside one for each region, zone and server.
+-- Each device that has room stands at one of the first places of a list as long as that of the devices, and each region, zone and server has an open device in a list.
 pub record IsRoom (load : Load) (roomy : List ℕ) (count : ℕ) (regions zones servers : List ℕ) : Type 0 where
   pub counted : IsLoad load
   pub long : length roomy ≡ length load.devices

@@ -19,9 +19,9 @@ use std::marker::Model;
 #[derive(Drop)]
 pub struct Room {
     tally: Tally,
-    /// As many places as there are devices; the first are those of the devices that have room.
+    /// As many places as there are devices; each device that has room stands at one of the first.
     roomy: Vec<usize>,
-    /// How many devices have room.
+    /// How many places of `roomy` are these first.
     count: usize,
     /// The place of one open device in each region, in each zone and on each server that has any.
     regions: Vec<usize>,
