@@ -1,14 +1,10 @@
 //! The program `ringd`: it keeps the rings of an object store, and carries out each numbered request once.
 #![tactic(auto)]
 
-mod lines;
-mod performing;
-mod questions;
 #[cfg(test)]
 mod tests;
-mod words;
 
-use performing::perform;
+use programs::perform;
 use std::alloc::AllocError;
 use std::env;
 use std::io::ErrorKind;

@@ -5,10 +5,9 @@ mod questions;
 mod rebalancing;
 mod streams;
 
-use crate::lines::run_lines;
-use crate::performing::perform;
+use programs::perform;
 use builder::{MessageFault, RingMachine, read_delivery};
-use line_stream::StreamFault;
+use line_api::{StreamFault, run_lines};
 use request_book::{Book, Keeper, MemKeeper};
 use ring_model::{Command, Delivery, Done, Hour, Limits, Refusal, Reply, Rings};
 use std::alloc::{AllocError, Global};

@@ -1,0 +1,4 @@
+pub mod Asking
+pub mod Constants
+pub mod Serving
+pub mod Tables

@@ -1,5 +1,0 @@
-use Rattle.ringd.proofs.Constants.{no_memory_line}
-use Rattle.ringd.proofs.lines.RingLinesHandler.no_memory.Goals as goal
-
-pub returns : goal.returns
-returns g c = no_memory_line

@@ -1,4 +1,0 @@
-pub mod Lines
-pub mod Served
-pub mod Programs
-pub mod Performed
