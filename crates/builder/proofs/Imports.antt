@@ -7,12 +7,13 @@ use Rattle.std.proofs.lemmas.Bool.{leb-false, or_parts}
 use Rattle.std.proofs.lemmas.List.{drop_all, drop_more, take_all, take_more}
 use Rattle.std.proofs.lemmas.List.Sums.{fold-append}
 use Rattle.ring_model.specs.Import.{after_row, after_rows}
-use Rattle.ring_model.specs.Ring.{RingRecord, added, has_place}
-use Rattle.ring_model.specs.declared.device.Device.{Device}
-use Rattle.ring_model.specs.declared.device.Row.{Row}
-use Rattle.ring_model.specs.declared.command.Refusal.TheVariants.{RowRefused}
-use Rattle.ring_model.specs.declared.command.RowCause.{RowCause}
-use Rattle.ring_model.specs.declared.request.Limits.{Limits}
+use Rattle.ring_model.specs.Ring.{RingRecord, added}
+use Rattle.ring_words.specs.Rows.{has_place}
+use Rattle.ring_words.specs.declared.device.Device.{Device}
+use Rattle.ring_words.specs.declared.device.Row.{Row}
+use Rattle.ring_words.specs.declared.command.Refusal.TheVariants.{RowRefused}
+use Rattle.ring_words.specs.declared.command.RowCause.{RowCause}
+use Rattle.ring_words.specs.declared.request.Limits.{Limits}
 use Rattle.builder.specs.Step.{Cause, RowTrouble, first_trouble, of_more, of_row, of_rows, row_refusal, troubles_at}
 
 abbrev pub stood : List Cause → Option Cause

@@ -1,10 +1,10 @@
 -- What a step leaves of the rings that its command doesn't name.
 use Rattle.std.proofs.Common.{◌≡◌, ℕ, List, ap, ◌∙◌}
 use Rattle.ring_model.specs.Rings.{ring_at}
-use Rattle.ring_model.specs.declared.request.Limits.{Limits}
-use Rattle.ring_model.specs.declared.command.Command.{Command}
-use Rattle.ring_model.specs.declared.command.Reply.{Reply}
-use Rattle.ring_model.specs.declared.command.Reply.TheVariants.{Done, Refused}
+use Rattle.ring_words.specs.declared.request.Limits.{Limits}
+use Rattle.ring_words.specs.declared.command.Command.{Command}
+use Rattle.ring_words.specs.declared.command.Reply.{Reply}
+use Rattle.ring_words.specs.declared.command.Reply.TheVariants.{Done, Refused}
 use Rattle.ring_model.proofs.ByName.{ring_at-with_other}
 use Rattle.builder.specs.Step.{State, Step}
 

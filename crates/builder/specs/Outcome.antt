@@ -4,8 +4,8 @@ use Rattle.builder.specs.Step.{State, Effect, first_refusal}
 use Rattle.builder.specs.declared.deciding.Outcome.{Outcome}
 use Rattle.builder.specs.declared.deciding.Outcome.TheVariants.{Refused, Done}
 use Rattle.ring_model.specs.Rings.{ring_at}
-use Rattle.ring_model.specs.declared.request.Limits.{Limits}
-use Rattle.ring_model.specs.declared.command.Command.{Command}
+use Rattle.ring_words.specs.declared.request.Limits.{Limits}
+use Rattle.ring_words.specs.declared.command.Command.{Command}
 
 -- the first refusal that stands, or the effect on the named ring
 abbrev pub IsOutcome : Limits → State → ℕ → Command → Outcome → Type 0

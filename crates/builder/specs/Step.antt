@@ -4,25 +4,26 @@ use Rattle.std.specs.Option.{option_map}
 use Rattle.ring_model.specs.Import.{after_row, after_rows}
 use Rattle.ring_model.specs.Publish.{is_published, with_published}
 use Rattle.ring_model.specs.Raise.{IsRaised}
-use Rattle.ring_model.specs.Ring.{RingRecord, changed, has_device, has_place, has_present, is_assigned, new_ring, same_place, with_device, with_hours_passed, with_mark, with_min_hours, with_weight}
+use Rattle.ring_model.specs.Ring.{RingRecord, changed, has_device, has_present, is_assigned, new_ring, with_device, with_hours_passed, with_mark, with_min_hours, with_weight}
+use Rattle.ring_words.specs.Rows.{has_place, same_place}
 use Rattle.ring_model.specs.Rings.{ring_at, with_ring}
 use Rattle.ring_place.specs.Rebalance.{IsRebalance, changed_seats}
 use Rattle.ring_share.specs.Figures.{ring_balance, ring_dispersion}
 use Rattle.ring_share.specs.Want.{is_open}
-use Rattle.ring_model.specs.declared.request.Limits.{Limits}
-use Rattle.ring_model.specs.declared.command.Command.{Command}
-use Rattle.ring_model.specs.declared.command.Act.{Act}
-use Rattle.ring_model.specs.declared.command.Act.TheVariants as act
-use Rattle.ring_model.specs.declared.command.Done.{Done}
-use Rattle.ring_model.specs.declared.command.Done.TheVariants as done
-use Rattle.ring_model.specs.declared.command.Refusal.{Refusal}
-use Rattle.ring_model.specs.declared.command.Refusal.TheVariants as refusal
-use Rattle.ring_model.specs.declared.command.RowCause.{RowCause}
-use Rattle.ring_model.specs.declared.command.RowCause.TheVariants as row_cause
-use Rattle.ring_model.specs.declared.device.Device.{Device}
-use Rattle.ring_model.specs.declared.device.Row.{Row}
-use Rattle.ring_model.specs.declared.command.Reply.{Reply}
-use Rattle.ring_model.specs.declared.command.Reply.TheVariants as reply
+use Rattle.ring_words.specs.declared.request.Limits.{Limits}
+use Rattle.ring_words.specs.declared.command.Command.{Command}
+use Rattle.ring_words.specs.declared.command.Act.{Act}
+use Rattle.ring_words.specs.declared.command.Act.TheVariants as act
+use Rattle.ring_words.specs.declared.command.Done.{Done}
+use Rattle.ring_words.specs.declared.command.Done.TheVariants as done
+use Rattle.ring_words.specs.declared.command.Refusal.{Refusal}
+use Rattle.ring_words.specs.declared.command.Refusal.TheVariants as refusal
+use Rattle.ring_words.specs.declared.command.RowCause.{RowCause}
+use Rattle.ring_words.specs.declared.command.RowCause.TheVariants as row_cause
+use Rattle.ring_words.specs.declared.device.Device.{Device}
+use Rattle.ring_words.specs.declared.device.Row.{Row}
+use Rattle.ring_words.specs.declared.command.Reply.{Reply}
+use Rattle.ring_words.specs.declared.command.Reply.TheVariants as reply
 use Rattle.ring_text.specs.Snapshot.{snapshot_of}
 use Rattle.ring_text.specs.Spelling.{spelling}
 

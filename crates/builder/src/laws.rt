@@ -5,12 +5,12 @@ ghost use Rattle.builder.specs.Step.{State, Step};
 ghost use Rattle.request_book.specs.Run.{Chain};
 ghost use Rattle.request_book.specs.declared.entry.Entry.{Entry};
 ghost use Rattle.ring_model.specs.Rings.{ring_at};
-ghost use Rattle.ring_model.specs.declared.request.Limits.{Limits};
-ghost use Rattle.ring_model.specs.declared.command.Command.{Command};
-ghost use Rattle.ring_model.specs.declared.command.Act.TheVariants as act;
-ghost use Rattle.ring_model.specs.declared.command.Done.{Done};
-ghost use Rattle.ring_model.specs.declared.command.Reply.{Reply};
-ghost use Rattle.ring_model.specs.declared.command.Reply.TheVariants as reply;
+ghost use Rattle.ring_words.specs.declared.request.Limits.{Limits};
+ghost use Rattle.ring_words.specs.declared.command.Command.{Command};
+ghost use Rattle.ring_words.specs.declared.command.Act.TheVariants as act;
+ghost use Rattle.ring_words.specs.declared.command.Done.{Done};
+ghost use Rattle.ring_words.specs.declared.command.Reply.{Reply};
+ghost use Rattle.ring_words.specs.declared.command.Reply.TheVariants as reply;
 
 /// A step changes no ring but the one that its command names.
 pub fn other_rings_stay()

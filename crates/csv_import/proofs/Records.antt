@@ -14,7 +14,7 @@ use Rattle.csv.specs.declared.reader.Reader.{Reader}
 use Rattle.csv.proofs.ReadFacts.{rows-more, rows-end}
 use Rattle.std.specs.List.{AllZip}
 use Rattle.std.proofs.lemmas.Slice.Zip.{AllZip-long}
-use Rattle.ring_model.specs.declared.device.Row.{Row}
+use Rattle.ring_words.specs.declared.device.Row.{Row}
 use Rattle.csv_import.specs.Fields.{IsRow, header}
 use Rattle.csv_import.specs.Midway.{HasGiven, IsWrongWith}
 use Rattle.csv_import.specs.Rows.{IsBehindRows, IsWrong, records_of}

@@ -8,7 +8,7 @@ use Rattle.std.proofs.lemmas.Str.Ascii.{IsAscii-cons, IsAscii-nil}
 use Rattle.std.proofs.lemmas.Fmt.{IsAscii-decimal}
 use Rattle.std.proofs.lemmas.Bool.{and_parts}
 use Rattle.std.proofs.lemmas.Bool.Decides.{nat_tests}
-use Rattle.ring_model.specs.Texts.{address_text, is_device_name_byte, hundredths_text, two_digits}
+use Rattle.ring_words.specs.Texts.{address_text, is_device_name_byte, hundredths_text, two_digits}
 use Rattle.csv_import.specs.Fields.{SpellsAddress, SpellsName, SpellsNumber, SpellsWeight}
 
 pub number_is_text : (text : List ℕ) (number : ℕ) → SpellsNumber text number → IsUtf8 text

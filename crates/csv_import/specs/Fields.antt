@@ -1,7 +1,7 @@
 -- The fields of a row, and the values that they spell.
 use Rattle.std.specs.Prelude.{◌≡◌, ◌<◌, ◌≤◌, ◌-◌, ◌^◌, ℕ, List, [], ◌∷◌, length, slice_index_or, codes, decimal, IsTrue}
-use Rattle.ring_model.specs.Texts.{address_text, address_limit, is_device_name, hundredths_text, greatest_weight}
-use Rattle.ring_model.specs.declared.device.Row.{Row}
+use Rattle.ring_words.specs.Texts.{address_text, address_limit, is_device_name, hundredths_text, greatest_weight}
+use Rattle.ring_words.specs.declared.device.Row.{Row}
 
 -- the names of the columns
 abbrev pub header : List (List ℕ)

@@ -5,7 +5,7 @@ use Rattle.csv.specs.declared.parser.State.TheVariants as st
 use Rattle.csv.specs.declared.reader.Reader.{Reader}
 use Rattle.csv.specs.declared.reader.Trim.TheVariants as trim
 use Rattle.std.specs.List.{AllZip}
-use Rattle.ring_model.specs.declared.device.Row.{Row}
+use Rattle.ring_words.specs.declared.device.Row.{Row}
 use Rattle.csv_import.specs.Fields.{IsFirstBad, IsRow, field_in, header}
 use Rattle.csv_import.specs.declared.fault.CsvFault.{CsvFault}
 use Rattle.csv_import.specs.declared.fault.CsvFault.TheVariants.{BadHeader, BadRow, BadField, ReadFailed, NoMemory}

@@ -2,7 +2,7 @@
 use Rattle.std.specs.Prelude.{◌≡◌, ◌≢◌, ⊤, ℕ, ◌+◌, List, ◌∷◌, ◌++◌, length}
 use Rattle.std.specs.List.{AllZip}
 use Rattle.csv.specs.Reading.{default_config, records, strip_bom}
-use Rattle.ring_model.specs.declared.device.Row.{Row}
+use Rattle.ring_words.specs.declared.device.Row.{Row}
 use Rattle.csv_import.specs.Fields.{header, IsRow, IsFirstBad}
 use Rattle.csv_import.specs.declared.fault.CsvFault.{CsvFault}
 use Rattle.csv_import.specs.declared.fault.CsvFault.TheVariants.{BadHeader, BadRow, BadField, ReadFailed, NoMemory}

@@ -2,7 +2,7 @@
 ghost use Rattle.std.specs.Prelude.{◌≡◌, ℕ, List, IfSome, IfNone, IfOk, IsUtf8, Some, None};
 ghost use Rattle.csv_import.specs.Fields.{SpellsAddress, SpellsName, SpellsNumber, SpellsPort, SpellsWeight};
 
-use ring_model::{Address, DeviceName, NameFault, Port, Weight, parse_decimal};
+use ring_words::{Address, DeviceName, NameFault, Port, Weight, parse_decimal};
 use std::alloc::{AllocError, Global};
 use std::str;
 

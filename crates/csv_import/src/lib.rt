@@ -12,6 +12,3 @@ mod row;
 
 pub use fault::CsvFault;
 pub use read::read_rows;
-
-#[cfg(test)]
-mod tests;

@@ -8,7 +8,7 @@ ghost use Rattle.csv_import.specs.Rows.{AreRows, IsWrong, records_of};
 use crate::fault::{CsvFault, cause_of};
 use crate::row::{is_header, row_of};
 use csv::{ByteRecord, Reader, ReaderBuilder};
-use ring_model::Row;
+use ring_words::Row;
 use std::alloc::Global;
 use std::io::Read;
 

@@ -7,7 +7,7 @@ ghost use Rattle.csv_import.specs.Midway.{AreFirstNamed, AreLastNamed, IsWrongWi
 use crate::fault::CsvFault;
 use crate::fields::{address_of, name_of, number_of, port_of, weight_of};
 use csv::ByteRecord;
-use ring_model::Row;
+use ring_words::Row;
 use std::alloc::Global;
 
 /// How many fields a record has.

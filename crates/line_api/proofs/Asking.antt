@@ -8,10 +8,10 @@ use Rattle.std.proofs.lemmas.Fmt.{IsAscii-decimal}
 use Rattle.std.proofs.lemmas.Str.{IsUtf8-append, IsUtf8-from_ascii}
 use Rattle.std.proofs.lemmas.Str.Ascii.{IsAscii-cons, IsAscii-nil}
 use Rattle.std.specs.Str.{IsAscii}
-use Rattle.ring_model.specs.Texts.{is_digit, is_label_byte, is_lower}
-use Rattle.ring_model.specs.declared.command.Command.{Command}
-use Rattle.ring_model.specs.declared.request.Delivery.{Delivery}
-use Rattle.ring_model.proofs.Decimals.{separated_parts}
+use Rattle.ring_words.specs.Texts.{is_digit, is_label_byte, is_lower}
+use Rattle.ring_words.specs.declared.command.Command.{Command}
+use Rattle.ring_words.specs.declared.request.Delivery.{Delivery}
+use Rattle.ring_words.proofs.Decimals.{separated_parts}
 use Rattle.ring_messages.specs.Message.{IsMessage}
 use Rattle.line_api.specs.Lines.{Asks, AsksTable, words_of}
 use Rattle.line_api.specs.declared.questions.Question.{Question}

@@ -3,8 +3,8 @@ use Rattle.std.proofs.Common.{◌++◌, ◌≡◌, ◌∙◌, ◌∷◌, List, M
 use Rattle.std.specs.Prelude.{◌||◌, Bool, false, is_some, true}
 use Rattle.std.specs.Option.{option_or, option_to_list}
 use Rattle.std.proofs.lemmas.List.Folds.{find-append}
-use Rattle.ring_model.specs.declared.command.Command.{Command}
-use Rattle.ring_model.specs.declared.command.Reply.{Reply}
+use Rattle.ring_words.specs.declared.command.Command.{Command}
+use Rattle.ring_words.specs.declared.command.Reply.{Reply}
 use Rattle.request_book.specs.Book.{Parts}
 use Rattle.request_book.specs.Call.{Call, failed, meets_fault}
 use Rattle.request_book.specs.Called.{Called}

@@ -2,7 +2,7 @@
 use Rattle.std.proofs.Common.{◌≡◌, ℕ, List, [], ◌∷◌, ◌++◌, codes, decimal, map, refl, sym, ap, ◌∙◌, append-nil, append_assoc}
 use Rattle.std.specs.List.{concat, zip}
 use Rattle.ring_model.specs.Ring.{RingRecord}
-use Rattle.ring_model.specs.Texts.{hundredths_text}
+use Rattle.ring_words.specs.Texts.{hundredths_text}
 use Rattle.ring_share.specs.Figures.{ring_balance, ring_dispersion}
 use Rattle.ring_share.specs.Want.{AreWanted}
 use Rattle.ring_tables.specs.Layout.{Columns, cells, row, table}

@@ -2,12 +2,12 @@
 use Rattle.std.specs.Prelude.{◌≡◌, ◌⊎◌, ℕ, ◌^◌, ◌<◌, ◌≤◌, ◌++◌, ◌∷◌, [], List, IsTrue, MatchOption, Option, Some, None, Result, Ok, Err, ⊤, codes, decimal, length}
 use Rattle.ring_model.specs.Ring.{RingRecord}
 use Rattle.ring_model.specs.Rings.{ring_at}
-use Rattle.ring_model.specs.Texts.{is_label}
-use Rattle.ring_model.specs.declared.command.Command.{Command}
-use Rattle.ring_model.specs.declared.command.Refusal.TheVariants as refusal
-use Rattle.ring_model.specs.declared.command.Reply.{Reply}
-use Rattle.ring_model.specs.declared.command.Reply.TheVariants as reply
-use Rattle.ring_model.specs.declared.request.Delivery.{Delivery}
+use Rattle.ring_words.specs.Texts.{is_label}
+use Rattle.ring_words.specs.declared.command.Command.{Command}
+use Rattle.ring_words.specs.declared.command.Refusal.TheVariants as refusal
+use Rattle.ring_words.specs.declared.command.Reply.{Reply}
+use Rattle.ring_words.specs.declared.command.Reply.TheVariants as reply
+use Rattle.ring_words.specs.declared.request.Delivery.{Delivery}
 use Rattle.ring_share.specs.Want.{AreWanted}
 use Rattle.ring_tables.specs.Tables as tables
 use Rattle.request_book.specs.declared.book.Fault.{Fault}

@@ -6,10 +6,10 @@ use Rattle.line_stream.specs.Lines.{AreLines, Divides, ended}
 use Rattle.line_stream.specs.Serving.{Tells, WritesBeginning}
 use Rattle.line_stream.specs.declared.fault.StreamFault.{StreamFault}
 use Rattle.line_stream.specs.declared.fault.StreamFault.TheVariants.{ReadFailed, WriteFailed, NoMemory}
-use Rattle.ring_model.specs.declared.command.Command.{Command}
-use Rattle.ring_model.specs.declared.command.Reply.{Reply}
+use Rattle.ring_words.specs.declared.command.Command.{Command}
+use Rattle.ring_words.specs.declared.command.Reply.{Reply}
 use Rattle.request_book.specs.Book.{Parts}
-use Rattle.ring_model.specs.declared.request.Delivery.{Delivery}
+use Rattle.ring_words.specs.declared.request.Delivery.{Delivery}
 use Rattle.ring_messages.specs.declared.told.Told.{Told}
 use Rattle.request_book.specs.declared.book.Fault.{Fault}
 use Rattle.request_book.specs.Call.{Call, Deliver, failed}

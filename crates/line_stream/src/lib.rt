@@ -17,6 +17,3 @@ pub use fault::StreamFault;
 pub use handler::Handler;
 pub use input::LONGEST_LINE;
 pub use serving::serve_lines;
-
-#[cfg(test)]
-mod tests;

@@ -14,6 +14,3 @@ pub use fault::{NodesFault, PathFault};
 pub use hash::{hash_path, partition_of};
 pub use lookup::nodes;
 pub use path::Path;
-
-#[cfg(test)]
-mod tests;

@@ -1,7 +1,7 @@
 -- What a program does to its streams.
 use Rattle.std.specs.Prelude.{◌≡◌, ℕ, List, [], Option}
-use Rattle.ring_model.specs.declared.command.Command.{Command}
-use Rattle.ring_model.specs.declared.command.Reply.{Reply}
+use Rattle.ring_words.specs.declared.command.Command.{Command}
+use Rattle.ring_words.specs.declared.command.Reply.{Reply}
 use Rattle.request_book.specs.Book.{Parts}
 use Rattle.request_book.specs.Content.{Content}
 use Rattle.builder.specs.Step.{State}

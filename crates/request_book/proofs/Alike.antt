@@ -7,8 +7,8 @@ use Rattle.std.specs.Option.{option_or}
 use Rattle.std.proofs.lemmas.Cmp.{nat_eq_equiv}
 use Rattle.std.proofs.lemmas.Grind.{flat_map-append}
 use Rattle.std.proofs.lemmas.List.Folds.{find-append}
-use Rattle.ring_model.specs.declared.request.Delivery.{Delivery}
-use Rattle.ring_model.specs.declared.request.Key.{Key}
+use Rattle.ring_words.specs.declared.request.Delivery.{Delivery}
+use Rattle.ring_words.specs.declared.request.Key.{Key}
 use Rattle.request_book.specs.declared.entry.Entry.{Entry}
 use Rattle.request_book.specs.Call.{Call, Deliver}
 use Rattle.request_book.specs.Content.{Content, entry_of, is_known, same_key}

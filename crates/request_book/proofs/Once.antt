@@ -3,8 +3,8 @@ use Rattle.std.proofs.Common.{◌++◌, ◌≡◌, ◌∙◌, ◌∷◌, List, O
 use Rattle.std.specs.Prelude.{Bool, Ok, cond, false, is_some, true}
 use Rattle.std.specs.List.{flat_map}
 use Rattle.std.proofs.lemmas.Grind.{flat_map-append}
-use Rattle.ring_model.specs.declared.request.Delivery.{Delivery}
-use Rattle.ring_model.specs.declared.request.Key.{Key}
+use Rattle.ring_words.specs.declared.request.Delivery.{Delivery}
+use Rattle.ring_words.specs.declared.request.Key.{Key}
 use Rattle.request_book.specs.declared.entry.Entry.{Entry}
 use Rattle.request_book.specs.Call.{Call, Deliver}
 use Rattle.request_book.specs.Content.{entry_of, is_known, same_key}

@@ -3,7 +3,7 @@ use Rattle.std.proofs.Common.{◌++◌, ◌<◌, ◌≡◌, ◌∙◌, ◌∷◌
 use Rattle.std.specs.Prelude.{◌↔◌, ◌||◌, Bool, Err, Ok, Result, false, is_some, nat_lt, true}
 use Rattle.std.specs.Option.{option_to_list}
 use Rattle.std.specs.Result.{IsErrOf}
-use Rattle.ring_model.specs.declared.request.Delivery.{Delivery}
+use Rattle.ring_words.specs.declared.request.Delivery.{Delivery}
 use Rattle.request_book.specs.declared.book.Fault.{Fault}
 use Rattle.request_book.specs.declared.book.Fault.TheVariants.{BookFull, Closed, NoMemory, NumberReused, StoreFault}
 use Rattle.request_book.specs.declared.entry.Entry.{Entry}

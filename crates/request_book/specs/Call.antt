@@ -1,7 +1,7 @@
 -- What a book is asked, and answers.
 use Rattle.std.specs.List.{zip}
 use Rattle.std.specs.Prelude.{◌++◌, ◌<◌, ◌≡◌, ◌∷◌, ◌||◌, Bool, Err, List, MatchOption, Ok, Option, Result, false, find, is_some, map, true, ℕ}
-use Rattle.ring_model.specs.declared.request.Delivery.{Delivery}
+use Rattle.ring_words.specs.declared.request.Delivery.{Delivery}
 use Rattle.request_book.specs.declared.book.Fault.{Fault}
 use Rattle.request_book.specs.declared.book.Fault.TheVariants.{BookFull, Closed, NoMemory, NumberReused, StoreFault}
 

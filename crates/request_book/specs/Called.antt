@@ -1,6 +1,6 @@
 -- What one call is answered and leaves: a run of that call alone, said without lists of calls.
 use Rattle.std.specs.Prelude.{◌++◌, ◌<◌, ◌≡◌, ◌∷◌, ◌⊎◌, Bool, Err, MatchOption, None, Ok, [], length, max, ℕ}
-use Rattle.ring_model.specs.declared.request.Delivery.{Delivery}
+use Rattle.ring_words.specs.declared.request.Delivery.{Delivery}
 use Rattle.request_book.specs.declared.book.Fault.TheVariants.{BookFull, Closed, NoMemory, NumberReused, StoreFault}
 use Rattle.request_book.specs.Call.{Call, Deliver, Load}
 use Rattle.request_book.specs.Content.{Content, entry_of}

@@ -1,7 +1,7 @@
 -- What a keeper holds.
 use Rattle.std.specs.Cmp.Lexicographic.{pointwise}
 use Rattle.std.specs.Prelude.{◌==◌, ◌&&◌, Bool, List, Option, find, is_some, nat_eq, ℕ}
-use Rattle.ring_model.specs.declared.request.Key.{Key}
+use Rattle.ring_words.specs.declared.request.Key.{Key}
 use Rattle.request_book.specs.declared.entry.Entry.{Entry}
 
 -- Two keys are one if they have the same caller, byte for byte, and the same number.

@@ -1,7 +1,7 @@
 -- What a list of calls is answered and leaves.
 use Rattle.std.specs.Option.{option_to_list}
 use Rattle.std.specs.Prelude.{◌++◌, ◌<◌, ◌≡◌, ◌≢◌, ◌≤◌, ◌∷◌, ◌||◌, Bool, Err, IsSomeAnd, List, MatchOption, None, Ok, Option, Result, Some, [], false, is_some, length, max, true, ℕ}
-use Rattle.ring_model.specs.declared.request.Delivery.{Delivery}
+use Rattle.ring_words.specs.declared.request.Delivery.{Delivery}
 use Rattle.request_book.specs.declared.book.Fault.{Fault}
 use Rattle.request_book.specs.declared.book.Fault.TheVariants.{BookFull, Closed, NoMemory, NumberReused, StoreFault}
 use Rattle.request_book.specs.declared.entry.Entry.{Entry}

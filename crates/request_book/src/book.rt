@@ -10,7 +10,7 @@ ghost use Rattle.request_book.specs.declared.book.Fault.TheVariants.{NoMemory};
 
 use crate::keeper::{Found, KeepFault, Keeper};
 use crate::machine::Machine;
-use ring_model::{Delivery, Hour, Key};
+use ring_words::{Delivery, Hour, Key};
 use std::alloc::{AllocError, Global};
 use std::marker::Model;
 

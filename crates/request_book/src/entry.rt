@@ -1,5 +1,5 @@
 //! What is kept of a request.
-use ring_model::{Hour, Key};
+use ring_words::{Hour, Key};
 
 /// A request that was decided, with its reply.
 #[derive(Debug, Drop)]

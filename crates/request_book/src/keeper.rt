@@ -4,7 +4,7 @@ ghost use Rattle.request_book.specs.Content.{Content, entry_of};
 ghost use Rattle.request_book.specs.Keeper.{Commits, HasCause, IsFound, LeavesOnly};
 
 use crate::machine::Machine;
-use ring_model::{Hour, Key};
+use ring_words::{Hour, Key};
 
 /// What a look finds of a key and a command.
 #[derive(Clone, Copy, Debug)]

@@ -11,8 +11,6 @@ mod keeper;
 pub mod laws;
 mod machine;
 mod mem_keeper;
-#[cfg(test)]
-mod tests;
 
 pub use book::{Answer, Book, Fault};
 pub use entry::Entry;

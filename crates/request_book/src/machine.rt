@@ -1,7 +1,7 @@
 //! What decides commands.
 ghost use Rattle.std.specs.Prelude.{◌≡◌, ◌↔◌, Bool, IfOk, IsTrue, true, ℕ};
 
-use ring_model::Hour;
+use ring_words::Hour;
 use std::alloc::{AllocError, Global};
 
 /// What decides a command: from a state, at an hour, it gives a reply and the next state.

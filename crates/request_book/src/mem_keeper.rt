@@ -6,7 +6,7 @@ ghost use Rattle.request_book.specs.Content.{Content, entry_of};
 use crate::entry::Entry;
 use crate::keeper::{Found, KeepFault, Keeper};
 use crate::machine::Machine;
-use ring_model::{Hour, Key, Limits};
+use ring_words::{Hour, Key, Limits};
 use std::alloc::Global;
 use std::marker::Model;
 

@@ -3,8 +3,8 @@ use Rattle.std.proofs.Common.{◌≡◌, List, ℕ, Some, sym, ap, subst, ◌∙
 use Rattle.std.proofs.lemmas.Option.{same_Some}
 use Rattle.serde_json.specs.Data.{Data}
 use Rattle.serde_json.specs.Read.{read}
-use Rattle.ring_model.specs.declared.request.Key.{Key}
-use Rattle.ring_model.specs.declared.command.Command.{Command}
+use Rattle.ring_words.specs.declared.request.Key.{Key}
+use Rattle.ring_words.specs.declared.command.Command.{Command}
 use Rattle.ring_messages.specs.Message.{IsCommand, IsDelivery, IsMessage}
 use Rattle.ring_messages.specs.Proper.{IsProperCommand}
 use Rattle.ring_messages.specs.Canonical.{command_data, canonical}

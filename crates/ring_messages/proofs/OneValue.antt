@@ -2,8 +2,8 @@
 use Rattle.std.proofs.Common.{◌≡◌, ℕ, ◌/◌, ◌%◌, ◌^◌, ◌<◌, ◌≤◌, List, Bool, false, true≢false, Option, Some, bytes_eq, decimal, refl, sym, ◌∙◌, arith}
 use Rattle.std.proofs.lemmas.Slice.Eq.{bytes_eq-Decides}
 use Rattle.serde_json.specs.Data.{Data, number, unsigned, string}
-use Rattle.ring_model.specs.Texts.{hundredths_text, greatest_weight, two_digits, address_text, address_limit}
-use Rattle.ring_model.proofs.Decimals.{same_parts, same_number, weight_of_parts, after_first_point, after_second_point}
+use Rattle.ring_words.specs.Texts.{hundredths_text, greatest_weight, two_digits, address_text, address_limit}
+use Rattle.ring_words.proofs.Decimals.{same_parts, same_number, weight_of_parts, after_first_point, after_second_point}
 use Rattle.ring_messages.specs.Reads.{IsNumber, IsName, IsAddress, IsWeight}
 
 abbrev number_at : ℕ → Option Data

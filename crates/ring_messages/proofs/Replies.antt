@@ -9,14 +9,14 @@ use Rattle.serde_json.specs.Find.{get}
 use Rattle.serde_json.specs.Read.{read, of_json, max_depth}
 use Rattle.serde_json.specs.Written.{compact_text, outline}
 use Rattle.serde_json.proofs.Numbers.{number_of-decimal}
-use Rattle.ring_model.specs.declared.command.Done.{Done}
-use Rattle.ring_model.specs.declared.command.Done.TheVariants.{Create, Add, SetWeight, Remove, SetHours, PretendPassed, RaisePower, Import, Publish, Rebalance}
-use Rattle.ring_model.specs.declared.command.Refusal.{Refusal}
-use Rattle.ring_model.specs.declared.command.Refusal.TheVariants.{NoRing, RingExists, TooManyRings, NoDevice, DeviceExists, DeviceRemoved, TooManyDevices, IdsUsedUp, TooFewDevices, NotAssigned, TooManyVersions, RowRefused, PowerLimit}
-use Rattle.ring_model.specs.declared.command.RowCause.{RowCause}
-use Rattle.ring_model.specs.declared.command.RowCause.TheVariants as cause
-use Rattle.ring_model.specs.declared.command.Reply.{Reply}
-use Rattle.ring_model.specs.declared.command.Reply.TheVariants as reply
+use Rattle.ring_words.specs.declared.command.Done.{Done}
+use Rattle.ring_words.specs.declared.command.Done.TheVariants.{Create, Add, SetWeight, Remove, SetHours, PretendPassed, RaisePower, Import, Publish, Rebalance}
+use Rattle.ring_words.specs.declared.command.Refusal.{Refusal}
+use Rattle.ring_words.specs.declared.command.Refusal.TheVariants.{NoRing, RingExists, TooManyRings, NoDevice, DeviceExists, DeviceRemoved, TooManyDevices, IdsUsedUp, TooFewDevices, NotAssigned, TooManyVersions, RowRefused, PowerLimit}
+use Rattle.ring_words.specs.declared.command.RowCause.{RowCause}
+use Rattle.ring_words.specs.declared.command.RowCause.TheVariants as cause
+use Rattle.ring_words.specs.declared.command.Reply.{Reply}
+use Rattle.ring_words.specs.declared.command.Reply.TheVariants as reply
 use Rattle.ring_messages.specs.Proper.{IsProperDone, IsProperRefusal, IsProperReply}
 use Rattle.ring_messages.specs.Replies.{done_data, cause_rule, refusal_data, refusal_name, refusal_rule, refused_data, row_refused_data, reply_data, reply_text}
 use Rattle.ring_messages.specs.Says.{SaysDone, SaysRefusal, SaysReply, SaysWhy, done_word}

@@ -12,7 +12,7 @@ use Rattle.serde_json.specs.View.{items_of, view}
 use Rattle.serde_json.specs.declared.value.Value.{Value}
 use Rattle.serde_json.specs.Written.{outline, items_outline}
 use Rattle.serde_json.proofs.Numbers.{number_of-decimal}
-use Rattle.ring_model.specs.declared.device.Row.{Row}
+use Rattle.ring_words.specs.declared.device.Row.{Row}
 use Rattle.ring_messages.specs.Canonical.{row_data}
 use Rattle.ring_messages.specs.Message.{IsRow, ListsRow, ListsRows}
 use Rattle.ring_messages.specs.Proper.{IsProperRow}

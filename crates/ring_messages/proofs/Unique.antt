@@ -2,12 +2,12 @@
 use Rattle.std.proofs.Common.{◌≡◌, ℕ, ◌+◌, List, Some, codes, refl, sym, ap, ◌∙◌, arith}
 use Rattle.serde_json.specs.Data.{Data, string}
 use Rattle.serde_json.specs.Find.{get}
-use Rattle.ring_model.specs.declared.request.Key.{Key}
-use Rattle.ring_model.specs.declared.command.NewRing.{NewRing}
-use Rattle.ring_model.specs.declared.command.NewWeight.{NewWeight}
-use Rattle.ring_model.specs.declared.command.Command.{Command}
-use Rattle.ring_model.specs.declared.command.Act.{Act}
-use Rattle.ring_model.specs.declared.command.Act.TheVariants.{Create, Add, SetWeight, Remove, SetHours, PretendPassed, RaisePower, Import, Publish, Rebalance}
+use Rattle.ring_words.specs.declared.request.Key.{Key}
+use Rattle.ring_words.specs.declared.command.NewRing.{NewRing}
+use Rattle.ring_words.specs.declared.command.NewWeight.{NewWeight}
+use Rattle.ring_words.specs.declared.command.Command.{Command}
+use Rattle.ring_words.specs.declared.command.Act.{Act}
+use Rattle.ring_words.specs.declared.command.Act.TheVariants.{Create, Add, SetWeight, Remove, SetHours, PretendPassed, RaisePower, Import, Publish, Rebalance}
 use Rattle.ring_messages.specs.Message.{IsNewRing, IsNewWeight, IsAct, IsCommand, IsDelivery, word_of, members_count, fields_count}
 use Rattle.ring_messages.specs.Proper.{IsProperAct, IsProperCommand}
 use Rattle.ring_messages.specs.Canonical.{act_data, command_data}

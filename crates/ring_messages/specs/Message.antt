@@ -6,14 +6,14 @@ use Rattle.serde_json.specs.Events.{members_len}
 use Rattle.serde_json.specs.Find.{at, get}
 use Rattle.serde_json.specs.View.{items_of}
 use Rattle.serde_json.specs.Read.{read}
-use Rattle.ring_model.specs.Texts.{is_label, is_device_name}
-use Rattle.ring_model.specs.declared.request.Key.{Key}
-use Rattle.ring_model.specs.declared.device.Row.{Row}
-use Rattle.ring_model.specs.declared.command.NewRing.{NewRing}
-use Rattle.ring_model.specs.declared.command.NewWeight.{NewWeight}
-use Rattle.ring_model.specs.declared.command.Command.{Command}
-use Rattle.ring_model.specs.declared.command.Act.{Act}
-use Rattle.ring_model.specs.declared.command.Act.TheVariants.{Create, Add, SetWeight, Remove, SetHours, PretendPassed, RaisePower, Import, Publish, Rebalance}
+use Rattle.ring_words.specs.Texts.{is_label, is_device_name}
+use Rattle.ring_words.specs.declared.request.Key.{Key}
+use Rattle.ring_words.specs.declared.device.Row.{Row}
+use Rattle.ring_words.specs.declared.command.NewRing.{NewRing}
+use Rattle.ring_words.specs.declared.command.NewWeight.{NewWeight}
+use Rattle.ring_words.specs.declared.command.Command.{Command}
+use Rattle.ring_words.specs.declared.command.Act.{Act}
+use Rattle.ring_words.specs.declared.command.Act.TheVariants.{Create, Add, SetWeight, Remove, SetHours, PretendPassed, RaisePower, Import, Publish, Rebalance}
 use Rattle.ring_messages.specs.Reads.{IsNumber, IsName, IsAddress, IsWeight}
 
 -- How many members an object has; what is no object has none.

@@ -1,19 +1,19 @@
 -- What holds of each command and each reply that there is: names are of their form, and numbers within their bounds.
 use Rattle.std.specs.Prelude.{◌<◌, ◌≤◌, ◌^◌, IsTrue, ⊤}
 use Rattle.std.specs.List.{AllByRecursion}
-use Rattle.ring_model.specs.Texts.{is_label, is_device_name, greatest_weight, address_limit}
-use Rattle.ring_model.specs.declared.device.Row.{Row}
-use Rattle.ring_model.specs.declared.command.NewRing.{NewRing}
-use Rattle.ring_model.specs.declared.command.NewWeight.{NewWeight}
-use Rattle.ring_model.specs.declared.command.Command.{Command}
-use Rattle.ring_model.specs.declared.command.Act.{Act}
-use Rattle.ring_model.specs.declared.command.Act.TheVariants.{Create, Add, SetWeight, Remove, SetHours, PretendPassed, RaisePower, Import, Publish, Rebalance}
-use Rattle.ring_model.specs.declared.command.Done.{Done}
-use Rattle.ring_model.specs.declared.command.Done.TheVariants as done
-use Rattle.ring_model.specs.declared.command.Refusal.{Refusal}
-use Rattle.ring_model.specs.declared.command.Refusal.TheVariants.{RowRefused}
-use Rattle.ring_model.specs.declared.command.Reply.{Reply}
-use Rattle.ring_model.specs.declared.command.Reply.TheVariants as reply
+use Rattle.ring_words.specs.Texts.{is_label, is_device_name, greatest_weight, address_limit}
+use Rattle.ring_words.specs.declared.device.Row.{Row}
+use Rattle.ring_words.specs.declared.command.NewRing.{NewRing}
+use Rattle.ring_words.specs.declared.command.NewWeight.{NewWeight}
+use Rattle.ring_words.specs.declared.command.Command.{Command}
+use Rattle.ring_words.specs.declared.command.Act.{Act}
+use Rattle.ring_words.specs.declared.command.Act.TheVariants.{Create, Add, SetWeight, Remove, SetHours, PretendPassed, RaisePower, Import, Publish, Rebalance}
+use Rattle.ring_words.specs.declared.command.Done.{Done}
+use Rattle.ring_words.specs.declared.command.Done.TheVariants as done
+use Rattle.ring_words.specs.declared.command.Refusal.{Refusal}
+use Rattle.ring_words.specs.declared.command.Refusal.TheVariants.{RowRefused}
+use Rattle.ring_words.specs.declared.command.Reply.{Reply}
+use Rattle.ring_words.specs.declared.command.Reply.TheVariants as reply
 
 -- The power is 1 to 14, and the replicas are 1 to 5.
 pub record IsProperNewRing (n : NewRing) : Type 0 where

@@ -4,7 +4,7 @@ use Rattle.std.specs.Borrow.{Bor}
 use Rattle.serde_json.specs.Data.{Data, number, unsigned, string}
 use Rattle.serde_json.specs.View.{view}
 use Rattle.serde_json.specs.declared.value.Value.{Value}
-use Rattle.ring_model.specs.Texts.{address_text, address_limit, hundredths_text, greatest_weight}
+use Rattle.ring_words.specs.Texts.{address_text, address_limit, hundredths_text, greatest_weight}
 use Rattle.ring_messages.specs.declared.fault.MessageFault.{MessageFault}
 use Rattle.ring_messages.specs.declared.fault.MessageFault.TheVariants.{Unreadable, NoMemory}
 

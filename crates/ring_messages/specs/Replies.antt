@@ -2,14 +2,14 @@
 use Rattle.std.specs.Prelude.{ℕ, List, codes}
 use Rattle.serde_json.specs.Data.{Data, string, object, no_members, member}
 use Rattle.serde_json.specs.Written.{compact_text}
-use Rattle.ring_model.specs.declared.command.Done.{Done}
-use Rattle.ring_model.specs.declared.command.Done.TheVariants.{Create, Add, SetWeight, Remove, SetHours, PretendPassed, RaisePower, Import, Publish, Rebalance}
-use Rattle.ring_model.specs.declared.command.Refusal.{Refusal}
-use Rattle.ring_model.specs.declared.command.Refusal.TheVariants.{NoRing, RingExists, TooManyRings, NoDevice, DeviceExists, DeviceRemoved, TooManyDevices, IdsUsedUp, TooFewDevices, NotAssigned, TooManyVersions, RowRefused, PowerLimit}
-use Rattle.ring_model.specs.declared.command.RowCause.{RowCause}
-use Rattle.ring_model.specs.declared.command.RowCause.TheVariants as cause
-use Rattle.ring_model.specs.declared.command.Reply.{Reply}
-use Rattle.ring_model.specs.declared.command.Reply.TheVariants as reply
+use Rattle.ring_words.specs.declared.command.Done.{Done}
+use Rattle.ring_words.specs.declared.command.Done.TheVariants.{Create, Add, SetWeight, Remove, SetHours, PretendPassed, RaisePower, Import, Publish, Rebalance}
+use Rattle.ring_words.specs.declared.command.Refusal.{Refusal}
+use Rattle.ring_words.specs.declared.command.Refusal.TheVariants.{NoRing, RingExists, TooManyRings, NoDevice, DeviceExists, DeviceRemoved, TooManyDevices, IdsUsedUp, TooFewDevices, NotAssigned, TooManyVersions, RowRefused, PowerLimit}
+use Rattle.ring_words.specs.declared.command.RowCause.{RowCause}
+use Rattle.ring_words.specs.declared.command.RowCause.TheVariants as cause
+use Rattle.ring_words.specs.declared.command.Reply.{Reply}
+use Rattle.ring_words.specs.declared.command.Reply.TheVariants as reply
 use Rattle.ring_messages.specs.Canonical.{whole}
 use Rattle.ring_messages.specs.declared.told.Told.{Told}
 use Rattle.ring_messages.specs.declared.told.Told.TheVariants as told

@@ -2,15 +2,15 @@
 ghost use Rattle.std.specs.Prelude.{◌≡◌, ◌≢◌, ℕ, All, List, codes};
 ghost use Rattle.serde_json.specs.Data.{Data};
 ghost use Rattle.serde_json.specs.Find.{get};
-ghost use Rattle.ring_model.specs.declared.command.Command.{Command};
-ghost use Rattle.ring_model.specs.declared.command.Reply.{Reply};
-ghost use Rattle.ring_model.specs.declared.request.Key.{Key};
+ghost use Rattle.ring_words.specs.declared.command.Command.{Command};
+ghost use Rattle.ring_words.specs.declared.command.Reply.{Reply};
+ghost use Rattle.ring_words.specs.declared.request.Key.{Key};
 ghost use Rattle.ring_messages.specs.Message.{IsDelivery, IsMessage};
 ghost use Rattle.ring_messages.specs.Proper.{IsProperNewRing, IsProperRow, IsProperNewWeight, IsProperAct, IsProperCommand, IsProperDone, IsProperRefusal, IsProperReply};
 ghost use Rattle.ring_messages.specs.Canonical.{canonical, command_data};
 ghost use Rattle.ring_messages.specs.Replies.{reply_text};
 
-use ring_model::{Act, Command, Done, NewRing, NewWeight, Refusal, Reply, Row};
+use ring_words::{Act, Command, Done, NewRing, NewWeight, Refusal, Reply, Row};
 
 /// Commands with one text are one command.
 pub fn one_text()

@@ -20,6 +20,3 @@ pub use read::{read_command, read_delivery};
 pub use reply::{read_reply, reply_text};
 pub use told::{NO_MEMORY_TEXT, Told, no_memory, status_of, told_text};
 pub use write::command_text;
-
-#[cfg(test)]
-mod tests;

@@ -7,7 +7,7 @@ ghost use Rattle.ring_messages.specs.Reads.{Reads, ReadsAs, IsNumber, IsName, Is
 ghost use Rattle.ring_messages.specs.Message.{members_count};
 
 use crate::fault::MessageFault;
-use ring_model::{Address, Bounded, Name, NameFault, NameKind, Weight};
+use ring_words::{Address, Bounded, Name, NameFault, NameKind, Weight};
 use serde_json::Value;
 use std::alloc::Global;
 

@@ -10,7 +10,7 @@ ghost use Rattle.ring_messages.specs.Canonical.{canonical};
 use crate::fault::MessageFault;
 use crate::parts::{self, bounded, members_count, number16, number32, value_of};
 use crate::write::command_text;
-use ring_model::{Act, Command, Key, NewRing, NewWeight, Row, Rows};
+use ring_words::{Act, Command, Key, NewRing, NewWeight, Row, Rows};
 use serde_json::Value;
 use std::alloc::{AllocError, Global};
 

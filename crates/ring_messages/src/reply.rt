@@ -3,8 +3,8 @@ ghost use Rattle.std.specs.Prelude.{◌≡◌, ◌≢◌, IfOk, IfSome, IfNone, 
 ghost use Rattle.serde_json.specs.Data.{string};
 ghost use Rattle.serde_json.specs.Find.{get};
 ghost use Rattle.serde_json.specs.View.{view};
-ghost use Rattle.ring_model.specs.declared.command.Refusal.{Refusal};
-ghost use Rattle.ring_model.specs.declared.command.RowCause.{RowCause};
+ghost use Rattle.ring_words.specs.declared.command.Refusal.{Refusal};
+ghost use Rattle.ring_words.specs.declared.command.RowCause.{RowCause};
 ghost use Rattle.ring_messages.specs.Reads.{IsNumber, Reads};
 ghost use Rattle.ring_messages.specs.Proper.{IsProperReply};
 ghost use Rattle.ring_messages.specs.Replies.{version_data, done_data, cause_rule, refusal_rule, refused_data, refusal_data, row_refused_data, reply_data, reply_text};
@@ -12,7 +12,7 @@ ghost use Rattle.ring_messages.specs.Says.{SaysDone, SaysRefusal, SaysReply, Say
 
 use crate::fault::MessageFault;
 use crate::parts::{number, number16, number32, value_of};
-use ring_model::{DeviceId, Done, Refusal, Reply, RowCause};
+use ring_words::{DeviceId, Done, Refusal, Reply, RowCause};
 use serde_json::{Value, json};
 use std::alloc::{AllocError, Global};
 

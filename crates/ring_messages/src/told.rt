@@ -4,7 +4,7 @@ ghost use Rattle.serde_json.specs.View.{view};
 ghost use Rattle.ring_messages.specs.Replies.{fault_data, bad_row_data, bad_field_data, told_data, answer_text, answer_status};
 
 use crate::reply::{refused_value, reply_value};
-use ring_model::Reply;
+use ring_words::Reply;
 use serde_json::{Value, json};
 use std::alloc::{AllocError, Global};
 

@@ -4,7 +4,7 @@ ghost use Rattle.serde_json.specs.View.{items_of, view};
 ghost use Rattle.serde_json.specs.Data.{array};
 ghost use Rattle.ring_messages.specs.Canonical.{create_data, add_data, set_weight_data, remove_data, set_hours_data, plain_data, row_data, import_data, rebalance_data, command_data, canonical};
 
-use ring_model::{Act, Command, DeviceId, NewRing, NewWeight, RingName, Row, Rows};
+use ring_words::{Act, Command, DeviceId, NewRing, NewWeight, RingName, Row, Rows};
 use serde_json::{Value, json};
 use std::alloc::{AllocError, Global};
 

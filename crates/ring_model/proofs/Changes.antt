@@ -7,11 +7,12 @@ use Rattle.std.proofs.lemmas.List.{length-append, length-map, take_at, get_or_ap
 use Rattle.std.proofs.lemmas.List.Folds.{list_any-append}
 use Rattle.std.proofs.lemmas.List.Elements.{All-push, All-weaker, All-map}
 use Rattle.std.proofs.lemmas.List.Quantifiers.{all_pairs_push}
-use Rattle.ring_model.specs.Ring.{RingRecord, has_device, has_place, same_place, risen, reweighed, marked, added, changed, with_device, partition_count}
+use Rattle.ring_model.specs.Ring.{RingRecord, has_device, risen, reweighed, marked, added, changed, with_device, partition_count}
+use Rattle.ring_words.specs.Rows.{has_place, same_place}
 use Rattle.ring_model.specs.Import.{reweighed_by}
 use Rattle.ring_model.specs.Valid.{AreApart, AreDevices, AreSeats, IsValid}
-use Rattle.ring_model.specs.declared.device.Device.{Device}
-use Rattle.ring_model.specs.declared.device.Row.{Row}
+use Rattle.ring_words.specs.declared.device.Device.{Device}
+use Rattle.ring_words.specs.declared.device.Row.{Row}
 use Rattle.ring_model.specs.declared.parts.RingParts.{RingParts}
 use Rattle.ring_model.specs.Parts.{record_of}
 use Rattle.ring_model.proofs.Validity.{any_fails_at}
@@ -157,20 +158,6 @@ marked_if-id false d = refl
 
 pub marked_keeps : (id : ℕ) → Keeps (marked id)
 marked_keeps id = (λ d. marked_if-id (d.id == id) d, λ a b. ap₂ same_place (marked_if-row (a.id == id) a) (marked_if-row (b.id == id) b))
-
--- ---- rows with the same parts
-
-abbrev row_of : ℕ → ℕ → ℕ → ℕ → List ℕ → ℕ → Row
-row_of region zone address port name weight = record { region = region; zone = zone; address = address; port = port; name = name; weight = weight }
-
-pub same_row : (a b : Row) → (a.region ≡ b.region) × ((a.zone ≡ b.zone) × ((a.address ≡ b.address) × ((a.port ≡ b.port) × ((a.name ≡ b.name) × (a.weight ≡ b.weight))))) → a ≡ b
-same_row a b h =
-    ap (λ (x : ℕ). row_of x a.zone a.address a.port a.name a.weight) h.0
-    ∙ ap (λ (x : ℕ). row_of b.region x a.address a.port a.name a.weight) h.1.0
-    ∙ ap (λ (x : ℕ). row_of b.region b.zone x a.port a.name a.weight) h.1.1.0
-    ∙ ap (λ (x : ℕ). row_of b.region b.zone b.address x a.name a.weight) h.1.1.1.0
-    ∙ ap (λ (x : List ℕ). row_of b.region b.zone b.address b.port x a.weight) h.1.1.1.1.0
-    ∙ ap (λ (x : ℕ). row_of b.region b.zone b.address b.port b.name x) h.1.1.1.1.1
 
 -- what a vector holds after each of its elements was written
 pub written_all : {X : Type 0} (xs ys : List X) (n : ℕ) → n ≡ length xs → length ys ≡ length xs → take n (ys ++ drop (length ys) xs) ≡ ys

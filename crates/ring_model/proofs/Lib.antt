@@ -1,4 +1,3 @@
-pub mod Decimals
 pub mod Validity
 pub mod Published
 pub mod Amidst
@@ -8,4 +7,3 @@ pub mod Changes
 pub mod Doubling
 pub mod Raising
 pub mod ByName
-pub mod AlikeRows

@@ -10,9 +10,10 @@ use Rattle.std.proofs.lemmas.List.Quantifiers.{all_pairs_push}
 use Rattle.std.proofs.Math.Nat.{div-add-mod, mul_comm, mod-lt}
 use Rattle.std.proofs.lemmas.Nat.{div-mul-add}
 use Rattle.std.proofs.lemmas.Option.{slice_get_within, get_or_from_slice_get, slice_get-get_or}
-use Rattle.ring_model.specs.Ring.{has_device, has_place, same_place}
+use Rattle.ring_model.specs.Ring.{has_device}
+use Rattle.ring_words.specs.Rows.{has_place, same_place}
 use Rattle.ring_model.specs.Valid.{AreApart, AreDistinct}
-use Rattle.ring_model.specs.declared.device.Device.{Device}
+use Rattle.ring_words.specs.declared.device.Device.{Device}
 
 -- an element of a list that no element of passes doesn't pass
 pub any_fails_at : {X : Type 0} (p : X → Bool) (xs : List X) (i : ℕ) (d : X) → list_any p xs ≡ false → i < length xs → p (get_or xs i d) ≡ false

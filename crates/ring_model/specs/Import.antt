@@ -1,10 +1,10 @@
 -- What the rows of an import do to a ring.
-use Rattle.std.specs.Prelude.{◌==◌, ◌&&◌, Bool, List, map, nat_eq, if◌then◌else◌}
+use Rattle.std.specs.Prelude.{List, map, if◌then◌else◌}
 use Rattle.std.specs.List.{fold}
-use Rattle.std.specs.Cmp.Lexicographic.{pointwise}
-use Rattle.ring_model.specs.Ring.{RingRecord, added, has_place, same_place}
-use Rattle.ring_model.specs.declared.device.Row.{Row}
-use Rattle.ring_model.specs.declared.device.Device.{Device}
+use Rattle.ring_model.specs.Ring.{RingRecord, added}
+use Rattle.ring_words.specs.Rows.{has_place, same_place}
+use Rattle.ring_words.specs.declared.device.Row.{Row}
+use Rattle.ring_words.specs.declared.device.Device.{Device}
 
 -- the device, with the row's weight if it has the row's address, port and name
 abbrev pub reweighed_by : Row → Device → Device
@@ -18,7 +18,3 @@ after_row ring row = if has_place row ring.devices then record ring { devices = 
 -- the ring after rows, each of which found what those before it had left
 abbrev pub after_rows : RingRecord → List Row → RingRecord
 after_rows ring rows = fold after_row ring rows
-
--- whether two rows are one
-abbrev pub is_same_row : Row → Row → Bool
-is_same_row a b = (a.region == b.region) && ((a.zone == b.zone) && ((a.address == b.address) && ((a.port == b.port) && (pointwise nat_eq a.name b.name && (a.weight == b.weight)))))

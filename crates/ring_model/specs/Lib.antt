@@ -1,9 +1,7 @@
-pub mod Texts
 pub mod Ring
 pub mod Valid
 pub mod Parts
 pub mod Raise
 pub mod Rings
 pub mod Import
-pub mod SameRows
 pub mod Publish

@@ -1,10 +1,9 @@
 -- A ring: its devices, and which of them holds each replica of each partition.
-use Rattle.std.specs.Prelude.{ℕ, ◌+◌, ◌*◌, ◌^◌, ◌==◌, ◌&&◌, Bool, not, nat_lt, nat_eq, List, [], ◌∷◌, ◌++◌, length, map, replicate, slice_get, slice_index_or, find, Option, None, false, true, if◌then◌else◌}
+use Rattle.std.specs.Prelude.{ℕ, ◌+◌, ◌*◌, ◌^◌, ◌==◌, ◌&&◌, Bool, not, nat_lt, List, [], ◌∷◌, ◌++◌, length, map, replicate, slice_get, slice_index_or, find, Option, None, false, true, if◌then◌else◌}
 use Rattle.std.specs.List.{list_any}
 use Rattle.std.specs.Option.{option_map}
-use Rattle.std.specs.Cmp.Lexicographic.{pointwise}
-use Rattle.ring_model.specs.declared.device.Row.{Row}
-use Rattle.ring_model.specs.declared.device.Device.{Device}
+use Rattle.ring_words.specs.declared.device.Row.{Row}
+use Rattle.ring_words.specs.declared.device.Device.{Device}
 
 pub record RingRecord : Type 0 where
   -- there are 2 ^ power partitions
@@ -51,14 +50,6 @@ has_device id devices = list_any (λ device. device.id == id) devices
 -- whether a device that isn't marked to be removed has this number
 abbrev pub has_present : ℕ → List Device → Bool
 has_present id devices = list_any (λ device. (device.id == id) && not device.removed) devices
-
--- whether two rows have the same address, port and name
-abbrev pub same_place : Row → Row → Bool
-same_place a b = (a.address == b.address) && ((a.port == b.port) && pointwise nat_eq a.name b.name)
-
--- whether a device, marked or not, has a row's address, port and name
-abbrev pub has_place : Row → List Device → Bool
-has_place row devices = list_any (λ device. same_place device.row row) devices
 
 -- the version after a change: one more, and the greatest stays
 abbrev pub risen : ℕ → ℕ

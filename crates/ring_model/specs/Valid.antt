@@ -1,8 +1,9 @@
 -- When a ring's record is that of a ring.
 use Rattle.std.specs.Prelude.{◌≡◌, ℕ, ◌+◌, ◌*◌, ◌<◌, ◌≤◌, List, length, map, slice_get, Some, All, AllPairs, true, false}
 use Rattle.std.specs.List.Sorted.{IsStrictlyIncreasing}
-use Rattle.ring_model.specs.Ring.{RingRecord, partition_count, has_device, same_place}
-use Rattle.ring_model.specs.declared.device.Device.{Device}
+use Rattle.ring_model.specs.Ring.{RingRecord, partition_count, has_device}
+use Rattle.ring_words.specs.Rows.{same_place}
+use Rattle.ring_words.specs.declared.device.Device.{Device}
 
 -- No two devices have the same address, port and name.
 abbrev pub AreApart : List Device → Type 0

@@ -2,10 +2,9 @@
 ghost use Rattle.std.specs.Prelude.{◌≡◌, map};
 ghost use Rattle.ring_model.specs.Ring.{marked, reweighed};
 ghost use Rattle.ring_model.specs.Import.{reweighed_by};
-ghost use Rattle.ring_model.specs.declared.device.Device.{Device};
+ghost use Rattle.ring_words.specs.declared.device.Device.{Device};
 
-use crate::command::NewWeight;
-use crate::device::{Device, DeviceId, Row};
+use ring_words::{Device, DeviceId, NewWeight, Row};
 
 /// A change of devices.
 pub(crate) trait Alteration {

@@ -1,14 +1,15 @@
 //! A ring that rows are put into.
 ghost use Rattle.std.specs.Prelude.{◌≡◌, ◌<◌, IfOk, OnOk, false, find, length};
 ghost use Rattle.std.specs.Option.{option_copied};
-ghost use Rattle.ring_model.specs.Ring.{changed, has_place, same_place};
+ghost use Rattle.ring_model.specs.Ring.{changed};
+ghost use Rattle.ring_words.specs.Rows.{has_place, same_place};
 ghost use Rattle.ring_model.specs.Import.{after_row};
 ghost use Rattle.ring_model.specs.Valid.{IsValid};
 
 use crate::altering::alter_all;
-use crate::device::{Device, Row};
 use crate::parts::{RingParts, risen};
 use crate::ring::Ring;
+use ring_words::{Device, Row};
 use std::alloc::AllocError;
 use std::marker::Model;
 

@@ -4,14 +4,13 @@ ghost use Rattle.std.specs.List.{list_any};
 ghost use Rattle.std.specs.List.Sorted.{IsStrictlyIncreasing};
 ghost use Rattle.std.specs.Option.{option_map};
 ghost use Rattle.std.specs.Rc.{rc_str_bytes};
-ghost use Rattle.ring_model.specs.Ring.{has_device, has_place, has_present, same_place, risen};
+ghost use Rattle.ring_model.specs.Ring.{has_device, has_present, risen};
+ghost use Rattle.ring_words.specs.Rows.{has_place, same_place};
 ghost use Rattle.ring_model.specs.Parts.{record_of, texts_of};
 ghost use Rattle.ring_model.specs.Raise.{IsTwice};
 ghost use Rattle.ring_model.specs.Valid.{AreApart, AreDevices, AreDistinct, ArePublished, AreSeats, IsValid};
 
-use crate::bounded::{Power, Replicas};
-use crate::device::{Device, DeviceId, Row};
-use crate::request::Hour;
+use ring_words::{Device, DeviceId, Hour, Power, Replicas, Row};
 use std::alloc::{AllocError, Global};
 use std::rc::RcStr;
 
@@ -47,8 +46,8 @@ pub(crate) fn partition_count(power: Power) -> usize
     1usize << power.get()
 }
 
-/// One more, and the greatest version stays.
-pub(crate) fn risen(version: u32) -> u32
+/// The version after a change: one more, and the greatest, 4294967295, stays.
+pub fn risen(version: u32) -> u32
     ensures { result ≡ risen version }
 {
     if version == u32::MAX {
@@ -100,22 +99,6 @@ pub(crate) fn has_present(devices: &[Device], id: DeviceId) -> bool
     devices
         .iter()
         .any(|device| device.id == id && !device.removed)
-}
-
-impl Row {
-    /// Whether the two have the same address, port and name.
-    pub fn is_at_place_of(&self, other: &Row) -> bool
-        ensures { result ≡ same_place self.now other.now }
-    {
-        self.address == other.address && self.port == other.port && self.name == other.name
-    }
-
-    /// Whether a device, marked to be removed or not, has the row's address, port and name.
-    pub fn has_place_in(&self, devices: &[Device]) -> bool
-        ensures { result ≡ has_place self.now devices.now }
-    {
-        devices.iter().any(|device| device.row.is_at_place_of(self))
-    }
 }
 
 fn are_ids_below(devices: &[Device], next_id: u32) -> bool

@@ -3,13 +3,9 @@ ghost use Rattle.std.specs.Prelude.{◌≡◌, ℕ, ◌<◌, ◌≤◌, ◌^◌,
 ghost use Rattle.std.specs.Option.{option_map, option_copied};
 
 use crate::altering::{Mark, alter_all};
-use crate::bounded::{Power, Replicas};
-use crate::command::NewWeight;
-use crate::device::{Device, DeviceId, Row};
 use crate::draft::Draft;
 use crate::parts::{RingParts, has_device, has_present, partition_count, risen, text_at};
-use crate::request::Hour;
-use crate::weight::Weight;
+use ring_words::{Device, DeviceId, Hour, NewWeight, Power, Replicas, Row, Weight};
 use std::alloc::{AllocError, Global};
 use std::marker::Model;
 use std::rc::RcStr;
@@ -79,7 +75,8 @@ impl Model for Ring {
 impl Ring {
     ghost use Rattle.std.specs.Prelude.{◌≡◌, ℕ, ◌<◌, ◌≤◌, ◌^◌, ◌↔◌, Bool, IfOk, IsErrOf, IsTrue, length, map, Some, None, true, false};
     ghost use Rattle.std.specs.Option.{option_map, option_copied};
-    ghost use Rattle.ring_model.specs.Ring.{RingRecord, new_ring, seat, moved_at, is_assigned, published_at, partition_count, has_device, has_present, has_place, with_device, with_weight, with_mark, with_min_hours, with_hours_passed};
+    ghost use Rattle.ring_model.specs.Ring.{RingRecord, new_ring, seat, moved_at, is_assigned, published_at, partition_count, has_device, has_present, with_device, with_weight, with_mark, with_min_hours, with_hours_passed};
+    ghost use Rattle.ring_words.specs.Rows.{has_place};
     ghost use Rattle.ring_model.specs.Parts.{record_of, texts_of};
     ghost use Rattle.ring_model.specs.Raise.{IsRaised};
     ghost use Rattle.ring_model.specs.Valid.{IsValid};

@@ -4,8 +4,8 @@ ghost use Rattle.std.specs.Cmp.Lexicographic.{pointwise};
 ghost use Rattle.std.specs.Option.{option_copied, option_map};
 ghost use Rattle.ring_model.specs.Rings.{AreByName, is_before, ring_at, seen, with_ring};
 
-use crate::name::RingName;
 use crate::ring::Ring;
+use ring_words::RingName;
 use std::alloc::{AllocError, Global};
 use std::marker::Model;
 use std::rc::Rc;

@@ -7,7 +7,7 @@ use Rattle.std.proofs.lemmas.List.{get_or-set_same, length-map, length-set}
 use Rattle.std.proofs.lemmas.List.Folds.{list_any_at}
 use Rattle.std.proofs.lemmas.Option.{slice_get_within}
 use Rattle.ring_model.specs.Ring.{has_present}
-use Rattle.ring_model.specs.declared.device.Device.{Device}
+use Rattle.ring_words.specs.declared.device.Device.{Device}
 use Rattle.ring_place.specs.Load.{Load, have_in, want_in}
 use Rattle.ring_place.specs.Rows.{is_empty}
 use Rattle.ring_place.specs.Gathering.{AreUncrowded, Calm, Crowded, HaveNoSurplus, IsFirst, IsSecond, Lifts, LostFirst, Same, Surplus, has_free_in, is_crowded_in, is_lost_in, present_only}

@@ -5,7 +5,7 @@ use Rattle.std.proofs.lemmas.Bool.Decides.{nat_tests}
 use Rattle.std.proofs.lemmas.Bool.{and_parts, eq-eqb, eqb-true}
 use Rattle.std.proofs.lemmas.List.Folds.{Any-from_list_any, list_any_at}
 use Rattle.ring_model.specs.Ring.{has_device, has_present}
-use Rattle.ring_model.specs.declared.device.Device.{Device}
+use Rattle.ring_words.specs.declared.device.Device.{Device}
 use Rattle.ring_share.specs.Crowd.{crowd, device_of, in_region, in_zone, is_less, is_outside, on_server, others, pass_both, seats_on, tiers_of}
 use Rattle.ring_share.specs.Room.{has_open, place_of}
 use Rattle.ring_share.specs.Want.{is_open}

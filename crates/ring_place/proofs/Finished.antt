@@ -14,9 +14,10 @@ use Rattle.std.proofs.lemmas.List.FromFn.{fill_by_all, get_or-map-range_with_len
 use Rattle.std.proofs.lemmas.List.Kept.{AllPairs-filter}
 use Rattle.std.proofs.lemmas.List.Sums.{count_by-le-length, length-filter}
 use Rattle.std.proofs.lemmas.Option.{get_or_from_slice_get, same_Some, slice_get_within}
-use Rattle.ring_model.specs.Ring.{RingRecord, has_device, has_present, moved_at, partition_count, risen, same_place, seat}
+use Rattle.ring_model.specs.Ring.{RingRecord, has_device, has_present, moved_at, partition_count, risen, seat}
+use Rattle.ring_words.specs.Rows.{same_place}
 use Rattle.ring_model.specs.Valid.{AreDevices, ArePublished, AreSeats, IsValid}
-use Rattle.ring_model.specs.declared.device.Device.{Device}
+use Rattle.ring_words.specs.declared.device.Device.{Device}
 use Rattle.ring_share.specs.Crowd.{row_of, rows_of}
 use Rattle.ring_place.specs.Finishing.{AreAlike, AreWhole, changed_in, stamped}
 use Rattle.ring_place.specs.Rebalance.{IsAfter, IsSeat, changed_seats, differs, has_changed}

@@ -7,7 +7,7 @@ use Rattle.std.proofs.lemmas.List.{get_or-map, get_or-set_other}
 use Rattle.std.proofs.lemmas.List.Folds.{list_any_at}
 use Rattle.std.proofs.lemmas.Option.{slice_get-get_or}
 use Rattle.ring_model.specs.Ring.{RingRecord, has_device, has_present, seat}
-use Rattle.ring_model.specs.declared.device.Device.{Device}
+use Rattle.ring_words.specs.declared.device.Device.{Device}
 use Rattle.ring_share.specs.Crowd.{crowd_for, is_less, is_outside, others, row_of}
 use Rattle.ring_share.specs.Room.{has_open, has_room, have, want_of}
 use Rattle.ring_share.proofs.Rows.{length-row_of, row_of_at}

@@ -4,7 +4,7 @@ use Rattle.std.specs.Prelude.{slice_get}
 use Rattle.std.proofs.lemmas.Bool.{cases_eq}
 use Rattle.std.proofs.lemmas.Option.{same_Some, slice_get-get_or}
 use Rattle.ring_model.specs.Ring.{has_present}
-use Rattle.ring_model.specs.declared.device.Device.{Device}
+use Rattle.ring_words.specs.declared.device.Device.{Device}
 use Rattle.ring_place.specs.Rows.{AreKnown}
 use Rattle.ring_place.specs.Gathering.{present_only}
 use Rattle.ring_place.proofs.Writes.{get_set_other}

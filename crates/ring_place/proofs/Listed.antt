@@ -6,7 +6,7 @@ use Rattle.std.proofs.lemmas.Bool.{cases_eq}
 use Rattle.std.proofs.lemmas.Grind.{get_or_default_zero}
 use Rattle.std.proofs.lemmas.List.{length-set, length-take-le, get_or-set_other, get_or-take}
 use Rattle.ring_model.specs.Ring.{has_device}
-use Rattle.ring_model.specs.declared.device.Device.{Device}
+use Rattle.ring_words.specs.declared.device.Device.{Device}
 use Rattle.ring_share.specs.Room.{has_open, place_of}
 use Rattle.ring_share.proofs.Standing.{found_device}
 use Rattle.ring_place.specs.Load.{Load, IsLoad, has_room_in, want_in, with_count}

@@ -11,7 +11,7 @@ use Rattle.std.proofs.lemmas.List.FromFn.{get_or-map-range_with_len, length-map-
 use Rattle.std.proofs.lemmas.Option.{slice_get_within, same_Some}
 use Rattle.ring_model.specs.Ring.{RingRecord, has_device, has_present, is_assigned, partition_count, seat}
 use Rattle.ring_model.specs.Valid.{IsValid}
-use Rattle.ring_model.specs.declared.device.Device.{Device}
+use Rattle.ring_words.specs.declared.device.Device.{Device}
 use Rattle.ring_share.specs.Crowd.{crowd, crowd_for, device_of, in_region, in_zone, on_server, is_less, is_on, is_outside, others, pass_both, row_of, rows_of, seats_on, tiers_of}
 use Rattle.ring_share.specs.Room.{has_open, has_room, have, place_of, want_of}
 use Rattle.ring_share.proofs.AllSeats.{have_is_rows}

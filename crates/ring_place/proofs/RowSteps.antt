@@ -6,7 +6,7 @@ use Rattle.std.proofs.lemmas.List.{length-set}
 use Rattle.std.proofs.lemmas.List.Sums.{sum_by-cons, count_by-le-length}
 use Rattle.std.proofs.lemmas.Option.{slice_get_within, get_or_from_slice_get, slice_get-get_or}
 use Rattle.ring_model.specs.Ring.{has_device, has_present}
-use Rattle.ring_model.specs.declared.device.Device.{Device}
+use Rattle.ring_words.specs.declared.device.Device.{Device}
 use Rattle.ring_share.specs.Crowd.{is_less, is_on, others, seats_on, tiers_of}
 use Rattle.ring_share.specs.Room.{has_open}
 use Rattle.ring_place.specs.Load.{Load, IsLoad, crowd_in, has_room_in, have_in, is_free_in, load_put, want_in}

@@ -10,7 +10,7 @@ use Rattle.std.proofs.lemmas.Nat.{pow_pos}
 use Rattle.std.proofs.lemmas.Option.{same_Some, slice_get_within}
 use Rattle.ring_model.specs.Ring.{RingRecord, has_present, is_assigned, moved_at, partition_count, seat}
 use Rattle.ring_model.specs.Valid.{IsValid}
-use Rattle.ring_model.specs.declared.device.Device.{Device}
+use Rattle.ring_words.specs.declared.device.Device.{Device}
 use Rattle.ring_share.specs.Crowd.{crowd, crowd_for, is_less, is_on, is_outside, others, row_of, rows_of, seats_on, tiers_of}
 use Rattle.ring_share.specs.Room.{has_open, has_room, have, place_of, want_of}
 use Rattle.ring_share.specs.Want.{AreWanted}

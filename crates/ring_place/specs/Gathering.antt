@@ -4,7 +4,7 @@
 use Rattle.std.specs.Prelude.{◌≡◌, ℕ, ◌+◌, ◌<◌, ◌≤◌, ◌==◌, ◌&&◌, Bool, not, true, false, if◌then◌else◌, List, length, map, Option, Some, None, slice_get, slice_index_or, slice_set, sum_by}
 use Rattle.std.specs.List.{list_any, range_with_len}
 use Rattle.ring_model.specs.Ring.{RingRecord, has_device, has_present, partition_count}
-use Rattle.ring_model.specs.declared.device.Device.{Device}
+use Rattle.ring_words.specs.declared.device.Device.{Device}
 use Rattle.ring_share.specs.Crowd.{is_less, others, seats_on}
 use Rattle.ring_share.specs.Want.{AreWanted}
 use Rattle.ring_place.specs.Load.{Load, IsLoad, crowd_in, have_in, is_free_in, want_in}

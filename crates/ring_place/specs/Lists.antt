@@ -1,7 +1,7 @@
 -- The lists that a room keeps of devices, and how few seats may be near any of them at the least.
 use Rattle.std.specs.Prelude.{◌≡◌, ℕ, ◌<◌, ◌≤◌, Bool, true, false, All, List, length, take, Option, Some, slice_get, slice_index}
 use Rattle.std.specs.List.{list_any}
-use Rattle.ring_model.specs.declared.device.Device.{Device}
+use Rattle.ring_words.specs.declared.device.Device.{Device}
 use Rattle.ring_share.specs.Crowd.{in_region, in_zone, is_less, on_server, pass_both}
 use Rattle.ring_share.specs.Room.{has_open}
 use Rattle.ring_share.specs.Want.{is_open}

@@ -1,7 +1,7 @@
 -- How many seats the devices of a ring want and have, while seats are put on them and taken off.
 use Rattle.std.specs.Prelude.{◌≡◌, ℕ, ◌+◌, ◌-◌, ◌&&◌, ◌≤◌, Bool, true, false, nat_lt, if◌then◌else◌, List, length, map, Option, Some, slice_index, slice_set}
 use Rattle.std.specs.List.Sorted.{IsStrictlyIncreasing}
-use Rattle.ring_model.specs.declared.device.Device.{Device}
+use Rattle.ring_words.specs.declared.device.Device.{Device}
 use Rattle.ring_share.specs.Crowd.{crowd, is_less, is_outside, tiers_of}
 use Rattle.ring_share.specs.Room.{has_open, place_of}
 

@@ -1,6 +1,6 @@
 -- Devices by their places among those of a ring, and the search among some of these places.
 use Rattle.std.specs.Prelude.{◌≡◌, not, Bool, ℕ, ◌+◌, ◌-◌, ◌<◌, nat_lt, if◌then◌else◌, false, true, List, length, map, Option, Some, None, slice_get, slice_index}
-use Rattle.ring_model.specs.declared.device.Device.{Device}
+use Rattle.ring_words.specs.declared.device.Device.{Device}
 use Rattle.ring_share.specs.Crowd.{is_less}
 use Rattle.ring_place.specs.Load.{Load, is_free_in, crowd_in}
 

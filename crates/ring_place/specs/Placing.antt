@@ -2,7 +2,7 @@
 -- `old` is a partition before a rebalance, `lifted` is it without its gathered seats, and `row` is it later.
 use Rattle.std.specs.Prelude.{◌≡◌, ◌≢◌, ◌==◌, ℕ, ◌+◌, ◌-◌, ◌<◌, ◌≤◌, Bool, true, false, ◌&&◌, ◌||◌, ◌⊎◌, if◌then◌else◌, List, ◌∷◌, length, Option, Some, None, IfSome, slice_get, count_by, sum_by}
 use Rattle.ring_model.specs.Ring.{has_device, has_present}
-use Rattle.ring_model.specs.declared.device.Device.{Device}
+use Rattle.ring_words.specs.declared.device.Device.{Device}
 use Rattle.ring_share.specs.Crowd.{is_less, is_on, others, seats_on}
 use Rattle.ring_share.specs.Room.{has_open}
 use Rattle.ring_share.specs.Want.{is_open}

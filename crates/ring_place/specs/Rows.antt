@@ -2,7 +2,7 @@
 use Rattle.std.specs.Prelude.{◌≡◌, ℕ, ◌+◌, ◌*◌, ◌≤◌, Bool, true, false, List, [], length, map, Option, Some, None, slice_get, slice_index_or, slice_range}
 use Rattle.std.specs.List.{filter_map, range_with_len}
 use Rattle.ring_model.specs.Ring.{has_device}
-use Rattle.ring_model.specs.declared.device.Device.{Device}
+use Rattle.ring_words.specs.declared.device.Device.{Device}
 
 -- the rows of so many partitions whose seats stand one after another
 abbrev pub rows_in : List (Option ℕ) → ℕ → ℕ → List (List (Option ℕ))

@@ -1,6 +1,5 @@
 //! One rebalance.
 ghost use Rattle.std.specs.Prelude.{◌≡◌, ◌<◌, ◌≤◌, ◌↔◌, count_by, length, IfOk, IsErrOf, filter, not};
-ghost use Rattle.ring_model.specs.Ring.{risen};
 ghost use Rattle.ring_model.specs.Valid.{IsValid};
 ghost use Rattle.ring_share.specs.Crowd.{rows_of};
 ghost use Rattle.ring_share.specs.Want.{is_open as is_open_device};
@@ -11,7 +10,7 @@ use crate::gather::gathered;
 use crate::order::{draws_of, shuffled};
 use crate::place::place_all;
 use crate::seats::{Seats, partition_count};
-use ring_model::{BuildFault, Device, DeviceId, Hour, Ring};
+use ring_model::{BuildFault, Device, DeviceId, Hour, Ring, risen};
 use ring_share::is_open;
 use std::alloc::{AllocError, Global};
 
@@ -94,17 +93,6 @@ fn moves(
         changed += count;
     }
     Ok((moved, changed))
-}
-
-/// One more, and the greatest version stays.
-fn risen(version: u32) -> u32
-    ensures { result ≡ risen version }
-{
-    if version == u32::MAX {
-        version
-    } else {
-        version + 1
-    }
 }
 
 /// The devices that aren't marked to be removed.

@@ -8,7 +8,7 @@ use Rattle.std.proofs.lemmas.List.{take_more, map-append}
 use Rattle.std.proofs.lemmas.List.Sums.{fold_push, count_by-le-length}
 use Rattle.ring_model.specs.Ring.{RingRecord, partition_count}
 use Rattle.ring_model.specs.Valid.{IsValid}
-use Rattle.ring_model.specs.declared.device.Device.{Device}
+use Rattle.ring_words.specs.declared.device.Device.{Device}
 use Rattle.ring_share.specs.Want.{seat_count}
 use Rattle.ring_share.specs.Room.{have}
 use Rattle.ring_share.specs.Figures.{greatest_balance}

@@ -11,7 +11,7 @@ use Rattle.std.proofs.lemmas.List.Folds.{list_any_at, Any-from_list_any, find_at
 use Rattle.std.proofs.lemmas.List.FromFn.{get_or-range_with_len, length-range_with_len}
 use Rattle.std.proofs.lemmas.List.Sums.{sum_by-cons, sum_by-set, count_by-le-length, position_or_len_is}
 use Rattle.std.proofs.lemmas.Option.{slice_get_within, get_or_from_slice_get, slice_get-get_or, same_Some}
-use Rattle.ring_model.specs.declared.device.Device.{Device}
+use Rattle.ring_words.specs.declared.device.Device.{Device}
 use Rattle.ring_share.specs.Want.{is_open}
 use Rattle.ring_share.specs.Crowd.{in_region, in_zone, on_server, device_of, pass_both, Tiers, tiers_of, is_on, is_outside, others, crowd, is_less}
 use Rattle.ring_share.specs.Figures.{has_better, is_crowded, has_crowded}

@@ -13,7 +13,7 @@ use Rattle.std.proofs.lemmas.Option.{slice_get_within, get_or_from_slice_get, sl
 use Rattle.std.proofs.Math.Nat.{mul-add, add-mul, div-mul-le_self, lt-div-mul-add, mul-le-mul_right}
 use Rattle.ring_model.specs.Ring.{RingRecord}
 use Rattle.ring_model.specs.Valid.{IsValid}
-use Rattle.ring_model.specs.declared.device.Device.{Device}
+use Rattle.ring_words.specs.declared.device.Device.{Device}
 use Rattle.ring_share.specs.Want.{is_open, open_weight, total_weight, seat_count, whole_share, share_rest, AreShares, AreWanted}
 use Rattle.ring_share.specs.Turns.{waits, is_waiting, ComesBefore}
 

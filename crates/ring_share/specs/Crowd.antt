@@ -3,7 +3,7 @@
 use Rattle.std.specs.Prelude.{ℕ, ◌==◌, ◌&&◌, ◌||◌, Bool, false, nat_lt, List, map, find, count_by, slice_set, Option, Some, None}
 use Rattle.std.specs.List.{range_with_len}
 use Rattle.ring_model.specs.Ring.{RingRecord, partition_count, seat}
-use Rattle.ring_model.specs.declared.device.Device.{Device}
+use Rattle.ring_words.specs.declared.device.Device.{Device}
 
 -- whether two devices stand in one region
 abbrev pub in_region : Device → Device → Bool

@@ -2,7 +2,7 @@
 use Rattle.std.specs.Prelude.{ℕ, ◌+◌, ◌-◌, ◌*◌, ◌/◌, ◌&&◌, Bool, false, nat_lt, min, max, if◌then◌else◌, List, length, fold, map, count_by, slice_index_or, Option, Some, None}
 use Rattle.std.specs.List.{list_any, range_with_len}
 use Rattle.ring_model.specs.Ring.{RingRecord, partition_count}
-use Rattle.ring_model.specs.declared.device.Device.{Device}
+use Rattle.ring_words.specs.declared.device.Device.{Device}
 use Rattle.ring_share.specs.Want.{is_open, seat_count, total_weight}
 use Rattle.ring_share.specs.Room.{have}
 use Rattle.ring_share.specs.Crowd.{tiers_of, rows_of, others, is_outside, crowd, is_less}

@@ -1,7 +1,7 @@
 -- How near devices stand, as numbers that add up: a crowd as one number.
 use Rattle.std.specs.Prelude.{◌≡◌, ℕ, ◌+◌, ◌==◌, ◌&&◌, Bool, false, not, nat_lt, if◌then◌else◌, List, [], slice_get, slice_index, slice_index_or, length, sum_by, Option, Some, None}
 use Rattle.std.specs.List.{list_any, range_with_len}
-use Rattle.ring_model.specs.declared.device.Device.{Device}
+use Rattle.ring_words.specs.declared.device.Device.{Device}
 use Rattle.ring_share.specs.Want.{is_open}
 use Rattle.ring_share.specs.Crowd.{in_region, in_zone, on_server}
 

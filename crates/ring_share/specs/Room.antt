@@ -2,7 +2,7 @@
 use Rattle.std.specs.Prelude.{ℕ, ◌==◌, ◌&&◌, Bool, nat_lt, List, slice_index, count_by}
 use Rattle.std.specs.List.{list_any, position_or_len}
 use Rattle.ring_model.specs.Ring.{RingRecord}
-use Rattle.ring_model.specs.declared.device.Device.{Device}
+use Rattle.ring_words.specs.declared.device.Device.{Device}
 use Rattle.ring_share.specs.Want.{is_open}
 
 -- how many seats are on the device of this number

@@ -1,7 +1,7 @@
 -- Which device gets the next seat that is left over.
 use Rattle.std.specs.Prelude.{◌≡◌, ◌≢◌, ◌==◌, ℕ, ◌<◌, ◌&&◌, Bool, true, false, List, slice_get, slice_index, Option, Some, None}
 use Rattle.ring_model.specs.Ring.{RingRecord}
-use Rattle.ring_model.specs.declared.device.Device.{Device}
+use Rattle.ring_words.specs.declared.device.Device.{Device}
 use Rattle.ring_share.specs.Want.{is_open, whole_share, IsBefore}
 
 -- whether a device that has so many seats is open and has no more than its whole seats

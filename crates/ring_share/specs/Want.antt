@@ -2,7 +2,7 @@
 use Rattle.std.specs.Prelude.{◌≡◌, ℕ, ◌+◌, ◌*◌, ◌/◌, ◌%◌, ◌<◌, ◌≤◌, ◌&&◌, Bool, not, true, false, nat_lt, if◌then◌else◌, List, length, sum, sum_by, slice_get, slice_index, Some}
 use Rattle.std.specs.List.{list_any}
 use Rattle.ring_model.specs.Ring.{RingRecord, partition_count}
-use Rattle.ring_model.specs.declared.device.Device.{Device}
+use Rattle.ring_words.specs.declared.device.Device.{Device}
 
 -- whether a device is open, so that seats may go to it: it isn't marked to be removed, and it weighs something
 abbrev pub is_open : Device → Bool

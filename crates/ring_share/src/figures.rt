@@ -4,7 +4,7 @@ ghost use Rattle.std.specs.Option.{option_map};
 ghost use Rattle.std.specs.List.Sorted.{IsStrictlyIncreasing};
 ghost use Rattle.ring_model.specs.Ring.{partition_count, has_device, is_assigned};
 ghost use Rattle.ring_model.specs.Valid.{AreDevices};
-ghost use Rattle.ring_model.specs.declared.device.Device.{Device as DeviceModel};
+ghost use Rattle.ring_words.specs.declared.device.Device.{Device as DeviceModel};
 ghost use Rattle.ring_share.specs.Want.{total_weight};
 ghost use Rattle.ring_share.specs.Room.{have};
 ghost use Rattle.ring_share.specs.Near.{IsTable};

@@ -18,6 +18,3 @@ pub use figures::{balance, balance_of, dispersion};
 pub use places::place_in;
 pub use rooms::{has_room, have};
 pub use wants::{is_open, wanted};
-
-#[cfg(test)]
-mod tests;

@@ -1,7 +1,7 @@
 //! How near devices stand, as a table of numbers that add up.
 ghost use Rattle.std.specs.Prelude.{◌≡◌, ◌<◌, ◌≤◌, ◌+◌, ◌*◌, ℕ, [], false, All, Bool, length, if◌then◌else◌, slice_get, slice_index, slice_index_or, sum_by, Some};
 ghost use Rattle.std.specs.List.{list_any, range_with_len};
-ghost use Rattle.ring_model.specs.declared.device.Device.{Device as DeviceModel};
+ghost use Rattle.ring_words.specs.declared.device.Device.{Device as DeviceModel};
 ghost use Rattle.ring_share.specs.Near.{near, near_at, nearness, IsTable, is_free_at, is_better_at, has_better_at};
 
 use crate::crowds::{in_region, in_zone, on_server};

@@ -3,7 +3,7 @@ ghost use Rattle.std.specs.Prelude.{◌≡◌, ◌<◌, ◌≤◌, ◌+◌, ◌*
 ghost use Rattle.std.specs.List.{list_any};
 ghost use Rattle.ring_model.specs.Ring.{partition_count};
 ghost use Rattle.ring_model.specs.Valid.{IsValid};
-ghost use Rattle.ring_model.specs.declared.device.Device.{Device as DeviceModel};
+ghost use Rattle.ring_words.specs.declared.device.Device.{Device as DeviceModel};
 ghost use Rattle.ring_share.specs.Turns.{is_waiting, IsFirstWaiting};
 ghost use Rattle.ring_share.specs.Want.{is_open, open_weight, total_weight, seat_count, whole_share, share_rest, IsBefore, AreShares, AreWanted};
 

@@ -2,8 +2,8 @@
 use Rattle.std.specs.Prelude.{ℕ, ◌==◌, ◌++◌, if◌then◌else◌, List, [], ◌∷◌, map, codes, decimal}
 use Rattle.std.specs.List.{zip}
 use Rattle.ring_model.specs.Ring.{RingRecord}
-use Rattle.ring_model.specs.Texts.{hundredths_text, address_text}
-use Rattle.ring_model.specs.declared.device.Device.{Device}
+use Rattle.ring_words.specs.Texts.{hundredths_text, address_text}
+use Rattle.ring_words.specs.declared.device.Device.{Device}
 use Rattle.ring_share.specs.Room.{have}
 use Rattle.ring_share.specs.Figures.{device_balance, ring_balance, ring_dispersion}
 use Rattle.ring_tables.specs.Layout.{Columns, at_left, at_right, as_it_is, table}

@@ -1,6 +1,6 @@
 //! Texts of cells.
 ghost use Rattle.std.specs.Prelude.{◌≡◌, ℕ, IfOk, replicate, decimal, string_bytes};
-ghost use Rattle.ring_model.specs.Texts.{hundredths_text};
+ghost use Rattle.ring_words.specs.Texts.{hundredths_text};
 ghost use Rattle.ring_tables.specs.Layout.{at_left, at_right};
 
 use std::alloc::{AllocError, Global};

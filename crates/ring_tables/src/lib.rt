@@ -10,6 +10,3 @@ mod devices;
 
 pub use balances::balance_table;
 pub use devices::device_table;
-
-#[cfg(test)]
-mod tests;

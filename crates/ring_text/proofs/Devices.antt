@@ -5,10 +5,10 @@ use Rattle.std.specs.List.{join_with_byte, slice_split}
 use Rattle.std.proofs.lemmas.List.{get_or-map, length-map, map_more, map_push}
 use Rattle.std.proofs.lemmas.List.Elements.{All-push, All-head, All-tail, All-get_or, All-weaker, All-from_recursion}
 use Rattle.std.proofs.lemmas.List.Splits.{join_with_byte-slice_split}
-use Rattle.ring_model.specs.Texts.{address_text, address_limit, hundredths_text, greatest_weight, two_digits}
-use Rattle.ring_model.proofs.Decimals.{same_parts, same_number, weight_of_parts, after_first_point, after_second_point}
-use Rattle.ring_model.specs.declared.device.Device.{Device}
-use Rattle.ring_model.specs.declared.device.Row.{Row}
+use Rattle.ring_words.specs.Texts.{address_text, address_limit, hundredths_text, greatest_weight, two_digits}
+use Rattle.ring_words.proofs.Decimals.{same_parts, same_number, weight_of_parts, after_first_point, after_second_point}
+use Rattle.ring_words.specs.declared.device.Device.{Device}
+use Rattle.ring_words.specs.declared.device.Row.{Row}
 use Rattle.ring_text.specs.Snapshot.{IsWithinLimits}
 use Rattle.ring_text.specs.Spelling.{device_line, state_word}
 use Rattle.ring_text.specs.Reading.{text_at, IsNumber, IsDevice, IsDeviceLine, AreDeviceLines}

@@ -9,7 +9,7 @@ use Rattle.std.proofs.lemmas.Str.Parse.{IsNumeralModel, numerals_by_value, tells
 use Rattle.std.specs.Str.Parse.{digits_value}
 use Rattle.std.proofs.lemmas.List.Elements.{All-nil, All-cons, All-head, All-tail, All-append, All-weaker, All-from_get_or}
 use Rattle.std.proofs.lemmas.List.Splits.{slice_split_none, slice_split_at}
-use Rattle.ring_model.specs.Texts.{is_lower, is_upper, is_digit, is_label, is_label_byte, is_device_name, is_device_name_byte, address_text, address_limit, hundredths_text, greatest_weight, two_digits}
+use Rattle.ring_words.specs.Texts.{is_lower, is_upper, is_digit, is_label, is_label_byte, is_device_name, is_device_name_byte, address_text, address_limit, hundredths_text, greatest_weight, two_digits}
 use Rattle.ring_text.specs.Spelling.{state_word}
 
 -- A byte of a word is neither a space nor a line feed, and is ASCII.

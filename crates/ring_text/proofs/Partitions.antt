@@ -8,7 +8,7 @@ use Rattle.std.proofs.lemmas.List.Splits.{join_with_byte-slice_split}
 use Rattle.std.proofs.lemmas.List.FromFn.{get_or-map-range_with_len, map-range_with_len_more, length-map-range_with_len}
 use Rattle.std.proofs.Math.Seq.{take-add}
 use Rattle.std.proofs.Math.Nat.{mul-le-mul_right}
-use Rattle.ring_model.proofs.Decimals.{same_number}
+use Rattle.ring_words.proofs.Decimals.{same_number}
 use Rattle.ring_text.specs.Spelling.{partition_line, partition_lines}
 use Rattle.ring_text.specs.Reading.{text_at, IsNumber, AreNumbers, IsPartitionLine, ArePartitionLines}
 use Rattle.ring_text.proofs.Graphic.{AreGraphic, Lacks, graphic-decimal, lacks_of_graphic, parts-joined}

@@ -2,8 +2,8 @@
 use Rattle.std.proofs.Common.{◌≡◌, ℕ, ◌^◌, ◌<◌, ◌++◌, List, Result, Ok, Err, Vec, decimal, sym, ap, ◌∙◌, arith}
 use Rattle.std.specs.declared.alloc.Global.{Global}
 use Rattle.std.proofs.lemmas.List.{append_cancel_left}
-use Rattle.ring_model.proofs.Decimals.{same_number}
-use Rattle.ring_model.specs.Texts.{is_label}
+use Rattle.ring_words.proofs.Decimals.{same_number}
+use Rattle.ring_words.specs.Texts.{is_label}
 use Rattle.ring_text.specs.Reading.{Reads, ReadsAs, IsNumber, IsName, IsNumberAfter, IsNameAfter}
 use Rattle.ring_text.specs.declared.fault.TextFault.{TextFault}
 use Rattle.ring_text.specs.declared.fault.TextFault.TheVariants.{BadText, NoMemory}

@@ -4,9 +4,9 @@ use Rattle.std.specs.Prelude.{All, IsTrue}
 use Rattle.std.proofs.lemmas.Bool.{ltb-true}
 use Rattle.std.proofs.lemmas.List.Elements.{All-weaker}
 use Rattle.ring_model.specs.Ring.{RingRecord, is_assigned}
-use Rattle.ring_model.specs.Texts.{is_label}
+use Rattle.ring_words.specs.Texts.{is_label}
 use Rattle.ring_model.specs.Valid.{AreDevices, IsValid}
-use Rattle.ring_model.specs.declared.device.Device.{Device}
+use Rattle.ring_words.specs.declared.device.Device.{Device}
 use Rattle.ring_text.specs.Snapshot.{IsValidSnapshot, IsWithinLimits, snapshot_of}
 
 -- devices whose next number is at most a greater one

@@ -4,8 +4,8 @@ use Rattle.std.specs.Prelude.{codes}
 use Rattle.std.specs.List.{join_with_byte}
 use Rattle.std.proofs.lemmas.List.{map-append, length-map, length-append, take_at, drop_at, take-append-drop, append_cancel_left}
 use Rattle.std.proofs.lemmas.List.FromFn.{length-range_with_len}
-use Rattle.ring_model.proofs.Decimals.{same_number}
-use Rattle.ring_model.specs.declared.device.Device.{Device}
+use Rattle.ring_words.proofs.Decimals.{same_number}
+use Rattle.ring_words.specs.declared.device.Device.{Device}
 use Rattle.ring_text.specs.Snapshot.{SnapshotRecord, IsValidSnapshot}
 use Rattle.ring_text.specs.Spelling.{head_lines, device_line, partition_lines}
 use Rattle.ring_text.specs.Reading.{text_at, IsHead, IsNumberAfter, IsNameAfter, IsCut, AreDeviceLines, ArePartitionLines, IsMade, AreLines, made}

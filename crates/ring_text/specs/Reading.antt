@@ -1,8 +1,8 @@
 -- What a reader of a part of a text answers, and the parts that are read.
 use Rattle.std.specs.Prelude.{◌≡◌, ℕ, ◌*◌, ◌≤◌, ◌<◌, ◌^◌, ◌++◌, Bool, List, [], ◌∷◌, length, map, slice_index_or, Result, Ok, Err, ⊤, IsTrue, All, codes, decimal}
 use Rattle.std.specs.List.{join_with_byte}
-use Rattle.ring_model.specs.Texts.{address_text, address_limit, hundredths_text, greatest_weight, is_label, is_device_name}
-use Rattle.ring_model.specs.declared.device.Device.{Device}
+use Rattle.ring_words.specs.Texts.{address_text, address_limit, hundredths_text, greatest_weight, is_label, is_device_name}
+use Rattle.ring_words.specs.declared.device.Device.{Device}
 use Rattle.ring_text.specs.Snapshot.{SnapshotRecord, IsValidSnapshot, IsWithinLimits}
 use Rattle.ring_text.specs.Spelling.{lines_of, device_line, partition_lines, state_word}
 use Rattle.ring_text.specs.declared.fault.TextFault.{TextFault}

@@ -1,9 +1,9 @@
 -- A snapshot of a ring: what its text tells.
 use Rattle.std.specs.Prelude.{◌≡◌, ℕ, ◌*◌, ◌^◌, ◌<◌, ◌≤◌, List, length, All, IsTrue}
 use Rattle.ring_model.specs.Ring.{RingRecord}
-use Rattle.ring_model.specs.Texts.{is_label, is_device_name, greatest_weight, address_limit}
+use Rattle.ring_words.specs.Texts.{is_label, is_device_name, greatest_weight, address_limit}
 use Rattle.ring_model.specs.Valid.{AreDevices, AreSeats}
-use Rattle.ring_model.specs.declared.device.Device.{Device}
+use Rattle.ring_words.specs.declared.device.Device.{Device}
 
 pub record SnapshotRecord : Type 0 where
   pub name : List ℕ

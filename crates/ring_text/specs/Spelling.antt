@@ -1,8 +1,8 @@
 -- The one text of a snapshot.
 use Rattle.std.specs.Prelude.{◌≡◌, ℕ, ◌+◌, ◌*◌, ◌^◌, Bool, true, false, List, [], ◌∷◌, ◌++◌, length, map, codes, decimal}
 use Rattle.std.specs.List.{flat_map, join_with_byte, range_with_len, slice_range}
-use Rattle.ring_model.specs.Texts.{address_text, hundredths_text}
-use Rattle.ring_model.specs.declared.device.Device.{Device}
+use Rattle.ring_words.specs.Texts.{address_text, hundredths_text}
+use Rattle.ring_words.specs.declared.device.Device.{Device}
 use Rattle.ring_text.specs.Snapshot.{SnapshotRecord, IsValidSnapshot}
 
 -- a line: its words, one space between each two, and a line feed

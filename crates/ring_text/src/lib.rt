@@ -19,6 +19,3 @@ pub use read::read_ring;
 pub use state::Snapshot;
 pub use taking::snapshot;
 pub use write::write_ring;
-
-#[cfg(test)]
-mod tests;

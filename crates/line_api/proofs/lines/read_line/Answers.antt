@@ -1,7 +1,7 @@
 use Rattle.std.proofs.Common.{◌≡◌, sym, ◌∙◌}
 use Rattle.std.proofs.lemmas.Result.{err_from_is_err_and}
-use Rattle.ring_model.specs.declared.command.Command.{Command}
-use Rattle.ring_model.specs.declared.request.Key.{Key}
+use Rattle.ring_words.specs.declared.command.Command.{Command}
+use Rattle.ring_words.specs.declared.request.Key.{Key}
 use Rattle.ring_messages.specs.Message.{IsMessage}
 use Rattle.ring_messages.proofs.Reading.{reads_err}
 use Rattle.line_api.specs.Lines.{Asks}

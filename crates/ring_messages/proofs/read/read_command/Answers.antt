@@ -5,7 +5,7 @@ use Rattle.std.proofs.lemmas.Slice.Eq.{bytes_eq-Decides}
 use Rattle.std.proofs.lemmas.Result.{err_from_is_err_and}
 use Rattle.serde_json.specs.View.{view}
 use Rattle.serde_json.specs.Read.{read}
-use Rattle.ring_model.specs.declared.command.Command.{Command}
+use Rattle.ring_words.specs.declared.command.Command.{Command}
 use Rattle.ring_messages.specs.Message.{IsCommand}
 use Rattle.ring_messages.specs.Proper.{IsProperCommand}
 use Rattle.ring_messages.specs.Canonical.{canonical, command_data}

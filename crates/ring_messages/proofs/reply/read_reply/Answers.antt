@@ -5,7 +5,7 @@ use Rattle.std.proofs.lemmas.Slice.Eq.{bytes_eq-Decides}
 use Rattle.std.proofs.lemmas.Result.{err_from_is_err_and}
 use Rattle.serde_json.specs.View.{view}
 use Rattle.serde_json.specs.Read.{read}
-use Rattle.ring_model.specs.declared.command.Reply.{Reply}
+use Rattle.ring_words.specs.declared.command.Reply.{Reply}
 use Rattle.ring_messages.specs.Proper.{IsProperReply}
 use Rattle.ring_messages.specs.Replies.{reply_text, reply_data}
 use Rattle.ring_messages.specs.Says.{SaysReply}

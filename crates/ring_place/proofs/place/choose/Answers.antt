@@ -1,7 +1,7 @@
 use Rattle.std.proofs.Common.{◌≡◌, ℕ, All, length, true, false, sym, ap, subst, ◌∙◌, arith, List, Option, Some, None, IfSome}
 use Rattle.std.proofs.lemmas.Option.{same_Some}
 use Rattle.ring_model.specs.Ring.{has_device, has_present}
-use Rattle.ring_model.specs.declared.device.Device.{Device}
+use Rattle.ring_words.specs.declared.device.Device.{Device}
 use Rattle.ring_share.specs.Crowd.{seats_on}
 use Rattle.ring_place.specs.Load.{is_free_in, seats_of}
 use Rattle.ring_place.proofs.Choosing.{chosen_back, chosen_least, chosen_open, taken_count}

@@ -1,5 +1,5 @@
 use Rattle.std.proofs.Common.{◌≡◌, List, get_or, length, sym, subst, arith}
-use Rattle.ring_model.specs.declared.device.Device.{Device}
+use Rattle.ring_words.specs.declared.device.Device.{Device}
 use Rattle.ring_place.specs.Placing.{CanPlace, RowPlaced}
 use Rattle.ring_place.specs.Rows.{row_at}
 use Rattle.ring_place.proofs.AllSteps.{all_end, all_fit, all_start, open_want_fills, order_step}

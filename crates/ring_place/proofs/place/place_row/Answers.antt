@@ -1,6 +1,6 @@
 use Rattle.std.proofs.Common.{◌≡◌, ◌∙◌, sym, subst, None, ◌+◌, arith, get_or, List}
 use Rattle.std.proofs.lemmas.Option.{slice_get-get_or}
-use Rattle.ring_model.specs.declared.device.Device.{Device}
+use Rattle.ring_words.specs.declared.device.Device.{Device}
 use Rattle.ring_place.specs.Rows.{AreKnown}
 use Rattle.ring_place.specs.Load.{IsLoad, load_put}
 use Rattle.ring_place.specs.Placing.{IsAlone}

@@ -1,6 +1,6 @@
 use Rattle.std.proofs.Common.{◌∙◌, List, ap, max, sym, arith}
 use Rattle.std.specs.Prelude.{slice_get}
-use Rattle.ring_model.specs.declared.device.Device.{Device}
+use Rattle.ring_words.specs.declared.device.Device.{Device}
 use Rattle.ring_share.specs.Figures.{device_balance}
 use Rattle.ring_share.proofs.Balances.{greatest_more, have_few}
 use Rattle.ring_share.proofs.Standing.{read_at}

@@ -1,6 +1,6 @@
 use Rattle.std.proofs.Common.{◌≡◌, ◌==◌, ◌≤◌, ℕ, get_or, length, take, count_by, Some}
 use Rattle.std.specs.Prelude.{slice_get}
-use Rattle.ring_model.specs.declared.device.Device.{Device}
+use Rattle.ring_words.specs.declared.device.Device.{Device}
 use Rattle.ring_share.proofs.figures.counts_of.Given as goal
 
 -- how many of the seats so far each device has

@@ -1,6 +1,6 @@
 use Rattle.std.proofs.Common.{◌≡◌, ◌+◌, ◌*◌, ℕ, List, ap, count_by, map, Some, sym, ◌∙◌, arith}
 use Rattle.std.specs.Prelude.{slice_range}
-use Rattle.ring_model.specs.declared.device.Device.{Device}
+use Rattle.ring_words.specs.declared.device.Device.{Device}
 use Rattle.ring_share.specs.Crowd.{row_of}
 use Rattle.ring_share.specs.Figures.{has_crowded}
 use Rattle.ring_share.proofs.Rows.{rows_more_yes, rows_more_no, all_rows}

@@ -1,5 +1,5 @@
 use Rattle.std.proofs.Common.{◌≡◌, sum, List, length, replicate, ℕ, Vec, Global, sym, ap, ◌∙◌, subst, arith}
-use Rattle.ring_model.specs.declared.device.Device.{Device}
+use Rattle.ring_words.specs.declared.device.Device.{Device}
 use Rattle.std.proofs.lemmas.Result.{IfOk-weaker}
 use Rattle.ring_share.specs.Want.{AreShares, AreWanted, total_weight}
 use Rattle.ring_share.proofs.Sharing.{none_wanted, floors_are_shares, floors_fit}

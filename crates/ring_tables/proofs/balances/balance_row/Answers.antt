@@ -1,6 +1,6 @@
 use Rattle.std.proofs.Common.{rules, ◌≡◌, ◌++◌, ◌∷◌, [], IfOk, string_bytes, decimal}
 use Rattle.std.proofs.lemmas.Result.{IfOk-weaker}
-use Rattle.ring_model.specs.Texts.{hundredths_text}
+use Rattle.ring_words.specs.Texts.{hundredths_text}
 use Rattle.ring_share.specs.Room.{have}
 use Rattle.ring_share.specs.Figures.{device_balance}
 use Rattle.ring_tables.specs.Layout.{at_right}

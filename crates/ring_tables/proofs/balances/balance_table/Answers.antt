@@ -1,7 +1,7 @@
 use Rattle.std.proofs.Common.{rules, take, ◌∙◌, ◌≡◌, ◌++◌, List, ℕ, ◌<◌, Some, length, ap, sym, subst, map, string_bytes, arith}
 use Rattle.std.specs.List.{zip}
 use Rattle.std.specs.List.Sorted.{IsStrictlyIncreasing}
-use Rattle.ring_model.specs.declared.device.Device.{Device}
+use Rattle.ring_words.specs.declared.device.Device.{Device}
 use Rattle.ring_share.specs.Want.{AreWanted}
 use Rattle.ring_share.specs.Crowd.{device_of}
 use Rattle.ring_share.proofs.Standing.{read_at}

@@ -1,5 +1,5 @@
 use Rattle.std.proofs.Common.{◌%◌, ◌<◌, arith}
-use Rattle.ring_model.proofs.Decimals.{padded_two}
+use Rattle.ring_words.proofs.Decimals.{padded_two}
 use Rattle.ring_tables.proofs.cells.hundredths_text.Goals as goal
 
 pub returns : goal.returns

@@ -1,6 +1,6 @@
 use Rattle.std.proofs.Common.{rules, ◌≡◌, ◌++◌, ◌∷◌, [], IfOk, string_bytes, decimal}
 use Rattle.std.proofs.lemmas.Result.{IfOk-weaker}
-use Rattle.ring_model.specs.Texts.{hundredths_text}
+use Rattle.ring_words.specs.Texts.{hundredths_text}
 use Rattle.ring_tables.specs.Layout.{cells, at_left, at_right}
 use Rattle.ring_tables.specs.Tables.{state_text, place_columns, place_texts}
 use Rattle.ring_tables.proofs.RowByRow.{eight}

@@ -1,7 +1,7 @@
 use Rattle.std.proofs.Common.{◌≡◌, ◌≤◌, ◌^◌, ℕ, length, take, drop, Bor, Vec, ap, sym, subst, ◌∙◌, arith}
 use Rattle.std.specs.declared.alloc.Global.{Global}
 use Rattle.std.proofs.lemmas.List.{length-map}
-use Rattle.ring_model.specs.declared.device.Device.{Device}
+use Rattle.ring_words.specs.declared.device.Device.{Device}
 use Rattle.std.proofs.lemmas.Result.{err_from_is_err_and}
 use Rattle.ring_text.specs.Reading.{IsHead, IsCut, AreDeviceLines, ArePartitionLines, IsMade, AreLines}
 use Rattle.ring_text.proofs.Reading.{reads_err, as_reads_err, reads_same}

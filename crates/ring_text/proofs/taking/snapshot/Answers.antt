@@ -1,6 +1,6 @@
 use Rattle.std.proofs.Common.{◌∙◌}
 use Rattle.std.specs.Prelude.{All, IsTrue}
-use Rattle.ring_model.specs.Texts.{is_label}
+use Rattle.ring_words.specs.Texts.{is_label}
 use Rattle.ring_text.specs.Snapshot.{IsWithinLimits}
 use Rattle.ring_text.proofs.Validity.{valid_of_ring}
 use Rattle.ring_text.proofs.taking.snapshot.Goals as goal

@@ -1,4 +1,4 @@
-use Rattle.ring_model.specs.Texts.{is_label}
+use Rattle.ring_words.specs.Texts.{is_label}
 use Rattle.ring_text.specs.Reading.{IsName, IsNameAfter}
 use Rattle.ring_text.proofs.Reading.{reads_same, name_after_of, name_of_after}
 use Rattle.ring_text.proofs.words.name_after.Goals as goal

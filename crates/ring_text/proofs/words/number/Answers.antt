@@ -1,5 +1,5 @@
 use Rattle.std.proofs.Common.{◌<◌, ◌^◌, arith, sym, ◌∙◌}
-use Rattle.ring_model.proofs.Decimals.{same_number}
+use Rattle.ring_words.proofs.Decimals.{same_number}
 use Rattle.ring_text.proofs.words.number.Goals as goal
 
 pub returns-then-number-most : goal.returns-then-number-most

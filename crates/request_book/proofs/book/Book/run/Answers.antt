@@ -1,7 +1,7 @@
 use Rattle.std.proofs.Common.{◌++◌, ◌<◌, ◌∷◌, ◌∙◌, ◌≡◌, [], ap, arith, refl, subst, sym}
 use Rattle.std.proofs.lemmas.Grind.{common_steps}
 use Rattle.std.specs.Prelude.{List}
-use Rattle.ring_model.specs.declared.request.Delivery.{Delivery}
+use Rattle.ring_words.specs.declared.request.Delivery.{Delivery}
 use Rattle.request_book.specs.Call.{Deliver, calls_of}
 use Rattle.request_book.specs.Run.{AnswersAlike}
 use Rattle.request_book.proofs.Alike.{alike}

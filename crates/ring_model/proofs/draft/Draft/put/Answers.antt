@@ -1,9 +1,11 @@
 use Rattle.std.proofs.Common.{◌≡◌, map, false, ap, sym, ◌∙◌}
 use Rattle.std.proofs.lemmas.List.{length-map}
-use Rattle.ring_model.specs.Ring.{RingRecord, has_place}
+use Rattle.ring_model.specs.Ring.{RingRecord}
+use Rattle.ring_words.specs.Rows.{has_place}
 use Rattle.ring_model.specs.Import.{reweighed_by}
 use Rattle.ring_model.specs.Parts.{record_of}
-use Rattle.ring_model.proofs.Changes.{added_valid, altered_valid, reweighed_by_keeps, same_row, written_all}
+use Rattle.ring_model.proofs.Changes.{added_valid, altered_valid, reweighed_by_keeps, written_all}
+use Rattle.ring_words.proofs.AlikeRows.{same_row}
 use Rattle.ring_model.proofs.draft.Draft.put.Goals as goal
 
 pub invariant_of-self : goal.invariant_of-self

@@ -1,6 +1,6 @@
 use Rattle.std.proofs.Common.{◌≡◌, List, map, not, arith, ap, ◌∙◌, sym, subst, count_by}
 use Rattle.std.specs.List.Sorted.{IsStrictlyIncreasing}
-use Rattle.ring_model.specs.declared.device.Device.{Device}
+use Rattle.ring_words.specs.declared.device.Device.{Device}
 use Rattle.ring_share.specs.Want.{is_open}
 use Rattle.ring_place.specs.Load.{Load}
 use Rattle.ring_place.proofs.Choosing.{open_among, outside_found}

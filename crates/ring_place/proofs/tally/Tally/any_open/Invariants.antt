@@ -1,6 +1,6 @@
 use Rattle.std.proofs.Common.{◌≡◌, ◌==◌, ◌&&◌, ◌<◌, ℕ, not, false, get_or}
 use Rattle.std.specs.List.{list_any}
-use Rattle.ring_model.specs.declared.device.Device.{Device}
+use Rattle.ring_words.specs.declared.device.Device.{Device}
 use Rattle.ring_share.specs.Want.{is_open}
 use Rattle.ring_place.proofs.tally.Tally.any_open.Given as goal
 

@@ -1,0 +1,191 @@
+//! The book at a small machine, over the keeper in memory and over one whose store fails.
+ghost use Rattle.std.specs.Prelude.{◌<◌};
+
+mod counter;
+mod flaky;
+
+use counter::{Change, Counted, Counter};
+use flaky::Flaky;
+use request_book::{Answer, Book, Fault, Keeper, Machine, MemKeeper};
+use ring_words::{Caller, Delivery, Hour, Key, Limits, NameFault};
+use std::alloc::Global;
+use std::test::Fail;
+
+type Memory = MemKeeper<u32, Change, Counted>;
+
+/// The limits of a service, save that the book has room for so many requests.
+fn room_for(numbers: u32) -> Limits
+    requires { numbers < 100 }
+{
+    Limits {
+        rings: 16,
+        devices: 256,
+        ids: 65536,
+        versions: 1000,
+        numbers,
+    }
+}
+
+/// The key of a number. Where memory is refused once, it asks again.
+fn key(alloc: Global, number: u32) -> Result<Key, NameFault> {
+    let caller = match Caller::new(alloc, "ops") {
+        Ok(caller) => caller,
+        Err(_) => Caller::new(alloc, "ops")?,
+    };
+    Ok(Key { caller, number })
+}
+
+/// Delivers a change. Where memory is refused once, it sends the same delivery again.
+fn send<K: Keeper<Counter>>(
+    alloc: Global,
+    book: &mut Book<Counter, K>,
+    hour: Hour,
+    number: u32,
+    change: Change,
+) -> Result<Answer<Counted>, NameFault> {
+    let answer = book.deliver(hour, key(alloc, number)?, change);
+    if answer == Err(Fault::NoMemory) {
+        return Ok(book.deliver(hour, key(alloc, number)?, change));
+    }
+    Ok(answer)
+}
+
+fn done(hour: Hour, count: u32) -> Answer<Counted> {
+    Ok(Counted::Done { hour, count })
+}
+
+fn past_bound(hour: Hour) -> Answer<Counted> {
+    Ok(Counted::PastBound { hour })
+}
+
+fn open(alloc: Global, numbers: u32) -> Book<Counter, Memory>
+    requires { numbers < 100 }
+{
+    let machine = Counter { bound: 10 };
+    let keeper = MemKeeper::new(alloc, machine.start(alloc), room_for(numbers));
+    Book::open(alloc, machine, keeper)
+}
+
+#[test]
+fn each_number_is_decided_once(rt: HostRuntime) -> Result<(), Fail> {
+    let alloc = rt.alloc();
+    let mut book = open(alloc, 6);
+    let rows = [
+        (3, 1, Change::Add(7), done(3, 7)),
+        // A repeat gets the kept reply, and doesn't move the hour; then the clock goes back.
+        (9, 1, Change::Add(7), done(3, 7)),
+        (2, 2, Change::Add(1), done(3, 8)),
+        // Another command under a known number.
+        (4, 1, Change::Add(8), Err(Fault::NumberReused)),
+        // A refusal moves the hour, and is kept though the command could be done later.
+        (6, 3, Change::Add(5), past_bound(6)),
+        (1, 4, Change::Reset, done(6, 0)),
+        (8, 3, Change::Add(5), past_bound(6)),
+        (8, 5, Change::Add(5), done(8, 5)),
+        (0, 6, Change::Add(5), done(8, 10)),
+        // The book is full: new numbers find no room, known ones get their replies.
+        (9, 7, Change::Reset, Err(Fault::BookFull)),
+        (9, 6, Change::Add(5), done(8, 10)),
+        (9, 6, Change::Add(6), Err(Fault::NumberReused)),
+    ];
+    for (hour, number, change, answer) in rows {
+        assert!(rt;
+            send(alloc, &mut book, hour, number, change)? == answer,
+            "number {number} at {hour}"
+        );
+    }
+    book.load().map_err(|_| "load")?;
+    assert_eq!(rt; *book.state(), 10);
+    Ok(())
+}
+
+/// A book whose store fails in the call of its keeper that comes after so many.
+fn open_flaky(alloc: Global, calls: u64, keeps_last: bool) -> Book<Counter, Flaky<Memory>> {
+    let machine = Counter { bound: 10 };
+    let keeper = MemKeeper::new(alloc, machine.start(alloc), room_for(6));
+    Book::open(alloc, machine, Flaky::new(keeper, calls, keeps_last))
+}
+
+/// What is answered once the store has failed.
+fn is_closed(alloc: Global, book: &mut Book<Counter, Flaky<Memory>>) -> Result<bool, NameFault> {
+    let known = send(alloc, book, 3, 1, Change::Add(7))?;
+    let new = send(alloc, book, 3, 2, Change::Reset)?;
+    let read = book.load();
+    Ok(known == Err(Fault::Closed) && new == Err(Fault::Closed) && read == Err(Fault::Closed))
+}
+
+#[test]
+fn a_failed_delivery_closes_the_book_and_acts_once(rt: HostRuntime) -> Result<(), Fail> {
+    let alloc = rt.alloc();
+    // A delivery of a new number makes five calls, and the last one is the commit.
+    for calls in 0..5 {
+        for keeps_last in [false, true] {
+            let mut book = open_flaky(alloc, calls, keeps_last);
+            let answer = send(alloc, &mut book, 3, 1, Change::Add(7))?;
+            assert!(rt; answer == Err(Fault::StoreFault), "at call {calls}");
+            assert!(rt; is_closed(alloc, &mut book)?, "after call {calls}");
+
+            // The store is opened again, and the same delivery comes at another hour.
+            let keeper = book.into_keeper().into_kept();
+            let mut book = Book::open(alloc, Counter { bound: 10 }, keeper);
+            let hour = if calls == 4 && keeps_last { 3 } else { 5 };
+            assert!(rt; send(alloc, &mut book, 5, 1, Change::Add(7))? == done(hour, 7));
+            book.load().map_err(|_| "load")?;
+            assert_eq!(rt; *book.state(), 7);
+        }
+    }
+    Ok(())
+}
+
+#[test]
+fn a_failed_read_closes_the_book(rt: HostRuntime) -> Result<(), Fail> {
+    let alloc = rt.alloc();
+    let mut book = open_flaky(alloc, 0, false);
+    assert!(rt; book.load() == Err(Fault::StoreFault));
+    assert!(rt; is_closed(alloc, &mut book)?);
+    Ok(())
+}
+
+/// Runs four deliveries, two of them repeats.
+fn run_four(
+    alloc: Global,
+    book: &mut Book<Counter, Flaky<Memory>>,
+) -> Result<Vec<Answer<Counted>>, NameFault> {
+    let mut deliveries = Vec::with_capacity(alloc, 4)?;
+    for (hour, number, command) in [
+        (3, 1, Change::Add(7)),
+        (4, 1, Change::Add(7)),
+        (5, 2, Change::Reset),
+        (6, 1, Change::Add(7)),
+    ] {
+        let key = key(alloc, number)?;
+        let delivery = Delivery { hour, key, command };
+        deliveries.push(delivery).or(Err(NameFault::NoMemory))?;
+    }
+    Ok(book.run(deliveries)?)
+}
+
+#[test]
+fn a_run_answers_as_its_deliveries_do(rt: HostRuntime) -> Result<(), Fail> {
+    let alloc = rt.alloc();
+    // The first delivery makes five calls, its repeat one, and the third fails at its commit.
+    let mut book = open_flaky(alloc, 10, true);
+    let answers = match run_four(alloc, &mut book) {
+        Ok(answers) => answers,
+        // No memory for the answers: no delivery was looked at.
+        Err(_) => run_four(alloc, &mut book)?,
+    };
+    assert_eq!(rt; answers.len(), 4);
+    // Where the first commit finds no memory, the repeat is the one that is decided.
+    let hour = if answers[0] == Err(Fault::NoMemory) {
+        4
+    } else {
+        3
+    };
+    assert!(rt; hour == 4 || answers[0] == done(3, 7));
+    assert!(rt; answers[1] == done(hour, 7));
+    assert!(rt; answers[2] == Err(Fault::StoreFault));
+    assert!(rt; answers[3] == Err(Fault::Closed));
+    assert!(rt; is_closed(alloc, &mut book)?);
+    Ok(())
+}

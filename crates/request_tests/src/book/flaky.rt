@@ -1,0 +1,121 @@
+//! A keeper whose store fails in one call.
+ghost use Rattle.std.specs.Prelude.{◌≡◌, cond, false, true, ℕ};
+ghost use Rattle.request_book.specs.Content.{Content};
+
+use request_book::{Found, KeepFault, Keeper, Machine};
+use ring_words::{Hour, Key};
+
+/// A keeper over another one. Its store fails once, after so many calls.
+#[derive(Drop)]
+pub struct Flaky<K> {
+    kept: K,
+    left: u64,
+    keeps_last: bool,
+    has_failed: bool,
+}
+
+impl<K> Flaky<K> {
+    /// Lets `left` calls go well. If the call that fails is a commit, `keeps_last` says whether it is kept.
+    pub fn new(kept: K, left: u64, keeps_last: bool) -> Self
+        ensures kept { result.kept ≡ kept }
+        ensures whole { result.has_failed ≡ false }
+    {
+        Flaky {
+            kept,
+            left,
+            keeps_last,
+            has_failed: false,
+        }
+    }
+
+    /// The keeper below, as a store that was opened again.
+    pub fn into_kept(self) -> K
+        ensures { result ≡ self.kept }
+    {
+        self.kept
+    }
+
+    /// Counts a call, and tells whether the store fails in it.
+    fn fails_now(&mut self) -> bool
+        ensures kept { self.new.kept ≡ self.old.kept }
+        ensures failed { self.new.has_failed ≡ cond result true self.old.has_failed }
+    {
+        if self.left == 0 {
+            self.has_failed = true;
+            return true;
+        }
+        self.left -= 1;
+        false
+    }
+}
+
+impl<M: Machine, K: Keeper<M>> Keeper<M> for Flaky<K> {
+    ghost content = { λ k. K.content k.kept };
+
+    ghost sound = { λ k. K.sound k.kept };
+
+    ghost fault_count = { λ k. cond k.has_failed 1 (K.fault_count k.kept) };
+
+    ghost limit = { λ k. K.limit k.kept };
+
+    ghost is_loaded = { λ k. K.is_loaded k.kept };
+
+    ghost may_leave = { λ k left. left ≡ K.content k.kept };
+
+    fn faults(&self) -> u64 {
+        if self.has_failed {
+            1
+        } else {
+            self.kept.faults()
+        }
+    }
+
+    fn look(&mut self, key: &Key, command: &M::Command) -> Result<Found<M::Reply>, KeepFault> {
+        if self.fails_now() {
+            return Err(KeepFault::Store);
+        }
+        self.kept.look(key, command)
+    }
+
+    fn is_full(&mut self) -> Result<bool, KeepFault> {
+        if self.fails_now() {
+            return Err(KeepFault::Store);
+        }
+        self.kept.is_full()
+    }
+
+    fn hour(&mut self) -> Result<Hour, KeepFault> {
+        if self.fails_now() {
+            return Err(KeepFault::Store);
+        }
+        self.kept.hour()
+    }
+
+    fn load(&mut self) -> Result<(), KeepFault> {
+        if self.fails_now() {
+            return Err(KeepFault::Store);
+        }
+        self.kept.load()
+    }
+
+    fn state(&self) -> &M::State {
+        self.kept.state()
+    }
+
+    fn commit(
+        &mut self,
+        key: Key,
+        hour: Hour,
+        command: M::Command,
+        reply: M::Reply,
+        state: M::State,
+    ) -> Result<(), KeepFault> {
+        if !self.fails_now() {
+            return self.kept.commit(key, hour, command, reply, state);
+        }
+        if self.keeps_last {
+            let _ = self.kept.commit(key, hour, command, reply, state);
+        }
+        Err(KeepFault::Store)
+    }
+}

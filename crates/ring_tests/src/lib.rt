@@ -1,0 +1,21 @@
+//! Tests of the crates of words and rings: what no contract says. Worked examples with their bytes, each public call on
+//! its happy path, and the fast forms against plain ones. They stand in a crate of their own so that those below are
+//! proved once, and not once more with their tests.
+#![tactic(auto)]
+
+#[cfg(test)]
+mod csv;
+#[cfg(test)]
+mod fixtures;
+#[cfg(test)]
+mod model;
+#[cfg(test)]
+mod paths;
+#[cfg(test)]
+mod share;
+#[cfg(test)]
+mod tables;
+#[cfg(test)]
+mod text;
+#[cfg(test)]
+mod words;

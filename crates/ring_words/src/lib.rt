@@ -1,0 +1,27 @@
+//! The words of a ring: devices, weights, addresses and names, and numbered requests and replies as types. Each value is
+//! valid by its type, and a word that has a text has one spelling.
+//!
+//! The definitions that contracts cite stand in `specs/`, and `docs/definitions.md` lists them.
+#![tactic(auto)]
+
+mod address;
+mod bounded;
+mod command;
+mod decimal;
+mod device;
+mod name;
+mod request;
+mod rows;
+mod weight;
+
+pub use address::Address;
+pub use bounded::{Bounded, Port, Power, Replicas};
+pub use command::{Act, Command, Done, NewRing, NewWeight, Refusal, Reply, RowCause};
+pub use decimal::{parse_decimal, parse_decimal_up_to};
+pub use device::{Device, DeviceId, Row};
+pub use name::{
+    Caller, DeviceName, Name, NameFault, NameKind, OfCaller, OfDevice, OfRing, RingName,
+};
+pub use request::{Delivery, Hour, Key, Limits};
+pub use rows::Rows;
+pub use weight::Weight;
