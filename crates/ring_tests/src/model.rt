@@ -5,7 +5,7 @@ ghost use Rattle.ring_model.specs.Parts.{record_of};
 use crate::fixtures::{device, row};
 use ring_model::{
     BuildFault, Device, Draft, Port, Power, RaiseFault, Replicas, Ring, RingName, RingParts, Rings,
-    Rows, Weight,
+    Row, Rows, Weight,
 };
 use std::alloc::Global;
 use std::rc::RcStr;
@@ -31,14 +31,10 @@ fn small_parts(alloc: Global) -> Result<RingParts, Fail> {
 }
 
 #[test]
-fn a_ring_is_made_and_read(rt: HostRuntime) -> Result<(), Fail> {
-    let alloc = rt.alloc();
-    let empty = Ring::new(
-        alloc,
-        Power::new(2).ok_or("power")?,
-        Replicas::new(1).ok_or("replicas")?,
-        24,
-    )?;
+fn a_new_ring_is_empty(rt: HostRuntime) -> Result<(), Fail> {
+    let power = Power::new(2).ok_or("power")?;
+    let replicas = Replicas::new(1).ok_or("replicas")?;
+    let empty = Ring::new(rt.alloc(), power, replicas, 24)?;
     assert_eq!(rt;
         (empty.version(), empty.next_id(), empty.min_hours()),
         (0, 0, 24)
@@ -47,19 +43,32 @@ fn a_ring_is_made_and_read(rt: HostRuntime) -> Result<(), Fail> {
         !empty.is_assigned() && empty.devices().is_empty() && empty.published_list().is_empty()
     );
     let parts = empty.parts()?;
-    assert_eq!(rt; parts.moved.len(), 4);
-    assert!(rt; parts.seats.is_empty());
+    assert_eq!(rt; (parts.moved.len(), parts.seats.len()), (4, 0));
+    Ok(())
+}
+
+#[test]
+fn a_ring_is_built_and_read(rt: HostRuntime) -> Result<(), Fail> {
+    let alloc = rt.alloc();
     let ring = Ring::build(alloc, small_parts(alloc)?)?;
     assert_eq!(rt; (ring.power().get(), ring.replicas().get()), (1, 2));
     assert!(rt; ring.is_assigned());
-    assert_eq!(rt; ring.published(3), Some("text"));
-    assert_eq!(rt; ring.published(2), None);
+    assert_eq!(rt;
+        (ring.published(3), ring.published(2)),
+        (Some("text"), None)
+    );
     assert_eq!(rt; ring.seats(), [0, 1, 1, 0].as_slice());
     assert_eq!(rt; ring.moves(), [Some(7), None].as_slice());
-    let parts = ring.parts()?;
+    Ok(())
+}
+
+#[test]
+fn the_parts_of_a_ring_are_those_it_was_built_of(rt: HostRuntime) -> Result<(), Fail> {
+    let alloc = rt.alloc();
+    let parts = Ring::build(alloc, small_parts(alloc)?)?.parts()?;
     assert_eq!(rt; parts.seats.as_slice(), [0, 1, 1, 0].as_slice());
     assert_eq!(rt; parts.moved.as_slice(), [Some(7), None].as_slice());
-    assert_eq!(rt; parts.devices.len(), 2);
+    assert_eq!(rt; (parts.devices.len(), parts.published.len()), (2, 1));
     Ok(())
 }
 
@@ -264,41 +273,43 @@ fn marks_hours_and_moves_are_changed(rt: HostRuntime) -> Result<(), Fail> {
     Ok(())
 }
 
+/// A ring after rows were put into it.
+fn after(ring: &Ring, rows: &[Row]) -> Result<Ring, Fail> {
+    let mut draft = Draft::of(ring)?;
+    for row in rows {
+        if draft.device_count() >= 256 || draft.next_id() >= 65536 {
+            return Err(Fail::from("there is room"));
+        }
+        draft.put(row)?;
+    }
+    Ok(draft.finish())
+}
+
 #[test]
 fn rows_are_put_into_a_draft(rt: HostRuntime) -> Result<(), Fail> {
     let alloc = rt.alloc();
     let ring = Ring::build(alloc, small_parts(alloc)?)?;
-    let mut draft = Draft::of(&ring)?;
-    let lighter = row(alloc, 0, "1.00")?;
-    let more = row(alloc, 2, "7.00")?;
-    assert_eq!(rt; draft.device_at(&lighter).map(|device| device.id), Some(0));
-    assert!(rt; draft.device_at(&more).is_none());
-    assert_eq!(rt; (draft.device_count(), draft.next_id()), (2, 2));
-    if ring.has_place(&more) || ring.devices().len() > 2 || ring.next_id() > 2 {
-        return Err(Fail::from("two devices, and none has the row's place"));
+    let rows = vec![in alloc; row(alloc, 0, "1.00")?, row(alloc, 2, "7.00")?]?;
+    let after = after(&ring, Rows::new(rows).as_slice())?;
+    assert_eq!(rt; (after.version(), after.next_id()), (4, 3));
+    let mut weights = Vec::new(alloc);
+    for device in after.devices() {
+        weights.push(device.row.weight.hundredths())?;
     }
-    let mut rows = Vec::new(alloc);
-    rows.push(lighter)?;
-    rows.push(more)?;
-    let rows = Rows::new(rows);
-    let (Some(lighter), Some(more)) = (rows.as_slice().first(), rows.as_slice().get(1)) else {
-        return Err(Fail::from("two rows"));
-    };
-    if draft.device_count() >= 256 || draft.next_id() >= 65536 {
-        return Err(Fail::from("there is room"));
-    }
-    draft.put(lighter)?;
-    if draft.device_count() >= 256 || draft.next_id() >= 65536 {
-        return Err(Fail::from("there is room"));
-    }
-    draft.put(more)?;
-    let after = draft.finish();
-    assert_eq!(rt;
-        (after.version(), after.next_id(), after.devices().len()),
-        (4, 3, 3)
-    );
-    assert_eq!(rt; after.devices()[0].row.weight.hundredths(), 100);
-    assert_eq!(rt; after.devices()[2].row.weight.hundredths(), 700);
+    assert_eq!(rt; weights.as_slice(), [100, 10_000, 700].as_slice());
     assert_eq!(rt; ring.devices().len(), 2);
+    Ok(())
+}
+
+#[test]
+fn a_draft_knows_its_devices_by_their_place(rt: HostRuntime) -> Result<(), Fail> {
+    let alloc = rt.alloc();
+    let ring = Ring::build(alloc, small_parts(alloc)?)?;
+    let draft = Draft::of(&ring)?;
+    let same = row(alloc, 0, "1.00")?;
+    let other = row(alloc, 2, "7.00")?;
+    assert_eq!(rt; draft.device_at(&same).map(|device| device.id), Some(0));
+    assert!(rt; draft.device_at(&other).is_none());
+    assert_eq!(rt; (draft.device_count(), draft.next_id()), (2, 2));
     Ok(())
 }

@@ -1,8 +1,9 @@
 //! Words: worked spellings, and that calls succeed where there is memory.
 use ring_words::{
-    Address, Caller, DeviceName, Limits, NameFault, Port, Power, Replicas, RingName, Weight,
-    parse_decimal,
+    Address, Caller, Limits, Name, NameFault, NameKind, OfCaller, OfDevice, OfRing, Port, Power,
+    Replicas, Weight, parse_decimal,
 };
+use std::alloc::Global;
 use std::test::Fail;
 
 #[test]
@@ -67,19 +68,18 @@ fn an_address_has_one_spelling(rt: HostRuntime) -> Result<(), Fail> {
 
 #[test]
 fn numbers_keep_their_bounds(rt: HostRuntime) -> Result<(), Fail> {
-    assert_eq!(rt; Power::new(0), None);
-    assert_eq!(rt; Power::new(15), None);
+    assert_eq!(rt; (Power::new(0), Power::new(15)), (None, None));
     assert_eq!(rt; Power::new(14).ok_or("14")?.get(), 14);
-    assert_eq!(rt; Replicas::new(6), None);
+    assert_eq!(rt; (Replicas::new(0), Replicas::new(6)), (None, None));
     assert_eq!(rt; Replicas::new(5).ok_or("5")?.get(), 5);
     assert_eq!(rt; Port::new(0), None);
-    assert_eq!(rt;
-        Port::new(65535)
-            .ok_or("65535")?
-            .to_string(rt.alloc())?
-            .as_str(),
-        "65535"
-    );
+    let port = Port::new(65535).ok_or("65535")?;
+    assert_eq!(rt; port.to_string(rt.alloc())?.as_str(), "65535");
+    Ok(())
+}
+
+#[test]
+fn a_decimal_number_has_one_spelling(rt: HostRuntime) -> Result<(), Fail> {
     for (text, number) in [
         ("0", Some(0)),
         ("4294967295", Some(u32::MAX)),
@@ -89,6 +89,11 @@ fn numbers_keep_their_bounds(rt: HostRuntime) -> Result<(), Fail> {
     ] {
         assert_eq!(rt; parse_decimal(text), number, "{text}");
     }
+    Ok(())
+}
+
+#[test]
+fn a_service_keeps_so_much(rt: HostRuntime) -> Result<(), Fail> {
     let limits = Limits::full();
     assert_eq!(rt;
         (
@@ -103,49 +108,58 @@ fn numbers_keep_their_bounds(rt: HostRuntime) -> Result<(), Fail> {
     Ok(())
 }
 
+/// Whether a text is a name of this kind, and what the name says.
+fn is_name<K: NameKind>(alloc: Global, text: &str) -> Result<bool, NameFault> {
+    match Name::<K>::new(alloc, text) {
+        Ok(name) => Ok(name.as_str() == text),
+        Err(NameFault::Bad) => Ok(false),
+        Err(NameFault::NoMemory) => Err(NameFault::NoMemory),
+    }
+}
+
 #[test]
-fn names_keep_their_form(rt: HostRuntime) -> Result<(), Fail> {
-    for text in [
-        "a",
-        "object",
-        "object-1",
-        "a2345678901234567890123456789012",
+fn names_of_rings_and_callers_keep_their_form(rt: HostRuntime) -> Result<(), Fail> {
+    for (text, is_label) in [
+        ("a", true),
+        ("object", true),
+        ("object-1", true),
+        ("a2345678901234567890123456789012", true),
+        ("a23456789012345678901234567890123", false),
+        ("", false),
+        ("1a", false),
+        ("-a", false),
+        ("Object", false),
+        ("a_b", false),
+        ("a b", false),
+        ("\u{e9}", false),
     ] {
-        assert_eq!(rt; RingName::new(rt.alloc(), text)?.as_str(), text);
-        assert_eq!(rt;
-            Caller::new(rt.alloc(), text)?
-                .to_string(rt.alloc())?
-                .as_str(),
-            text
-        );
+        assert_eq!(rt; is_name::<OfRing>(rt.alloc(), text)?, is_label, "{text}");
+        assert_eq!(rt; is_name::<OfCaller>(rt.alloc(), text)?, is_label, "{text}");
     }
-    for text in [
-        "",
-        "1a",
-        "-a",
-        "Object",
-        "a_b",
-        "a23456789012345678901234567890123",
-        "a b",
-        "\u{e9}",
+    Ok(())
+}
+
+#[test]
+fn names_of_devices_keep_their_form(rt: HostRuntime) -> Result<(), Fail> {
+    for (text, is_device) in [
+        ("1", true),
+        ("_", true),
+        ("-", true),
+        ("Sd_A-1", true),
+        ("", false),
+        ("a.b", false),
+        ("a b", false),
+        ("\u{e9}", false),
     ] {
-        assert_eq!(rt;
-            RingName::new(rt.alloc(), text).err(),
-            Some(NameFault::Bad),
-            "{text}"
-        );
+        assert_eq!(rt; is_name::<OfDevice>(rt.alloc(), text)?, is_device, "{text}");
     }
-    for text in ["1", "_", "-", "Sd_A-1"] {
-        assert_eq!(rt; DeviceName::new(rt.alloc(), text)?.as_str(), text);
-    }
-    for text in ["", "a.b", "a b", "\u{e9}"] {
-        assert_eq!(rt;
-            DeviceName::new(rt.alloc(), text).err(),
-            Some(NameFault::Bad),
-            "{text}"
-        );
-    }
-    let name = DeviceName::new(rt.alloc(), "d0")?;
+    Ok(())
+}
+
+#[test]
+fn a_name_is_copied_and_written(rt: HostRuntime) -> Result<(), Fail> {
+    let name = Caller::new(rt.alloc(), "ops")?;
     assert!(rt; name.clone()? == name);
+    assert_eq!(rt; name.to_string(rt.alloc())?.as_str(), "ops");
     Ok(())
 }

@@ -5,9 +5,9 @@ mod questions;
 mod rebalancing;
 mod streams;
 
-use programs::perform;
 use builder::{MessageFault, RingMachine, read_delivery};
 use line_api::{StreamFault, run_lines};
+use programs::perform;
 use request_book::{Book, Keeper, MemKeeper};
 use ring_model::{Command, Delivery, Done, Hour, Limits, Refusal, Reply, Rings};
 use std::alloc::{AllocError, Global};
