@@ -144,8 +144,10 @@ fn messages_are_read_and_commands_written(rt: HostRuntime) -> Result<(), Fail> {
 
 #[test]
 fn hostile_bodies_are_unreadable(rt: HostRuntime) -> Result<(), Fail> {
-    let bodies: [&[u8]; 16] = [
+    let bodies: [&[u8]; 18] = [
         b"",
+        b" ",
+        b"{\"caller\":\"ann\",\"number\":1,\"ring\":\"object\",\"do\":\"remove\",\"id\":3,}",
         b"null",
         b"[]",
         b"{}",
