@@ -1,3 +1,13 @@
 pub mod Others
+pub mod RingAt
+pub mod Changes
+pub mod Ways
 pub mod Few
+pub mod Hours
+pub mod Rests
 pub mod Imports
+pub mod RebalancedValid
+pub mod ValidRings
+pub mod Safe
+pub mod Proper
+pub mod Joined

@@ -1,13 +1,20 @@
 -- What a command comes to, before the rings are put together.
-use Rattle.std.specs.Prelude.{◌≡◌, ℕ, Some, None}
-use Rattle.builder.specs.Step.{State, Effect, first_refusal}
+use Rattle.std.specs.Prelude.{◌≡◌, ℕ, List, Some, None}
+use Rattle.builder.specs.Step.{Cause, Effect, State, causes, first_cause}
 use Rattle.builder.specs.declared.deciding.Outcome.{Outcome}
-use Rattle.builder.specs.declared.deciding.Outcome.TheVariants.{Refused, Done}
+use Rattle.builder.specs.declared.deciding.Outcome.TheVariants as outcome
+use Rattle.ring_model.specs.Ring.{RingRecord}
 use Rattle.ring_model.specs.Rings.{ring_at}
 use Rattle.ring_words.specs.declared.request.Limits.{Limits}
 use Rattle.ring_words.specs.declared.command.Command.{Command}
+use Rattle.ring_words.specs.declared.command.Done.{Done}
 
--- the first refusal that stands, or the effect on the named ring
+-- The outcome is the first of the causes that stands, or, where none does, the effect.
+abbrev pub IsFirstOr : List Cause → (Done → RingRecord → Type 0) → Outcome → Type 0
+IsFirstOr causes effect (outcome.Refused refused) = first_cause causes ≡ Some refused
+IsFirstOr causes effect (outcome.Done answer new) = (first_cause causes ≡ None) × effect answer new
+
+-- what a command comes to
 abbrev pub IsOutcome : Limits → State → ℕ → Command → Outcome → Type 0
-IsOutcome limits rings hour command (Refused refused) = first_refusal limits rings command ≡ Some refused
-IsOutcome limits rings hour command (Done answer ring) = (first_refusal limits rings command ≡ None) × Effect command.ring command.act (ring_at command.ring rings) hour answer ring
+IsOutcome limits rings hour command =
+    IsFirstOr (causes limits rings (ring_at command.ring rings) command.act) (Effect command.ring hour (ring_at command.ring rings) command.act)

@@ -1,15 +1,30 @@
--- What a rebalance may take from the devices that remain.
-use Rattle.std.specs.Prelude.{◌≡◌, ℕ, false, List, Some}
+-- What operators are promised of a run: how few replicas a rebalance takes off the devices that
+-- remain, how long those of a moved partition stay, and that the rings stay valid.
+use Rattle.std.specs.Prelude.{◌≡◌, ◌+◌, ◌-◌, ◌/◌, ◌^◌, ◌<◌, ◌≤◌, ◌++◌, ℕ, IsTrue, true, false, List, length, slice_get, Some, All, AllPairs}
 use Rattle.ring_model.specs.Ring.{RingRecord}
-use Rattle.ring_model.specs.Rings.{ring_at, with_ring}
-use Rattle.ring_place.specs.Rebalance.{Leaves, is_locked}
-use Rattle.builder.specs.Step.{State}
+use Rattle.ring_model.specs.Rings.{AreByName, ring_at, with_ring}
+use Rattle.ring_model.specs.Valid.{IsValid}
+use Rattle.ring_messages.specs.Proper.{IsProperCommand}
+use Rattle.ring_place.specs.Rebalance.{Leaves, has_changed, is_locked}
+use Rattle.ring_words.specs.Texts.{is_label}
+use Rattle.ring_words.specs.declared.request.Limits.{Limits}
+use Rattle.ring_words.specs.declared.command.Command.{Command}
+use Rattle.ring_words.specs.declared.command.Act.{Act}
+use Rattle.ring_words.specs.declared.command.Act.TheVariants as act
+use Rattle.ring_words.specs.declared.command.Reply.{Reply}
+use Rattle.request_book.specs.Content.{Content}
+use Rattle.request_book.specs.declared.entry.Entry.{Entry}
+use Rattle.builder.specs.Step.{State, Step, is_refused}
 
--- From the one ring to the other few replicas leave a device that remains: at most one of each partition, and none of a
--- partition whose hours had not passed.
+-- ---- one rebalance
+
+-- From the one ring to the other few replicas leave a device that remains: at most one of each
+-- partition, and none of a partition whose hours had not passed.
 pub record LeavesFew (old : RingRecord) (hour : ℕ) (new : RingRecord) : Type 0 where
-  pub one : (partition replica other : ℕ) → Leaves old new partition replica → Leaves old new partition other → replica ≡ other
-  pub unlocked : (partition replica : ℕ) → Leaves old new partition replica → is_locked old hour partition ≡ false
+  pub one : (partition replica other : ℕ) →
+      Leaves old new partition replica → Leaves old new partition other → replica ≡ other
+  pub unlocked : (partition replica : ℕ) →
+      Leaves old new partition replica → is_locked old hour partition ≡ false
 
 -- The rings are as they were but for the one of this name, of which few replicas left.
 pub record FewLeft (rings : State) (name : List ℕ) (hour : ℕ) (after : State) : Type 0 where
@@ -18,3 +33,91 @@ pub record FewLeft (rings : State) (name : List ℕ) (hour : ℕ) (after : State
   pub was : ring_at name rings ≡ Some old
   pub is : after ≡ with_ring rings name new
   pub few : LeavesFew old hour new
+
+-- ---- valid rings
+
+-- There are at most 16 rings, by rising name. Each name is a ring's name, and each ring is valid.
+pub record AreValid (rings : State) : Type 0 where
+  pub count : length rings ≤ 16
+  pub by_name : AreByName rings
+  pub named : All (λ named. IsTrue (is_label named.0)) rings
+  pub each : All (λ named. IsValid named.1) rings
+
+-- ---- the way of a run
+
+-- the requests that were decided, in their order, with the hours that were used and the replies
+abbrev pub Entries : Type 0
+Entries = List (Entry Command Reply)
+
+-- No entry is of an earlier hour than one before it.
+abbrev pub DoNotFall : Entries → Type 0
+DoNotFall entries = AllPairs (λ earlier later. earlier.hour ≤ later.hour) entries
+
+-- The entries lead from the old rings to the new ones by way of these. Places count from 0: the
+-- entry at place n finds `rings n`, and a step leads from there to `rings (n + 1)`.
+pub record IsWay (limits : Limits) (old : State) (entries : Entries) (new : State)
+    (rings : ℕ → State) : Type 0 where
+  pub first : rings 0 ≡ old
+  pub steps : (n : ℕ) (entry : Entry Command Reply) → slice_get entries n ≡ Some entry →
+      Step limits (rings n) entry.hour entry.command entry.reply (rings (n + 1))
+  pub last : rings (length entries) ≡ new
+
+-- The entry is this act on the ring of this name, and it was done.
+pub record IsDone (name : List ℕ) (what : Act) (entry : Entry Command Reply) : Type 0 where
+  pub ring : entry.command.ring ≡ name
+  pub is : entry.command.act ≡ what
+  pub done : is_refused entry.reply ≡ false
+
+-- Between two places this act on the ring of this name was never done.
+abbrev pub NeverBetween : Entries → ℕ → ℕ → List ℕ → Act → Type 0
+NeverBetween entries i j name what = (n : ℕ) (entry : Entry Command Reply) → i < n → n < j →
+    slice_get entries n ≡ Some entry → IsDone name what entry → ⊥
+
+-- At this place a rebalance of the ring of this name was done. It found the one ring, and left the
+-- other.
+pub record RebalanceAt (entries : Entries) (rings : ℕ → State) (name : List ℕ) (n : ℕ) : Type 0 where
+  pub entry : Entry Command Reply
+  pub there : slice_get entries n ≡ Some entry
+  pub seed : ℕ
+  pub done : IsDone name (act.Rebalance seed) entry
+  pub old : RingRecord
+  pub new : RingRecord
+  pub found : ring_at name (rings n) ≡ Some old
+  pub left : ring_at name (rings (n + 1)) ≡ Some new
+
+-- Each raise of the power splits every partition in two. This is the partition of the earlier ring
+-- from which a partition of the later ring came.
+abbrev pub origin : RingRecord → RingRecord → ℕ → ℕ
+origin earlier later partition = partition / 2 ^ (later.power - earlier.power)
+
+-- ---- what is promised
+
+-- The entries lead safely from the old rings to the new ones by way of these.
+pub record IsSafe (limits : Limits) (old : State) (entries : Entries) (new : State)
+    (rings : ℕ → State) : Type 0 where
+  pub way : IsWay limits old entries new rings
+  pub hours : DoNotFall entries
+  -- In each rebalance at most one replica of a partition leaves a device that remains, and none of
+  -- a partition that is locked.
+  pub few : (name : List ℕ) (n seed : ℕ) (entry : Entry Command Reply) →
+      slice_get entries n ≡ Some entry → IsDone name (act.Rebalance seed) entry →
+      FewLeft (rings n) name entry.hour (rings (n + 1))
+  -- A move makes the lock. Where a rebalance changed a seat of a partition, no later one takes a
+  -- replica of it, or of what came of it, off a device that remains before as many hours have
+  -- passed as the ring then says, unless the ring got `pretend_passed` in between.
+  pub rest : (name : List ℕ) (i j : ℕ) → i < j → NeverBetween entries i j name act.PretendPassed →
+      (move : RebalanceAt entries rings name i) (later : RebalanceAt entries rings name j) →
+      (partition replica : ℕ) →
+      has_changed move.old move.new (origin move.old later.old partition) ≡ true →
+      Leaves later.old later.new partition replica →
+      move.entry.hour + later.old.min_hours ≤ later.entry.hour
+  -- The rings stay valid, if the old ones are and the commands such as there are.
+  pub valid : AreValid old → All (λ entry. IsProperCommand entry.command) entries →
+      (n : ℕ) → n ≤ length entries → AreValid (rings n)
+
+-- The new book is the old one and entries that lead safely from the old rings to the new ones.
+pub record IsSafeRun (limits : Limits) (old new : Content State Command Reply) : Type 0 where
+  pub entries : Entries
+  pub book : new.book ≡ old.book ++ entries
+  pub rings : ℕ → State
+  pub safe : IsSafe limits old.state entries new.state rings

@@ -1,5 +1,5 @@
 -- One step of the builder: what a command is replied, and what it does to the rings.
-use Rattle.std.specs.Prelude.{◌≡◌, ◌+◌, ◌==◌, ◌&&◌, ℕ, Bool, true, false, not, nat_le, nat_lt, count_by, List, [], ◌∷◌, ◌++◌, length, find, is_some, Option, Some, None}
+use Rattle.std.specs.Prelude.{◌≡◌, ◌+◌, ◌==◌, ◌&&◌, ℕ, Bool, true, false, not, nat_le, nat_lt, count_by, List, [], ◌∷◌, ◌++◌, length, find, Option, Some, None}
 use Rattle.std.specs.Option.{option_map}
 use Rattle.ring_model.specs.Import.{after_row, after_rows}
 use Rattle.ring_model.specs.Publish.{is_published, with_published}
@@ -22,6 +22,8 @@ use Rattle.ring_words.specs.declared.command.RowCause.{RowCause}
 use Rattle.ring_words.specs.declared.command.RowCause.TheVariants as row_cause
 use Rattle.ring_words.specs.declared.device.Device.{Device}
 use Rattle.ring_words.specs.declared.device.Row.{Row}
+use Rattle.ring_words.specs.declared.command.NewRing.{NewRing}
+use Rattle.ring_words.specs.declared.command.NewWeight.{NewWeight}
 use Rattle.ring_words.specs.declared.command.Reply.{Reply}
 use Rattle.ring_words.specs.declared.command.Reply.TheVariants as reply
 use Rattle.ring_text.specs.Snapshot.{snapshot_of}
@@ -37,11 +39,6 @@ State = List (List ℕ × RingRecord)
 pub record Cause : Type 0 where
   pub refused : Refusal
   pub stands : Bool
-
--- the causes that speak of the named ring, behind that there is none
-abbrev pub of_ring : Option RingRecord → (RingRecord → List Cause) → List Cause
-of_ring None causes = record { refused = refusal.NoRing; stands = true } ∷ []
-of_ring (Some ring) causes = causes ring
 
 -- the causes that speak of the device of a number
 abbrev pub of_device : ℕ → RingRecord → List Cause
@@ -99,51 +96,123 @@ of_text limits ring =
     ∷ record { refused = refusal.TooManyVersions; stands = not (is_published ring) && nat_le limits.versions (length ring.published) }
     ∷ []
 
--- the causes that may stand against a command, in the order in which they are looked at
-abbrev pub causes : Limits → State → List ℕ → Act → List Cause
-causes limits rings name (act.Create new) =
-    record { refused = refusal.RingExists; stands = is_some (ring_at name rings) }
-    ∷ record { refused = refusal.TooManyRings; stands = nat_le limits.rings (length rings) }
-    ∷ []
-causes limits rings name (act.Add row) = of_ring (ring_at name rings) (λ ring.
+-- the causes that may stand against adding a device
+abbrev pub of_addition : Limits → Row → RingRecord → List Cause
+of_addition limits row ring =
     record { refused = refusal.DeviceExists; stands = has_place row ring.devices }
     ∷ record { refused = refusal.TooManyDevices; stands = nat_le limits.devices (length ring.devices) }
     ∷ record { refused = refusal.IdsUsedUp; stands = nat_le limits.ids ring.next_id }
-    ∷ [])
-causes limits rings name (act.SetWeight to) = of_ring (ring_at name rings) (of_device to.id)
-causes limits rings name (act.Remove id) = of_ring (ring_at name rings) (of_device id)
-causes limits rings name (act.SetHours hours) = of_ring (ring_at name rings) (λ ring. [])
-causes limits rings name act.PretendPassed = of_ring (ring_at name rings) (λ ring. [])
-causes limits rings name act.RaisePower = of_ring (ring_at name rings) (λ ring. record { refused = refusal.PowerLimit; stands = ring.power == 14 } ∷ [])
-causes limits rings name (act.Import rows) = of_ring (ring_at name rings) (λ ring. of_rows limits 1 ring rows)
-causes limits rings name (act.Rebalance seed) = of_ring (ring_at name rings) (λ ring.
-    record { refused = refusal.TooFewDevices; stands = nat_lt (count_by is_open ring.devices) ring.replicas } ∷ [])
-causes limits rings name act.Publish = of_ring (ring_at name rings) (of_text limits)
+    ∷ []
+
+-- the cause that may stand against raising the power
+abbrev pub of_power : RingRecord → List Cause
+of_power ring = record { refused = refusal.PowerLimit; stands = ring.power == 14 } ∷ []
+
+-- the cause that may stand against a rebalance
+abbrev pub of_rebalance : RingRecord → List Cause
+of_rebalance ring = record { refused = refusal.TooFewDevices; stands = nat_lt (count_by is_open ring.devices) ring.replicas } ∷ []
+
+-- the causes that may stand against an act on this ring, in the order in which they are looked at
+abbrev pub ring_causes : Limits → RingRecord → Act → List Cause
+ring_causes limits ring (act.Create new) = record { refused = refusal.RingExists; stands = true } ∷ []
+ring_causes limits ring (act.Add row) = of_addition limits row ring
+ring_causes limits ring (act.SetWeight to) = of_device to.id ring
+ring_causes limits ring (act.Remove id) = of_device id ring
+ring_causes limits ring (act.SetHours hours) = []
+ring_causes limits ring act.PretendPassed = []
+ring_causes limits ring act.RaisePower = of_power ring
+ring_causes limits ring (act.Import rows) = of_rows limits 1 ring rows
+ring_causes limits ring (act.Rebalance seed) = of_rebalance ring
+ring_causes limits ring act.Publish = of_text limits ring
+
+-- the causes that may stand against an act where no ring has the name: only making a ring needs none
+abbrev pub no_ring_causes : Limits → State → Act → List Cause
+no_ring_causes limits rings (act.Create new) = record { refused = refusal.TooManyRings; stands = nat_le limits.rings (length rings) } ∷ []
+no_ring_causes limits rings other = record { refused = refusal.NoRing; stands = true } ∷ []
+
+-- the causes that may stand against an act, by the ring of the name, if there is one
+abbrev pub causes : Limits → State → Option RingRecord → Act → List Cause
+causes limits rings None = no_ring_causes limits rings
+causes limits rings (Some ring) = ring_causes limits ring
 
 -- the first cause that stands
+abbrev pub first_cause : List Cause → Option Refusal
+first_cause causes = option_map (λ cause. cause.refused) (find (λ cause. cause.stands) causes)
+
+-- the first cause that stands against a command
 abbrev pub first_refusal : Limits → State → Command → Option Refusal
-first_refusal limits rings command = option_map (λ cause. cause.refused) (find (λ cause. cause.stands) (causes limits rings command.ring command.act))
+first_refusal limits rings command = first_cause (causes limits rings (ring_at command.ring rings) command.act)
 
 -- WHAT A COMMAND DOES
 
--- On the ring of this name, if there is one, the command has this effect: it is answered so, and leaves that ring.
-abbrev pub Effect : List ℕ → Act → Option RingRecord → ℕ → Done → RingRecord → Type 0
-Effect name (act.Create made) old hour (done.Create version) new = (new ≡ new_ring made.power made.replicas made.min_hours) × (version ≡ new.version)
-Effect name (act.Add row) (Some old) hour (done.Add id version) new = (new ≡ with_device old row) × (id ≡ old.next_id) × (version ≡ new.version)
-Effect name (act.SetWeight to) (Some old) hour (done.SetWeight version) new = (new ≡ with_weight old to.id to.weight) × (version ≡ new.version)
-Effect name (act.Remove id) (Some old) hour (done.Remove version) new = (new ≡ with_mark old id) × (version ≡ new.version)
-Effect name (act.SetHours hours) (Some old) hour (done.SetHours version) new = (new ≡ with_min_hours old hours) × (version ≡ new.version)
-Effect name act.PretendPassed (Some old) hour (done.PretendPassed version) new = (new ≡ with_hours_passed old) × (version ≡ new.version)
-Effect name act.RaisePower (Some old) hour (done.RaisePower version) new = IsRaised old new × (version ≡ new.version)
--- each row that found no device took a number, and every other found one
-Effect name (act.Import rows) (Some old) hour (done.Import added reweighted version) new =
+-- Each effect says how a command is answered, and which ring it leaves under the name.
+
+-- A ring is made.
+abbrev pub MakesRing : NewRing → Done → RingRecord → Type 0
+MakesRing made answer new = (new ≡ new_ring made.power made.replicas made.min_hours) × (answer ≡ done.Create new.version)
+
+-- A device is added. Told is its number.
+abbrev pub AddsDevice : Row → RingRecord → Done → RingRecord → Type 0
+AddsDevice row old answer new = (new ≡ with_device old row) × (answer ≡ done.Add old.next_id new.version)
+
+-- A device gets a weight.
+abbrev pub SetsWeight : NewWeight → RingRecord → Done → RingRecord → Type 0
+SetsWeight to old answer new = (new ≡ with_weight old to.id to.weight) × (answer ≡ done.SetWeight new.version)
+
+-- A device is marked to be removed.
+abbrev pub RemovesDevice : ℕ → RingRecord → Done → RingRecord → Type 0
+RemovesDevice id old answer new = (new ≡ with_mark old id) × (answer ≡ done.Remove new.version)
+
+-- A partition that was moved stays for so many hours from now on.
+abbrev pub SetsHours : ℕ → RingRecord → Done → RingRecord → Type 0
+SetsHours hours old answer new = (new ≡ with_min_hours old hours) × (answer ≡ done.SetHours new.version)
+
+-- Each partition is as if it never had been moved.
+abbrev pub PretendsPassed : RingRecord → Done → RingRecord → Type 0
+PretendsPassed old answer new = (new ≡ with_hours_passed old) × (answer ≡ done.PretendPassed new.version)
+
+-- Each partition is split into two.
+abbrev pub RaisesPower : RingRecord → Done → RingRecord → Type 0
+RaisesPower old answer new = IsRaised old new × (answer ≡ done.RaisePower new.version)
+
+-- Rows are put in. Each that found no device took a number, and every other found one.
+abbrev pub ImportsRows : List Row → RingRecord → Done → RingRecord → Type 0
+ImportsRows rows old (done.Import added reweighted version) new =
     (new ≡ changed (after_rows old rows)) × (new.next_id ≡ old.next_id + added) × (added + reweighted ≡ length rows) × (version ≡ new.version)
--- any rebalance, whatever the seed; what is told is how many seats differ, and the figures of the new ring
-Effect name (act.Rebalance seed) (Some old) hour (done.Rebalance balance seats dispersion version) new =
-    IsRebalance old hour new × (seats ≡ changed_seats old new) × (balance ≡ ring_balance new) × (dispersion ≡ ring_dispersion new) × (version ≡ new.version)
--- the text is that of the ring as it is, under its name
-Effect name act.Publish (Some old) hour (done.Publish version) new = (new ≡ with_published old (spelling (snapshot_of name old))) × (version ≡ new.version)
-Effect name other old hour answer new = ⊥
+ImportsRows rows old other new = ⊥
+
+-- Any rebalance. Told are how many seats differ, and the figures of the new ring.
+abbrev pub MovesSeats : ℕ → RingRecord → Done → RingRecord → Type 0
+MovesSeats hour old answer new =
+    IsRebalance old hour new × (answer ≡ done.Rebalance (ring_balance new) (changed_seats old new) (ring_dispersion new) new.version)
+
+-- The text of the ring as it is, under its name, is published.
+abbrev pub PublishesText : List ℕ → RingRecord → Done → RingRecord → Type 0
+PublishesText name old answer new = (new ≡ with_published old (spelling (snapshot_of name old))) × (answer ≡ done.Publish new.version)
+
+-- the effect of an act on this ring of this name at an hour
+abbrev pub RingEffect : List ℕ → ℕ → RingRecord → Act → Done → RingRecord → Type 0
+RingEffect name hour old (act.Create made) = λ answer new. ⊥
+RingEffect name hour old (act.Add row) = AddsDevice row old
+RingEffect name hour old (act.SetWeight to) = SetsWeight to old
+RingEffect name hour old (act.Remove id) = RemovesDevice id old
+RingEffect name hour old (act.SetHours hours) = SetsHours hours old
+RingEffect name hour old act.PretendPassed = PretendsPassed old
+RingEffect name hour old act.RaisePower = RaisesPower old
+RingEffect name hour old (act.Import rows) = ImportsRows rows old
+-- whatever the seed
+RingEffect name hour old (act.Rebalance seed) = MovesSeats hour old
+RingEffect name hour old act.Publish = PublishesText name old
+
+-- the effect of an act where no ring has the name: only making a ring has one
+abbrev pub NoRingEffect : Act → Done → RingRecord → Type 0
+NoRingEffect (act.Create made) = MakesRing made
+NoRingEffect other = λ answer new. ⊥
+
+-- the effect of an act, by the ring of the name, if there is one
+abbrev pub Effect : List ℕ → ℕ → Option RingRecord → Act → Done → RingRecord → Type 0
+Effect name hour None = NoRingEffect
+Effect name hour (Some old) = RingEffect name hour old
 
 -- From these rings, a command at an hour may be given this reply, and leave those rings.
 abbrev pub Step : Limits → State → ℕ → Command → Reply → State → Type 0
@@ -152,7 +221,7 @@ Step limits rings hour command (reply.Refused refused) after = (first_refusal li
 -- done: no cause stands, the named ring is changed by the effect, and the other rings are as they were
 Step limits rings hour command (reply.Done answer) after =
     (first_refusal limits rings command ≡ None)
-    × ((new : RingRecord) × Effect command.ring command.act (ring_at command.ring rings) hour answer new × (after ≡ with_ring rings command.ring new))
+    × ((new : RingRecord) × Effect command.ring hour (ring_at command.ring rings) command.act answer new × (after ≡ with_ring rings command.ring new))
 
 -- whether a reply is a refusal
 abbrev pub is_refused : Reply → Bool

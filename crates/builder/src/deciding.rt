@@ -1,13 +1,13 @@
 //! Deciding commands.
-ghost use Rattle.std.specs.Prelude.{◌≡◌, IfOk};
-ghost use Rattle.builder.specs.Step.{Step};
-ghost use Rattle.builder.specs.Outcome.{IsOutcome};
+ghost use Rattle.std.specs.Prelude.{[], IfOk};
+ghost use Rattle.builder.specs.Step.{AddsDevice, NoRingEffect, PretendsPassed, PublishesText, RaisesPower, RemovesDevice, RingEffect, SetsHours, SetsWeight, Step, no_ring_causes, of_addition, of_device, of_power, of_text, ring_causes};
+ghost use Rattle.builder.specs.Outcome.{IsFirstOr, IsOutcome};
 
 use crate::importing::import;
 use crate::rebalancing::move_seats;
 use ring_model::{
     Act, Command, DeviceId, Done, Hour, Limits, NewRing, NewWeight, RaiseFault, Refusal, Reply,
-    Ring, Rings, Row,
+    Ring, RingName, Rings, Row,
 };
 use ring_text::{snapshot, write_ring};
 use std::alloc::{AllocError, Global};
@@ -21,42 +21,10 @@ pub(crate) enum Outcome {
     Done(Done, Ring),
 }
 
-/// Makes a ring, unless it is there or there are too many.
-fn create(
-    alloc: Global,
-    rings: &Rings,
-    hour: Hour,
-    command: &Command,
-    new: &NewRing,
-    limits: &Limits,
-) -> Result<Outcome, AllocError>
-    requires { command.now.act ≡ Act.Create new.now }
-    ensures { IfOk result (IsOutcome limits.now rings.now hour command.now) }
-{
-    if rings.get(&command.ring).is_some() {
-        return Ok(Outcome::Refused(Refusal::RingExists));
-    }
-    if rings.list().len() >= limits.rings as usize {
-        return Ok(Outcome::Refused(Refusal::TooManyRings));
-    }
-    let ring = Ring::new(alloc, new.power, new.replicas, new.min_hours)?;
-    Ok(Outcome::Done(Done::Create { version: 0 }, ring))
-}
-
 /// Adds a device, unless its place is taken, there are too many, or the numbers are used up.
-fn add(
-    rings: &Rings,
-    hour: Hour,
-    command: &Command,
-    row: &Row,
-    limits: &Limits,
-) -> Result<Outcome, AllocError>
-    requires { command.now.act ≡ Act.Add row.now }
-    ensures { IfOk result (IsOutcome limits.now rings.now hour command.now) }
+fn add(ring: &Ring, row: &Row, limits: &Limits) -> Result<Outcome, AllocError>
+    ensures { IfOk result (IsFirstOr (of_addition limits.now row.now ring.now) (AddsDevice row.now ring.now)) }
 {
-    let Some(ring) = rings.get(&command.ring) else {
-        return Ok(Outcome::Refused(Refusal::NoRing));
-    };
     if ring.has_place(row) {
         return Ok(Outcome::Refused(Refusal::DeviceExists));
     }
@@ -75,19 +43,9 @@ fn add(
 }
 
 /// Sets a device's weight, unless there is no such device or it is marked to be removed.
-fn set_weight(
-    rings: &Rings,
-    hour: Hour,
-    command: &Command,
-    to: &NewWeight,
-    limits: &Limits,
-) -> Result<Outcome, AllocError>
-    requires { command.now.act ≡ Act.SetWeight to.now }
-    ensures { IfOk result (IsOutcome limits.now rings.now hour command.now) }
+fn set_weight(ring: &Ring, to: &NewWeight) -> Result<Outcome, AllocError>
+    ensures { IfOk result (IsFirstOr (of_device to.now.id ring.now) (SetsWeight to.now ring.now)) }
 {
-    let Some(ring) = rings.get(&command.ring) else {
-        return Ok(Outcome::Refused(Refusal::NoRing));
-    };
     if !ring.has_device(to.id) {
         return Ok(Outcome::Refused(Refusal::NoDevice));
     }
@@ -102,19 +60,9 @@ fn set_weight(
 }
 
 /// Marks a device to be removed, unless there is no such device or it is marked already.
-fn remove(
-    rings: &Rings,
-    hour: Hour,
-    command: &Command,
-    id: DeviceId,
-    limits: &Limits,
-) -> Result<Outcome, AllocError>
-    requires { command.now.act ≡ Act.Remove id }
-    ensures { IfOk result (IsOutcome limits.now rings.now hour command.now) }
+fn remove(ring: &Ring, id: DeviceId) -> Result<Outcome, AllocError>
+    ensures { IfOk result (IsFirstOr (of_device id ring.now) (RemovesDevice id ring.now)) }
 {
-    let Some(ring) = rings.get(&command.ring) else {
-        return Ok(Outcome::Refused(Refusal::NoRing));
-    };
     if !ring.has_device(id) {
         return Ok(Outcome::Refused(Refusal::NoDevice));
     }
@@ -129,19 +77,9 @@ fn remove(
 }
 
 /// Sets for how many hours a partition that was moved stays where it is.
-fn set_hours(
-    rings: &Rings,
-    hour: Hour,
-    command: &Command,
-    hours: u16,
-    limits: &Limits,
-) -> Result<Outcome, AllocError>
-    requires { command.now.act ≡ Act.SetHours hours }
-    ensures { IfOk result (IsOutcome limits.now rings.now hour command.now) }
+fn set_hours(ring: &Ring, hours: u16) -> Result<Outcome, AllocError>
+    ensures { IfOk result (IsFirstOr [] (SetsHours hours ring.now)) }
 {
-    let Some(ring) = rings.get(&command.ring) else {
-        return Ok(Outcome::Refused(Refusal::NoRing));
-    };
     let set = ring.with_min_hours(hours)?;
     let done = Done::SetHours {
         version: set.version(),
@@ -150,18 +88,9 @@ fn set_hours(
 }
 
 /// Lets each partition be moved as if it never had been.
-fn pretend_passed(
-    rings: &Rings,
-    hour: Hour,
-    command: &Command,
-    limits: &Limits,
-) -> Result<Outcome, AllocError>
-    requires { command.now.act ≡ Act.PretendPassed }
-    ensures { IfOk result (IsOutcome limits.now rings.now hour command.now) }
+fn pretend_passed(ring: &Ring) -> Result<Outcome, AllocError>
+    ensures { IfOk result (IsFirstOr [] (PretendsPassed ring.now)) }
 {
-    let Some(ring) = rings.get(&command.ring) else {
-        return Ok(Outcome::Refused(Refusal::NoRing));
-    };
     let passed = ring.with_hours_passed()?;
     let done = Done::PretendPassed {
         version: passed.version(),
@@ -170,18 +99,9 @@ fn pretend_passed(
 }
 
 /// Splits each partition into two, unless the ring has the greatest power.
-fn raise_power(
-    rings: &Rings,
-    hour: Hour,
-    command: &Command,
-    limits: &Limits,
-) -> Result<Outcome, AllocError>
-    requires { command.now.act ≡ Act.RaisePower }
-    ensures { IfOk result (IsOutcome limits.now rings.now hour command.now) }
+fn raise_power(ring: &Ring) -> Result<Outcome, AllocError>
+    ensures { IfOk result (IsFirstOr (of_power ring.now) (RaisesPower ring.now)) }
 {
-    let Some(ring) = rings.get(&command.ring) else {
-        return Ok(Outcome::Refused(Refusal::NoRing));
-    };
     let raised = match ring.raised() {
         Ok(raised) => raised,
         Err(RaiseFault::PowerLimit) => return Ok(Outcome::Refused(Refusal::PowerLimit)),
@@ -197,29 +117,68 @@ fn raise_power(
 /// published as there may be.
 fn publish(
     alloc: Global,
-    rings: &Rings,
-    hour: Hour,
-    command: &Command,
+    name: &RingName,
+    ring: &Ring,
     limits: &Limits,
 ) -> Result<Outcome, AllocError>
-    requires { command.now.act ≡ Act.Publish }
-    ensures { IfOk result (IsOutcome limits.now rings.now hour command.now) }
+    ensures { IfOk result (IsFirstOr (of_text limits.now ring.now) (PublishesText name.now ring.now)) }
 {
-    let Some(ring) = rings.get(&command.ring) else {
-        return Ok(Outcome::Refused(Refusal::NoRing));
-    };
     if !ring.is_assigned() {
         return Ok(Outcome::Refused(Refusal::NotAssigned));
     }
     if !ring.is_published() && ring.published_list().len() >= limits.versions as usize {
         return Ok(Outcome::Refused(Refusal::TooManyVersions));
     }
-    let text = write_ring(alloc, &snapshot(alloc, &command.ring, ring)?)?;
+    let text = write_ring(alloc, &snapshot(alloc, name, ring)?)?;
     let published = ring.with_published(alloc, text.as_str())?;
     let done = Done::Publish {
         version: published.version(),
     };
     Ok(Outcome::Done(done, published))
+}
+
+/// What an act on a ring that is there comes to.
+fn on_ring(
+    alloc: Global,
+    name: &RingName,
+    ring: &Ring,
+    hour: Hour,
+    act: &Act,
+    limits: &Limits,
+) -> Result<Outcome, AllocError>
+    ensures { IfOk result (IsFirstOr (ring_causes limits.now ring.now act.now) (RingEffect name.now hour ring.now act.now)) }
+{
+    match act {
+        Act::Create(_) => Ok(Outcome::Refused(Refusal::RingExists)),
+        Act::Add(row) => add(ring, row, limits),
+        Act::SetWeight(to) => set_weight(ring, to),
+        Act::Remove(id) => remove(ring, *id),
+        Act::SetHours(hours) => set_hours(ring, *hours),
+        Act::PretendPassed => pretend_passed(ring),
+        Act::RaisePower => raise_power(ring),
+        Act::Import(rows) => import(ring, rows, limits),
+        Act::Publish => publish(alloc, name, ring, limits),
+        Act::Rebalance(seed) => move_seats(alloc, ring, hour, *seed),
+    }
+}
+
+/// What an act comes to where no ring has the name: a new ring, unless there are too many.
+fn on_no_ring(
+    alloc: Global,
+    rings: &Rings,
+    act: &Act,
+    limits: &Limits,
+) -> Result<Outcome, AllocError>
+    ensures { IfOk result (IsFirstOr (no_ring_causes limits.now rings.now act.now) (NoRingEffect act.now)) }
+{
+    let Act::Create(new) = act else {
+        return Ok(Outcome::Refused(Refusal::NoRing));
+    };
+    if rings.list().len() >= limits.rings as usize {
+        return Ok(Outcome::Refused(Refusal::TooManyRings));
+    }
+    let ring = Ring::new(alloc, new.power, new.replicas, new.min_hours)?;
+    Ok(Outcome::Done(Done::Create { version: 0 }, ring))
 }
 
 /// What a command comes to.
@@ -232,17 +191,9 @@ fn outcome_of(
 ) -> Result<Outcome, AllocError>
     ensures { IfOk result (IsOutcome limits.now rings.now hour command.now) }
 {
-    match &command.act {
-        Act::Create(new) => create(alloc, rings, hour, command, new, limits),
-        Act::Add(row) => add(rings, hour, command, row, limits),
-        Act::SetWeight(to) => set_weight(rings, hour, command, to, limits),
-        Act::Remove(id) => remove(rings, hour, command, *id, limits),
-        Act::SetHours(hours) => set_hours(rings, hour, command, *hours, limits),
-        Act::PretendPassed => pretend_passed(rings, hour, command, limits),
-        Act::RaisePower => raise_power(rings, hour, command, limits),
-        Act::Import(rows) => import(rings, hour, command, rows, limits),
-        Act::Publish => publish(alloc, rings, hour, command, limits),
-        Act::Rebalance(seed) => move_seats(alloc, rings, hour, command, *seed, limits),
+    match rings.get(&command.ring) {
+        Some(ring) => on_ring(alloc, &command.ring, ring, hour, &command.act, limits),
+        None => on_no_ring(alloc, rings, &command.act, limits),
     }
 }
 

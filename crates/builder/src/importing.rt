@@ -1,14 +1,11 @@
 //! Imports: rows that are put into a ring, all or none.
-ghost use Rattle.std.specs.Prelude.{◌≡◌, ◌+◌, ◌≤◌, IfOk, None, find, length};
-ghost use Rattle.std.specs.Option.{option_map};
+ghost use Rattle.std.specs.Prelude.{◌≡◌, ◌+◌, ◌≤◌, IfOk, None, length};
 ghost use Rattle.ring_model.specs.Import.{after_rows};
-ghost use Rattle.builder.specs.Step.{first_trouble, of_more, of_rows, of_weight, row_refusal};
-ghost use Rattle.builder.specs.Outcome.{IsOutcome};
+ghost use Rattle.builder.specs.Step.{ImportsRows, first_cause, first_trouble, of_more, of_rows, of_weight, row_refusal};
+ghost use Rattle.builder.specs.Outcome.{IsFirstOr};
 
 use crate::deciding::Outcome;
-use ring_model::{
-    Act, Command, Device, Done, Draft, Hour, Limits, Refusal, Rings, Row, RowCause, Rows,
-};
+use ring_model::{Device, Done, Draft, Limits, Refusal, Ring, Row, RowCause, Rows};
 use std::alloc::AllocError;
 
 /// Why a row isn't taken as a new weight of this device, if it isn't.
@@ -49,7 +46,7 @@ fn row_refusal(draft: &Draft, row: &Row, limits: &Limits) -> Option<RowCause>
 
 /// Puts rows into a ring up to the first that is refused, and answers its refusal.
 fn put_rows(draft: &mut Draft, rows: &[Row], limits: &Limits) -> Result<Option<Refusal>, AllocError>
-    ensures refused { IfOk result (λ refused. refused ≡ option_map (λ cause. cause.refused) (find (λ cause. cause.stands) (of_rows limits.now 1 draft.old rows.now))) }
+    ensures refused { IfOk result (λ refused. refused ≡ first_cause (of_rows limits.now 1 draft.old rows.now)) }
     ensures put { IfOk result (λ refused. refused ≡ None → draft.new ≡ after_rows draft.old rows.now) }
     ensures numbers { IfOk result (λ refused. (draft.old.next_id ≤ draft.new.next_id) × (draft.new.next_id ≤ draft.old.next_id + length rows.now)) }
 {
@@ -64,19 +61,9 @@ fn put_rows(draft: &mut Draft, rows: &[Row], limits: &Limits) -> Result<Option<R
 }
 
 /// Adds devices and sets weights by rows, unless one of them is refused.
-pub(crate) fn import(
-    rings: &Rings,
-    hour: Hour,
-    command: &Command,
-    rows: &Rows,
-    limits: &Limits,
-) -> Result<Outcome, AllocError>
-    requires { command.now.act ≡ Act.Import rows.now }
-    ensures { IfOk result (IsOutcome limits.now rings.now hour command.now) }
+pub(crate) fn import(ring: &Ring, rows: &Rows, limits: &Limits) -> Result<Outcome, AllocError>
+    ensures { IfOk result (IsFirstOr (of_rows limits.now 1 ring.now rows.now) (ImportsRows rows.now ring.now)) }
 {
-    let Some(ring) = rings.get(&command.ring) else {
-        return Ok(Outcome::Refused(Refusal::NoRing));
-    };
     let mut draft = Draft::of(ring)?;
     if let Some(refusal) = put_rows(&mut draft, rows.as_slice(), limits)? {
         return Ok(Outcome::Refused(refusal));

@@ -1,5 +1,5 @@
 -- The records of a text, and those that a reader has given so far.
-use Rattle.std.proofs.Common.{zero-add, ◌≡◌, ℕ, zero, suc, ◌+◌, ◌-◌, ◌<◌, ◌≤◌, ◌⊎◌, Bool, true, false, List, [], ◌∷◌, ◌++◌, length, Option, Some, None, refl, sym, ap, ◌∙◌, append_assoc, ⊎_elim, inl, inr, arith}
+use Rattle.std.proofs.Common.{zero-add, ◌≡◌, ℕ, zero, suc, ◌+◌, ◌-◌, ◌<◌, ◌≤◌, ◌⊎◌, Bool, true, false, List, [], ◌∷◌, ◌++◌, length, Option, Some, None, Result, Ok, Err, refl, sym, ap, ◌∙◌, append_assoc, ⊎_elim, inl, inr, arith}
 use Rattle.csv.specs.Machine.{Read, next_record, is_end, step, fields_after, field_after, ends_at_end}
 use Rattle.csv.specs.Reading.{ExplainsRead, ReadRecord, Reached, default_config, is_flexible, records_from, stops_reader, strip_bom}
 use Rattle.csv.specs.declared.error.ErrorKind.{ErrorKind}
@@ -9,7 +9,7 @@ use Rattle.csv.specs.declared.parser.State.{State}
 use Rattle.csv.specs.declared.parser.State.TheVariants as st
 use Rattle.std.proofs.lemmas.Bool.{cases_Bool}
 use Rattle.std.proofs.lemmas.List.{append-nil}
-use Rattle.std.specs.Prelude.{MatchBool}
+use Rattle.std.specs.Prelude.{IfErr, MatchBool, MatchResult}
 use Rattle.csv.specs.declared.reader.Reader.{Reader}
 use Rattle.csv.proofs.ReadFacts.{rows-more, rows-end}
 use Rattle.std.specs.List.{AllZip}
@@ -17,7 +17,9 @@ use Rattle.std.proofs.lemmas.Slice.Zip.{AllZip-long}
 use Rattle.ring_words.specs.declared.device.Row.{Row}
 use Rattle.csv_import.specs.Fields.{IsRow, header}
 use Rattle.csv_import.specs.Midway.{HasGiven, IsWrongWith}
-use Rattle.csv_import.specs.Rows.{IsBehindRows, IsWrong, records_of}
+use Rattle.byte_streams.specs.Counted.{read_faults}
+use Rattle.byte_streams.specs.declared.counted.CountedReader.{CountedReader}
+use Rattle.csv_import.specs.Rows.{IsBehindRows, IsCsvCaused, IsWrong, records_of}
 use Rattle.csv_import.specs.declared.fault.CsvFault.{CsvFault}
 use Rattle.csv_import.specs.declared.fault.CsvFault.TheVariants.{BadHeader, BadRow, BadField, ReadFailed, NoMemory}
 
@@ -130,7 +132,7 @@ behind_rows remaining text good rows number n fields reader given are count same
 pub wrong_row : {R : Type 0} (remaining : R → Option (List ℕ)) (text : List ℕ) (good : List (List (List ℕ))) (rows : List Row) (number : ℕ) (fields : List (List ℕ)) (reader : Reader R) (fault : CsvFault)
     → HasGiven remaining text ((header ∷ good) ++ fields ∷ []) reader → AllZip IsRow good rows → length rows + 1 ≡ number → IsWrongWith fields number fault → IsWrong (records_of text) fault
 wrong_row remaining text good rows number fields reader BadHeader given are count wrong = absurd wrong
-wrong_row remaining text good rows number fields reader ReadFailed given are count wrong = tt
+wrong_row remaining text good rows number fields reader ReadFailed given are count wrong = absurd wrong
 wrong_row remaining text good rows number fields reader NoMemory given are count wrong = tt
 wrong_row remaining text good rows number fields reader (BadRow n) given are count wrong =
     (fields, behind_rows remaining text good rows number n fields reader given are count wrong.0, wrong.1)
@@ -166,3 +168,13 @@ stopped remaining old new (kind.UnequalLengths pos expected len) any why = let s
 stopped remaining old new (kind.Utf8 pos err) any why = let text = why.0 in cc
 stopped remaining old new (kind.Serialize text) any why = absurd why
 stopped remaining old new (kind.Deserialize pos err) any why = absurd why
+
+-- a text that is at hand leaves the reader as it was
+pub read_before : {R A : Type 0} (all : List (List (List ℕ))) (old new : CountedReader R) (result : Result A CsvFault) → read_faults new ≡ read_faults old
+    → IfErr result (IsWrong all) → MatchResult result (λ _. read_faults new ≡ read_faults old) (IsCsvCaused old new)
+read_before all old new (Ok value) same wrong = same
+read_before all old new (Err BadHeader) same wrong = same
+read_before all old new (Err (BadRow number)) same wrong = same
+read_before all old new (Err (BadField number column)) same wrong = same
+read_before all old new (Err ReadFailed) same wrong = absurd wrong
+read_before all old new (Err NoMemory) same wrong = same

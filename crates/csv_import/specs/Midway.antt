@@ -27,14 +27,6 @@ pub record HasGivenRows {R : Type 0} (remaining : R → Option (List ℕ)) (text
   pub given : HasGiven remaining text (header ∷ good) reader
   pub are_rows : AllZip IsRow good rows
 
--- The reading was given up: the reader failed, or memory was refused.
-abbrev pub IsGivenUp : CsvFault → Type 0
-IsGivenUp ReadFailed = ⊤
-IsGivenUp NoMemory = ⊤
-IsGivenUp BadHeader = ⊥
-IsGivenUp (BadRow number) = ⊥
-IsGivenUp (BadField number column) = ⊥
-
 -- This is what is wrong with the fields of the record of this number.
 abbrev pub IsWrongWith : List (List ℕ) → ℕ → CsvFault → Type 0
 IsWrongWith fields number (BadRow n) = (n ≡ number) × (length fields ≢ 6)

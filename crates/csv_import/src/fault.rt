@@ -1,7 +1,6 @@
 //! Why a text has no rows.
 ghost use Rattle.std.specs.Prelude.{◌≡◌, true};
 ghost use Rattle.csv.specs.Reading.{error_kind, stops_reader};
-ghost use Rattle.csv_import.specs.Midway.{IsGivenUp};
 
 use csv::{Error, ErrorKind};
 use std::alloc::AllocError;
@@ -32,14 +31,13 @@ impl From<AllocError> for CsvFault {
     }
 }
 
-/// Why a reader of records stopped.
+/// Why the records of a text that was read before can't be told: for want of memory.
 pub(crate) fn cause_of(error: Error) -> CsvFault
     requires { stops_reader (error_kind error) ≡ true }
-    ensures { IsGivenUp result }
+    ensures { result ≡ CsvFault.NoMemory }
 {
     match error.into_kind() {
-        ErrorKind::Io(_) => CsvFault::ReadFailed,
-        ErrorKind::OutOfMemory => CsvFault::NoMemory,
+        ErrorKind::Io(_) | ErrorKind::OutOfMemory => CsvFault::NoMemory,
         _ => unreachable!(),
     }
 }

@@ -1,12 +1,15 @@
 //! Records, one after another.
-ghost use Rattle.std.specs.Prelude.{◌≡◌, ◌∷◌, ◌++◌, [], ℕ, List, Some, IfOk, IfErr, MatchBool, OnOk};
+ghost use Rattle.std.specs.Prelude.{◌≡◌, ◌≢◌, ◌∷◌, ◌++◌, [], ℕ, List, Some, IfOk, IfErr, MatchBool, MatchResult, OnOk};
+ghost use Rattle.byte_streams.specs.Counted.{read_faults, reader_of};
 ghost use Rattle.csv.specs.Records.{fields_of};
 ghost use Rattle.csv_import.specs.Fields.{header};
-ghost use Rattle.csv_import.specs.Midway.{HasGiven, IsGivenUp, IsOpen};
-ghost use Rattle.csv_import.specs.Rows.{AreRows, IsWrong, records_of};
+ghost use Rattle.csv_import.specs.Midway.{HasGiven, IsOpen};
+ghost use Rattle.csv_import.specs.Rows.{AreRows, IsCsvCaused, IsWrong, records_of};
+ghost use Rattle.csv_import.specs.declared.fault.CsvFault.TheVariants.{ReadFailed};
 
 use crate::fault::{CsvFault, cause_of};
 use crate::row::{is_header, row_of};
+use byte_streams::{CountedReader, StreamFault, read_all};
 use csv::{ByteRecord, Reader, ReaderBuilder};
 use ring_words::Row;
 use std::alloc::Global;
@@ -18,7 +21,7 @@ fn read_next<R: Read>(reader: &mut Reader<R>, fields: &mut ByteRecord) -> Result
     ensures open { OnOk result (IsOpen reader.new) }
     ensures read { IfOk result (λ found. (text : List ℕ) (given : List (List (List ℕ))) → HasGiven R.remaining text given reader.old
         → MatchBool found (HasGiven R.remaining text (given ++ fields_of fields.new ∷ []) reader.new) (records_of text ≡ given)) }
-    ensures given_up { IfErr result (λ fault. IsGivenUp fault) }
+    ensures given_up { IfErr result (λ fault. fault ≡ CsvFault.NoMemory) }
 {
     match reader.read_byte_record(fields) {
         Ok(found) => Ok(found),
@@ -51,13 +54,9 @@ fn read_header<R: Read>(reader: &mut Reader<R>, fields: &mut ByteRecord) -> Resu
     }
 }
 
-/// The rows of the text that a reader gives, in order. The text is CSV: fields between commas, in double quotes where
-/// need be (RFC 4180, as the crate `csv` reads it); its first record is `region,zone,address,port,name,weight`.
-///
-/// The first fault in the text is answered: BadHeader, BadRow or BadField. Where the reader fails or memory is refused
-/// before that, ReadFailed or NoMemory is. ReadFailed comes only where the reader failed; a read that is interrupted
-/// counts as failed.
-pub fn read_rows<R: Read + Drop>(alloc: Global, reader: R) -> Result<Vec<Row>, CsvFault>
+/// The rows of the text that a reader gives, in order, or the first fault in it. That a text in memory can't be read is
+/// told as want of memory.
+fn rows_from<R: Read + Drop>(alloc: Global, reader: R) -> Result<Vec<Row>, CsvFault>
     ensures rows { IfOk result (λ rows. (text : List ℕ) → R.remaining reader ≡ Some text → AreRows (records_of text) rows.items) }
     ensures wrong { IfErr result (λ fault. (text : List ℕ) → R.remaining reader ≡ Some text → IsWrong (records_of text) fault) }
 {
@@ -76,4 +75,28 @@ pub fn read_rows<R: Read + Drop>(alloc: Global, reader: R) -> Result<Vec<Row>, C
     }
     // So many rows have no room in memory.
     Err(CsvFault::NoMemory)
+}
+
+/// The rows of the text that a reader gives, in order. The text is CSV: fields between commas, in double quotes where
+/// need be (RFC 4180, as the crate `csv` reads it); its first record is `region,zone,address,port,name,weight`.
+///
+/// The whole text is read first. ReadFailed comes where the reader failed, and the reader counts one more fault exactly
+/// then; a read that is interrupted is tried again. Else the first fault in the text is answered, BadHeader, BadRow or
+/// BadField, or NoMemory where a growth was refused.
+pub fn read_rows<R: Read>(
+    alloc: Global,
+    reader: &mut CountedReader<R>,
+) -> Result<Vec<Row>, CsvFault>
+    ensures rows { IfOk result (λ rows. (text : List ℕ) → R.remaining (reader_of reader.old) ≡ Some text
+        → AreRows (records_of text) rows.items) }
+    ensures wrong { IfErr result (λ fault. fault ≢ ReadFailed → (text : List ℕ) → R.remaining (reader_of reader.old) ≡ Some text
+        → IsWrong (records_of text) fault) }
+    ensures cause { MatchResult result (λ _. read_faults reader.new ≡ read_faults reader.old) (IsCsvCaused reader.old reader.new) }
+{
+    let text = match read_all(alloc, reader) {
+        Ok(text) => text,
+        Err(StreamFault::NoMemory) => return Err(CsvFault::NoMemory),
+        Err(_) => return Err(CsvFault::ReadFailed),
+    };
+    rows_from(alloc, text.as_slice())
 }

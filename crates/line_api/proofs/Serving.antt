@@ -1,132 +1,80 @@
 -- Lines that are answered one after another are one run.
-use Rattle.std.proofs.Common.{◌++◌, ◌≡◌, ◌∙◌, ◌∷◌, List, MatchOption, None, Option, Some, [], ap, append-nil, append_assoc, inl, inr, refl, subst, sym, ℕ}
-use Rattle.std.specs.Prelude.{◌||◌, Bool, false, is_some, true}
-use Rattle.std.specs.Option.{option_or, option_to_list}
-use Rattle.std.proofs.lemmas.List.Folds.{find-append}
+use Rattle.std.proofs.Common.{◌≡◌, Err, List, None, Ok, Option, Result, Some, [], inl, inr, refl, subst, sym, ℕ}
+use Rattle.std.specs.Prelude.{IfErr, IfOk}
+use Rattle.byte_streams.specs.InTurn.{InTurn}
+use Rattle.byte_streams.specs.declared.fault.StreamFault.{StreamFault}
+use Rattle.byte_streams.specs.declared.fault.StreamFault.TheVariants.{NoMemory, ReadFailed, WriteFailed}
+use Rattle.byte_streams.proofs.ServedLemmas.{served_as, stopped_as}
 use Rattle.ring_words.specs.declared.command.Command.{Command}
 use Rattle.ring_words.specs.declared.command.Reply.{Reply}
-use Rattle.request_book.specs.Book.{Parts}
-use Rattle.request_book.specs.Call.{Call, failed, meets_fault}
-use Rattle.request_book.specs.Called.{Called}
+use Rattle.request_book.specs.Call.{Call}
 use Rattle.request_book.specs.Content.{Content}
-use Rattle.request_book.specs.Run.{Run}
-use Rattle.request_book.proofs.Calls.{or_false}
-use Rattle.request_book.proofs.Runs.{run_none, run_snoc}
+use Rattle.book_front.specs.Front.{Turn}
+use Rattle.book_front.specs.Front.{CallsMade, is_closed}
+use Rattle.book_front.proofs.Fronts.{in_turn_serves, none_made, starts}
+use Rattle.builder.proofs.Safe.{safe_run}
+use Rattle.builder.specs.Safety.{IsSafeRun}
 use Rattle.builder.specs.Step.{State}
-use Rattle.builder.specs.declared.machine.RingMachine.{RingMachine}
 use Rattle.ring_messages.specs.declared.told.Told.TheVariants as told
-use Rattle.line_stream.specs.Answers.{Answered, Chain}
-use Rattle.line_api.specs.Lines.{Asked, answer_line}
-use Rattle.line_api.specs.Served.{Answers, AreAnswered, Loses, Moves, Runs, Serves, Served, Stopped, Turns, is_closed, steps_of}
-use Rattle.line_stream.specs.Serving as stream
-use Rattle.line_stream.specs.declared.fault.StreamFault.{StreamFault}
-use Rattle.line_stream.specs.declared.fault.StreamFault.TheVariants.{NoMemory, ReadFailed, WriteFailed}
-
-or_or : (a b c : Bool) → ((a || b) || c) ≡ (a || (b || c))
-or_or true b c = refl
-or_or false b c = refl
-
-some_or : {A : Type 0} (a b : Option A) → is_some (option_or a b) ≡ (is_some a || is_some b)
-some_or None b = refl
-some_or (Some x) b = refl
-
--- where the store failed in calls, it did in the first of them or in the others
-failed_more : (done more : List (Call Command Reply)) (closed : Bool) → ((closed || is_some (failed done)) || is_some (failed more)) ≡ (closed || is_some (failed (done ++ more)))
-failed_more done more closed = or_or closed _ _ ∙ ap (λ b. closed || b) (sym (some_or (failed done) (failed more)) ∙ ap is_some (sym (find-append meets_fault done more)))
+use Rattle.line_stream.specs.Answers.{Answered}
+use Rattle.line_stream.specs.Lines.{AreLines, HaveEnded, ended}
+use Rattle.line_stream.specs.Serving.{LinesServed, LinesStopped}
+use Rattle.line_api.specs.Lines.{Asked, Gets, answer_line}
+use Rattle.line_api.specs.Served.{Answers, Found, Loses, Made, RingBook, ServesLines, steps_of}
 
 module _ {K : Type 0} (content : K → Content State Command Reply) (sound : K → Type 0) (limit : K → ℕ) (faults : K → ℕ) where
   abbrev Book : Type 0
-  Book = Parts RingMachine K
+  Book = RingBook content sound limit faults
 
-  abbrev Moved : Book → Book → Asked → Type 0
-  Moved old new asked = Moves content sound limit faults old new asked
+  -- what the handler of lines gives
+  abbrev Gives : Book → List ℕ → List ℕ → Book → Type 0
+  Gives old line text new = Answered (Answers content sound limit faults) (Loses content sound limit faults) (answer_line told.NoMemory) (answer_line told.Unreadable) old line text new
 
-  abbrev Ran : Book → Book → List (Call Command Reply) → Type 0
-  Ran old new calls = Runs content sound limit faults old new calls
+  abbrev IsTurn : Book → List ℕ → Asked → List ℕ → Book → Type 0
+  IsTurn old line asked text new = Turn steps_of content sound limit faults (λ book. book)
+      (λ before item asks answer after. Gets (Found content sound limit faults before after) item asks answer) old line asked text new
 
-  -- a line's text and a book's move
-  abbrev Gave : Book → List ℕ → List ℕ → Book → Type 0
-  Gave old line text new = Answered (Answers content sound limit faults) (Loses content sound limit faults) (answer_line told.NoMemory) (answer_line told.Unreadable) old line text new
+  turns : (old : Book) (line text : List ℕ) (new : Book) → Gives old line text new → (asked : Asked) × IsTurn old line asked text new
+  turns old line text new (inl (short, inl answered)) = (answered.0, record { gets = inl (short, inl answered.1); made = answered.2 })
+  turns old line text new (inl (short, inr lost)) = (lost.0.0, record { gets = inl (short, inr (lost.0.1, lost.1)); made = lost.0.2 })
+  turns old line text new (inr (long, text_is, same)) =
+      (None, record { gets = inr (long, refl, text_is); made = subst (λ book. Made content sound limit faults old book None) (sym same) (none_made steps_of content sound limit faults old) })
 
-  stays : (old : Book) → Moved old old None
-  stays old = record { machine = refl; limits = refl; stays_sound = λ s. s; closed = or_false (is_closed content sound limit faults old); called = λ s. refl }
+  serves : (old : Book) (lines texts : List (List ℕ)) (new : Book) → InTurn Gives old lines texts new → ServesLines content sound limit faults old lines texts new
+  serves old lines texts new turn = in_turn_serves steps_of content sound limit faults (λ book. book)
+      (λ before item asks answer after. Gets (Found content sound limit faults before after) item asks answer) Gives turns old lines texts new turn
 
-  turns : (old : Book) (line text : List ℕ) (new : Book) → Gave old line text new → (asked : Asked) × Turns content sound limit faults old new line asked text
-  turns old line text new (inl (short, inl answered)) = (answered.0, record { gets = inl (short, inl answered.1); moves = answered.2 })
-  turns old line text new (inl (short, inr lost)) = (lost.0.0, record { gets = inl (short, inr (lost.0.1, lost.1)); moves = lost.0.2 })
-  turns old line text new (inr (long, text_is, same)) = (None, record { gets = inr (long, refl, text_is); moves = subst (λ b. Moved old b None) (sym same) (stays old) })
+  -- what the server of lines tells of its handler holds of the run
+  pub served_run : (known before after : Option (List ℕ)) (old new : Book) (count : ℕ) → LinesServed (InTurn Gives) known before after old new count
+      → LinesServed (ServesLines content sound limit faults) known before after old new count
+  served_run = served_as AreLines HaveEnded ended (InTurn Gives) (ServesLines content sound limit faults) serves
 
-  starts : (old : Book) → Ran old old []
-  starts old = record { machine = refl; limits = refl; stays_sound = λ s. s; closed = or_false (is_closed content sound limit faults old); run = λ s. run_none (steps_of old.machine) (limit old.keeper) (is_closed content sound limit faults old) (content old.keeper) }
+  pub stopped_run : (known left before after : Option (List ℕ)) (old new : Book) (untouched : Type 0) (fault : StreamFault)
+      → LinesStopped (InTurn Gives) known left before after old new untouched fault
+      → LinesStopped (ServesLines content sound limit faults) known left before after old new untouched fault
+  stopped_run = stopped_as AreLines HaveEnded ended (InTurn Gives) (ServesLines content sound limit faults) serves
 
-  goes_on : (start mid new : Book) (done : List (Call Command Reply)) (asked : Asked) → Ran start mid done → Moved mid new asked → Ran start new (done ++ option_to_list asked)
-  goes_on start mid new done asked ran moved = record {
-    machine = moved.machine ∙ ran.machine;
-    limits = moved.limits ∙ ran.limits;
-    stays_sound = λ s. ran.stays_sound (moved.stays_sound s);
-    closed = moved.closed ∙ ap (λ b. b || is_some (failed (option_to_list asked))) ran.closed ∙ failed_more done (option_to_list asked) (is_closed content sound limit faults start);
-    run = λ s. run_by asked (moved.called s) (ran.run (moved.stays_sound s));
-  } where
-    closed : Bool
-    closed = is_closed content sound limit faults start
+  -- calls that are one run are a safe run
+  safe_calls : (old new : Book) (calls : List (Call Command Reply)) → CallsMade steps_of content sound limit faults old new calls → sound new.keeper
+      → IsSafeRun old.machine.limits (content old.keeper) (content new.keeper)
+  safe_calls old new calls made s =
+      safe_run old.machine.limits (limit old.keeper) (is_closed steps_of content sound limit faults old) (content old.keeper) (content new.keeper) calls (made.run s)
 
-    Rest : List (Call Command Reply) → Content State Command Reply → Type 0
-    Rest calls left = Run (steps_of start.machine) (limit start.keeper) closed (content start.keeper) calls left
+  unmoved : (old new : Book) → new ≡ old → sound new.keeper → IsSafeRun old.machine.limits (content old.keeper) (content new.keeper)
+  unmoved old new same = subst (λ (book : Book). sound book.keeper → IsSafeRun old.machine.limits (content old.keeper) (content book.keeper)) (sym same)
+      (λ s. safe_calls old old [] (starts steps_of content sound limit faults old) s)
 
-    run_by : (a : Asked) → MatchOption a (content new.keeper ≡ content mid.keeper) (λ call. Called (steps_of mid.machine) (limit mid.keeper) (is_closed content sound limit faults mid) (content mid.keeper) call (content new.keeper)) → Rest done (content mid.keeper) → Rest (done ++ option_to_list a) (content new.keeper)
-    run_by None same r = subst (λ calls. Rest calls (content new.keeper)) (sym (append-nil done)) (subst (λ left. Rest done left) (sym same) r)
-    run_by (Some call) called r =
-        let c : Called (steps_of start.machine) (limit start.keeper) (closed || is_some (failed done)) (content mid.keeper) call (content new.keeper) =
-        subst (λ m. Called (steps_of m) (limit start.keeper) (closed || is_some (failed done)) (content mid.keeper) call (content new.keeper)) ran.machine
-        (subst (λ n. Called (steps_of mid.machine) n (closed || is_some (failed done)) (content mid.keeper) call (content new.keeper)) ran.limits
-        (subst (λ b. Called (steps_of mid.machine) (limit mid.keeper) b (content mid.keeper) call (content new.keeper)) ran.closed called)) in
-        run_snoc (steps_of start.machine) (limit start.keeper) closed (content start.keeper) done (content mid.keeper) call (content new.keeper) r c
+  stopped_safe : (known left before after : Option (List ℕ)) (old new : Book) (readers writers : Type 0) (fault : StreamFault)
+      → LinesStopped (ServesLines content sound limit faults) known left before after old new (readers × writers × (new ≡ old)) fault
+      → sound new.keeper → IsSafeRun old.machine.limits (content old.keeper) (content new.keeper)
+  stopped_safe known left before after old new readers writers ReadFailed stopped s = safe_calls old new stopped.get.calls stopped.get.made s
+  stopped_safe known left before after old new readers writers WriteFailed stopped s = safe_calls old new stopped.get.calls stopped.get.made s
+  stopped_safe known left before after old new readers writers NoMemory stopped s = unmoved old new stopped.2 s
 
-  chain_runs : (start mid new : Book) (done : List (Call Command Reply)) (lines texts : List (List ℕ)) → Ran start mid done → Chain Gave mid lines texts new → (calls : List (Call Command Reply)) × AreAnswered content sound limit faults start done mid lines calls texts new × Ran start new (done ++ calls)
-  chain_runs start mid new done [] texts ran chain = ([], (refl, chain.0, chain.1), subst (λ b. Ran start b (done ++ [])) (sym chain.1) (subst (λ calls. Ran start mid calls) (sym (append-nil done)) ran))
-  chain_runs start mid new done (line ∷ lines) texts ran (text, next, more, gave, texts_are, rest) =
-      let turn = turns mid line text next gave in
-      let r = chain_runs start next new (done ++ option_to_list turn.0) lines more (goes_on start mid next done turn.0 ran turn.1.moves) rest in
-      (option_to_list turn.0 ++ r.0, (turn.0, r.0, text, more, next, refl, texts_are, ran, turn.1, r.1), subst (λ calls. Ran start new calls) (append_assoc done (option_to_list turn.0) r.0) r.2)
-
-  -- a chain of answers is one run
-  pub chain_serves : (old new : Book) (lines texts : List (List ℕ)) → Chain Gave old lines texts new → Serves content sound limit faults old new lines texts
-  chain_serves old new lines texts chain =
-      let r = chain_runs old old new [] lines texts (starts old) chain in
-      record { calls = r.0; answered = r.1; runs = r.2 }
-
-  -- what the server of lines tells of its handler's chain holds of the run
-  pub served_run : (known before after : Option (List ℕ)) (old new : Book) (count : ℕ) → stream.Served Gave known before after old new count → Served content sound limit faults known before after old new count
-  served_run known before after old new count s = record {
-    bytes = s.bytes;
-    told = s.told;
-    lines = s.lines;
-    are_lines = s.are_lines;
-    texts = s.texts;
-    serves = chain_serves old new s.lines s.texts s.chain;
-    written = s.written;
-    count_is = s.count_is;
-  }
-
-  pub stopped_run : (known left before after : Option (List ℕ)) (old new : Book) (untouched : Type 0) (fault : StreamFault) → stream.Stopped Gave known left before after old new untouched fault → Stopped content sound limit faults known left before after old new untouched fault
-  stopped_run known left before after old new untouched ReadFailed s = record {
-    bytes = s.bytes;
-    came = s.came;
-    lines = s.lines;
-    rest = s.rest;
-    divides = s.divides;
-    texts = s.texts;
-    serves = chain_serves old new s.lines s.texts s.chain;
-    written = s.written;
-  }
-  stopped_run known left before after old new untouched WriteFailed s = record {
-    bytes = s.bytes;
-    told = s.told;
-    answered = s.answered;
-    unanswered = s.unanswered;
-    are_lines = s.are_lines;
-    texts = s.texts;
-    serves = chain_serves old new s.answered s.texts s.chain;
-    written = s.written;
-  }
-  stopped_run known left before after old new untouched NoMemory s = s
+  -- whatever lines came, what the book was led to is a safe run
+  pub served_safe : (known left before after : Option (List ℕ)) (old new : Book) (readers writers : Type 0) (result : Result ℕ StreamFault)
+      → IfOk result (LinesServed (ServesLines content sound limit faults) known before after old new)
+      → IfErr result (LinesStopped (ServesLines content sound limit faults) known left before after old new (readers × writers × (new ≡ old)))
+      → sound new.keeper → IsSafeRun old.machine.limits (content old.keeper) (content new.keeper)
+  served_safe known left before after old new readers writers (Ok count) served stopped s = safe_calls old new served.get.calls served.get.made s
+  served_safe known left before after old new readers writers (Err fault) served stopped s = stopped_safe known left before after old new readers writers fault stopped s

@@ -7,5 +7,4 @@
 mod lines;
 mod questions;
 
-pub use line_stream::StreamFault;
 pub use lines::run_lines;

@@ -2,15 +2,19 @@
 ghost use Rattle.std.specs.Prelude.{◌≡◌, IfErr, IfOk, OnOk, Result, Some, string_bytes};
 ghost use Rattle.std.specs.Io.KnownBytes.{IsAtEnd};
 ghost use Rattle.builder.specs.Reads.{Reads};
+ghost use Rattle.builder.specs.Safety.{IsSafeRun};
+ghost use Rattle.byte_streams.specs.Counted.{FailsWithCause, LeavesFlushed, reader_of, writer_of};
 ghost use Rattle.request_book.specs.Call.{Load};
 ghost use Rattle.request_book.specs.declared.book.Fault.{Fault};
 ghost use Rattle.line_api.specs.Lines.{Asks, AsksFor, IsShown, IsTold, answer_line, told_fault, told_of};
-ghost use Rattle.line_api.specs.Served.{Answers, Delivers, Finds, Loses, Moves, Served, Stopped};
+ghost use Rattle.line_api.specs.Served.{Answers, Delivers, Found, Loses, Made, ServesLines};
+ghost use Rattle.line_stream.specs.Serving.{LinesServed, LinesStopped};
 ghost use Rattle.ring_messages.specs.declared.told.Told.TheVariants as told;
 
 use crate::questions::{Question, read_question, table_text};
 use builder::{MessageFault, RingMachine, Told, read_delivery, status_of, told_text};
-use line_stream::{Handler, StreamFault, serve_lines};
+use byte_streams::{CountedReader, CountedWriter, StreamFault};
+use line_stream::{Handler, serve_lines};
 use request_book::{Answer, Book, Fault, Keeper};
 use ring_model::{Command, Delivery, Refusal, Reply, Rings, parse_decimal_up_to};
 use std::alloc::{AllocError, Global};
@@ -111,8 +115,8 @@ fn show<K: Keeper<RingMachine>>(
     question: &Question,
 ) -> Result<String, AllocError>
     ensures { (answer : Result (Unit {0}) Fault)
-        × Moves K.content K.sound K.limit K.fault_count book.old book.new (Some (Load answer))
-        × IfOk result (λ text. IsTold (Finds K.content K.sound K.limit K.fault_count book.old book.new)
+        × Made K.content K.sound K.limit K.fault_count book.old book.new (Some (Load answer))
+        × IfOk result (λ text. IsTold (Found K.content K.sound K.limit K.fault_count book.old book.new)
         question.now answer (string_bytes text)) }
 {
     match book.load() {
@@ -168,20 +172,29 @@ impl<K: Keeper<RingMachine>> Handler for RingLines<K> {
 /// gets its kept reply. A question is answered from the rings that the deliveries of the lines before it left, and
 /// changes nothing.
 ///
-/// After ReadFailed the answers so far were written, and after WriteFailed a beginning of them; what was decided stays
-/// decided. NoMemory comes before the first read, and nothing was touched.
+/// After ReadFailed the answers so far were written and flushed, and after WriteFailed a beginning of them was written;
+/// what was decided stays decided. NoMemory comes before the first read, and nothing was touched. The reader counts one
+/// more fault exactly at ReadFailed, and the writer exactly at WriteFailed.
 pub fn run_lines<R: Read, W: Write, K: Keeper<RingMachine>>(
     alloc: Global,
-    reader: &mut R,
-    writer: &mut W,
+    reader: &mut CountedReader<R>,
+    writer: &mut CountedWriter<W>,
     book: &mut Book<RingMachine, K>,
 ) -> Result<u32, StreamFault>
-    ensures served { IfOk result (Served K.content K.sound K.limit K.fault_count (R.remaining reader.old)
-        (W.contents writer.old) (W.contents writer.new) book.old book.new) }
-    ensures at_end { OnOk result (IsAtEnd (R.remaining reader.new)) }
-    ensures stopped { IfErr result (Stopped K.content K.sound K.limit K.fault_count (R.remaining reader.old)
-        (R.remaining reader.new) (W.contents writer.old) (W.contents writer.new) book.old book.new
+    ensures served { IfOk result (LinesServed (ServesLines K.content K.sound K.limit K.fault_count)
+        (R.remaining (reader_of reader.old)) (W.contents (writer_of writer.old)) (W.contents (writer_of writer.new))
+        book.old book.new) }
+    ensures at_end { OnOk result (IsAtEnd (R.remaining (reader_of reader.new))) }
+    ensures stopped { IfErr result (LinesStopped (ServesLines K.content K.sound K.limit K.fault_count)
+        (R.remaining (reader_of reader.old)) (R.remaining (reader_of reader.new))
+        (W.contents (writer_of writer.old)) (W.contents (writer_of writer.new)) book.old book.new
         ((reader.new ≡ reader.old) × (writer.new ≡ writer.old) × (book.new ≡ book.old))) }
+    ensures cause { FailsWithCause reader.old reader.new writer.old writer.new result }
+    ensures flushed { LeavesFlushed writer.new result }
+
+    // Whatever came of it, few replicas left in each rebalance, and those of a moved partition rested.
+    ensures safe { K.sound book.new.keeper
+        → IsSafeRun book.old.machine.limits (K.content book.old.keeper) (K.content book.new.keeper) }
 {
     serve_lines::<R, W, RingLines<K>>(alloc, reader, writer, book)
 }

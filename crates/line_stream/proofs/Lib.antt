@@ -1,4 +1,2 @@
-pub mod KnownLemmas
 pub mod LineLemmas
-pub mod ChainLemmas
 pub mod MidwayLemmas

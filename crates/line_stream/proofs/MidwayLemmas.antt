@@ -5,11 +5,14 @@ use Rattle.std.proofs.lemmas.List.{length_push, take_more, take-append-drop}
 use Rattle.std.proofs.Math.Seq.{take-append_seam}
 use Rattle.std.specs.Io.KnownBytes.{Appends, Consumes, IsAtEnd}
 use Rattle.line_stream.specs.Lines.{ended, with_rest}
-use Rattle.line_stream.specs.Serving.{Tells, Served, ServedSoFar, ServedInPart, WritesBeginning}
-use Rattle.line_stream.specs.Midway.{kept_of, Forwards, IsMidway, IsEnded, IsCutOff}
-use Rattle.line_stream.proofs.KnownLemmas.{Forwards-then, Forwards-none, Forwards-all, Forwards-whole, beginning_of_left, beginning_then}
+use Rattle.byte_streams.specs.InTurn.{InTurn}
+use Rattle.byte_streams.specs.Serving.{Tells}
+use Rattle.byte_streams.specs.Writing.{Forwards, WritesBeginning}
+use Rattle.line_stream.specs.Serving.{LinesServed, LinesServedInPart, LinesServedSoFar}
+use Rattle.line_stream.specs.Midway.{kept_of, IsMidway, IsEnded, IsCutOff}
+use Rattle.byte_streams.proofs.KnownLemmas.{Forwards-then, Forwards-none, Forwards-all, Forwards-whole, beginning_of_left, beginning_then}
 use Rattle.line_stream.proofs.LineLemmas.{Divides-nil, Divides-byte, Divides-feed, ended-push, kept_of-push, kept_cases, lines_after}
-use Rattle.line_stream.proofs.ChainLemmas.{Chain-push}
+use Rattle.byte_streams.proofs.InTurnLemmas.{InTurn-push}
 
 -- what is read into a buffer of this length stands in all of it
 pub piece_of_chunk : (chunk buffer rest : List ℕ) (len count : ℕ) → chunk ≡ take len (buffer ++ rest) → length buffer ≡ len → take count chunk ≡ take count buffer
@@ -24,7 +27,7 @@ all_taken came bytes i = append_assoc came (take i bytes) (drop i bytes) ∙ ap 
 
 module _ {S : Type 0} (gives : S → List ℕ → List ℕ → S → Type 0) where
   pub midway_starts : (before : Option (List ℕ)) (old : S) → IsMidway gives [] before before old old (Some []) [] 0
-  midway_starts before old = record { lines = []; rest = []; divides = Divides-nil; kept_is = refl; texts = []; chain = (refl, refl); forwards = Forwards-none before []; count_is = refl }
+  midway_starts before old = record { lines = []; rest = []; divides = Divides-nil; kept_is = refl; texts = []; in_turn = (refl, refl); forwards = Forwards-none before []; count_is = refl }
 
   -- a byte of a line
   pub midway_byte : (bytes : List ℕ) (before now : Option (List ℕ)) (old new : S) (kept next : Option (List ℕ)) (waiting : List ℕ) (count byte : ℕ)
@@ -36,7 +39,7 @@ module _ {S : Type 0} (gives : S → List ℕ → List ℕ → S → Type 0) whe
     divides = Divides-byte bytes m.lines m.rest byte m.divides other;
     kept_is = is ∙ ap (option_and_then (λ (line : List ℕ). kept_of (line ++ byte ∷ []))) m.kept_is ∙ sym (kept_of-push m.rest byte);
     texts = m.texts;
-    chain = m.chain;
+    in_turn = m.in_turn;
     forwards = m.forwards;
     count_is = m.count_is;
   }
@@ -52,7 +55,7 @@ module _ {S : Type 0} (gives : S → List ℕ → List ℕ → S → Type 0) whe
     divides = Divides-feed bytes m.lines m.rest m.divides;
     kept_is = refl;
     texts = m.texts ++ text ∷ [];
-    chain = Chain-push gives old mid new m.lines m.texts m.rest text m.chain (given m.rest m.kept_is);
+    in_turn = InTurn-push gives old mid new m.lines m.texts m.rest text m.in_turn (given m.rest m.kept_is);
     forwards = rw (ended-push m.texts text) (Forwards-then before now next (ended m.texts) (text ++ 10 ∷ []) waiting left m.forwards more);
     count_is = omega (arith, is, m.count_is, length_push m.lines m.rest);
   }
@@ -70,7 +73,7 @@ module _ {S : Type 0} (gives : S → List ℕ → List ℕ → S → Type 0) whe
         begins = d.whole;
         are_lines = d.are_lines;
         texts = m.texts ++ text ∷ [];
-        chain = Chain-push gives old mid new m.lines m.texts m.rest text m.chain (given m.rest m.kept_is);
+        in_turn = InTurn-push gives old mid new m.lines m.texts m.rest text m.in_turn (given m.rest m.kept_is);
         written = rw (ended-push m.texts text) (beginning_then before now next (ended m.texts) (text ++ 10 ∷ []) waiting m.forwards more);
       }
 
@@ -81,21 +84,21 @@ module _ {S : Type 0} (gives : S → List ℕ → List ℕ → S → Type 0) whe
     begins = ap (λ (t : List ℕ). t ++ more) x.begins ∙ append_assoc (ended x.answered) x.tail more;
     are_lines = x.are_lines;
     texts = x.texts;
-    chain = x.chain;
+    in_turn = x.in_turn;
     written = x.written;
   }
 
   -- what waits is written
-  pub midway_flushed : (bytes : List ℕ) (before now next : Option (List ℕ)) (old new : S) (kept : Option (List ℕ)) (waiting : List ℕ) (count : ℕ)
-      → IsMidway gives bytes before now old new kept waiting count → Appends now next waiting → IsMidway gives bytes before next old new kept [] count
-  midway_flushed bytes before now next old new kept waiting count m more = record {
+  pub midway_flushed : (bytes : List ℕ) (before now next : Option (List ℕ)) (old new : S) (kept : Option (List ℕ)) (waiting left : List ℕ) (count : ℕ)
+      → IsMidway gives bytes before now old new kept waiting count → left ≡ [] → Appends now next waiting → IsMidway gives bytes before next old new kept left count
+  midway_flushed bytes before now next old new kept waiting left count m none more = record {
     lines = m.lines;
     rest = m.rest;
     divides = m.divides;
     kept_is = m.kept_is;
     texts = m.texts;
-    chain = m.chain;
-    forwards = Forwards-all before next (ended m.texts) (Forwards-whole before now next (ended m.texts) waiting m.forwards more);
+    in_turn = m.in_turn;
+    forwards = rw none (Forwards-all before next (ended m.texts) (Forwards-whole before now next (ended m.texts) waiting m.forwards more));
     count_is = m.count_is;
   }
 
@@ -107,30 +110,29 @@ module _ {S : Type 0} (gives : S → List ℕ → List ℕ → S → Type 0) whe
     begins = m.divides.whole;
     are_lines = m.divides.are_lines;
     texts = m.texts;
-    chain = m.chain;
+    in_turn = m.in_turn;
     written = beginning_of_left before now next (ended m.texts) waiting m.forwards more;
   }
 
   -- a read fails where nothing waits
   pub so_far_midway : (known left : Option (List ℕ)) (bytes : List ℕ) (before now : Option (List ℕ)) (old new : S) (kept : Option (List ℕ)) (waiting : List ℕ) (count : ℕ)
-      → Consumes known left bytes → IsMidway gives bytes before now old new kept waiting count → waiting ≡ [] → ServedSoFar gives known left before now old new
+      → Consumes known left bytes → IsMidway gives bytes before now old new kept waiting count → waiting ≡ [] → LinesServedSoFar (InTurn gives) known left before now old new
   so_far_midway known left bytes before now old new kept waiting count came m none = record {
     bytes = bytes;
     came = came;
-    lines = m.lines;
-    rest = m.rest;
-    divides = m.divides;
+    items = m.lines;
+    have_come = (m.rest, m.divides);
     texts = m.texts;
-    chain = m.chain;
+    get = m.in_turn;
     written = rw (m.forwards.1 ∙ ap (λ (t : List ℕ). m.forwards.0 ++ t) none ∙ append-nil m.forwards.0) m.forwards.2;
   }
 
   -- what is cut off, of all that the reader told
   pub in_part_cut : (known left : Option (List ℕ)) (bytes : List ℕ) (before now : Option (List ℕ)) (old new : S)
-      → Consumes known left bytes → IsCutOff gives bytes before now old new → ServedInPart gives known before now old new
+      → Consumes known left bytes → IsCutOff gives bytes before now old new → LinesServedInPart (InTurn gives) known before now old new
   in_part_cut None left bytes before now old new came x =
       let l = lines_after x.answered x.tail x.are_lines in
-      record { bytes = ended x.answered ++ x.tail; told = tt; answered = x.answered; unanswered = l.0; are_lines = l.1; texts = x.texts; chain = x.chain; written = x.written }
+      record { bytes = ended x.answered ++ x.tail; told = tt; answered = x.answered; unanswered = l.0; are_items = l.1; texts = x.texts; get = x.in_turn; written = x.written }
   in_part_cut (Some xs) None bytes before now old new came x = absurd came
   in_part_cut (Some xs) (Some ys) bytes before now old new came x =
       let l = lines_after x.answered (x.tail ++ ys) x.are_lines in
@@ -139,9 +141,9 @@ module _ {S : Type 0} (gives : S → List ℕ → List ℕ → S → Type 0) whe
         told = came ∙ ap (λ (t : List ℕ). t ++ ys) x.begins ∙ append_assoc (ended x.answered) x.tail ys;
         answered = x.answered;
         unanswered = l.0;
-        are_lines = l.1;
+        are_items = l.1;
         texts = x.texts;
-        chain = x.chain;
+        get = x.in_turn;
         written = x.written;
       }
 
@@ -157,7 +159,7 @@ module _ {S : Type 0} (gives : S → List ℕ → List ℕ → S → Type 0) whe
         lines = m.lines;
         are_lines = record { front = m.lines; rest = m.rest; divides = m.divides; all = rw none refl };
         texts = m.texts;
-        chain = m.chain;
+        in_turn = m.in_turn;
         forwards = m.forwards;
         count_is = m.count_is;
       }
@@ -178,7 +180,7 @@ module _ {S : Type 0} (gives : S → List ℕ → List ℕ → S → Type 0) whe
         lines = m.lines ++ m.rest ∷ [];
         are_lines = record { front = m.lines; rest = m.rest; divides = m.divides; all = some_rest m.lines m.rest (λ none. other (m.kept_is ∙ ap kept_of none)) };
         texts = f.texts;
-        chain = f.chain;
+        in_turn = f.in_turn;
         forwards = f.forwards;
         count_is = f.count_is;
       }
@@ -187,7 +189,7 @@ module _ {S : Type 0} (gives : S → List ℕ → List ℕ → S → Type 0) whe
   pub in_part_line : (bytes : List ℕ) (before now next : Option (List ℕ)) (old mid new : S) (kept : Option (List ℕ)) (waiting text : List ℕ) (count : ℕ)
       → IsMidway gives bytes before now old mid kept waiting count → kept ≢ Some [] → ((line : List ℕ) → kept ≡ kept_of line → gives mid line text new)
       → WritesBeginning now next (waiting ++ (text ++ 10 ∷ []))
-      → ServedInPart gives (Some bytes) before next old new
+      → LinesServedInPart (InTurn gives) (Some bytes) before next old new
   unfolding cut_at_feed
   in_part_line bytes before now next old mid new kept waiting text count m other given more =
       let x = cut_at_feed bytes before now next old mid new kept waiting text count m given more in
@@ -196,36 +198,36 @@ module _ {S : Type 0} (gives : S → List ℕ → List ℕ → S → Type 0) whe
         told = refl;
         answered = x.answered;
         unanswered = [];
-        are_lines = record { front = m.lines; rest = m.rest; divides = m.divides; all = append-nil (m.lines ++ m.rest ∷ []) ∙ some_rest m.lines m.rest (λ none. other (m.kept_is ∙ ap kept_of none)) };
+        are_items = record { front = m.lines; rest = m.rest; divides = m.divides; all = append-nil (m.lines ++ m.rest ∷ []) ∙ some_rest m.lines m.rest (λ none. other (m.kept_is ∙ ap kept_of none)) };
         texts = x.texts;
-        chain = x.chain;
+        get = x.in_turn;
         written = x.written;
       }
 
   -- at the end what waits is written, or a beginning of it
   pub served_ended : (bytes : List ℕ) (before now next : Option (List ℕ)) (old new : S) (waiting : List ℕ) (count : ℕ)
-      → IsEnded gives bytes before now old new waiting count → Appends now next waiting → Served gives (Some bytes) before next old new count
+      → IsEnded gives bytes before now old new waiting count → Appends now next waiting → LinesServed (InTurn gives) (Some bytes) before next old new count
   served_ended bytes before now next old new waiting count e more = record {
     bytes = bytes;
     told = refl;
-    lines = e.lines;
-    are_lines = e.are_lines;
+    items = e.lines;
+    are_items = e.are_lines;
     texts = e.texts;
-    chain = e.chain;
+    get = e.in_turn;
     written = Forwards-whole before now next (ended e.texts) waiting e.forwards more;
     count_is = e.count_is;
   }
 
   pub in_part_ended : (bytes : List ℕ) (before now next : Option (List ℕ)) (old new : S) (waiting : List ℕ) (count : ℕ)
-      → IsEnded gives bytes before now old new waiting count → WritesBeginning now next waiting → ServedInPart gives (Some bytes) before next old new
+      → IsEnded gives bytes before now old new waiting count → WritesBeginning now next waiting → LinesServedInPart (InTurn gives) (Some bytes) before next old new
   in_part_ended bytes before now next old new waiting count e more = record {
     bytes = bytes;
     told = refl;
     answered = e.lines;
     unanswered = [];
-    are_lines = rw (append-nil e.lines) e.are_lines;
+    are_items = rw (append-nil e.lines) e.are_lines;
     texts = e.texts;
-    chain = e.chain;
+    get = e.in_turn;
     written = beginning_of_left before now next (ended e.texts) waiting e.forwards more;
   }
 
@@ -236,27 +238,27 @@ module _ {S : Type 0} (gives : S → List ℕ → List ℕ → S → Type 0) whe
 
   -- the bytes that came are all that the reader told
   pub served_told : (known left : Option (List ℕ)) (bytes : List ℕ) (before after : Option (List ℕ)) (old new : S) (count : ℕ)
-      → Consumes known left bytes → IsAtEnd left → Served gives (Some bytes) before after old new count → Served gives known before after old new count
+      → Consumes known left bytes → IsAtEnd left → LinesServed (InTurn gives) (Some bytes) before after old new count → LinesServed (InTurn gives) known before after old new count
   served_told known left bytes before after old new count came end s = record {
     bytes = s.bytes;
     told = told_whole known left bytes s.bytes came end s.told;
-    lines = s.lines;
-    are_lines = s.are_lines;
+    items = s.items;
+    are_items = s.are_items;
     texts = s.texts;
-    chain = s.chain;
+    get = s.get;
     written = s.written;
     count_is = s.count_is;
   }
 
   pub in_part_told : (known left : Option (List ℕ)) (bytes : List ℕ) (before after : Option (List ℕ)) (old new : S)
-      → Consumes known left bytes → IsAtEnd left → ServedInPart gives (Some bytes) before after old new → ServedInPart gives known before after old new
+      → Consumes known left bytes → IsAtEnd left → LinesServedInPart (InTurn gives) (Some bytes) before after old new → LinesServedInPart (InTurn gives) known before after old new
   in_part_told known left bytes before after old new came end s = record {
     bytes = s.bytes;
     told = told_whole known left bytes s.bytes came end s.told;
     answered = s.answered;
     unanswered = s.unanswered;
-    are_lines = s.are_lines;
+    are_items = s.are_items;
     texts = s.texts;
-    chain = s.chain;
+    get = s.get;
     written = s.written;
   }

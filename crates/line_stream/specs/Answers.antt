@@ -1,5 +1,5 @@
--- The answers to lines.
-use Rattle.std.specs.Prelude.{◌≡◌, ℕ, ◌<◌, ◌≤◌, ◌⊎◌, List, [], ◌∷◌, length}
+-- The answer to a line.
+use Rattle.std.specs.Prelude.{◌≡◌, ℕ, ◌<◌, ◌≤◌, ◌⊎◌, List, length}
 
 -- A line may be given this text: the handler's answer, or what stands for a lost answer. A line of more than 65536
 -- bytes gets its own text, and leaves the state as it was.
@@ -8,10 +8,3 @@ abbrev pub Answered : {S : Type 0} → (S → List ℕ → List ℕ → S → Ty
 Answered answers loses no_memory too_long old line text new =
     ((length line ≤ 65536) × (answers old line text new ⊎ (loses old line new × (text ≡ no_memory))))
     ⊎ ((65536 < length line) × (text ≡ too_long) × (new ≡ old))
-
--- from old, these lines may be given these texts, one line after another, and new is left
-abbrev pub Chain : {S : Type 0} → (S → List ℕ → List ℕ → S → Type 0) → S → List (List ℕ) → List (List ℕ) → S → Type 0
-Chain gives old [] texts new = (texts ≡ []) × (new ≡ old)
-Chain {S} gives old (line ∷ lines) texts new =
-    (text : List ℕ) × (mid : S) × (more : List (List ℕ))
-    × gives old line text mid × (texts ≡ text ∷ more) × Chain gives mid lines more new

@@ -1,4 +1,3 @@
-pub mod StreamFault
 pub mod Lines
 pub mod Answers
 pub mod Serving

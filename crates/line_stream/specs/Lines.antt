@@ -15,6 +15,10 @@ pub record Divides (bytes : List ℕ) (lines : List (List ℕ)) (rest : List ℕ
   pub are_lines : All IsLine lines
   pub rest_is_line : IsLine rest
 
+-- These are the lines of the bytes that had their line feed.
+abbrev pub HaveEnded : List ℕ → List (List ℕ) → Type 0
+HaveEnded bytes lines = (rest : List ℕ) × Divides bytes lines rest
+
 -- lines that had their line feed, and then what came after the last line feed, which is a line if it has a byte
 abbrev pub with_rest : List (List ℕ) → List ℕ → List (List ℕ)
 with_rest lines [] = lines

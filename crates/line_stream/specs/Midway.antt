@@ -1,17 +1,12 @@
 -- What the parts of the server know in mid-stream.
 use Rattle.std.specs.Prelude.{◌≡◌, ℕ, ◌-◌, ◌^◌, min, List, ◌++◌, length, All, nat_le, if◌then◌else◌, Option, Some, None}
-use Rattle.std.specs.Io.KnownBytes.{Appends}
 use Rattle.line_stream.specs.Lines.{IsLine, Divides, AreLines, ended}
-use Rattle.line_stream.specs.Answers.{Chain}
-use Rattle.line_stream.specs.Serving.{WritesBeginning}
+use Rattle.byte_streams.specs.InTurn.{InTurn}
+use Rattle.byte_streams.specs.Writing.{Forwards, WritesBeginning}
 
 -- what is kept of a line: all of it, or nothing where it is too long
 abbrev pub kept_of : List ℕ → Option (List ℕ)
 kept_of line = if nat_le (length line) 65536 then Some line else None
-
--- a front of the text was written, and this is left of it
-abbrev pub Forwards : Option (List ℕ) → Option (List ℕ) → List ℕ → List ℕ → Type 0
-Forwards before after text left = (front : List ℕ) × (text ≡ front ++ left) × Appends before after front
 
 -- Each line that had its line feed in the bytes is answered. The answers are written or wait, and what is kept of the
 -- next line is known.
@@ -23,7 +18,7 @@ pub record IsMidway {S : Type 0} (gives : S → List ℕ → List ℕ → S → 
   pub divides : Divides bytes lines rest
   pub kept_is : kept ≡ kept_of rest
   pub texts : List (List ℕ)
-  pub chain : Chain gives old lines texts new
+  pub in_turn : InTurn gives old lines texts new
   pub forwards : Forwards before now (ended texts) waiting
   pub count_is : count ≡ min (length lines) (2 ^ 32 - 1)
 
@@ -35,7 +30,7 @@ pub record IsCutOff {S : Type 0} (gives : S → List ℕ → List ℕ → S → 
   pub begins : bytes ≡ ended answered ++ tail
   pub are_lines : All IsLine answered
   pub texts : List (List ℕ)
-  pub chain : Chain gives old answered texts new
+  pub in_turn : InTurn gives old answered texts new
   pub written : WritesBeginning before now (ended texts)
 
 -- Each line of the bytes is answered, and the answers are written or wait.
@@ -44,6 +39,6 @@ pub record IsEnded {S : Type 0} (gives : S → List ℕ → List ℕ → S → T
   pub lines : List (List ℕ)
   pub are_lines : AreLines bytes lines
   pub texts : List (List ℕ)
-  pub chain : Chain gives old lines texts new
+  pub in_turn : InTurn gives old lines texts new
   pub forwards : Forwards before now (ended texts) waiting
   pub count_is : count ≡ min (length lines) (2 ^ 32 - 1)

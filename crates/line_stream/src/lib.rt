@@ -6,14 +6,11 @@
 //! contracts cite stand in `specs/`.
 #![tactic(auto)]
 
-mod fault;
 mod handler;
-mod input;
 pub mod laws;
-mod output;
+mod line;
 mod serving;
 
-pub use fault::StreamFault;
 pub use handler::Handler;
-pub use input::LONGEST_LINE;
+pub use line::LONGEST_LINE;
 pub use serving::serve_lines;

@@ -1,15 +1,17 @@
 //! The lines of a stream are answered.
 ghost use Rattle.std.specs.Prelude.{◌≡◌, ◌+◌, ◌-◌, ◌^◌, ◌++◌, min, ℕ, List, [], ◌∷◌, Some, OnOk, IfOk, IfErr, MatchResult, Option};
 ghost use Rattle.std.specs.Io.KnownBytes.{IsAtEnd};
+ghost use Rattle.byte_streams.specs.Counted.{Counts, FailsWithCause, IsFlushed, LeavesFlushed, reader_of, write_faults, writer_of};
+ghost use Rattle.byte_streams.specs.InTurn.{InTurn};
+ghost use Rattle.byte_streams.specs.Writing.{Forwards, WritesBeginning};
+ghost use Rattle.byte_streams.specs.declared.fault.StreamFault.TheVariants.{WriteFailed};
 ghost use Rattle.line_stream.specs.Answers.{Answered};
-ghost use Rattle.line_stream.specs.Serving.{Served, Stopped, ServedInPart, WritesBeginning};
-ghost use Rattle.line_stream.specs.Midway.{kept_of, Forwards, IsMidway, IsEnded, IsCutOff};
-ghost use Rattle.line_stream.specs.declared.fault.StreamFault.TheVariants.{WriteFailed};
+ghost use Rattle.line_stream.specs.Serving.{LinesServed, LinesServedInPart, LinesStopped};
+ghost use Rattle.line_stream.specs.Midway.{kept_of, IsMidway, IsEnded, IsCutOff};
 
-use crate::fault::StreamFault;
 use crate::handler::Handler;
-use crate::input::{LineBuffer, new_chunk, read_some};
-use crate::output::Outbox;
+use crate::line::LineBuffer;
+use byte_streams::{CountedReader, CountedWriter, Outbox, StreamFault, new_chunk, read_some};
 use std::alloc::{AllocError, Global};
 use std::io::{Read, Write};
 
@@ -29,17 +31,18 @@ fn answer_line<W: Write, H: Handler>(
     line: &LineBuffer,
     outbox: &mut Outbox,
     state: &mut H::State,
-    writer: &mut W,
+    writer: &mut CountedWriter<W>,
 ) -> Result<(), StreamFault>
-    ensures { (text : List ℕ)
+    ensures answered { (text : List ℕ)
         × ((whole : List ℕ) → line.now ≡ kept_of whole
         → Answered H.answers H.loses H.no_memory H.too_long state.old whole text state.new)
         × MatchResult result
-        (λ _. Forwards (W.contents writer.old) (W.contents writer.new)
+        (λ _. Forwards (W.contents (writer_of writer.old)) (W.contents (writer_of writer.new))
         (outbox.old ++ (text ++ 10 ∷ [])) outbox.new)
         (λ fault. (fault ≡ WriteFailed)
-        × WritesBeginning (W.contents writer.old) (W.contents writer.new)
+        × WritesBeginning (W.contents (writer_of writer.old)) (W.contents (writer_of writer.new))
         (outbox.old ++ (text ++ 10 ∷ []))) }
+    ensures cause { Counts (write_faults writer.old) (write_faults writer.new) result }
 {
     let Some(bytes) = line.get() else {
         return outbox.push_line(H::too_long().as_bytes(), writer);
@@ -68,18 +71,19 @@ impl Progress {
     fn end_line<W: Write, H: Handler>(
         &mut self,
         state: &mut H::State,
-        writer: &mut W,
+        writer: &mut CountedWriter<W>,
     ) -> Result<(), StreamFault>
-        ensures { (text : List ℕ)
+        ensures answered { (text : List ℕ)
             × ((whole : List ℕ) → self.old.line ≡ kept_of whole
             → Answered H.answers H.loses H.no_memory H.too_long state.old whole text state.new)
             × MatchResult result
             (λ _. (self.new.line ≡ Some []) × (self.new.answered ≡ min (self.old.answered + 1) (2 ^ 32 - 1))
-            × Forwards (W.contents writer.old) (W.contents writer.new)
+            × Forwards (W.contents (writer_of writer.old)) (W.contents (writer_of writer.new))
             (self.old.outbox ++ (text ++ 10 ∷ [])) self.new.outbox)
             (λ fault. (fault ≡ WriteFailed)
-            × WritesBeginning (W.contents writer.old) (W.contents writer.new)
+            × WritesBeginning (W.contents (writer_of writer.old)) (W.contents (writer_of writer.new))
             (self.old.outbox ++ (text ++ 10 ∷ []))) }
+        ensures cause { Counts (write_faults writer.old) (write_faults writer.new) result }
     {
         answer_line::<W, H>(self.alloc, &self.line, &mut self.outbox, state, writer)?;
         self.line.clear();
@@ -92,17 +96,18 @@ impl Progress {
         &mut self,
         bytes: &[u8],
         state: &mut H::State,
-        writer: &mut W,
+        writer: &mut CountedWriter<W>,
     ) -> Result<(), StreamFault>
-        ensures { let gives = Answered H.answers H.loses H.no_memory H.too_long in
+        ensures answered { let gives = Answered H.answers H.loses H.no_memory H.too_long in
             (origin : H.State) (before : Option (List ℕ)) (came : List ℕ)
-            → IsMidway gives came before (W.contents writer.old) origin state.old
+            → IsMidway gives came before (W.contents (writer_of writer.old)) origin state.old
             self.old.line self.old.outbox self.old.answered
             → MatchResult result
-            (λ _. IsMidway gives (came ++ bytes.now) before (W.contents writer.new) origin state.new
+            (λ _. IsMidway gives (came ++ bytes.now) before (W.contents (writer_of writer.new)) origin state.new
             self.new.line self.new.outbox self.new.answered)
             (λ fault. (fault ≡ WriteFailed)
-            × IsCutOff gives (came ++ bytes.now) before (W.contents writer.new) origin state.new) }
+            × IsCutOff gives (came ++ bytes.now) before (W.contents (writer_of writer.new)) origin state.new) }
+        ensures cause { Counts (write_faults writer.old) (write_faults writer.new) result }
     {
         for byte in bytes {
             if *byte == b'\n' {
@@ -118,17 +123,18 @@ impl Progress {
     fn answer_rest<W: Write, H: Handler>(
         &mut self,
         state: &mut H::State,
-        writer: &mut W,
+        writer: &mut CountedWriter<W>,
     ) -> Result<(), StreamFault>
-        ensures { let gives = Answered H.answers H.loses H.no_memory H.too_long in
+        ensures answered { let gives = Answered H.answers H.loses H.no_memory H.too_long in
             (origin : H.State) (before : Option (List ℕ)) (came : List ℕ)
-            → IsMidway gives came before (W.contents writer.old) origin state.old
+            → IsMidway gives came before (W.contents (writer_of writer.old)) origin state.old
             self.old.line self.old.outbox self.old.answered
             → MatchResult result
-            (λ _. IsEnded gives came before (W.contents writer.new) origin state.new
+            (λ _. IsEnded gives came before (W.contents (writer_of writer.new)) origin state.new
             self.new.outbox self.new.answered)
             (λ fault. (fault ≡ WriteFailed)
-            × ServedInPart gives (Some came) before (W.contents writer.new) origin state.new) }
+            × LinesServedInPart (InTurn gives) (Some came) before (W.contents (writer_of writer.new)) origin state.new) }
+        ensures cause { Counts (write_faults writer.old) (write_faults writer.new) result }
     {
         if self.line.is_empty() {
             return Ok(());
@@ -140,16 +146,18 @@ impl Progress {
     fn finish<W: Write, H: Handler>(
         &mut self,
         state: &mut H::State,
-        writer: &mut W,
+        writer: &mut CountedWriter<W>,
     ) -> Result<u32, StreamFault>
-        ensures { let gives = Answered H.answers H.loses H.no_memory H.too_long in
+        ensures answered { let gives = Answered H.answers H.loses H.no_memory H.too_long in
             (origin : H.State) (before : Option (List ℕ)) (came : List ℕ)
-            → IsMidway gives came before (W.contents writer.old) origin state.old
+            → IsMidway gives came before (W.contents (writer_of writer.old)) origin state.old
             self.old.line self.old.outbox self.old.answered
             → MatchResult result
-            (Served gives (Some came) before (W.contents writer.new) origin state.new)
+            (LinesServed (InTurn gives) (Some came) before (W.contents (writer_of writer.new)) origin state.new)
             (λ fault. (fault ≡ WriteFailed)
-            × ServedInPart gives (Some came) before (W.contents writer.new) origin state.new) }
+            × LinesServedInPart (InTurn gives) (Some came) before (W.contents (writer_of writer.new)) origin state.new) }
+        ensures cause { Counts (write_faults writer.old) (write_faults writer.new) result }
+        ensures flushed { OnOk result (IsFlushed writer.new) }
     {
         self.answer_rest::<W, H>(state, writer)?;
         self.outbox.flush(writer)?;
@@ -167,31 +175,32 @@ impl Progress {
 ///
 /// `ReadFailed` comes where a read failed, with the answers so far written and flushed. `WriteFailed` comes where a
 /// write or a flush failed or a write took no byte, with a beginning of the answers written. `NoMemory` comes before the
-/// first read. A read, write or flush that is interrupted is tried again; one that is interrupted 2^64 - 1 times in a
-/// row has failed, as has the reader of a stream of more than 2^64 - 1 reads.
+/// first read. The reader and the writer count these faults themselves: the reader has one more exactly at `ReadFailed`,
+/// and the writer exactly at `WriteFailed`. A read, write or flush that is interrupted is tried again.
 pub fn serve_lines<R: Read, W: Write, H: Handler>(
     alloc: Global,
-    reader: &mut R,
-    writer: &mut W,
+    reader: &mut CountedReader<R>,
+    writer: &mut CountedWriter<W>,
     state: &mut H::State,
 ) -> Result<u32, StreamFault>
-    ensures served { IfOk result (Served (Answered H.answers H.loses H.no_memory H.too_long)
-        (R.remaining reader.old) (W.contents writer.old) (W.contents writer.new) state.old state.new) }
-    ensures at_end { OnOk result (IsAtEnd (R.remaining reader.new)) }
-    ensures stopped { IfErr result (Stopped (Answered H.answers H.loses H.no_memory H.too_long)
-        (R.remaining reader.old) (R.remaining reader.new) (W.contents writer.old) (W.contents writer.new)
+    ensures served { IfOk result (LinesServed (InTurn (Answered H.answers H.loses H.no_memory H.too_long))
+        (R.remaining (reader_of reader.old)) (W.contents (writer_of writer.old)) (W.contents (writer_of writer.new)) state.old state.new) }
+    ensures at_end { OnOk result (IsAtEnd (R.remaining (reader_of reader.new))) }
+    ensures stopped { IfErr result (LinesStopped (InTurn (Answered H.answers H.loses H.no_memory H.too_long))
+        (R.remaining (reader_of reader.old)) (R.remaining (reader_of reader.new)) (W.contents (writer_of writer.old)) (W.contents (writer_of writer.new))
         state.old state.new
         ((reader.new ≡ reader.old) × (writer.new ≡ writer.old) × (state.new ≡ state.old))) }
+    ensures cause { FailsWithCause reader.old reader.new writer.old writer.new result }
+    ensures flushed { LeavesFlushed writer.new result }
 {
     let mut progress = Progress::new(alloc)?;
     let mut chunk = new_chunk(alloc)?;
-    for _ in 0..u64::MAX {
-        let count = read_some(reader, &mut chunk)?;
+    loop {
+        progress.outbox.flush(writer)?;
+        let count = read_some(reader, writer, &mut chunk)?;
         if count == 0 {
             return progress.finish::<W, H>(state, writer);
         }
         progress.take::<W, H>(&chunk[..count], state, writer)?;
-        progress.outbox.flush(writer)?;
     }
-    Err(StreamFault::ReadFailed)
 }

@@ -2,6 +2,7 @@
 use Rattle.std.specs.Prelude.{ℕ, ◌==◌, ◌&&◌, Bool, not, nat_lt, nat_le, List, [], ◌∷◌, ◌++◌, length, Option, Some, None, true, false}
 use Rattle.std.specs.List.{list_all}
 
+-- The names of a path: an account, and perhaps a container and an object in it.
 pub record PathNames : Type 0 where
   pub account : List ℕ
   pub container : Option (List ℕ)
@@ -39,5 +40,6 @@ behind_slash (Some name) = 47 ∷ name
 abbrev pub path_text : PathNames → List ℕ
 path_text names = 47 ∷ names.account ++ behind_slash names.container ++ behind_slash names.object
 
+-- the names that make a path
 abbrev pub names_of : List ℕ → Option (List ℕ) → Option (List ℕ) → PathNames
 names_of account container object = record { account = account; container = container; object = object }

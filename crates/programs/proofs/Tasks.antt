@@ -9,9 +9,10 @@ use Rattle.clap.specs.Values.{kind_of}
 use Rattle.clap.specs.declared.error.Error.{Error}
 use Rattle.clap.specs.declared.error.kind.ErrorKind.TheVariants.{OutOfMemory}
 use Rattle.clap.specs.declared.parser.matches.ArgMatches.{ArgMatches}
-use Rattle.programs.specs.Programs.{AskForNothing, IfBad, programs}
+use Rattle.programs.specs.Programs.{AskFor, AskForNothing, IfBad, programs}
 use Rattle.programs.specs.declared.words.ArgsFault.{ArgsFault}
 use Rattle.programs.specs.declared.words.ArgsFault.TheVariants.{Bad, NoMemory}
+use Rattle.programs.specs.declared.words.Task.{Task}
 use Rattle.programs.specs.declared.words.Task.TheVariants.{Run}
 
 map_twice : {A B C : Type 0} (f : B → C) (g : A → B) (o : Option A) → option_map f (option_map g o) ≡ option_map (λ x. f (g x)) o
@@ -45,3 +46,7 @@ bad_by NoMemory A B f h = tt
 pub bad_if : (fault : ArgsFault) (A : Type 0) → A → IfBad fault A
 bad_if (Bad text) A h = h
 bad_if NoMemory A h = tt
+
+-- there is one program
+pub only_run : (words : List (List ℕ)) (task : Task) → AskFor words task → AskFor words Run
+only_run words Run asks = asks

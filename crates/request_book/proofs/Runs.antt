@@ -1,6 +1,6 @@
 -- A run goes on by one call.
 use Rattle.std.proofs.Common.{◌++◌, ◌<◌, ◌≡◌, ◌∙◌, ◌∷◌, List, MatchOption, None, Option, Some, [], ap, append-nil, append_assoc, arith, inl, inr, length, max, refl, suc, subst, sym, zero, ℕ}
-use Rattle.std.specs.Prelude.{◌↔◌, ◌||◌, Bool, Err, Ok, Result, false, is_some, nat_lt, true}
+use Rattle.std.specs.Prelude.{◌↔◌, ◌||◌, Bool, Err, IsSomeAnd, Ok, Result, false, is_some, nat_lt, true}
 use Rattle.std.specs.Option.{option_to_list}
 use Rattle.std.specs.Result.{IsErrOf}
 use Rattle.ring_words.specs.declared.request.Delivery.{Delivery}
@@ -10,10 +10,19 @@ use Rattle.request_book.specs.declared.entry.Entry.{Entry}
 use Rattle.request_book.specs.Call.{Call, Deliver, Load, calls_of, failed, meets_fault}
 use Rattle.request_book.specs.Called.{Acts, Called}
 use Rattle.request_book.specs.Content.{Content, entry_of, is_known}
+use Rattle.request_book.specs.Keeper.{CrashLeaves, LeavesOnly}
 use Rattle.request_book.specs.Once.{decision, once}
 use Rattle.request_book.specs.Run.{Chain, IsInDoubt, Leads, MayAnswer, Run, kept, last_hour}
 use Rattle.request_book.proofs.Calls.{above_zero, calls_of-snoc, failed-new, failed-ok, no_member, or_false, or_right, split_last}
 use Rattle.request_book.proofs.Once.{kept-snoc, known_kept, last_hour-snoc, once-new, once-none, once-old}
+
+-- what a crash leaves has each property that follows
+pub leaves_map : {S C R : Type 0} (may : Option (Content S C R) → Type 0) (P Q : Content S C R → Type 0) → ((left : Content S C R) → P left → Q left) → CrashLeaves may P → CrashLeaves may Q
+leaves_map {S} {C} {R} may P Q f h = record { something = h.something; each = λ left i. go left (h.each left i) }
+  where
+    go : (left : Option (Content S C R)) → IsSomeAnd left P → IsSomeAnd left Q
+    go None i = i
+    go (Some left) i = f left i
 
 module _ {S C R : Type 0} (step : S → ℕ → C → R → S → Type 0) where
   -- a chain with one more step
@@ -118,9 +127,9 @@ module _ {S C R : Type 0} (step : S → ℕ → C → R → S → Type 0) where
     pub run_none : Run step limit closed old [] old
     run_none = build [] old None [] None refl refl tt (record { book = sym (append-nil old.book); chain = refl; hour = refl }) (λ before s after e. no_member before s after e)
 
-    -- the same, where this is what was left
-    pub run_left : (left : Content S C R) → left ≡ old → Run step limit closed old [] left
-    run_left left e = subst (λ c. Run step limit closed old [] c) (sym e) run_none
+    -- the same, where a crash leaves nothing but the content
+    pub run_left : (may : Option (Content S C R) → Type 0) → LeavesOnly may old → CrashLeaves may (Run step limit closed old [])
+    run_left may only = leaves_map may (λ left. left ≡ old) (Run step limit closed old []) (λ left e. subst (λ c. Run step limit closed old [] c) (sym e) run_none) only
 
     -- a run of one call
     pub run_one : (call : Call C R) (new : Content S C R) → Called step limit closed old call new → Run step limit closed old (call ∷ []) new
@@ -134,14 +143,15 @@ module _ {S C R : Type 0} (step : S → ℕ → C → R → S → Type 0) where
 
     -- what a crash may leave after one delivery more: what it may leave where the book was open, and what was left
     -- before it where the book was closed
-    pub left_more : (ds : List (Delivery C)) (sofar later : List (Result R Fault)) (limit' m : ℕ) (mid : Content S C R) (d : Delivery C) (a : Result R Fault) (was is : Content S C R → Type 0) → length sofar ≡ length ds → later ≡ sofar ++ a ∷ [] → limit' ≡ limit → nat_lt 0 m ≡ (closed || is_some (failed (calls_of ds sofar))) → Run step limit closed old (calls_of ds sofar) mid → ((left : Content S C R) → was left → Run step limit closed old (calls_of ds sofar) left) → (m ≡ 0 → (left : Content S C R) → is left → Called step limit' false mid (Deliver d a) left) → (0 < m → (left : Content S C R) → is left → was left) → IsErrOf a Closed ↔ (0 < m) → (left : Content S C R) → is left → Run step limit closed old (calls_of (ds ++ d ∷ []) later) left
-    left_more ds sofar later limit' zero mid d a was is n more l k r w o s t left i =
-        run_more ds sofar later limit' false mid d a left n more l k r (o refl left i)
-    left_more ds sofar later limit' (suc m) mid d a was is n more l k r w o s t left i =
+    pub left_more : (ds : List (Delivery C)) (sofar later : List (Result R Fault)) (limit' m : ℕ) (mid : Content S C R) (d : Delivery C) (a : Result R Fault) (was is : Option (Content S C R) → Type 0) → length sofar ≡ length ds → later ≡ sofar ++ a ∷ [] → limit' ≡ limit → nat_lt 0 m ≡ (closed || is_some (failed (calls_of ds sofar))) → Run step limit closed old (calls_of ds sofar) mid → CrashLeaves was (Run step limit closed old (calls_of ds sofar)) → (m ≡ 0 → CrashLeaves is (Called step limit' false mid (Deliver d a))) → (0 < m → was ≡ is) → IsErrOf a Closed ↔ (0 < m) → CrashLeaves is (Run step limit closed old (calls_of (ds ++ d ∷ []) later))
+    left_more ds sofar later limit' zero mid d a was is n more l k r w o s t =
+        leaves_map is (Called step limit' false mid (Deliver d a)) (Run step limit closed old (calls_of (ds ++ d ∷ []) later)) (λ left i. run_more ds sofar later limit' false mid d a left n more l k r i) (o refl)
+    left_more ds sofar later limit' (suc m) mid d a was is n more l k r w o s t =
         let above : 0 < suc m = omega arith in
         let c : a ≡ Err Closed = t.1 above in
         let f : nat_lt 0 (suc m) ≡ true = above_zero 0 (suc m) above in
-        run_more ds sofar later limit' true left d a left n more l (sym f ∙ k) (w left (s above left i)) (subst (λ x. Called step limit' true left (Deliver d x) left) (sym c) (record { may = refl; leaves = refl }))
+        leaves_map is (Run step limit closed old (calls_of ds sofar)) (Run step limit closed old (calls_of (ds ++ d ∷ []) later)) (λ left i. run_more ds sofar later limit' true left d a left n more l (sym f ∙ k) i (subst (λ x. Called step limit' true left (Deliver d x) left) (sym c) (record { may = refl; leaves = refl })))
+        (subst (λ may. CrashLeaves may (Run step limit closed old (calls_of ds sofar))) (s above) w)
 
 -- the same call, where the steps are the same
 pub other_step : {S C R : Type 0} (mine yours : S → ℕ → C → R → S → Type 0) (limit : ℕ) (closed : Bool) (old : Content S C R) (call : Call C R) (new : Content S C R) → mine ≡ yours → Called mine limit closed old call new → Called yours limit closed old call new

@@ -1,5 +1,6 @@
 -- What the calls of a keeper tell and leave.
-use Rattle.std.specs.Prelude.{◌++◌, ◌<◌, ◌≡◌, ◌≢◌, ◌∷◌, ◌⊎◌, Err, None, Ok, Option, Result, Some, [], ℕ}
+use Rattle.std.specs.Prelude.{◌++◌, ◌<◌, ◌≡◌, ◌≢◌, ◌∷◌, ◌⊎◌, Err, IsSomeAnd, None, Ok, Option, Result, Some, [], refl, ℕ}
+use Rattle.std.proofs.Common.{subst, sym}
 use Rattle.request_book.specs.declared.entry.Entry.{Entry}
 use Rattle.request_book.specs.declared.keeper.Found.{Found}
 use Rattle.request_book.specs.declared.keeper.Found.TheVariants.{New, Other, Same}
@@ -36,6 +37,19 @@ Commits old entry state (Ok done) new = Gains old entry state new
 Commits old entry state (Err NoMemory) new = new ≡ old
 Commits old entry state (Err Store) new = (new ≡ old) ⊎ Gains old entry state new
 
--- A crash may leave nothing but this content.
-abbrev pub LeavesOnly : {S C R : Type 0} → (Content S C R → Type 0) → Content S C R → Type 0
-LeavesOnly {S} {C} {R} may_leave content = (left : Content S C R) → may_leave left → left ≡ content
+-- A crash leaves a content with this property: there is something that it may leave, and whatever it may leave is such
+-- a content. None is what an opening refuses.
+pub record CrashLeaves {S C R : Type 0} (may_leave : Option (Content S C R) → Type 0) (P : Content S C R → Type 0) : Type 0 where
+  pub something : ∥ ((left : Option (Content S C R)) × may_leave left) ∥₁
+  pub each : (left : Option (Content S C R)) → may_leave left → IsSomeAnd left P
+
+-- A crash leaves this content and nothing else.
+abbrev pub LeavesOnly : {S C R : Type 0} → (Option (Content S C R) → Type 0) → Content S C R → Type 0
+LeavesOnly may_leave content = CrashLeaves may_leave (λ left. left ≡ content)
+
+-- the same where the content itself may be left, and each thing that may be left is it
+abbrev pub is_only : {S C R : Type 0} (may_leave : Option (Content S C R) → Type 0) (content : Content S C R) → may_leave (Some content) → ((left : Option (Content S C R)) → may_leave left → left ≡ Some content) → LeavesOnly may_leave content
+is_only may_leave content stays only = record {
+  something = ∣ (Some content, stays) ∣₁;
+  each = λ left may. subst (λ o. IsSomeAnd o (λ c. c ≡ content)) (sym (only left may)) refl;
+}

@@ -3,8 +3,7 @@ ghost use Rattle.std.specs.Prelude.{◌≡◌, ◌<◌, ◌↔◌, ◌∷◌, []
 ghost use Rattle.request_book.specs.Book.{Parts};
 ghost use Rattle.request_book.specs.Call.{ClosesAfterFault, Deliver, FaultsTold, Load, calls_of};
 ghost use Rattle.request_book.specs.Called.{Called};
-ghost use Rattle.request_book.specs.Content.{Content};
-ghost use Rattle.request_book.specs.Keeper.{LeavesOnly};
+ghost use Rattle.request_book.specs.Keeper.{CrashLeaves, LeavesOnly};
 ghost use Rattle.request_book.specs.Run.{AnswersAlike, Run};
 ghost use Rattle.request_book.specs.declared.book.Fault.TheVariants.{NoMemory};
 
@@ -98,8 +97,8 @@ impl<M: Machine, K: Keeper<M>> Book<M, K> {
         ensures faults { FaultsTold (K.fault_count self.old.keeper) (K.fault_count self.new.keeper) (Deliver delivery result ∷ []) }
         ensures closed { IsErrOf result Fault.Closed ↔ (0 < K.fault_count self.old.keeper) }
         ensures nothing { 0 < K.fault_count self.old.keeper → self.new ≡ self.old }
-        ensures left { K.sound self.new.keeper → K.fault_count self.old.keeper ≡ 0 → (left : Content M.State M.Command M.Reply) → K.may_leave self.new.keeper left → Called (M.step self.old.machine) (K.limit self.old.keeper) false (K.content self.old.keeper) (Deliver delivery result) left }
-        ensures settled { K.sound self.new.keeper → K.fault_count self.old.keeper ≡ 0 → K.fault_count self.new.keeper ≡ 0 → LeavesOnly (K.may_leave self.new.keeper) (K.content self.new.keeper) }
+        ensures left { K.sound self.new.keeper → K.fault_count self.old.keeper ≡ 0 → CrashLeaves (K.may_leave self.new.keeper) (Called (M.step self.old.machine) (K.limit self.old.keeper) false (K.content self.old.keeper) (Deliver delivery result)) }
+        ensures settled { K.sound self.new.keeper → K.fault_count self.new.keeper ≡ 0 → LeavesOnly (K.may_leave self.new.keeper) (K.content self.new.keeper) }
     {
         if self.is_closed() {
             return Err(Fault::Closed);
@@ -140,8 +139,8 @@ impl<M: Machine, K: Keeper<M>> Book<M, K> {
         ensures nothing { 0 < K.fault_count self.old.keeper → self.new ≡ self.old }
 
         // A crash after the call leaves what the call may leave, and where the store didn't fail what it left.
-        ensures left { K.sound self.new.keeper → K.fault_count self.old.keeper ≡ 0 → (left : Content M.State M.Command M.Reply) → K.may_leave self.new.keeper left → Called (M.step self.old.machine) (K.limit self.old.keeper) false (K.content self.old.keeper) (Deliver (record { hour = hour; key = key; command = command }) result) left }
-        ensures settled { K.sound self.new.keeper → K.fault_count self.old.keeper ≡ 0 → K.fault_count self.new.keeper ≡ 0 → LeavesOnly (K.may_leave self.new.keeper) (K.content self.new.keeper) }
+        ensures left { K.sound self.new.keeper → K.fault_count self.old.keeper ≡ 0 → CrashLeaves (K.may_leave self.new.keeper) (Called (M.step self.old.machine) (K.limit self.old.keeper) false (K.content self.old.keeper) (Deliver (record { hour = hour; key = key; command = command }) result)) }
+        ensures settled { K.sound self.new.keeper → K.fault_count self.new.keeper ≡ 0 → LeavesOnly (K.may_leave self.new.keeper) (K.content self.new.keeper) }
     {
         self.answer(Delivery { hour, key, command })
     }
@@ -165,8 +164,8 @@ impl<M: Machine, K: Keeper<M>> Book<M, K> {
         ensures err { OnErr result (self.new ≡ self.old) }
 
         // A crash after the call leaves what the deliveries may leave, and where the store didn't fail what they left.
-        ensures left { K.sound self.new.keeper → LeavesOnly (K.may_leave self.old.keeper) (K.content self.old.keeper) → IfOk result (λ answers. (left : Content M.State M.Command M.Reply) → K.may_leave self.new.keeper left → Run (M.step self.old.machine) (K.limit self.old.keeper) (nat_lt 0 (K.fault_count self.old.keeper)) (K.content self.old.keeper) (calls_of deliveries.items answers.items) left) }
-        ensures settled { K.sound self.new.keeper → LeavesOnly (K.may_leave self.old.keeper) (K.content self.old.keeper) → K.fault_count self.new.keeper ≡ 0 → LeavesOnly (K.may_leave self.new.keeper) (K.content self.new.keeper) }
+        ensures left { K.sound self.new.keeper → K.fault_count self.old.keeper ≡ 0 → IfOk result (λ answers. CrashLeaves (K.may_leave self.new.keeper) (Run (M.step self.old.machine) (K.limit self.old.keeper) false (K.content self.old.keeper) (calls_of deliveries.items answers.items))) }
+        ensures settled { K.sound self.new.keeper → K.fault_count self.new.keeper ≡ 0 → LeavesOnly (K.may_leave self.new.keeper) (K.content self.new.keeper) }
     {
         let mut answers = Vec::with_capacity(self.alloc, deliveries.len())?;
         for delivery in deliveries {

@@ -1,7 +1,7 @@
 //! What keeps the state, the decided requests and the greatest hour.
-ghost use Rattle.std.specs.Prelude.{◌≡◌, ◌≤◌, ◌<◌, ◌↔◌, None, IfOk, IsTrue, OnOk, length, ℕ};
+ghost use Rattle.std.specs.Prelude.{◌≡◌, ◌≤◌, ◌<◌, ◌↔◌, None, IfOk, IsTrue, OnOk, Option, length, ℕ};
 ghost use Rattle.request_book.specs.Content.{Content, entry_of};
-ghost use Rattle.request_book.specs.Keeper.{Commits, HasCause, IsFound, LeavesOnly};
+ghost use Rattle.request_book.specs.Keeper.{Commits, CrashLeaves, HasCause, IsFound, LeavesOnly};
 
 use crate::machine::Machine;
 use ring_words::{Hour, Key};
@@ -46,8 +46,8 @@ pub trait Keeper<M: Machine> {
     /// The state may be looked at.
     ghost is_loaded: { Self → Type 0 };
 
-    /// A crash may now leave that content.
-    ghost may_leave: { Self → Content M.State M.Command M.Reply → Type 0 };
+    /// A crash may now leave what an opening finds as that content, or, as None, what it refuses.
+    ghost may_leave: { Self → Option (Content M.State M.Command M.Reply) → Type 0 };
 
     /// How often its store has failed.
     fn faults(&self) -> u64
@@ -116,8 +116,11 @@ pub trait Keeper<M: Machine> {
         requires step { sound self.old → (machine : M) × M.step machine (content self.old).state hour command reply state }
         ensures commits { sound self.new → Commits (content self.old) (record { key = key; hour = hour; command = command; reply = reply }) state result (content self.new) }
         // What a crash may leave is what a commit of this answer may leave.
-        ensures left { sound self.new → (left : Content M.State M.Command M.Reply) → may_leave self.new left → Commits (content self.old) (record { key = key; hour = hour; command = command; reply = reply }) state result left }
+        ensures left { sound self.new → CrashLeaves (may_leave self.new) (Commits (content self.old) (record { key = key; hour = hour; command = command; reply = reply }) state result) }
         ensures sound { sound self.new → sound self.old }
         ensures limit { limit self.new ≡ limit self.old }
         ensures cause { HasCause (fault_count self.old) (fault_count self.new) result };
+
+    /// While it is sound and its store has not failed, a crash leaves its content and nothing else.
+    ghost settled: { (keeper : Self) → sound keeper → fault_count keeper ≡ 0 → LeavesOnly (may_leave keeper) (content keeper) };
 }

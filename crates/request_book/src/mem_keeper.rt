@@ -1,7 +1,8 @@
 //! A keeper in memory.
-ghost use Rattle.std.specs.Prelude.{◌≡◌, [], ℕ};
+ghost use Rattle.std.specs.Prelude.{◌≡◌, [], Some, refl, ℕ};
 ghost use Rattle.std.specs.Option.{option_copied};
 ghost use Rattle.request_book.specs.Content.{Content, entry_of};
+ghost use Rattle.request_book.specs.Keeper.{is_only};
 
 use crate::entry::Entry;
 use crate::keeper::{Found, KeepFault, Keeper};
@@ -57,7 +58,9 @@ impl<M: Machine> Keeper<M> for MemKeeper<M::State, M::Command, M::Reply> {
 
     ghost is_loaded = { λ _. Unit {0} };
 
-    ghost may_leave = { λ k content. content ≡ k.0 };
+    ghost may_leave = { λ k left. left ≡ Some k.0 };
+
+    ghost settled = { λ k _ _. is_only (λ left. left ≡ Some k.0) k.0 refl (λ left same. same) };
 
     fn faults(&self) -> u64 {
         0

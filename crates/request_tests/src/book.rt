@@ -189,3 +189,23 @@ fn a_run_answers_as_its_deliveries_do(rt: HostRuntime) -> Result<(), Fail> {
     assert!(rt; is_closed(alloc, &mut book)?);
     Ok(())
 }
+
+#[test]
+fn a_book_of_100000_numbers_is_full_and_keeps_each_reply(rt: HostRuntime) -> Result<(), Fail> {
+    let alloc = rt.alloc();
+    let machine = Counter { bound: 1_000_000 };
+    let keeper: Memory = MemKeeper::new(alloc, machine.start(alloc), Limits::full());
+    let mut book = Book::open(alloc, machine, keeper);
+    for number in 0..100_000 {
+        let answer = send(alloc, &mut book, number, number, Change::Add(1))?;
+        assert!(rt; answer == done(number, number + 1), "number {number}");
+    }
+    // A new number finds no room, and the first and the last are answered as they were.
+    let more = send(alloc, &mut book, 100_000, 100_000, Change::Add(1))?;
+    assert!(rt; more == Err(Fault::BookFull));
+    assert!(rt; send(alloc, &mut book, 7, 0, Change::Add(1))? == done(0, 1));
+    assert!(rt; send(alloc, &mut book, 7, 99_999, Change::Add(1))? == done(99_999, 100_000));
+    let other = send(alloc, &mut book, 7, 99_999, Change::Reset)?;
+    assert!(rt; other == Err(Fault::NumberReused));
+    Ok(())
+}

@@ -1,11 +1,13 @@
 ghost use Rattle.std.specs.Prelude.{◌≡◌, ◌⊎◌, ⊤, codes};
 
-use line_stream::{Handler, LONGEST_LINE, StreamFault, serve_lines};
+use byte_streams::{CountedReader, CountedWriter, StreamFault};
+use line_stream::{Handler, LONGEST_LINE, serve_lines};
 use std::alloc::{AllocError, Global};
 use std::cell::Cell;
 use std::io::{self, ErrorKind, Read, Write};
 use std::str;
 use std::test::Fail;
+use test_streams::{Giver, Taker};
 
 /// Answers a line with itself, loses the answer to `lose`, and counts the lines that it hears of.
 struct Echo;
@@ -41,88 +43,6 @@ impl Handler for Echo {
     }
 }
 
-/// Gives so many bytes a read, is interrupted before each, and fails at one of the reads, counted from 1.
-#[derive(Drop)]
-struct Pieces<'a> {
-    rest: &'a [u8],
-    size: usize,
-    is_interrupted: bool,
-    reads_left: u32,
-}
-
-impl Pieces<'_> {
-    fn new(rest: &[u8], size: usize, fails_at: u32) -> Pieces<'_> {
-        Pieces {
-            rest,
-            size,
-            is_interrupted: false,
-            reads_left: fails_at,
-        }
-    }
-}
-
-impl Read for Pieces<'_> {
-    fn read(&mut self, buf: &mut [u8]) -> io::Result<usize> {
-        self.is_interrupted = !self.is_interrupted;
-        if self.is_interrupted {
-            return Err(ErrorKind::Interrupted.into());
-        }
-        self.reads_left = self.reads_left.saturating_sub(1);
-        if self.reads_left == 0 {
-            return Err(ErrorKind::BrokenPipe.into());
-        }
-        let count = self.rest.len().min(buf.len()).min(self.size);
-        buf[..count].copy_from_slice(&self.rest[..count]);
-        self.rest = &self.rest[count..];
-        Ok(count)
-    }
-}
-
-/// Takes so many bytes a write, is interrupted before each call, and fails at one of the calls, counted from 1.
-#[derive(Drop)]
-struct Taker {
-    taken: Vec<u8>,
-    size: usize,
-    is_interrupted: bool,
-    calls_left: u32,
-}
-
-impl Taker {
-    fn new(alloc: Global, size: usize, fails_at: u32) -> Taker {
-        Taker {
-            taken: Vec::new(alloc),
-            size,
-            is_interrupted: false,
-            calls_left: fails_at,
-        }
-    }
-
-    fn call(&mut self) -> io::Result<()> {
-        self.is_interrupted = !self.is_interrupted;
-        if self.is_interrupted {
-            return Err(ErrorKind::Interrupted.into());
-        }
-        self.calls_left = self.calls_left.saturating_sub(1);
-        if self.calls_left == 0 {
-            return Err(ErrorKind::BrokenPipe.into());
-        }
-        Ok(())
-    }
-}
-
-impl Write for Taker {
-    fn write(&mut self, buf: &[u8]) -> io::Result<usize> {
-        self.call()?;
-        let count = buf.len().min(self.size);
-        self.taken.extend_from_slice(&buf[..count])?;
-        Ok(count)
-    }
-
-    fn flush(&mut self) -> io::Result<()> {
-        self.call()
-    }
-}
-
 #[test]
 fn each_line_is_answered_however_the_reads_are_cut(rt: HostRuntime) -> Result<(), Fail> {
     let cases = [
@@ -138,14 +58,17 @@ fn each_line_is_answered_however_the_reads_are_cut(rt: HostRuntime) -> Result<()
     for (input, want, lines) in cases {
         for size in [1, 2, 3, 4, 100] {
             let mut heard = 0;
-            let mut reader = Pieces::new(input, size, u32::MAX);
+            let mut reader = CountedReader::new(Giver::new(input, size, u32::MAX));
             let mut taker = Taker::new(rt.alloc(), size, u32::MAX);
+            let mut writer = CountedWriter::new(&mut taker);
             let answered = serve_lines::<_, _, Echo>(
                 rt.alloc(),
                 &mut reader,
-                &mut taker,
+                &mut writer,
                 &mut heard,
             );
+            assert_eq!(rt; reader.faults(), 0, "at {size}");
+            assert_eq!(rt; writer.faults(), 0, "at {size}");
             assert_eq!(rt; answered, Ok(lines), "at {size}");
             assert_eq!(rt; taker.taken.as_slice(), want, "at {size}");
             assert_eq!(rt; heard, lines, "at {size}");
@@ -170,10 +93,11 @@ fn a_line_that_is_too_long_is_skipped(rt: HostRuntime) -> Result<(), Fail> {
 
     let mut heard = 0;
     let mut output = Vec::new(rt.alloc());
+    let mut writer = CountedWriter::new(&mut output);
     let answered = serve_lines::<_, _, Echo>(
         rt.alloc(),
-        &mut input.as_slice(),
-        &mut output,
+        &mut CountedReader::new(input.as_slice()),
+        &mut writer,
         &mut heard,
     );
     assert_eq!(rt; answered, Ok(6));
@@ -198,9 +122,12 @@ fn a_read_that_fails_leaves_the_answers_so_far(rt: HostRuntime) -> Result<(), Fa
         (8, 19),
     ] {
         let mut heard = 0;
-        let mut reader = Pieces::new(FOUR, 3, fails_at);
+        let mut reader = CountedReader::new(Giver::new(FOUR, 3, fails_at));
         let mut output = Vec::new(rt.alloc());
-        let answered = serve_lines::<_, _, Echo>(rt.alloc(), &mut reader, &mut output, &mut heard);
+        let mut writer = CountedWriter::new(&mut output);
+        let answered = serve_lines::<_, _, Echo>(rt.alloc(), &mut reader, &mut writer, &mut heard);
+        assert_eq!(rt; reader.faults(), 1, "at {fails_at}");
+        assert_eq!(rt; writer.faults(), 0, "at {fails_at}");
         assert_eq!(rt; answered, Err(StreamFault::ReadFailed), "at {fails_at}");
         assert_eq!(rt; output.as_slice(), &FOUR[..written], "at {fails_at}");
     }
@@ -227,9 +154,12 @@ fn a_write_that_fails_leaves_a_beginning(rt: HostRuntime) -> Result<(), Fail> {
         (14, 19, 4),
     ] {
         let mut heard = 0;
-        let mut reader = Pieces::new(FOUR, 1, u32::MAX);
+        let mut reader = CountedReader::new(Giver::new(FOUR, 1, u32::MAX));
         let mut taker = Taker::new(rt.alloc(), 2, fails_at);
-        let answered = serve_lines::<_, _, Echo>(rt.alloc(), &mut reader, &mut taker, &mut heard);
+        let mut writer = CountedWriter::new(&mut taker);
+        let answered = serve_lines::<_, _, Echo>(rt.alloc(), &mut reader, &mut writer, &mut heard);
+        assert_eq!(rt; reader.faults(), 0, "at {fails_at}");
+        assert_eq!(rt; writer.faults(), 1, "at {fails_at}");
         assert_eq!(rt; answered, Err(StreamFault::WriteFailed), "at {fails_at}");
         assert_eq!(rt; taker.taken.as_slice(), &FOUR[..written], "at {fails_at}");
         assert_eq!(rt; heard, hears, "at {fails_at}");
@@ -240,9 +170,11 @@ fn a_write_that_fails_leaves_a_beginning(rt: HostRuntime) -> Result<(), Fail> {
 #[test]
 fn a_writer_that_takes_nothing_fails(rt: HostRuntime) {
     let mut heard = 0;
-    let mut taker = Taker::new(rt.alloc(), 0, u32::MAX);
-    let answered = serve_lines::<_, _, Echo>(rt.alloc(), &mut FOUR, &mut taker, &mut heard);
+    let mut reader = CountedReader::new(FOUR);
+    let mut writer = CountedWriter::new(Taker::new(rt.alloc(), 0, u32::MAX));
+    let answered = serve_lines::<_, _, Echo>(rt.alloc(), &mut reader, &mut writer, &mut heard);
     assert_eq!(rt; answered, Err(StreamFault::WriteFailed));
+    assert_eq!(rt; writer.faults(), 1);
 }
 
 /// Waits for the answer to each line before it writes the next.
@@ -296,15 +228,15 @@ fn each_answer_is_flushed_before_the_next_read(rt: HostRuntime) {
         b"two\nthree\n".as_slice(),
         b"four\n".as_slice(),
     ];
-    let mut asker = Asker {
+    let mut asker = CountedReader::new(Asker {
         lines: &lines,
         flushed: &flushed,
         asked: 0,
-    };
-    let mut writer = Flushed {
+    });
+    let mut writer = CountedWriter::new(Flushed {
         count: 0,
         flushed: &flushed,
-    };
+    });
     let mut heard = 0;
     let answered = serve_lines::<_, _, Echo>(rt.alloc(), &mut asker, &mut writer, &mut heard);
     assert_eq!(rt; answered, Ok(4));
@@ -319,10 +251,11 @@ fn long_input_is_answered_in_large_writes(rt: HostRuntime) -> Result<(), Fail> {
     // 114,000 bytes are two reads: each is answered by a write and a flush.
     let mut heard = 0;
     let mut taker = Taker::new(rt.alloc(), usize::MAX, 5);
+    let mut writer = CountedWriter::new(&mut taker);
     let answered = serve_lines::<_, _, Echo>(
         rt.alloc(),
-        &mut input.as_slice(),
-        &mut taker,
+        &mut CountedReader::new(input.as_slice()),
+        &mut writer,
         &mut heard,
     );
     assert_eq!(rt; answered, Ok(24000));
@@ -336,7 +269,12 @@ fn want_of_memory_comes_before_the_first_read_or_costs_one_answer(rt: HostRuntim
     let mut room = output.as_mut_slice();
     let mut reader = FOUR;
     let mut heard = 0;
-    let answered = serve_lines::<_, _, Echo>(rt.alloc(), &mut reader, &mut room, &mut heard);
+    let answered = serve_lines::<_, _, Echo>(
+        rt.alloc(),
+        &mut CountedReader::new(&mut reader),
+        &mut CountedWriter::new(&mut room),
+        &mut heard,
+    );
     let written = 64 - room.len().min(64);
     let written = &output[..written];
     match answered {

@@ -1,8 +1,8 @@
 pub mod Validity
+pub mod Rising
 pub mod Published
 pub mod Amidst
 pub mod Copies
-pub mod Building
 pub mod Changes
 pub mod Doubling
 pub mod Raising

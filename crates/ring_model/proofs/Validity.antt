@@ -1,16 +1,14 @@
 -- What the tests of a ring's parts find.
-use Rattle.std.proofs.Common.{◌≡◌, ℕ, ◌+◌, ◌*◌, ◌/◌, ◌%◌, ◌-◌, ◌<◌, ◌≤◌, Bool, true, false, true≢false, List, length, get_or, take, drop, set, replicate, Some, refl, sym, ap, subst, ◌∙◌, ⊎_elim, arith}
-use Rattle.std.specs.Prelude.{slice_get, slice_range, slice_index_or, All, ◌==◌, ◌||◌}
+use Rattle.std.proofs.Common.{◌≡◌, ℕ, ◌+◌, ◌*◌, ◌/◌, ◌%◌, ◌-◌, ◌<◌, ◌≤◌, Bool, true, false, true≢false, List, length, get_or, take, drop, Some, sym, ap, subst, ◌∙◌, ⊎_elim, arith}
+use Rattle.std.specs.Prelude.{slice_get, slice_range, ◌==◌}
 use Rattle.std.specs.List.{list_any}
-use Rattle.std.proofs.lemmas.Bool.{cases_eq, cases_lt, eq-eqb, ne_eqb, eqb-true, eqb-false, cases_Bool}
-use Rattle.std.proofs.lemmas.List.{take_more, length-take, length-take-le, length-drop, get_or-take, get_or-drop, get_or-set_same, get_or-set_other, get_or_default, get_or-replicate, length-replicate}
-use Rattle.std.proofs.Math.ListN.{get_or-eq_default}
-use Rattle.std.proofs.lemmas.List.Folds.{list_any_at, list_any_more, list_any_none, Any-from_list_any}
+use Rattle.std.proofs.lemmas.Bool.{cases_eq, cases_lt, eqb-true, eqb-false, cases_Bool}
+use Rattle.std.proofs.lemmas.List.{take_more, length-take, length-take-le, length-drop, get_or-take, get_or-drop, get_or_default}
+use Rattle.std.proofs.lemmas.List.Folds.{list_any_at, Any-from_list_any}
 use Rattle.std.proofs.lemmas.List.Quantifiers.{all_pairs_push}
 use Rattle.std.proofs.Math.Nat.{div-add-mod, mul_comm, mod-lt}
 use Rattle.std.proofs.lemmas.Nat.{div-mul-add}
 use Rattle.std.proofs.lemmas.Option.{slice_get_within, get_or_from_slice_get, slice_get-get_or}
-use Rattle.ring_model.specs.Ring.{has_device}
 use Rattle.ring_words.specs.Rows.{has_place, same_place}
 use Rattle.ring_model.specs.Valid.{AreApart, AreDistinct}
 use Rattle.ring_words.specs.declared.device.Device.{Device}
@@ -34,35 +32,6 @@ apart_fails xs i x lt is found apart =
     let second : get_or xs i y ≡ x = get_or_default xs i y x lt ∙ sym is in
     let other : same_place y.row x.row ≡ false = rw (first, second) at (apart a.0 i y below lt) in
     true≢false (sym a.4 ∙ other)
-
--- ---- the marks of known numbers
-
-or_true : (b : Bool) → (b || true) ≡ true
-or_true true = refl
-or_true false = refl
-
-or_false : (b : Bool) → (b || false) ≡ b
-or_false true = refl
-or_false false = refl
-
--- one more device, and its mark
-pub marks_more : (known : List Bool) (devices : List Device) (i : ℕ) (x : Device) → i < length devices → x ≡ get_or devices i x → x.id < length known
-    → ((id : ℕ) → slice_index_or known id false ≡ has_device id (take i devices)) → (id : ℕ) → slice_index_or (set known x.id true) id false ≡ has_device id (take (i + 1) devices)
-marks_more known devices i x lt is fits marks id =
-    let more : has_device id (take (i + 1) devices) ≡ (has_device id (take i devices) || (x.id == id)) =
-    rw (← is) at (list_any_more (λ (device : Device). device.id == id) devices i x lt) in
-    ⊎_elim
-    (λ same. rw (more, ← same, eq-eqb x.id x.id refl) (get_or-set_same known x.id true false fits ∙ sym (or_true _)))
-    (λ other. rw (more, ne_eqb x.id id other) (get_or-set_other known x.id id true false (λ e. other (sym e)) ∙ marks id ∙ sym (or_false _)))
-    (cases_eq x.id id)
-
--- beyond all numbers of devices there is none
-pub unknown_above : (devices : List Device) (next_id id : ℕ) → All (λ device. device.id < next_id) devices → next_id ≤ id → has_device id devices ≡ false
-unknown_above devices next_id id below above =
-    list_any_none (λ (device : Device). device.id == id) devices (λ k d lt. let small = below k d lt in ne_eqb _ id (λ e. omega arith))
-
-pub no_marks : (n id : ℕ) → slice_index_or (replicate n false) id false ≡ false
-no_marks n id = ⊎_elim (λ lt. get_or-replicate n id false false lt) (λ past. get_or-eq_default (replicate n false) false (rw (length-replicate n false) past)) (cases_lt id n)
 
 -- ---- seats of one partition
 

@@ -10,6 +10,7 @@ use Rattle.ring_model.specs.declared.parts.RingParts.{RingParts}
 abbrev pub texts_of : List (ℕ × RcStr Global) → List (ℕ × List ℕ)
 texts_of published = map (λ e. (e.0, rc_str_bytes e.1)) published
 
+-- the ring that parts make
 abbrev pub record_of : RingParts → RingRecord
 record_of parts = record {
   power = parts.power;

@@ -5,6 +5,7 @@ use Rattle.std.specs.Option.{option_map}
 use Rattle.ring_words.specs.declared.device.Row.{Row}
 use Rattle.ring_words.specs.declared.device.Device.{Device}
 
+-- A ring: which devices it has, and which of them holds each replica of each partition.
 pub record RingRecord : Type 0 where
   -- there are 2 ^ power partitions
   pub power : ℕ
@@ -24,6 +25,7 @@ pub record RingRecord : Type 0 where
   -- version and text, by rising version
   pub published : List (ℕ × List ℕ)
 
+-- how many partitions a ring has
 abbrev pub partition_count : RingRecord → ℕ
 partition_count ring = 2 ^ ring.power
 

@@ -34,6 +34,7 @@ pub record ArePublished (published : List (ℕ × List ℕ)) : Type 0 where
   pub count : length published ≤ 1000
   pub rise : IsStrictlyIncreasing (map (λ entry. entry.0) published)
 
+-- The ring is valid: its numbers are within their limits, its devices are apart, and its seats are on devices of its own.
 pub record IsValid (ring : RingRecord) : Type 0 where
   pub power : (1 ≤ ring.power) × (ring.power ≤ 14)
   pub replicas : (1 ≤ ring.replicas) × (ring.replicas ≤ 5)

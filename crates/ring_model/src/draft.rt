@@ -1,5 +1,5 @@
 //! A ring that rows are put into.
-ghost use Rattle.std.specs.Prelude.{◌≡◌, ◌<◌, IfOk, OnOk, false, find, length};
+ghost use Rattle.std.specs.Prelude.{◌≡◌, ◌<◌, IfOk, OnOk, OnErr, false, find, length};
 ghost use Rattle.std.specs.Option.{option_copied};
 ghost use Rattle.ring_model.specs.Ring.{changed};
 ghost use Rattle.ring_words.specs.Rows.{has_place, same_place};
@@ -70,7 +70,8 @@ impl Draft {
     pub fn put(&mut self, row: &Row) -> Result<(), AllocError>
         requires room { has_place row.now self.old.devices ≡ false → length self.old.devices < 256 }
         requires numbers { has_place row.now self.old.devices ≡ false → self.old.next_id < 65536 }
-        ensures { OnOk result (self.new ≡ after_row self.old row.now) }
+        ensures ok { OnOk result (self.new ≡ after_row self.old row.now) }
+        ensures err { OnErr result (self.new ≡ self.old) }
     {
         if row.has_place_in(&self.parts.devices) {
             alter_all(&mut self.parts.devices, row);

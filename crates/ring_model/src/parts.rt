@@ -107,15 +107,18 @@ fn are_ids_below(devices: &[Device], next_id: u32) -> bool
     devices.iter().all(|device| u32::from(device.id) < next_id)
 }
 
-fn are_rising(numbers: &[u32]) -> bool
-    ensures { IsTrue result ↔ IsStrictlyIncreasing numbers.now }
+/// Whether the numbers of devices rise.
+fn are_ids_rising(devices: &[Device]) -> bool
+    ensures { IsTrue result ↔ IsStrictlyIncreasing (map (λ device. device.id) devices.now) }
 {
-    for place in 1..numbers.len() {
-        if numbers[place - 1] >= numbers[place] {
-            return false;
-        }
-    }
-    true
+    devices.is_sorted_by(|one, next| one.id < next.id)
+}
+
+/// Whether the versions of published texts rise.
+fn are_versions_rising(published: &[(u32, RcStr)]) -> bool
+    ensures { IsTrue result ↔ IsStrictlyIncreasing (map (λ entry. entry.0) published.now) }
+{
+    published.is_sorted_by(|one, next| one.0 < next.0)
 }
 
 fn are_apart(devices: &[Device]) -> bool
@@ -129,42 +132,36 @@ fn are_apart(devices: &[Device]) -> bool
     true
 }
 
-/// Marks the numbers of devices among the first `next_id` numbers.
-fn known_ids(alloc: Global, devices: &[Device], next_id: usize) -> Result<Vec<bool>, AllocError>
-    requires { All (λ device. device.id < next_id) devices.now }
-    ensures count { IfOk result (λ known. length known.items ≡ next_id) }
-    ensures marks { IfOk result (λ known. (id : ℕ) → slice_index_or known.items id false ≡ has_device id devices.now) }
+/// No number is marked.
+fn no_marks<const N: usize>() -> [bool; N]
+    ensures { (id : ℕ) → slice_index_or result id false ≡ false }
 {
-    let mut known: Vec<bool> = vec![in alloc; false; next_id]?;
+    [false; N]
+}
+
+/// Marks the numbers of devices, in a table of all numbers that there may be.
+fn known_ids(devices: &[Device]) -> [bool; 65536]
+    ensures { (id : ℕ) → slice_index_or result id false ≡ has_device id devices.now }
+{
+    let mut known: [bool; 65536] = no_marks();
     for device in devices {
         known[usize::from(device.id)] = true;
     }
-    Ok(known)
+    known
 }
 
 /// Whether a number is marked.
-fn is_known(known: &[bool], id: DeviceId) -> bool
+fn is_known(known: &[bool; 65536], id: DeviceId) -> bool
     ensures { result ≡ slice_index_or known.now id false }
 {
-    known.get(usize::from(id)).copied().unwrap_or(false)
+    known[usize::from(id)]
 }
 
-fn are_known(
-    alloc: Global,
-    devices: &[Device],
-    next_id: usize,
-    seats: &[DeviceId],
-) -> Result<bool, AllocError>
-    requires { All (λ device. device.id < next_id) devices.now }
-    ensures { IfOk result (λ known. IsTrue known ↔ All (λ id. has_device id devices.now ≡ true) seats.now) }
+fn are_known(devices: &[Device], seats: &[DeviceId]) -> bool
+    ensures { IsTrue result ↔ All (λ id. has_device id devices.now ≡ true) seats.now }
 {
-    let known = known_ids(alloc, devices, next_id)?;
-    for seat in seats {
-        if !is_known(&known, *seat) {
-            return Ok(false);
-        }
-    }
-    Ok(true)
+    let known = known_ids(devices);
+    seats.iter().all(|seat| is_known(&known, *seat))
 }
 
 fn are_distinct(seats: &[DeviceId], replicas: usize) -> bool
@@ -180,90 +177,47 @@ fn are_distinct(seats: &[DeviceId], replicas: usize) -> bool
     true
 }
 
-/// The numbers of devices.
-fn ids_of(alloc: Global, devices: &[Device]) -> Result<Vec<u32>, AllocError>
-    ensures { IfOk result (λ ids. ids.items ≡ map (λ device. device.id) devices.now) }
+fn are_devices(devices: &[Device], next_id: u32) -> bool
+    ensures { IsTrue result ↔ AreDevices next_id devices.now }
 {
-    devices
-        .iter()
-        .map(|device| u32::from(device.id))
-        .collect(alloc)
+    devices.len() <= 256
+        && are_ids_below(devices, next_id)
+        && are_ids_rising(devices)
+        && are_apart(devices)
 }
 
-/// The versions of published texts.
-fn versions_of(alloc: Global, published: &[(u32, RcStr)]) -> Result<Vec<u32>, AllocError>
-    ensures { IfOk result (λ versions. versions.items ≡ map (λ entry. entry.0) published.now) }
+fn are_published(published: &[(u32, RcStr)]) -> bool
+    ensures { IsTrue result ↔ ArePublished (texts_of published.now) }
 {
-    published.iter().map(|entry| entry.0).collect(alloc)
-}
-
-fn are_devices(alloc: Global, devices: &[Device], next_id: u32) -> Result<bool, AllocError>
-    ensures { IfOk result (λ valid. IsTrue valid ↔ AreDevices next_id devices.now) }
-{
-    if devices.len() > 256 || !are_ids_below(devices, next_id) || !are_apart(devices) {
-        return Ok(false);
-    }
-    let ids = ids_of(alloc, devices)?;
-    Ok(are_rising(&ids))
-}
-
-fn are_published(alloc: Global, published: &[(u32, RcStr)]) -> Result<bool, AllocError>
-    ensures { IfOk result (λ valid. IsTrue valid ↔ ArePublished (texts_of published.now)) }
-{
-    if published.len() > 1000 {
-        return Ok(false);
-    }
-    let versions = versions_of(alloc, published)?;
-    Ok(are_rising(&versions))
+    let is_few = published.len() <= 1000;
+    is_few && are_versions_rising(published)
 }
 
 /// Whether these are the seats of so many partitions and replicas.
-fn are_seats(
-    alloc: Global,
-    devices: &[Device],
-    next_id: usize,
-    seats: &[DeviceId],
-    partitions: usize,
-    replicas: usize,
-) -> Result<bool, AllocError>
-    requires devices { All (λ device. device.id < next_id) devices.now }
+fn are_seats(devices: &[Device], seats: &[DeviceId], partitions: usize, replicas: usize) -> bool
     requires partitions { partitions ≤ 16384 }
     requires replicas { (1 ≤ replicas) × (replicas ≤ 5) }
-    ensures { IfOk result (λ valid. IsTrue valid ↔ AreSeats partitions replicas devices.now seats.now) }
+    ensures { IsTrue result ↔ AreSeats partitions replicas devices.now seats.now }
 {
     let is_whole = seats.is_empty() || seats.len() == partitions * replicas;
-    if !is_whole || !are_distinct(seats, replicas) {
-        return Ok(false);
-    }
-    are_known(alloc, devices, next_id, seats)
+    is_whole && are_distinct(seats, replicas) && are_known(devices, seats)
 }
 
 impl RingParts {
     /// Whether the parts are those of a ring.
-    pub(crate) fn are_valid(&self, alloc: Global) -> Result<bool, AllocError>
-        ensures { IfOk result (λ valid. IsTrue valid ↔ IsValid (record_of self.now)) }
+    pub(crate) fn are_valid(&self) -> bool
+        ensures { IsTrue result ↔ IsValid (record_of self.now) }
     {
         let (_hours, _version) = (self.min_hours, self.version);
         let partitions = partition_count(self.power);
         let replicas = usize::from(self.replicas.get());
         if self.next_id > 65536 || self.moved.len() != partitions {
-            return Ok(false);
+            return false;
         }
-        if !are_devices(alloc, &self.devices, self.next_id)? {
-            return Ok(false);
+        if !are_devices(&self.devices, self.next_id) || !are_published(&self.published) {
+            return false;
         }
-        if !are_published(alloc, &self.published)? {
-            return Ok(false);
-        }
-        let next_id = self.next_id as usize;
-        are_seats(
-            alloc,
-            &self.devices,
-            next_id,
-            &self.seats,
-            partitions,
-            replicas,
-        )
+        are_seats(&self.devices, &self.seats, partitions, replicas)
     }
 
     /// The seats where each partition is twice.

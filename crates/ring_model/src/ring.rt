@@ -15,7 +15,7 @@ use std::rc::RcStr;
 pub enum BuildFault {
     /// They make no valid ring.
     Invalid,
-    /// A growth of memory was refused.
+    /// A growth of memory was refused. `Ring::build` asks for none, and never answers this.
     NoMemory,
 }
 
@@ -73,7 +73,7 @@ impl Model for Ring {
 }
 
 impl Ring {
-    ghost use Rattle.std.specs.Prelude.{◌≡◌, ℕ, ◌<◌, ◌≤◌, ◌^◌, ◌↔◌, Bool, IfOk, IsErrOf, IsTrue, length, map, Some, None, true, false};
+    ghost use Rattle.std.specs.Prelude.{◌≡◌, ℕ, ◌<◌, ◌≤◌, ◌^◌, ◌↔◌, Bool, IfOk, IsOk, IsErrOf, IsTrue, length, map, Some, None, true, false};
     ghost use Rattle.std.specs.Option.{option_map, option_copied};
     ghost use Rattle.ring_model.specs.Ring.{RingRecord, new_ring, seat, moved_at, is_assigned, published_at, partition_count, has_device, has_present, with_device, with_weight, with_mark, with_min_hours, with_hours_passed};
     ghost use Rattle.ring_words.specs.Rows.{has_place};
@@ -105,16 +105,19 @@ impl Ring {
         Ok(Ring { parts })
     }
 
-    /// The ring of these parts. Invalid exactly where they make no valid ring.
-    pub fn build(alloc: Global, parts: RingParts) -> Result<Ring, BuildFault>
+    /// The ring of these parts, exactly where they make a valid one, and Invalid exactly where they make none. No memory is
+    /// asked for: the parts become the ring as they are.
+    pub fn build(_alloc: Global, parts: RingParts) -> Result<Ring, BuildFault>
         ensures built { IfOk result (λ ring. ring ≡ record_of parts) }
-        ensures valid { IfOk result (λ _. IsValid (record_of parts)) }
-        ensures invalid { IsErrOf result BuildFault.Invalid → IsValid (record_of parts) → ⊥ }
+        ensures valid { IsOk result ↔ IsValid (record_of parts) }
+        ensures invalid { IsErrOf result BuildFault.Invalid ↔ ¬ IsValid (record_of parts) }
+        ensures memory { IsErrOf result BuildFault.NoMemory → ⊥ }
     {
-        if !parts.are_valid(alloc)? {
-            return Err(BuildFault::Invalid);
+        if parts.are_valid() {
+            Ok(Ring { parts })
+        } else {
+            Err(BuildFault::Invalid)
         }
-        Ok(Ring { parts })
     }
 
     /// The ring of parts that are known to make one.

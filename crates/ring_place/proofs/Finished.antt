@@ -1,32 +1,23 @@
 -- The ring that is made of whole rows.
-use Rattle.std.proofs.Common.{◌≡◌, ℕ, zero, suc, ◌+◌, ◌*◌, ◌^◌, ◌<◌, ◌≤◌, All, Bool, true, false, not, cond, List, [], ◌∷◌, ◌++◌, length, get_or, map, count_by, sum_by, Option, Some, None, refl, sym, ap, subst, ◌∙◌, ⊎_elim, arith, slice_get}
+use Rattle.std.proofs.Common.{◌≡◌, ℕ, zero, suc, ◌+◌, ◌*◌, ◌^◌, ◌<◌, Bool, not, cond, List, [], ◌∷◌, ◌++◌, length, get_or, map, count_by, sum_by, Option, Some, None, refl, sym, ap, ◌∙◌, arith, slice_get}
 use Rattle.std.specs.Prelude.{if◌then◌else◌, nat_lt, slice_index_or}
-use Rattle.std.specs.List.{AllPairs, flat_map, range_with_len}
-use Rattle.std.specs.List.Sorted.{IsStrictlyIncreasing}
+use Rattle.std.specs.List.{flat_map, range_with_len}
 use Rattle.std.specs.Option.{option_eq}
 use Rattle.std.proofs.Math.Dec.{eqb}
-use Rattle.std.proofs.Math.Nat.{add-mul, mul-le-mul_right}
-use Rattle.std.proofs.lemmas.Bool.{cases_lt}
-use Rattle.std.proofs.lemmas.Bool.Decides.{nat_tests}
-use Rattle.std.proofs.lemmas.List.{get_or-map, length-append, length-map}
-use Rattle.std.proofs.lemmas.List.Elements.{All-append, All-filter, All-nil}
+use Rattle.std.proofs.Math.Nat.{add-mul}
+use Rattle.std.proofs.lemmas.List.{length-append}
 use Rattle.std.proofs.lemmas.List.FromFn.{fill_by_all, get_or-map-range_with_len, length-map-range_with_len}
-use Rattle.std.proofs.lemmas.List.Kept.{AllPairs-filter}
-use Rattle.std.proofs.lemmas.List.Sums.{count_by-le-length, length-filter}
 use Rattle.std.proofs.lemmas.Option.{get_or_from_slice_get, same_Some, slice_get_within}
-use Rattle.ring_model.specs.Ring.{RingRecord, has_device, has_present, moved_at, partition_count, risen, seat}
-use Rattle.ring_words.specs.Rows.{same_place}
-use Rattle.ring_model.specs.Valid.{AreDevices, ArePublished, AreSeats, IsValid}
+use Rattle.ring_model.specs.Ring.{RingRecord, moved_at, partition_count, risen, seat}
+use Rattle.ring_model.specs.Valid.{IsValid}
 use Rattle.ring_words.specs.declared.device.Device.{Device}
 use Rattle.ring_share.specs.Crowd.{row_of, rows_of}
 use Rattle.ring_place.specs.Finishing.{AreAlike, AreWhole, changed_in, stamped}
 use Rattle.ring_place.specs.Rebalance.{IsAfter, IsSeat, changed_seats, differs, has_changed}
-use Rattle.ring_place.specs.Rows.{AreKnown, devices_on, row_at}
-use Rattle.ring_place.proofs.Choosing.{pairs}
-use Rattle.ring_place.proofs.Outside.{device_there}
+use Rattle.ring_place.specs.Rows.{devices_on, row_at}
 use Rattle.ring_place.proofs.Ranges.{any_counted, count_more, count_same, one_seat, range_get, sum_same}
-use Rattle.ring_place.proofs.Remaining.{present_remaining, remaining}
-use Rattle.ring_place.proofs.TakenRows.{known_taken}
+use Rattle.ring_place.proofs.Remaining.{remaining}
+use Rattle.ring_place.proofs.ValidAfter.{AreOnRemaining, valid_after}
 
 -- ---- changed seats
 
@@ -104,36 +95,10 @@ get_flat n (row ∷ rows) are (suc p) r lt below =
     get_right (devices_on row) (flat_map devices_on rows) (p * n + r) (suc p * n + r) (omega (arith, first_length n row rows are, one_more p n))
     ∙ get_flat n rows (rest_full n row rows are) p r (omega (arith, lt)) below
 
-all_flat : (P : ℕ → Type 0) (rows : List (List (Option ℕ))) → ((p : ℕ) → p < length rows → All P (devices_on (row_at rows p))) → All P (flat_map devices_on rows)
-all_flat P [] each = All-nil P
-all_flat P (row ∷ rows) each = All-append P (devices_on row) (flat_map devices_on rows) (each zero (omega arith)) (all_flat P rows (λ p lt. each (suc p) (omega (arith, lt))))
-
--- ---- devices that remain
-
-rising : (devices : List Device) → AllPairs (λ (a b : Device). a.id < b.id) devices → IsStrictlyIncreasing (map (λ device. device.id) devices)
-rising devices rise k lt =
-    let long = length-map devices (λ (device : Device). device.id) in
-    let some = device_there devices k (omega (arith, lt, long)) in
-    let one = get_or-map (λ (device : Device). device.id) devices k some.0 0 (omega (arith, lt, long)) in
-    let other = get_or-map (λ (device : Device). device.id) devices (k + 1) some.0 0 (omega (arith, lt, long)) in
-    let less = rise k (k + 1) some.0 (omega arith) (omega (arith, lt, long)) in
-    omega (arith, one, other, less)
-
-pub devices_remain : (next_id : ℕ) (devices : List Device) → AreDevices next_id devices → AreDevices next_id (remaining devices)
-devices_remain next_id devices are = record {
-  count = (let few = are.count in omega (arith, few, length-filter (λ (device : Device). not device.removed) devices, count_by-le-length (λ (device : Device). not device.removed) devices));
-  below = All-filter (λ (device : Device). not device.removed) (λ (device : Device). device.id < next_id) devices are.below;
-  rise = rising (remaining devices) (AllPairs-filter (λ (a b : Device). a.id < b.id) (λ (device : Device). not device.removed) devices (pairs devices are.rise));
-  apart = AllPairs-filter (λ (a b : Device). same_place a.row b.row ≡ false) (λ (device : Device). not device.removed) devices are.apart;
-}
-
-risen_few : (version : ℕ) → version ≤ 4294967295 → risen version ≤ 4294967295
-risen_few version few = grind (arith, nat_tests)
+-- ---- the ring
 
 pub count_rows : (ring : RingRecord) → length (rows_of ring) ≡ partition_count ring
 count_rows ring = length-map-range_with_len (λ p. row_of ring p) 0 (partition_count ring)
-
--- ---- the ring
 
 -- The ring has the rows' devices on its seats, and all that a rebalance writes.
 pub record IsMade (ring : RingRecord) (hour : ℕ) (rows : List (List (Option ℕ))) (made : RingRecord) : Type 0 where
@@ -190,50 +155,6 @@ module _ (ring : RingRecord) (hour : ℕ) (rows : List (List (Option ℕ))) (mad
   length_seats : length made.seats ≡ partition_count ring * ring.replicas
   length_seats = ap length is.seats ∙ length_flat ring.replicas rows are_full ∙ ap (λ (n : ℕ). n * ring.replicas) whole.as_many
 
-  rows_known : (p : ℕ) → p < length rows → AreKnown made.devices (row_at rows p)
-  rows_known p lt k id at =
-      let below : p < partition_count ring = (let count = whole.as_many in omega (arith, lt, count)) in
-      let within = slice_get_within (row_at rows p) k (Some id) at in
-      let there = whole.taken p k (seat_of p k below (omega (arith, within, whole.long p below))) in
-      let same : there.0 ≡ id = (let e = there.1 in let f : Some there.0 ≡ Some id = same_Some (Some there.0) (Some id) (sym e ∙ at) in same_Some there.0 id f) in
-      ap (has_device id) is.devices ∙ present_remaining id ring.devices ∙ subst (λ x. has_present x ring.devices ≡ true) same there.2
-
-  made_distinct : (p one other id : ℕ) → one < made.replicas → other < made.replicas → slice_get made.seats (p * made.replicas + one) ≡ Some id → slice_get made.seats (p * made.replicas + other) ≡ Some id → one ≡ other
-  made_distinct p one other id lt mt at bt = ⊎_elim
-      (λ below.
-      let row = row_same p below in
-      let first = ap (λ r. slice_get r one) row ∙ range_get (λ r. seat made p r) made.replicas one lt ∙ ap Some at in
-      let second = ap (λ r. slice_get r other) row ∙ range_get (λ r. seat made p r) made.replicas other mt ∙ ap Some bt in
-      one_seat id (row_at rows p) one other (whole.distinct p id below) first second)
-      (λ past.
-      let within = slice_get_within made.seats (p * made.replicas + one) id at in
-      let le : partition_count ring * made.replicas ≤ p * made.replicas = mul-le-mul_right made.replicas (omega (arith, past)) in
-      let same : partition_count ring * made.replicas ≡ partition_count ring * ring.replicas = ap (λ (n : ℕ). partition_count ring * n) replicas_same in
-      absurd (omega (arith, within, le, same, length_seats)))
-      (cases_lt p (partition_count ring))
-
-  seats_valid : AreSeats (partition_count made) made.replicas made.devices made.seats
-  seats_valid = record {
-    whole = λ some. length_seats ∙ ap (λ (n : ℕ). n * ring.replicas) (sym partitions_same) ∙ ap (λ (n : ℕ). partition_count made * n) (sym replicas_same);
-    known = subst (λ (seats : List ℕ). All (λ id. has_device id made.devices ≡ true) seats) (sym is.seats)
-        (all_flat (λ id. has_device id made.devices ≡ true) rows (λ p lt. known_taken made.devices (row_at rows p) (rows_known p lt)));
-    distinct = made_distinct;
-  }
-
-  pub made_valid : IsValid made
-  made_valid = record {
-    power = subst (λ (n : ℕ). (1 ≤ n) × (n ≤ 14)) (sym power_same) valid.power;
-    replicas = subst (λ (n : ℕ). (1 ≤ n) × (n ≤ 5)) (sym replicas_same) valid.replicas;
-    min_hours = subst (λ (n : ℕ). n ≤ 65535) (sym (ap (λ (r : RingRecord). r.min_hours) is.rest)) valid.min_hours;
-    next_id = subst (λ (n : ℕ). n ≤ 65536) (sym (ap (λ (r : RingRecord). r.next_id) is.rest)) valid.next_id;
-    version = subst (λ (n : ℕ). n ≤ 4294967295) (sym is.version) (risen_few ring.version valid.version);
-    devices = subst (λ (n : ℕ). AreDevices n made.devices) (sym (ap (λ (r : RingRecord). r.next_id) is.rest))
-        (subst (λ (ds : List Device). AreDevices ring.next_id ds) (sym is.devices) (devices_remain ring.next_id ring.devices valid.devices));
-    seats = seats_valid;
-    moved = ap length is.moved ∙ length-map-range_with_len (λ partition. stamped hour (changed_in (row_at (rows_of ring) partition) (row_at rows partition)) (slice_index_or ring.moved partition None)) 0 (length (rows_of ring)) ∙ count_rows ring ∙ sym partitions_same;
-    published = subst (λ (ps : List (ℕ × List ℕ)). ArePublished ps) (sym (ap (λ (r : RingRecord). r.published) is.rest)) valid.published;
-  }
-
   -- ---- what is written
 
   old_row : (p : ℕ) → p < partition_count ring → row_at (rows_of ring) p ≡ row_of ring p
@@ -261,7 +182,28 @@ module _ (ring : RingRecord) (hour : ℕ) (rows : List (List (Option ℕ))) (mad
       ∙ ap (λ b. if b then Some hour else moved_at ring p) (any_counted (λ r. differs (seat ring p r) (seat made p r)) (range_with_len 0 ring.replicas))
 
   pub made_after : IsAfter ring hour made
-  made_after = record { moved = made_moved; devices = is.devices; version = is.version; rest = is.rest }
+  made_after = record {
+    moved = made_moved;
+    seat_count = length_seats;
+    moved_count = ap length is.moved ∙ length-map-range_with_len (λ partition. stamped hour (changed_in (row_at (rows_of ring) partition) (row_at rows partition)) (slice_index_or ring.moved partition None)) 0 (length (rows_of ring)) ∙ count_rows ring;
+    devices = is.devices;
+    version = is.version;
+    rest = is.rest;
+  }
+
+  made_on : AreOnRemaining ring made
+  made_on = record {
+    there = λ p r s. let there = whole.taken p r s in (there.0, made_seat p r s there.0 there.1, there.2);
+    distinct = λ p one other id s also at bt.
+        let lt = s.partition_there in
+        let row = row_same p lt in
+        let first = ap (λ r. slice_get r one) row ∙ range_get (λ r. seat made p r) made.replicas one (let below = s.replica_there in omega (arith, below, replicas_same)) ∙ ap Some at in
+        let second = ap (λ r. slice_get r other) row ∙ range_get (λ r. seat made p r) made.replicas other (let below = also.replica_there in omega (arith, below, replicas_same)) ∙ ap Some bt in
+        one_seat id (row_at rows p) one other (whole.distinct p id lt) first second;
+  }
+
+  pub made_valid : IsValid made
+  made_valid = valid_after ring made hour valid made_on made_after
 
 pub is_made : (ring parts : RingRecord) (hour : ℕ) (old rows : List (List (Option ℕ))) (version : ℕ) (all devices : List Device) (seats : List ℕ) (moved : List (Option ℕ)) → parts ≡ ring → old ≡ rows_of ring
     → all ≡ ring.devices → devices ≡ remaining all → seats ≡ flat_map devices_on rows

@@ -29,5 +29,6 @@ pub mod Remaining
 pub mod Ranges
 pub mod Placeable
 pub mod NewRing
+pub mod ValidAfter
 pub mod Finished
 pub mod Unchanged

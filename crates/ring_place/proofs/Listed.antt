@@ -50,7 +50,11 @@ room_kept load roomy listed regions zones servers is id count known same =
       counted = record { rise = before.rise; few = before.few; wants = before.wants; counted = length-set load.counts (place_of id load.devices) count ∙ before.counted };
       long = is.long;
       few = is.few;
-      listed = record { within = is.listed.within; covered = λ place lt room. is.listed.covered place lt (sym (room_stays load before id count known same place lt) ∙ room) };
+      listed = record {
+        within = is.listed.within;
+        roomy = λ k d lt. room_stays load before id count known same (get_or (take listed roomy) k d) (is.listed.within k d lt) ∙ is.listed.roomy k d lt;
+        covered = λ place lt room. is.listed.covered place lt (sym (room_stays load before id count known same place lt) ∙ room);
+      };
       regions_have = is.regions_have;
       zones_have = is.zones_have;
       servers_have = is.servers_have;
@@ -68,15 +72,22 @@ places_within devices ids places few long all k d lt =
 
 -- the first places of an array are roomy
 pub roomy_first : (load : Load) (places : List ℕ) (count : ℕ) → count ≤ length places → ((k : ℕ) → k < count → get_or places k 0 < length load.devices)
+    → ((k : ℕ) → k < count → has_room_in load (id_at load.devices (get_or places k 0)) ≡ true)
     → ((place : ℕ) → place < length load.devices → has_room_in load (id_at load.devices place) ≡ true → (k : ℕ) × (k < count) × (get_or places k 0 ≡ place)) → AreRoomy load (take count places)
-roomy_first load places count few within covered =
+roomy_first load places count few within roomy covered =
     let long : length (take count places) ≡ count = length-take-le count places few in
+    let read : (k d : ℕ) → k < length (take count places) → (k < count) × (get_or (take count places) k d ≡ get_or places k 0) =
+    λ k d lt.
+    let below : k < count = omega (arith, lt, long) in
+    (below, get_or_default_zero (take count places) k d lt ∙ get_or-take count places k 0 below) in
     record {
       within = λ k d lt.
-          let below : k < count = omega (arith, lt, long) in
-          let read : get_or (take count places) k d ≡ get_or places k 0 = get_or_default_zero (take count places) k d lt ∙ get_or-take count places k 0 below in
-          let there = within k below in
-          omega (arith, there, read);
+          let is = read k d lt in
+          let there = within k is.0 in
+          omega (arith, there, is);
+      roomy = λ k d lt.
+          let is = read k d lt in
+          ap (λ place. has_room_in load (id_at load.devices place)) is.1 ∙ roomy k is.0;
       covered = λ place lt room.
           let listed = covered place lt room in
           (listed.0, omega (arith, listed.1, long), get_or-take count places listed.0 0 listed.1 ∙ listed.2);

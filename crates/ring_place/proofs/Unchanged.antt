@@ -2,7 +2,7 @@
 use Rattle.std.proofs.Common.{◌≡◌, ◌==◌, ℕ, ◌+◌, ◌*◌, ◌^◌, ◌<◌, ◌≤◌, Bool, true, false, not, cond, ◌&&◌, ◌||◌, List, [], length, count_by, sum_by, Option, Some, None, refl, sym, ap, subst, ◌∙◌, inl, inr, arith}
 use Rattle.std.specs.Prelude.{if◌then◌else◌, nat_lt, slice_index}
 use Rattle.std.specs.List.{list_any, range_with_len}
-use Rattle.std.proofs.lemmas.Bool.{cases_Bool, eq-eqb, eqb-true}
+use Rattle.std.proofs.lemmas.Bool.{eq-eqb, eqb-true}
 use Rattle.std.proofs.lemmas.Bool.Decides.{nat_tests}
 use Rattle.std.proofs.lemmas.List.Folds.{list_any_none}
 use Rattle.std.proofs.lemmas.List.FromFn.{fill_by_all, get_or-map-range_with_len, length-map-range_with_len}
@@ -18,10 +18,12 @@ use Rattle.ring_share.proofs.AllSeats.{have_is_rows}
 use Rattle.ring_share.proofs.Determined.{same_wants}
 use Rattle.ring_share.proofs.Rows.{length-row_of, row_of_at}
 use Rattle.ring_place.specs.Rebalance.{IsAtRest, IsLeft, IsRebalance, IsSeat, changed_seats, count_seats, differs, has_changed, has_free, has_left, has_less_crowded, has_lost, is_free, is_locked, is_lost, is_recent, kept, kept_row, takes_room}
+use Rattle.ring_place.proofs.Lawful.{lawful}
 use Rattle.ring_place.proofs.NewRing.{AllRemain, crowd_remaining, others_remain}
-use Rattle.ring_place.proofs.Placeable.{fails, lost_cases, open_present}
+use Rattle.ring_place.proofs.Placeable.{fails, open_present}
 use Rattle.ring_place.proofs.Ranges.{any_counted, range_get, sum_map, sum_same, term_of_sum}
 use Rattle.ring_place.proofs.Remaining.{IsRest, any_alike, open_remaining, present_remains, remaining, want_remaining, wanted_left, wants_left}
+use Rattle.ring_place.proofs.ValidAfter.{on_remaining, stays_valid}
 
 same_if : (a b : Option ℕ) → differs a b ≡ false → b ≡ a
 same_if None None h = refl
@@ -41,7 +43,7 @@ both_first : (a b : Bool) → (a && b) ≡ true → a ≡ true
 both_first true b h = refl
 both_first false b h = h
 
-module _ (old new : RingRecord) (hour : ℕ) (wanted : List ℕ) (valid : IsValid old) (valid_new : IsValid new) (r : IsRebalance old hour new) (are : AreWanted new wanted)
+module _ (old new : RingRecord) (hour : ℕ) (wanted : List ℕ) (valid : IsValid old) (r : IsRebalance old hour new) (are : AreWanted new wanted)
     (unchanged : changed_seats old new ≡ 0) where
   rest : IsRest old new
   rest = record { power = ap (λ (x : RingRecord). x.power) r.after.rest; replicas = ap (λ (x : RingRecord). x.replicas) r.after.rest; devices = r.after.devices }
@@ -70,12 +72,7 @@ module _ (old new : RingRecord) (hour : ℕ) (wanted : List ℕ) (valid : IsVali
       same_if (seat old p k) (seat new p k) (none_counted (differs (seat old p k) (seat new p k)) (omega (arith, all, one, unchanged)))
 
   seat_there : (p k : ℕ) → IsSeat old p k → (id : ℕ) × (seat old p k ≡ Some id) × (has_present id old.devices ≡ true)
-  seat_there p k s = elim (cases_Bool (r.gathered p k)) [
-    | inl up ↦
-        let put = r.seated.taken p k s up in
-        (put.0, sym (seat_same p k s) ∙ put.1, elim put.2 [ inl opens ↦ open_present old.devices put.0 opens | inr own ↦ own.1 ])
-    | inr stays ↦ lost_cases old (seat old p k) (fails (is_lost old (seat old p k)) (λ lost. let up = r.lawful.lost p k s lost in absurd (cc (up, stays))))
-  ]
+  seat_there p k s = let there = (on_remaining old new hour (lawful old new hour r)).there p k s in (there.0, sym (seat_same p k s) ∙ there.1, there.2)
 
   row_same : (p : ℕ) → p < partition_count old → row_of new p ≡ row_of old p
   row_same p lt = fill_by_all (λ k. seat old p k) (row_of new p) old.replicas None (length-row_of new p ∙ rest.replicas)
@@ -104,7 +101,7 @@ module _ (old new : RingRecord) (hour : ℕ) (wanted : List ℕ) (valid : IsVali
       some (length new.seats) (omega (arith, within))
 
   have_same : (id : ℕ) → have new id ≡ have old id
-  have_same id = have_is_rows new id valid_new assigned_new ∙ ap (sum_by (seats_on id)) rows_same ∙ sym (have_is_rows old id valid assigned)
+  have_same id = have_is_rows new id (stays_valid old new hour valid (lawful old new hour r)) assigned_new ∙ ap (sum_by (seats_on id)) rows_same ∙ sym (have_is_rows old id valid assigned)
 
   none_lost : (p : ℕ) → p < partition_count old → has_lost old p ≡ false
   none_lost p lt = list_any_none (is_lost old) (row_of old p)

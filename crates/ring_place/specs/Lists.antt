@@ -32,12 +32,14 @@ cut Server crowd = crowd
 abbrev pub IsFloor : Load → List (Option ℕ) → ℕ × ℕ × ℕ → Type 0
 IsFloor load row floor = (id : ℕ) → has_open id load.devices ≡ true → is_less (crowd_in load row id) floor ≡ false
 
--- These are places of devices, and each device that has room stands at one of them.
+-- These are places of devices that have room, and each device that has room stands at one of them.
 pub record AreRoomy (load : Load) (places : List ℕ) : Type 0 where
   pub within : All (λ place. place < length load.devices) places
+  pub roomy : All (λ place. has_room_in load (id_at load.devices place) ≡ true) places
   pub covered : (place : ℕ) → place < length load.devices → has_room_in load (id_at load.devices place) ≡ true → (index : ℕ) × (index < length places) × (slice_index places index ≡ place)
 
--- Each device that has room stands at one of the first places of a list as long as that of the devices, and each region, zone and server has an open device in a list.
+-- The devices that have room, and no others, stand at the first places of a list as long as that of the devices. Each
+-- region, zone and server that has an open device has one in a list.
 pub record IsRoom (load : Load) (roomy : List ℕ) (count : ℕ) (regions zones servers : List ℕ) : Type 0 where
   pub counted : IsLoad load
   pub long : length roomy ≡ length load.devices

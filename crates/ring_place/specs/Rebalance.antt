@@ -1,6 +1,6 @@
 -- One rebalance of a ring at an hour: which seats are gathered, and where they are put.
 -- Seats are named by partition and replica, devices by their numbers.
-use Rattle.std.specs.Prelude.{◌≡◌, ◌≢◌, ℕ, ◌+◌, ◌-◌, ◌<◌, ◌≤◌, ◌⊎◌, ◌==◌, ◌&&◌, ◌||◌, Bool, not, true, false, nat_lt, if◌then◌else◌, List, map, filter, count_by, sum_by, Option, Some, None}
+use Rattle.std.specs.Prelude.{◌≡◌, ◌≢◌, ℕ, ◌+◌, ◌-◌, ◌*◌, ◌<◌, ◌≤◌, ◌⊎◌, ◌==◌, ◌&&◌, ◌||◌, Bool, not, true, false, nat_lt, if◌then◌else◌, List, length, map, filter, count_by, sum_by, Option, Some, None}
 use Rattle.std.specs.List.{list_any, range_with_len}
 use Rattle.ring_model.specs.Ring.{RingRecord, has_present, moved_at, partition_count, risen, seat}
 use Rattle.ring_share.specs.Crowd.{crowd_for, is_less, is_on, is_outside, row_of, seats_on}
@@ -166,6 +166,10 @@ changed_seats old new = count_seats old (λ partition replica. differs (seat old
 pub record IsAfter (old : RingRecord) (hour : ℕ) (new : RingRecord) : Type 0 where
   pub moved : (partition : ℕ) → partition < partition_count old →
       moved_at new partition ≡ (if has_changed old new partition then Some hour else moved_at old partition)
+  -- there is one seat for each replica of each partition, and none behind the last
+  pub seat_count : length new.seats ≡ partition_count old * old.replicas
+  -- and for each partition the hour of its last move, or never, and none behind the last
+  pub moved_count : length new.moved ≡ partition_count old
   pub devices : new.devices ≡ filter (λ device. not device.removed) old.devices
   pub version : new.version ≡ risen old.version
   pub rest : record new { version = old.version; devices = old.devices; seats = old.seats; moved = old.moved } ≡ old

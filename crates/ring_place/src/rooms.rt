@@ -19,7 +19,7 @@ use std::marker::Model;
 #[derive(Drop)]
 pub struct Room {
     tally: Tally,
-    /// As many places as there are devices; each device that has room stands at one of the first.
+    /// As many places as there are devices; those that have room, and no others, stand at the first.
     roomy: Vec<usize>,
     /// How many places of `roomy` are these first.
     count: usize,

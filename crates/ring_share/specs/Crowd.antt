@@ -33,6 +33,7 @@ pub record Tiers : Type 0 where
   pub zone : ℕ → ℕ → Bool
   pub server : ℕ → ℕ → Bool
 
+-- which devices of a ring share a region, a zone or a server, by their numbers
 abbrev pub tiers_of : List Device → Tiers
 tiers_of devices = record {
   region = λ a b. pass_both in_region (device_of a devices) (device_of b devices);

@@ -1,42 +1,18 @@
 //! What no contract says: worked examples, what a failing reader leads to, and that calls succeed where there is memory.
+use byte_streams::CountedReader;
 use csv_import::{CsvFault, read_rows};
 use ring_words::Row;
 use std::alloc::Global;
-use std::io::{self, ErrorKind, Read};
+use std::io::Read;
 use std::test::Fail;
+use test_streams::Giver;
 
 /// The names of the columns.
 const NAMES: &str = "region,zone,address,port,name,weight";
 
-/// Gives so many bytes a read, and fails at one of the reads, counted from 1.
-#[derive(Drop)]
-struct Pieces<'a> {
-    rest: &'a [u8],
-    size: usize,
-    reads_left: u32,
-}
-
-impl Pieces<'_> {
-    fn new(rest: &[u8], size: usize, fails_at: u32) -> Pieces<'_> {
-        Pieces {
-            rest,
-            size,
-            reads_left: fails_at,
-        }
-    }
-}
-
-impl Read for Pieces<'_> {
-    fn read(&mut self, buf: &mut [u8]) -> io::Result<usize> {
-        self.reads_left = self.reads_left.saturating_sub(1);
-        if self.reads_left == 0 {
-            return Err(ErrorKind::BrokenPipe.into());
-        }
-        let count = self.rest.len().min(buf.len()).min(self.size);
-        buf[..count].copy_from_slice(&self.rest[..count]);
-        self.rest = &self.rest[count..];
-        Ok(count)
-    }
+/// The rows that a reader gives.
+fn rows_in<R: Read + Drop>(alloc: Global, reader: R) -> Result<Vec<Row>, CsvFault> {
+    read_rows(alloc, &mut CountedReader::new(reader))
 }
 
 /// The rows, each as the record that spells it without quotes.
@@ -55,7 +31,7 @@ fn told(alloc: Global, rows: &[Row]) -> Result<String, Fail> {
 /// The rows behind the names of the columns.
 fn rows_of(alloc: Global, rows: &str) -> Result<String, Fail> {
     let text = format!(in alloc; "{NAMES}\n{rows}")?;
-    let found = read_rows(alloc, text.as_bytes())?;
+    let found = rows_in(alloc, text.as_bytes())?;
     told(alloc, &found)
 }
 
@@ -65,7 +41,7 @@ fn fault_in(alloc: Global, rows: &[u8]) -> Result<Option<CsvFault>, Fail> {
     text.extend_from_slice(NAMES.as_bytes())?;
     text.push(b'\n')?;
     text.extend_from_slice(rows)?;
-    Ok(read_rows(alloc, text.as_slice()).err())
+    Ok(rows_in(alloc, text.as_slice()).err())
 }
 
 /// Two rows as they are told.
@@ -77,7 +53,7 @@ fn rows_are_told_in_order(rt: HostRuntime) -> Result<(), Fail> {
     let alloc = rt.alloc();
     assert_eq!(rt; rows_of(alloc, TWO_ROWS)?.as_str(), TWO_ROWS);
     assert_eq!(rt; rows_of(alloc, "")?.as_str(), "");
-    assert!(rt; read_rows(alloc, NAMES.as_bytes())?.is_empty());
+    assert!(rt; rows_in(alloc, NAMES.as_bytes())?.is_empty());
     Ok(())
 }
 
@@ -93,7 +69,7 @@ fn quotes_and_line_ends_are_those_of_csv(rt: HostRuntime) -> Result<(), Fail> {
         assert_eq!(rt; rows_of(alloc, rows)?.as_str(), TWO_ROWS);
     }
     let quoted = b"\xef\xbb\xbf\"region\",zone,address,port,\"name\",weight\n7,8,10.0.0.1,1,d,0.00";
-    let rows = read_rows(alloc, quoted.as_slice())?;
+    let rows = rows_in(alloc, quoted.as_slice())?;
     assert_eq!(rt; told(alloc, &rows)?.as_str(), "7,8,10.0.0.1,1,d,0.00\n");
     Ok(())
 }
@@ -112,7 +88,7 @@ fn other_names_of_columns_are_refused(rt: HostRuntime) -> Result<(), Fail> {
         b"zone,region,address,port,name,weight".as_slice(),
         b"\xef\xbb\xbf\xef\xbb\xbfregion,zone,address,port,name,weight".as_slice(),
     ] {
-        assert_eq!(rt; read_rows(alloc, text).err(), Some(CsvFault::BadHeader));
+        assert_eq!(rt; rows_in(alloc, text).err(), Some(CsvFault::BadHeader));
     }
     Ok(())
 }
@@ -161,7 +137,7 @@ fn rows_are_the_same_however_the_reads_are_cut(rt: HostRuntime) -> Result<(), Fa
     let alloc = rt.alloc();
     let text = format!(in alloc; "{NAMES}\r\n{TWO_ROWS}")?;
     for size in [1, 2, 3, 7, 50, 1000] {
-        let rows = read_rows(alloc, Pieces::new(text.as_bytes(), size, 0x1000))?;
+        let rows = rows_in(alloc, Giver::new(text.as_bytes(), size, 0x1000))?;
         assert_eq!(rt; told(alloc, &rows)?.as_str(), TWO_ROWS);
     }
     Ok(())
@@ -173,7 +149,10 @@ fn a_reader_that_fails_leaves_no_rows(rt: HostRuntime) -> Result<(), Fail> {
     let text = format!(in alloc; "{NAMES}\n{TWO_ROWS}")?;
     let mut failures = 0u32;
     for fails_at in 1..1000 {
-        match read_rows(alloc, Pieces::new(text.as_bytes(), 5, fails_at)) {
+        let mut reader = CountedReader::new(Giver::new(text.as_bytes(), 5, fails_at));
+        let found = read_rows(alloc, &mut reader);
+        assert_eq!(rt; reader.faults(), u64::from(found.is_err()));
+        match found {
             Ok(rows) => {
                 assert_eq!(rt; told(alloc, &rows)?.as_str(), TWO_ROWS);
                 break;
@@ -194,12 +173,12 @@ fn ten_thousand_rows_are_read(rt: HostRuntime) -> Result<(), Fail> {
         let row = format!(in alloc; "\n{number},1,10.0.0.1,6200,d{number},1.00")?;
         text.push_str(row.as_str())?;
     }
-    let rows = read_rows(alloc, text.as_bytes())?;
+    let rows = rows_in(alloc, text.as_bytes())?;
     assert_eq!(rt; rows.len(), 10_000);
     assert_eq!(rt; rows[9_999].region, 9_999);
     assert_eq!(rt; rows[9_999].name.as_str(), "d9999");
     text.push_str("\n1,1,10.0.0.1,0,d0,1.00")?;
-    let fault = read_rows(alloc, text.as_bytes()).err();
+    let fault = rows_in(alloc, text.as_bytes()).err();
     assert_eq!(rt; fault, Some(CsvFault::BadField(10_001, 4)));
     Ok(())
 }

@@ -105,7 +105,7 @@ fn a_text_is_published_once(rt: HostRuntime) -> Result<(), Fail> {
 #[test]
 fn parts_that_make_no_ring_are_refused(rt: HostRuntime) -> Result<(), Fail> {
     let alloc = rt.alloc();
-    for case in 0..14 {
+    for case in 0..15 {
         let mut parts = small_parts(alloc)?;
         assert_eq!(rt; (parts.devices.len(), parts.seats.len()), (2, 4));
         match case {
@@ -122,6 +122,7 @@ fn parts_that_make_no_ring_are_refused(rt: HostRuntime) -> Result<(), Fail> {
             10 => parts.published.push((1, RcStr::from_str(alloc, "older")?))?,
             11 => parts.seats.push(0)?,
             12 => parts.power = Power::new(2).ok_or("power")?,
+            13 => parts.moved.push(None)?,
             _ => parts.replicas = Replicas::new(1).ok_or("replicas")?,
         }
         assert_eq!(rt;
@@ -130,6 +131,56 @@ fn parts_that_make_no_ring_are_refused(rt: HostRuntime) -> Result<(), Fail> {
             "{case}"
         );
     }
+    Ok(())
+}
+
+/// A ring's parts with so many devices, on ports of their own, and no seats.
+fn parts_with_devices(alloc: Global, count: u16) -> Result<RingParts, Fail> {
+    let mut parts = small_parts(alloc)?;
+    parts.devices.clear();
+    parts.seats.clear();
+    parts.next_id = 65536;
+    for id in 0..count {
+        let mut row = row(alloc, 0, "1.00")?;
+        row.port = Port::new(id.saturating_add(1)).ok_or("a port")?;
+        parts.devices.push(Device {
+            id,
+            row,
+            removed: false,
+        })?;
+    }
+    Ok(parts)
+}
+
+#[test]
+fn more_than_256_devices_make_no_ring(rt: HostRuntime) -> Result<(), Fail> {
+    let alloc = rt.alloc();
+    let most = Ring::build(alloc, parts_with_devices(alloc, 256)?)?;
+    assert_eq!(rt; most.devices().len(), 256);
+    let more = Ring::build(alloc, parts_with_devices(alloc, 257)?);
+    assert_eq!(rt; more.err(), Some(BuildFault::Invalid));
+    Ok(())
+}
+
+/// A ring's parts with so many published texts.
+fn parts_with_texts(alloc: Global, count: u32) -> Result<RingParts, Fail> {
+    let mut parts = small_parts(alloc)?;
+    parts.published.clear();
+    for version in 0..count {
+        parts
+            .published
+            .push((version, RcStr::from_str(alloc, "text")?))?;
+    }
+    Ok(parts)
+}
+
+#[test]
+fn more_than_1000_texts_make_no_ring(rt: HostRuntime) -> Result<(), Fail> {
+    let alloc = rt.alloc();
+    let most = Ring::build(alloc, parts_with_texts(alloc, 1000)?)?;
+    assert_eq!(rt; most.published_list().len(), 1000);
+    let more = Ring::build(alloc, parts_with_texts(alloc, 1001)?);
+    assert_eq!(rt; more.err(), Some(BuildFault::Invalid));
     Ok(())
 }
 

@@ -59,6 +59,44 @@ fn digests_are_those_of_md5(rt: HostRuntime) -> Result<(), Fail> {
     Ok(())
 }
 
+/// The digest of no bytes.
+const OF_NOTHING: [u8; 16] = [
+    0xd4, 0x1d, 0x8c, 0xd9, 0x8f, 0x00, 0xb2, 0x04, 0xe9, 0x80, 0x09, 0x98, 0xec, 0xf8, 0x42, 0x7e,
+];
+
+/// The digest of the byte `a`.
+const OF_A: [u8; 16] = [
+    0x0c, 0xc1, 0x75, 0xb9, 0xc0, 0xf1, 0xb6, 0xa8, 0x31, 0xc3, 0x99, 0xe2, 0x69, 0x77, 0x26, 0x61,
+];
+
+/// The digest of the bytes `abc`.
+const OF_ABC: [u8; 16] = [
+    0x90, 0x01, 0x50, 0x98, 0x3c, 0xd2, 0x4f, 0xb0, 0xd6, 0x96, 0x3f, 0x7d, 0x28, 0xe1, 0x7f, 0x72,
+];
+
+#[test]
+fn no_bytes_have_the_digest_of_md5(rt: HostRuntime) -> Result<(), Fail> {
+    assert_eq!(rt; Md5::digest(b""), OF_NOTHING);
+    Ok(())
+}
+
+#[test]
+fn one_byte_has_the_digest_of_md5(rt: HostRuntime) -> Result<(), Fail> {
+    assert_eq!(rt; Md5::digest(b"a"), OF_A);
+    Ok(())
+}
+
+#[test]
+fn three_bytes_have_the_digest_of_md5(rt: HostRuntime) -> Result<(), Fail> {
+    assert_eq!(rt; Md5::digest(b"abc"), OF_ABC);
+    let mut pieces = Md5::new();
+    for piece in [b"a", b"b", b"c"] {
+        pieces.update(piece);
+    }
+    assert_eq!(rt; pieces.finalize(), OF_ABC);
+    Ok(())
+}
+
 #[test]
 fn hashes_are_digests_of_prefix_path_and_suffix(rt: HostRuntime) -> Result<(), Fail> {
     let alloc = rt.alloc();

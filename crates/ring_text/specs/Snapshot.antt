@@ -5,6 +5,7 @@ use Rattle.ring_words.specs.Texts.{is_label, is_device_name, greatest_weight, ad
 use Rattle.ring_model.specs.Valid.{AreDevices, AreSeats}
 use Rattle.ring_words.specs.declared.device.Device.{Device}
 
+-- What the text of a ring tells.
 pub record SnapshotRecord : Type 0 where
   pub name : List ℕ
   pub version : ℕ

@@ -28,5 +28,6 @@ row_equiv =
     (and_equiv (on_equiv (λ (r : Row). r.name) nat_list_eq_equiv)
     (on_equiv (λ (r : Row). r.weight) nat_eq_equiv)))))
 
+-- To be the same rows is an equivalence.
 pub rows_equiv : IsEquivalence (pointwise is_same_row)
 rows_equiv = lists_equiv row_equiv

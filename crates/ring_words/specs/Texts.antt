@@ -2,6 +2,7 @@
 use Rattle.std.specs.List.{list_all}
 use Rattle.std.specs.Prelude.{ℕ, ◌/◌, ◌%◌, ◌^◌, ◌+◌, ◌++◌, ◌&&◌, ◌||◌, ◌==◌, List, [], ◌∷◌, length, slice_index, Bool, not, nat_lt, nat_le, decimal}
 
+-- a byte of `0` to `9`
 abbrev pub is_digit : ℕ → Bool
 is_digit b = nat_le 48 b && nat_le b 57
 
@@ -9,6 +10,7 @@ is_digit b = nat_le 48 b && nat_le b 57
 abbrev pub is_decimal : List ℕ → Bool
 is_decimal t = nat_lt 0 (length t) && is_digit (slice_index t 0) && (nat_le (length t) 1 || not (slice_index t 0 == 48))
 
+-- a number below 100 in two digits
 abbrev pub two_digits : ℕ → List ℕ
 two_digits n = (48 + n / 10) ∷ (48 + n % 10) ∷ []
 
@@ -28,9 +30,11 @@ address_limit = 2 ^ 32
 abbrev pub address_text : ℕ → List ℕ
 address_text a = decimal (a / 16777216) ++ 46 ∷ (decimal (a / 65536 % 256) ++ 46 ∷ (decimal (a / 256 % 256) ++ 46 ∷ decimal (a % 256)))
 
+-- a byte of `a` to `z`
 abbrev pub is_lower : ℕ → Bool
 is_lower b = nat_le 97 b && nat_le b 122
 
+-- a byte of `A` to `Z`
 abbrev pub is_upper : ℕ → Bool
 is_upper b = nat_le 65 b && nat_le b 90
 

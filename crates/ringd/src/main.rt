@@ -4,6 +4,7 @@
 #[cfg(test)]
 mod tests;
 
+use byte_streams::{CountedReader, CountedWriter};
 use programs::perform;
 use std::alloc::AllocError;
 use std::env;
@@ -20,12 +21,9 @@ fn main(rt: HostRuntime) -> ExitCode {
         let _ = eprintln!(rt; "ringd: NoMemory 23");
         return ExitCode::FAILURE;
     };
-    let status = perform(
-        &rt,
-        &words,
-        &mut rt.reader(),
-        &mut rt.stdout(),
-        &mut rt.stderr(),
-    );
+    let mut reader = CountedReader::new(rt.reader());
+    let mut writer = CountedWriter::new(rt.stdout());
+    let mut errors = CountedWriter::new(rt.stderr());
+    let status = perform(&rt, &words, &mut reader, &mut writer, &mut errors);
     ExitCode::from(status)
 }

@@ -3,16 +3,16 @@ mod changes;
 mod failing;
 mod questions;
 mod rebalancing;
-mod streams;
 
 use builder::{MessageFault, RingMachine, read_delivery};
-use line_api::{StreamFault, run_lines};
+use byte_streams::{CountedReader, CountedWriter, StreamFault};
+use line_api::run_lines;
 use programs::perform;
 use request_book::{Book, Keeper, MemKeeper};
 use ring_model::{Command, Delivery, Done, Hour, Limits, Refusal, Reply, Rings};
 use std::alloc::{AllocError, Global};
 use std::test::Fail;
-use streams::{Giver, Taker};
+use test_streams::{Giver, Taker};
 
 type Memory = MemKeeper<Rings, Command, Reply>;
 
@@ -54,10 +54,10 @@ fn ask<K: Keeper<RingMachine>>(
     book: &mut Book<RingMachine, K>,
     lines: &[u8],
 ) -> Result<Vec<u8>, StreamFault> {
-    let mut reader = lines;
-    let mut writer = Vec::new(alloc);
+    let mut reader = CountedReader::new(lines);
+    let mut writer = CountedWriter::new(Vec::new(alloc));
     run_lines(alloc, &mut reader, &mut writer, book)?;
-    Ok(writer)
+    Ok(writer.into_inner())
 }
 
 /// What lines are answered by a new book.
@@ -244,16 +244,20 @@ fn a_line_of_65537_bytes_is_skipped(rt: HostRuntime) -> Result<(), Fail> {
 fn a_failed_read_leaves_the_answers_so_far(rt: HostRuntime) -> Result<(), Fail> {
     for fails_at in 1..12 {
         let mut book = open(rt.alloc(), Limits::full());
-        let mut giver = Giver::new(FIRST_RUN.as_bytes(), 100, fails_at);
-        let mut writer = Vec::new(rt.alloc());
-        let answered = run_lines(rt.alloc(), &mut giver, &mut writer, &mut book);
+        let giver = Giver::new(FIRST_RUN.as_bytes(), 100, fails_at);
+        let mut reader = CountedReader::new(giver);
+        let mut output = Vec::new(rt.alloc());
+        let mut writer = CountedWriter::new(&mut output);
+        let answered = run_lines(rt.alloc(), &mut reader, &mut writer, &mut book);
+        assert_eq!(rt; reader.faults(), 1, "at {fails_at}");
+        assert_eq!(rt; writer.faults(), 0, "at {fails_at}");
         assert_eq!(rt; answered, Err(StreamFault::ReadFailed), "at {fails_at}");
         assert!(rt;
-            FIRST_ANSWERS.as_bytes().starts_with(&writer),
+            FIRST_ANSWERS.as_bytes().starts_with(&output),
             "at {fails_at}"
         );
         assert!(rt;
-            writer.is_empty() || writer.ends_with(b"\n"),
+            output.is_empty() || output.ends_with(b"\n"),
             "at {fails_at}"
         );
     }
@@ -264,9 +268,13 @@ fn a_failed_read_leaves_the_answers_so_far(rt: HostRuntime) -> Result<(), Fail> 
 fn a_failed_write_leaves_a_beginning_of_the_answers(rt: HostRuntime) -> Result<(), Fail> {
     for fails_at in 1..10 {
         let mut book = open(rt.alloc(), Limits::full());
-        let mut giver = Giver::new(FIRST_RUN.as_bytes(), 200, u32::MAX);
+        let giver = Giver::new(FIRST_RUN.as_bytes(), 200, u32::MAX);
+        let mut reader = CountedReader::new(giver);
         let mut taker = Taker::new(rt.alloc(), 30, fails_at);
-        let answered = run_lines(rt.alloc(), &mut giver, &mut taker, &mut book);
+        let mut writer = CountedWriter::new(&mut taker);
+        let answered = run_lines(rt.alloc(), &mut reader, &mut writer, &mut book);
+        assert_eq!(rt; reader.faults(), 0, "at {fails_at}");
+        assert_eq!(rt; writer.faults(), 1, "at {fails_at}");
         assert_eq!(rt; answered, Err(StreamFault::WriteFailed), "at {fails_at}");
         assert!(rt;
             FIRST_ANSWERS.as_bytes().starts_with(&taker.taken),
@@ -317,11 +325,12 @@ fn performed(
     for word in words {
         owned.push(String::from_str(rt.alloc(), word)?)?;
     }
-    let mut giver = Giver::new(FIRST_RUN.as_bytes(), 1000, reads);
+    let mut reader = CountedReader::new(Giver::new(FIRST_RUN.as_bytes(), 1000, reads));
     let mut taker = Taker::new(rt.alloc(), 1000, writes);
-    let mut errors = Vec::new(rt.alloc());
-    let status = perform(rt, &owned, &mut giver, &mut taker, &mut errors);
-    Ok((status, taker.taken, errors))
+    let mut writer = CountedWriter::new(&mut taker);
+    let mut errors = CountedWriter::new(Vec::new(rt.alloc()));
+    let status = perform(rt, &owned, &mut reader, &mut writer, &mut errors);
+    Ok((status, taker.taken, errors.into_inner()))
 }
 
 #[test]

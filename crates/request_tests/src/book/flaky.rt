@@ -1,6 +1,6 @@
 //! A keeper whose store fails in one call.
-ghost use Rattle.std.specs.Prelude.{◌≡◌, cond, false, true, ℕ};
-ghost use Rattle.request_book.specs.Content.{Content};
+ghost use Rattle.std.specs.Prelude.{◌≡◌, Some, cond, false, refl, true, ℕ};
+ghost use Rattle.request_book.specs.Keeper.{is_only};
 
 use request_book::{Found, KeepFault, Keeper, Machine};
 use ring_words::{Hour, Key};
@@ -60,7 +60,9 @@ impl<M: Machine, K: Keeper<M>> Keeper<M> for Flaky<K> {
 
     ghost is_loaded = { λ k. K.is_loaded k.kept };
 
-    ghost may_leave = { λ k left. left ≡ K.content k.kept };
+    ghost may_leave = { λ k left. left ≡ Some (K.content k.kept) };
+
+    ghost settled = { λ k _ _. is_only (λ left. left ≡ Some (K.content k.kept)) (K.content k.kept) refl (λ left same. same) };
 
     fn faults(&self) -> u64 {
         if self.has_failed {

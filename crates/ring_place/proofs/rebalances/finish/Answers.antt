@@ -21,7 +21,7 @@ pub prove-unreachable-requires : goal.prove-unreachable-requires
 prove-unreachable-requires c =
     let made = is_made c.args.ring.now (record_of c.in_ok-parts.parts) c.args.hour c.args.old.now c.args.new.now c.risen.result c.devices.result.now c.in_ok-parts-2.field-0.items c.in_ok-parts-3.field-0.items c.in_ok-moved.moved.items
     c.in_ok-parts.ensures.parts c.requires.old c.devices.ensures.value c.in_ok-parts-2.ensures c.in_ok-parts-3.ensures c.in_ok-moved.ensures.moved c.risen.ensures in
-    c.in-Err-Invalid.ensures.invalid (ap Err c.in-Err-Invalid.field-0-is) (made_valid c.args.ring.now c.args.hour c.args.new.now _ c.requires.valid c.requires.new made)
+    c.in-Err-Invalid.ensures.invalid.0 (ap Err c.in-Err-Invalid.field-0-is) (made_valid c.args.ring.now c.args.hour c.args.new.now _ c.requires.valid c.requires.new made)
 
 pub returns-in-Ok-clause-rows : goal.returns-in-Ok-clause-rows
 returns-in-Ok-clause-rows c =

@@ -2,11 +2,11 @@ use Rattle.std.proofs.Common.{◌++◌, ◌<◌, ◌∷◌, ◌∙◌, ◌≡◌
 use Rattle.std.proofs.lemmas.Grind.{common_steps}
 use Rattle.std.specs.Prelude.{List}
 use Rattle.ring_words.specs.declared.request.Delivery.{Delivery}
-use Rattle.request_book.specs.Call.{Deliver, calls_of}
+use Rattle.request_book.specs.Call.{calls_of}
 use Rattle.request_book.specs.Run.{AnswersAlike}
 use Rattle.request_book.proofs.Alike.{alike}
-use Rattle.request_book.proofs.Calls.{closed_by, closes-none, closes_more, faults_more, no_rise}
-use Rattle.request_book.proofs.Runs.{left_more, other_step, run_left, run_more, run_none}
+use Rattle.request_book.proofs.Calls.{closed_by, closes-none, closes_more, faults_more}
+use Rattle.request_book.proofs.Runs.{leaves_map, left_more, other_step, run_left, run_more, run_none}
 use Rattle.request_book.proofs.book.Book.run.Goals as goal
 
 pub loop-delivery-init : goal.loop-delivery-init
@@ -20,8 +20,7 @@ loop-delivery-init g c =
       faults = refl;
       closed = closes-none _;
       nothing = λ h. refl;
-      left = λ s only left i. run_left machine _ _ _ left (only left i);
-      settled = λ s only h. only;
+      left = λ s z. run_left machine _ _ _ _ (g.met.K.Keeper.settled c.args.self.now.keeper s z);
       count = grind (arith, common_steps);
       all = grind (arith, common_steps);
       room = grind (arith, common_steps);
@@ -52,8 +51,7 @@ loop-delivery-preserved g c =
       faults = faults_more (K.fault_count old) (K.fault_count mid) (K.fault_count new) ds sofar later d a was.count more was.faults told.faults;
       closed = closes_more (K.fault_count old) (K.fault_count mid) ds sofar later d a was.count more was.faults was.closed told.closed;
       nothing = λ h. told.nothing (subst (λ b. 0 < K.fault_count b.keeper) (sym (was.nothing h)) h) ∙ was.nothing h;
-      left = λ s only. left_more step (K.limit old) _ (K.content old) ds sofar later (K.limit mid) (K.fault_count mid) (K.content mid) d a (K.may_leave mid) (K.may_leave new) was.count more was.limit now_closed (was.run (told.sound s)) (was.left (told.sound s) only) (λ z left i. other_step _ step _ _ _ _ _ same (told.left s z left i)) (λ h left i. subst (λ b. K.may_leave b.keeper left) (told.nothing h) i) told.closed;
-      settled = λ s only z. told.settled s (no_rise (K.fault_count mid) (K.fault_count new) (Deliver d a) told.faults z) z;
+      left = λ s z. left_more step (K.limit old) _ (K.content old) ds sofar later (K.limit mid) (K.fault_count mid) (K.content mid) d a (K.may_leave mid) (K.may_leave new) was.count more was.limit now_closed (was.run (told.sound s)) (was.left (told.sound s) z) (λ none. leaves_map _ _ _ (λ left. other_step _ step _ _ _ _ left same) (told.left s none)) (λ h. ap (λ b. K.may_leave b.keeper) (sym (told.nothing h))) told.closed;
       count = grind (arith, common_steps);
       all = grind (arith, common_steps);
       room = grind (arith, common_steps);

@@ -2,8 +2,7 @@ use Rattle.std.proofs.Common.{◌+◌, ◌++◌, ◌<◌, ◌≡◌, ◌≤◌, 
 use Rattle.std.specs.Prelude.{nat_lt, vec_capacity}
 use Rattle.std.specs.Vec.Iter.{into_iter_items}
 use Rattle.request_book.specs.Call.{ClosesAfterFault, FaultsTold, calls_of}
-use Rattle.request_book.specs.Content.{Content}
-use Rattle.request_book.specs.Keeper.{LeavesOnly}
+use Rattle.request_book.specs.Keeper.{CrashLeaves}
 use Rattle.request_book.specs.Run.{Run}
 use Rattle.request_book.proofs.book.Book.run.Given as goal
 
@@ -22,8 +21,7 @@ invariant-loop-delivery g l =
       faults : FaultsTold (K.fault_count old) (K.fault_count new) calls;
       closed : ClosesAfterFault had_failed calls;
       nothing : 0 < K.fault_count old → l.self ≡ l.fn.self;
-      left : K.sound new → LeavesOnly (K.may_leave old) (K.content old) → (left : Content g.row.M-State.Denot g.row.M-Command.Denot g.row.M-Reply.Denot) → K.may_leave new left → Run (g.M.Machine.step l.fn.self.machine) (K.limit old) had_failed (K.content old) calls left;
-      settled : K.sound new → LeavesOnly (K.may_leave old) (K.content old) → K.fault_count new ≡ 0 → LeavesOnly (K.may_leave new) (K.content new);
+      left : K.sound new → K.fault_count old ≡ 0 → CrashLeaves (K.may_leave new) (Run (g.M.Machine.step l.fn.self.machine) (K.limit old) had_failed (K.content old) calls);
       count : length l.answers.items ≡ length l.yielded;
       all : l.fn.deliveries.items ≡ l.yielded ++ into_iter_items l.delivery-iterator;
       room : vec_len l.answers + length (into_iter_items l.delivery-iterator) ≤ vec_capacity l.answers;

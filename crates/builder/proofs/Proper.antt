@@ -1,0 +1,109 @@
+-- The commands of a run's entries are those of its calls.
+use Rattle.std.proofs.Common.{◌≡◌, ℕ, ◌≤◌, ◌++◌, Bool, true, false, cond, List, [], ◌∷◌, length, Option, Some, None, refl, sym, subst, ◌∙◌, max}
+use Rattle.std.specs.Prelude.{All, Err, MatchOption, Ok, ⊤}
+use Rattle.std.specs.List.{AllByRecursion, flat_map}
+use Rattle.std.specs.Option.{option_to_list}
+use Rattle.std.proofs.lemmas.Bool.{cond_both}
+use Rattle.std.proofs.lemmas.List.{append_cancel_left}
+use Rattle.std.proofs.lemmas.List.Elements.{All-append, All-cons, All-from_recursion, All-nil, recursion_from_All}
+use Rattle.ring_messages.specs.Proper.{IsProperCommand}
+use Rattle.ring_words.specs.declared.request.Limits.{Limits}
+use Rattle.ring_words.specs.declared.command.Command.{Command}
+use Rattle.ring_words.specs.declared.command.Reply.{Reply}
+use Rattle.request_book.specs.Call.{Call, Deliver, Load, failed, meets_fault}
+use Rattle.request_book.specs.Content.{Content, is_known}
+use Rattle.request_book.specs.Once.{decision, firsts, once}
+use Rattle.request_book.specs.Run.{IsInDoubt, Run, kept}
+use Rattle.request_book.specs.declared.entry.Entry.{Entry}
+use Rattle.builder.specs.Safety.{AreValid, Entries, IsSafeRun}
+use Rattle.builder.specs.Step.{State, Step}
+
+-- What a call delivers, if it does, is proper.
+abbrev pub IsProperCall : Call Command Reply → Type 0
+IsProperCall (Deliver delivery answer) = IsProperCommand delivery.command
+IsProperCall (Load answer) = ⊤
+
+abbrev IsProperEntry : Entry Command Reply → Type 0
+IsProperEntry entry = IsProperCommand entry.command
+
+abbrev AreProper : Entries → Type 0
+AreProper entries = AllByRecursion IsProperEntry entries
+
+proper_decisions : (calls : List (Call Command Reply)) → AllByRecursion IsProperCall calls
+    → AreProper (flat_map decision calls)
+proper_decisions [] proper = tt
+proper_decisions (Deliver d (Ok r) ∷ calls) proper = (proper.0, proper_decisions calls proper.1)
+proper_decisions (Deliver d (Err f) ∷ calls) proper = proper_decisions calls proper.1
+proper_decisions (Load answer ∷ calls) proper = proper_decisions calls proper.1
+
+proper_firsts : (seen entries : Entries) → AreProper entries
+    → AreProper (firsts seen entries)
+proper_firsts seen [] proper = tt
+proper_firsts seen (e ∷ es) proper =
+    cond_both (is_known e.key seen) (firsts seen es) (e ∷ firsts (seen ++ e ∷ []) es) AreProper
+    (λ known. proper_firsts seen es proper.1)
+    (λ new. (proper.0, proper_firsts (seen ++ e ∷ []) es proper.1))
+
+proper_kept : (hour : ℕ) (entries : Entries) → AreProper entries
+    → AreProper (kept hour entries)
+proper_kept hour [] proper = tt
+proper_kept hour (e ∷ es) proper = (proper.0, proper_kept (max hour e.hour) es proper.1)
+
+proper_if : (b : Bool) (first call : Call Command Reply) (rest : Option (Call Command Reply))
+    → cond b (Some first) rest ≡ Some call → IsProperCall first
+    → (rest ≡ Some call → IsProperCall call) → IsProperCall call
+proper_if true first call rest found proper others = subst IsProperCall (one_call first call found) proper
+  where
+    one_call : (a b : Call Command Reply) → Some a ≡ Some b → a ≡ b
+    one_call a b e = cc
+proper_if false first call rest found proper others = others found
+
+proper_failed : (calls : List (Call Command Reply)) (call : Call Command Reply)
+    → AllByRecursion IsProperCall calls → failed calls ≡ Some call → IsProperCall call
+proper_failed [] call proper found = cc
+proper_failed (first ∷ calls) call proper found =
+    proper_if (meets_fault first) first call (failed calls) found proper.0
+    (proper_failed calls call proper.1)
+
+proper_doubt : (limit : ℕ) (book : Entries) (call : Option (Call Command Reply))
+    (doubt : Option (Entry Command Reply)) → MatchOption doubt (Unit {0})
+    (IsInDoubt limit book call) → ((c : Call Command Reply) → call ≡ Some c → IsProperCall c)
+    → All IsProperEntry (option_to_list doubt)
+proper_doubt limit book call None is proper = All-nil IsProperEntry
+proper_doubt limit book None (Some e) is proper = absurd is
+proper_doubt limit book (Some (Load answer)) (Some e) is proper = absurd is
+proper_doubt limit book (Some (Deliver d answer)) (Some e) is proper =
+    All-cons IsProperEntry e [] (subst IsProperCommand (sym is.2) (proper (Deliver d answer) refl))
+    (All-nil IsProperEntry)
+
+-- Where all that was delivered is proper, so are the entries that a run decided.
+pub proper_entries : (limits : Limits) (limit : ℕ) (closed : Bool)
+    (old new : Content State Command Reply) (calls : List (Call Command Reply))
+    → Run (Step limits) limit closed old calls new → All IsProperCall calls
+    → (safe : IsSafeRun limits old new) → All IsProperEntry safe.entries
+proper_entries limits limit closed old new calls run proper safe =
+    let each : AllByRecursion IsProperCall calls = recursion_from_All IsProperCall calls proper in
+    let first : AreProper (once old.book calls) =
+    proper_firsts old.book (flat_map decision calls) (proper_decisions calls each) in
+    let last : All IsProperEntry (option_to_list run.doubt) =
+    proper_doubt limit (old.book ++ kept old.hour (once old.book calls))
+    (failed calls) run.doubt run.in_doubt (λ call found. proper_failed calls call each found) in
+    let decided : Entries = once old.book calls ++ option_to_list run.doubt in
+    let all : All IsProperEntry decided =
+    All-append IsProperEntry (once old.book calls) (option_to_list run.doubt)
+    (All-from_recursion IsProperEntry (once old.book calls) first) last in
+    let entries : All IsProperEntry (kept old.hour decided) =
+    All-from_recursion IsProperEntry (kept old.hour decided)
+    (proper_kept old.hour decided (recursion_from_All IsProperEntry decided all)) in
+    let same : kept old.hour decided ≡ safe.entries =
+    append_cancel_left old.book (kept old.hour decided) safe.entries (sym run.leads.book ∙ safe.book) in
+    subst (All IsProperEntry) same entries
+
+-- Where the old rings are valid too, so are all rings on the way.
+pub valid_run : (limits : Limits) (limit : ℕ) (closed : Bool)
+    (old new : Content State Command Reply) (calls : List (Call Command Reply))
+    → Run (Step limits) limit closed old calls new → All IsProperCall calls → AreValid old.state
+    → (safe : IsSafeRun limits old new) → (n : ℕ) → n ≤ length safe.entries
+    → AreValid (safe.rings n)
+valid_run limits limit closed old new calls run proper valid safe =
+    safe.safe.valid valid (proper_entries limits limit closed old new calls run proper safe)

@@ -1,0 +1,10 @@
+-- A valid ring is rebalanced to a valid one.
+use Rattle.std.proofs.Common.{ℕ}
+use Rattle.ring_model.specs.Ring.{RingRecord}
+use Rattle.ring_model.specs.Valid.{IsValid}
+use Rattle.ring_place.specs.Rebalance.{IsRebalance}
+use Rattle.ring_place.proofs.Lawful.{lawful}
+use Rattle.ring_place.proofs.ValidAfter.{stays_valid}
+
+pub rebalanced_valid : (old new : RingRecord) (hour : ℕ) → IsValid old → IsRebalance old hour new → IsValid new
+rebalanced_valid old new hour valid is = stays_valid old new hour valid (lawful old new hour is)

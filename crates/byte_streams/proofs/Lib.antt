@@ -1,0 +1,4 @@
+pub mod CountLemmas
+pub mod InTurnLemmas
+pub mod KnownLemmas
+pub mod ServedLemmas

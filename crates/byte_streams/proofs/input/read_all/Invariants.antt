@@ -1,0 +1,14 @@
+use Rattle.std.proofs.Common.{◌≡◌, vec_len}
+use Rattle.std.specs.Io.KnownBytes.{Consumes}
+use Rattle.byte_streams.specs.Counted.{read_faults, reader_of, reads_left}
+use Rattle.byte_streams.proofs.input.read_all.Given as goal
+
+abbrev pub invariant-loop-bytes : goal.invariant-loop-bytes
+invariant-loop-bytes g l = record {
+  room : vec_len l.chunk ≡ 65536;
+  came : Consumes (g.R.Read.remaining (reader_of l.fn.reader)) (g.R.Read.remaining (reader_of l.reader)) l.bytes.items;
+  same : read_faults l.reader ≡ read_faults l.fn.reader;
+}
+
+abbrev pub decreases-loop-bytes : goal.decreases-loop-bytes
+decreases-loop-bytes g l = reads_left l.reader

@@ -1,0 +1,5 @@
+pub mod StreamFault
+pub mod Counted
+pub mod Writing
+pub mod InTurn
+pub mod Serving
