@@ -1,0 +1,220 @@
+#!/usr/bin/env python3
+"""The words of the contracts: checks/definitions.py [--write | --inner]
+
+A contract of a public call cites words that stand in crates/NAME/specs, and each of these rests on others. Who wants to
+know what is proved has to read these words, and no others. This script finds them in the sources. It compares them with
+docs/definitions.md and fails where that page isn't up to date; --write writes the page anew, and --inner lists the words of
+specs/ that no public contract rests on.
+"""
+import re
+import sys
+from collections import defaultdict
+from pathlib import Path
+
+TOP = Path(__file__).resolve().parent.parent
+PAGE = TOP / "docs" / "definitions.md"
+TESTS = {"ring_tests", "request_tests", "test_streams"}
+WORD = re.compile(r"[A-Za-z_][A-Za-z0-9_]*(?:['-][A-Za-z0-9_]+)*")
+DEFINED = re.compile(r"^\s*(?:abbrev |unfoldable )?pub (?:record |data )?([A-Za-z_][\w'-]*)")
+HEAD = """# The words of the contracts
+
+Contracts of public calls cite these words, or words that these rest on. Each stands once, in the lowest crate that needs
+it, with the sentence that is told here before it. `checks/definitions.py --write` makes this page from the sources, and
+the gate's script checks that it is up to date.
+
+Rings, partitions, replicas, devices, weights, hours between moves and the hash of a path are OpenStack Swift's ('The
+Rings'). MD5 is RFC 1321's. JSON is RFC 8259's as `serde_json` reads it, CSV is RFC 4180's as `csv` reads it, statuses are
+RFC 9110's. All else is this project's own.
+"""
+
+
+def crates():
+    names = [line.split(":")[0] for line in (TOP / "crates.txt").read_text().splitlines() if re.match(r"\w+:", line)]
+    return [name for name in names if name not in TESTS]
+
+
+class Word:
+    def __init__(self, crate, file, name, told):
+        self.crate, self.file, self.name, self.told = crate, file, name, told
+        self.body = []
+        self.rests_on = set()
+
+
+def imports(text, crate):
+    """The names that a file brings in from the repository's specs, with crate and file of each."""
+    found = {}
+    pattern = r"use Rattle\.(\w+)\.specs\.([\w.]+?)(?:\.\{([^}]*)\}| as (\w+))"
+    for owner, module, names, alias in re.findall(pattern, text):
+        if module.startswith("declared."):
+            continue
+        if alias:
+            found[alias + "."] = (owner, module, None)
+        for name in names.split(","):
+            name = name.strip()
+            if name:
+                old, _, new = name.partition(" as ")
+                found[(new or old).strip()] = (owner, module, old.strip())
+    return found
+
+
+def read_specs(names):
+    words = {}
+    for crate in names:
+        for path in sorted((TOP / "crates" / crate / "specs").rglob("*.antt")):
+            module = ".".join(path.relative_to(TOP / "crates" / crate / "specs").with_suffix("").parts)
+            if module == "Lib":
+                continue
+            told, word = [], None
+            for line in path.read_text().splitlines():
+                if line.strip().startswith("--"):
+                    told.append(line.strip().lstrip("- ").strip())
+                    continue
+                match = DEFINED.match(line)
+                field = line.startswith("  ") and word is not None and re.match(r"^\s+pub \S+ :", line) and not line.strip().startswith("abbrev")
+                if match and not (field and word.is_record):
+                    word = Word(crate, module, match.group(1), " ".join(told))
+                    word.is_record = bool(re.match(r"^\s*pub record ", line))
+                    word.indent = len(line) - len(line.lstrip())
+                    words[(crate, module, word.name)] = word
+                elif line and not line.startswith(" ") and not (word and line.startswith(word.name)):
+                    word = None
+                if word:
+                    word.body.append(line)
+                if line.strip():
+                    told = []
+    return words
+
+
+def matched(text, start):
+    depth = 0
+    for at in range(start, len(text)):
+        depth += {"{": 1, "}": -1}.get(text[at], 0)
+        if depth == 0:
+            return text[start + 1:at]
+    return text[start + 1:]
+
+
+def owner_of(head):
+    """The type that an impl is for."""
+    head = head[len("impl"):].strip()
+    if head.startswith("<"):
+        depth = 0
+        for at, letter in enumerate(head):
+            depth += {"<": 1, ">": -1}.get(letter, 0)
+            if depth == 0:
+                head = head[at + 1:]
+                break
+    return re.search(r"\w+", head.split(" for ")[-1].replace("&", "")).group(0)
+
+
+def public_clauses(text):
+    """The clauses of public functions and of traits, with the name of each function."""
+    text = re.sub(r"(?m)^\s*//.*$", "", text).split("#[cfg(test)]\nmod tests {")[0]
+    is_public, owner = False, ""
+    spot = re.compile(r"(?m)^(?P<impl>impl\b[^{]*?)(?=\{|\n)|^pub trait (?P<trait>\w+)|^(?P<plain>(?:pub(?:\(crate\))? )?(?:struct|enum|mod)\b)"
+                      r"|(?P<vis>pub(?:\(crate\))? )?(?:const )?fn (?P<fn>\w+)|(?P<kind>ensures|requires)\*?(?: \w+)? \{|ghost (?P<ghost>\w+)(?:: \{| = \{)")
+    in_trait = False
+    for match in spot.finditer(text):
+        if match["impl"] is not None:
+            in_trait = " for " in match["impl"]
+            owner = owner_of(match["impl"]) + "::"
+        elif match["trait"]:
+            in_trait, owner = True, match["trait"] + "::"
+        elif match["plain"]:
+            in_trait, owner = False, ""
+        elif match["fn"]:
+            at_top = text.rfind("\n", 0, match.start()) + 1 == match.start()
+            if at_top:
+                in_trait, owner = False, ""
+            is_public = match["vis"] == "pub " or in_trait
+            function = owner + match["fn"]
+        elif match["kind"] and is_public:
+            yield function, matched(text, match.end() - 1)
+        elif match["ghost"] and in_trait and match["ghost"] not in ("invariant", "inverse", "coded"):
+            yield owner.rstrip(":"), matched(text, match.end() - 1)
+
+
+def cited(text, crate, names, words, module=None):
+    """The words of the repository that a text cites, by what its file brings in and by what stands beside it."""
+    found = set()
+    for token in re.findall(r"(?:\w+\.)?[A-Za-z_][\w]*(?:['-]\w+)*", text):
+        head, dot, tail = token.partition(".")
+        if dot and head + "." in names:
+            owner, where, _ = names[head + "."]
+            found.add((owner, where, tail))
+        for part in ([head, tail] if dot else [token]):
+            if part in names and names[part][2]:
+                found.add(names[part])
+            elif module and (crate, module, part) in words:
+                found.add((crate, module, part))
+    return {key for key in found if key in words}
+
+
+def gather():
+    names = crates()
+    words = read_specs(names)
+    for key, word in words.items():
+        path = TOP / "crates" / word.crate / "specs" / (word.file.replace(".", "/") + ".antt")
+        brought = imports(path.read_text(), word.crate)
+        word.rests_on = cited("\n".join(word.body), word.crate, brought, words, word.file) - {key}
+    users = defaultdict(list)
+    for crate in names:
+        for path in sorted((TOP / "crates" / crate / "src").rglob("*.rt")):
+            if "tests" in path.parts or path.stem in ("tests", "checker"):
+                continue
+            text = path.read_text()
+            brought = imports(text, crate)
+            for function, clause in public_clauses(text):
+                for key in cited(clause, crate, brought, words):
+                    if (crate, function) not in users[key]:
+                        users[key].append((crate, function))
+    reached, left = set(), [key for key in users if users[key]]
+    while left:
+        key = left.pop()
+        if key not in reached:
+            reached.add(key)
+            left.extend(words[key].rests_on)
+    return names, words, users, reached
+
+
+def page(names, words, users, reached):
+    out = [HEAD]
+    for crate in names:
+        files = sorted({key[1] for key in reached if key[0] == crate}, key=lambda f: f)
+        if not files:
+            continue
+        out.append(f"\n## `{crate}`\n")
+        for file in files:
+            out.append(f"\n### `specs/{file.replace('.', '/')}.antt`\n\n| Word | What it says | In the contracts of |\n|---|---|---|\n")
+            for key, word in words.items():
+                if key in reached and key[:2] == (crate, file):
+                    calls = ", ".join(f"`{function}`" for _, function in users.get(key, [])[:6])
+                    more = len(users.get(key, [])) - 6
+                    calls += f" and {more} more" if more > 0 else ""
+                    told = word.told[:1].upper() + word.told[1:] if word.told else ""
+                    out.append(f"| `{word.name}` | {told.replace('|', chr(92) + '|')} | {calls} |\n")
+    return "".join(out)
+
+
+def main():
+    names, words, users, reached = gather()
+    if "--inner" in sys.argv:
+        for key, word in words.items():
+            if key not in reached:
+                print(f"{word.crate}/specs/{word.file}.antt: {word.name}")
+        return 0
+    untold = [f"{w.crate}/specs/{w.file}.antt: {w.name}" for k, w in words.items() if k in reached and not w.told]
+    text = page(names, words, users, reached)
+    if "--write" in sys.argv:
+        PAGE.write_text(text)
+    faults = [f"no sentence before {name}" for name in untold]
+    if PAGE.read_text() != text:
+        faults.append("docs/definitions.md isn't up to date: checks/definitions.py --write")
+    for fault in faults:
+        print(fault)
+    print(f"definitions: {len(reached)} words of public contracts, {len(words) - len(reached)} others")
+    return 1 if faults else 0
+
+
+if __name__ == "__main__":
+    sys.exit(main())
