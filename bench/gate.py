@@ -1,0 +1,98 @@
+#!/usr/bin/env python3
+"""Measures what the gate costs: for each crate the processor seconds of its proof, its tests' proof and its wrong bodies.
+
+Usage: bench/gate.py [--edits] [CRATE ..]      (all crates where none is named; --edits times the wrong bodies alone)
+
+The crates have to be checked before (`rt all check`): a wrong body is then tried over what that check kept, as `rt ci` tries
+it over the work of those before it. A proof from nothing is timed in a copy. One line a crate, and one for each wrong body
+that takes over 20 seconds; the last lines are the table of docs/gate.md.
+"""
+import importlib.machinery
+import importlib.util
+import os
+import resource
+import shutil
+import subprocess
+import sys
+import tempfile
+import time
+
+ROOT = os.path.dirname(os.path.dirname(os.path.abspath(__file__)))
+DEAR = 20
+
+
+def tool():
+    """The toolchain's own script, as a module: its functions try a wrong body as the gate does."""
+    path = os.path.realpath(shutil.which("rt"))
+    sys.path.insert(0, os.path.dirname(path))
+    loader = importlib.machinery.SourceFileLoader("rt_tool", path)
+    spec = importlib.util.spec_from_loader("rt_tool", loader)
+    module = importlib.util.module_from_spec(spec)
+    loader.exec_module(module)
+    return module
+
+
+def timed(act):
+    """What `act` answers, the processor seconds of its children, and the seconds that passed."""
+    used, began = resource.getrusage(resource.RUSAGE_CHILDREN), time.time()
+    answer = act()
+    now = resource.getrusage(resource.RUSAGE_CHILDREN)
+    return answer, now.ru_utime + now.ru_stime - used.ru_utime - used.ru_stime, time.time() - began
+
+
+def proof(crate, room, *flags):
+    """The processor seconds of a check from nothing in the copy `room` of the repository."""
+    folder = f"{room}/crates/{crate.name}"
+    shutil.rmtree(f"{folder}/out/incremental", ignore_errors=True)
+    command = ["rt", "check", *flags, "--jobs", "1"]
+    quiet = {"stdout": subprocess.DEVNULL, "stderr": subprocess.DEVNULL}
+    ran, used, _ = timed(lambda: subprocess.run(command, cwd=folder, **quiet))
+    return used if ran.returncode == 0 else None
+
+
+def edits(rt, crate):
+    """For each wrong body its name, whether it is refused, and the processor seconds."""
+    good, _ = rt.edits_of(crate)
+    rows = []
+    with tempfile.TemporaryDirectory(prefix="gate-") as kept:
+        shutil.copytree(f"{crate.folder}/out/incremental", kept, dirs_exist_ok=True)
+        for edit in good:
+            (refused, text), used, _ = timed(lambda: rt.must_fail(crate, edit, ["--jobs", "1"], kept))
+            name = os.path.basename(edit)[: -len(".edit")]
+            rows.append((name, refused, used))
+            if not refused or used > DEAR:
+                print(f"  {crate.name}/{name}: {used:.0f} s{'' if refused else ', NOT REFUSED: ' + text}", flush=True)
+    return rows
+
+
+def main(words):
+    only_edits = "--edits" in words
+    names = [it for it in words if not it.startswith("--")]
+    rt = tool()
+    os.chdir(ROOT)
+    table = []
+    for crate in rt.rtlib.crates_below(ROOT):
+        if names and crate.name not in names:
+            continue
+        cost = {}
+        if not only_edits:
+            with tempfile.TemporaryDirectory(prefix="gate-") as room:
+                shutil.copytree(ROOT, room, dirs_exist_ok=True, symlinks=True)
+                cost["proof"] = proof(crate, room)
+                cost["tests"] = proof(crate, room, "--test") if crate.has_tests() else 0
+        rows = edits(rt, crate)
+        spent = [it[2] for it in rows]
+        mean = f"{sum(spent) / len(spent):.0f}" if spent else ""
+        told = [f"{cost[it]:.0f}" if cost.get(it) else "" for it in ("proof", "tests")]
+        table.append(f"| `{crate.name}` | {told[0]} | {told[1]} | {len(rows)} | {mean} | {sum(spent):.0f} |")
+        print(table[-1], flush=True)
+        left = [it[0] for it in rows if not it[1]]
+        if left:
+            print(f"  not refused: {' '.join(left)}", flush=True)
+    print(f"\n{os.cpu_count()} processors, {time.strftime('%Y-%m-%d')}, processor seconds")
+    print("| crate | proof | tests | wrong bodies | each | all |\n|---|---|---|---|---|---|")
+    print("\n".join(table))
+
+
+if __name__ == "__main__":
+    main(sys.argv[1:])
