@@ -1,9 +1,8 @@
 -- The faults of a list of calls, with one call more.
 use Rattle.std.proofs.Common.{◌++◌, ◌<◌, ◌≡◌, ◌∙◌, ◌∷◌, ◌⊎◌, List, None, Option, Some, [], ap, arith, inl, inr, length, refl, subst, sym, ℕ}
-use Rattle.std.specs.Prelude.{◌↔◌, ◌||◌, Bool, Err, MatchOption, Ok, Result, cond, false, is_some, map, nat_lt, true}
+use Rattle.std.specs.Prelude.{◌||◌, Bool, Err, MatchOption, Ok, Result, cond, false, is_some, map, nat_lt, true}
 use Rattle.std.specs.List.{zip}
 use Rattle.std.specs.Option.{option_or}
-use Rattle.std.specs.Result.{IsErrOf}
 use Rattle.std.proofs.lemmas.Bool.Decides.{nat_tests}
 use Rattle.std.proofs.lemmas.List.{map-append}
 use Rattle.std.proofs.lemmas.List.Folds.{find-append}
@@ -52,17 +51,17 @@ or_right false b h = h
 pub above_zero : (m n : ℕ) → m < n → nat_lt 0 n ≡ true
 above_zero m n h = grind (arith, nat_tests)
 
-not_above : (n : ℕ) → (0 < n → ⊥) → nat_lt 0 n ≡ false
+pub not_above : (n : ℕ) → (0 < n → ⊥) → nat_lt 0 n ≡ false
 not_above n h = grind (arith, nat_tests)
 
--- the answer says that the book is closed where its contract does
-closed_told : {A : Type 0} (m : ℕ) (a : Result A Fault) → IsErrOf a Closed ↔ (0 < m) → is_closed_fault a ≡ nat_lt 0 m
-closed_told m (Err Closed) h = sym (above_zero 0 m (h.0 refl))
-closed_told m (Err StoreFault) h = sym (not_above m (λ p. let e : Err StoreFault ≡ Err Closed = h.1 p in cc))
-closed_told m (Err BookFull) h = sym (not_above m (λ p. let e : Err BookFull ≡ Err Closed = h.1 p in cc))
-closed_told m (Err NoMemory) h = sym (not_above m (λ p. let e : Err NoMemory ≡ Err Closed = h.1 p in cc))
-closed_told m (Err NumberReused) h = sym (not_above m (λ p. let e : Err NumberReused ≡ Err Closed = h.1 p in cc))
-closed_told m (Ok reply) h = sym (not_above m (λ p. let e : Ok reply ≡ Err Closed = h.1 p in cc))
+-- the one answer that says that the book is closed
+pub is_closed_answer : {A : Type 0} (a : Result A Fault) → is_closed_fault a ≡ true → a ≡ Err Closed
+is_closed_answer (Err Closed) h = refl
+is_closed_answer (Err StoreFault) h = cc
+is_closed_answer (Err BookFull) h = cc
+is_closed_answer (Err NoMemory) h = cc
+is_closed_answer (Err NumberReused) h = cc
+is_closed_answer (Ok reply) h = cc
 
 module _ {C R : Type 0} where
   -- the calls of deliveries, with one more
@@ -121,5 +120,5 @@ module _ {C R : Type 0} where
   pub faults_more : (old mid new : ℕ) (ds : List (Delivery C)) (sofar later : List (Result R Fault)) (d : Delivery C) (a : Result R Fault) → length sofar ≡ length ds → later ≡ sofar ++ a ∷ [] → FaultsTold old mid (calls_of ds sofar) → FaultsTold {C = C} mid new (Deliver d a ∷ []) → FaultsTold old new (calls_of (ds ++ d ∷ []) later)
   faults_more old mid new ds sofar later d a n more h k = subst (λ xs. FaultsTold old new xs) (sym (calls_of-snoc ds sofar later d a n more)) (faults-snoc old mid new (calls_of ds sofar) (Deliver d a) h k)
 
-  pub closes_more : (old mid : ℕ) (ds : List (Delivery C)) (sofar later : List (Result R Fault)) (d : Delivery C) (a : Result R Fault) → length sofar ≡ length ds → later ≡ sofar ++ a ∷ [] → FaultsTold old mid (calls_of ds sofar) → ClosesAfterFault (nat_lt 0 old) (calls_of ds sofar) → IsErrOf a Closed ↔ (0 < mid) → ClosesAfterFault (nat_lt 0 old) (calls_of (ds ++ d ∷ []) later)
-  closes_more old mid ds sofar later d a n more t h k = subst (λ xs. ClosesAfterFault (nat_lt 0 old) xs) (sym (calls_of-snoc ds sofar later d a n more)) (closes-snoc (nat_lt 0 old) (calls_of ds sofar) (Deliver d a) h (closed_told mid a k ∙ closed_by old mid (calls_of ds sofar) t))
+  pub closes_more : (old mid : ℕ) (ds : List (Delivery C)) (sofar later : List (Result R Fault)) (d : Delivery C) (a : Result R Fault) → length sofar ≡ length ds → later ≡ sofar ++ a ∷ [] → FaultsTold old mid (calls_of ds sofar) → ClosesAfterFault (nat_lt 0 old) (calls_of ds sofar) → is_closed_fault a ≡ nat_lt 0 mid → ClosesAfterFault (nat_lt 0 old) (calls_of (ds ++ d ∷ []) later)
+  closes_more old mid ds sofar later d a n more t h k = subst (λ xs. ClosesAfterFault (nat_lt 0 old) xs) (sym (calls_of-snoc ds sofar later d a n more)) (closes-snoc (nat_lt 0 old) (calls_of ds sofar) (Deliver d a) h (k ∙ closed_by old mid (calls_of ds sofar) t))

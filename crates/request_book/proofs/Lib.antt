@@ -2,3 +2,5 @@ pub mod Alike
 pub mod Calls
 pub mod Once
 pub mod Runs
+pub mod Makes
+pub mod Places

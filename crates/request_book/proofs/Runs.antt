@@ -1,19 +1,18 @@
 -- A run goes on by one call.
 use Rattle.std.proofs.Common.{◌++◌, ◌<◌, ◌≡◌, ◌∙◌, ◌∷◌, List, MatchOption, None, Option, Some, [], ap, append-nil, append_assoc, arith, inl, inr, length, max, refl, suc, subst, sym, zero, ℕ}
-use Rattle.std.specs.Prelude.{◌↔◌, ◌||◌, Bool, Err, IsSomeAnd, Ok, Result, false, is_some, nat_lt, true}
+use Rattle.std.specs.Prelude.{◌||◌, Bool, Err, IsSomeAnd, Ok, Result, false, is_some, nat_lt, true}
 use Rattle.std.specs.Option.{option_to_list}
-use Rattle.std.specs.Result.{IsErrOf}
 use Rattle.ring_words.specs.declared.request.Delivery.{Delivery}
 use Rattle.request_book.specs.declared.book.Fault.{Fault}
 use Rattle.request_book.specs.declared.book.Fault.TheVariants.{BookFull, Closed, NoMemory, NumberReused, StoreFault}
 use Rattle.request_book.specs.declared.entry.Entry.{Entry}
-use Rattle.request_book.specs.Call.{Call, Deliver, Load, calls_of, failed, meets_fault}
+use Rattle.request_book.specs.Call.{Call, Deliver, Load, calls_of, failed, is_closed_fault, meets_fault}
 use Rattle.request_book.specs.Called.{Acts, Called}
 use Rattle.request_book.specs.Content.{Content, entry_of, is_known}
 use Rattle.request_book.specs.Keeper.{CrashLeaves, LeavesOnly}
 use Rattle.request_book.specs.Once.{decision, once}
 use Rattle.request_book.specs.Run.{Chain, IsInDoubt, Leads, MayAnswer, Run, kept, last_hour}
-use Rattle.request_book.proofs.Calls.{above_zero, calls_of-snoc, failed-new, failed-ok, no_member, or_false, or_right, split_last}
+use Rattle.request_book.proofs.Calls.{above_zero, calls_of-snoc, failed-new, failed-ok, is_closed_answer, no_member, or_false, or_right, split_last}
 use Rattle.request_book.proofs.Once.{kept-snoc, known_kept, last_hour-snoc, once-new, once-none, once-old}
 
 -- what a crash leaves has each property that follows
@@ -143,13 +142,13 @@ module _ {S C R : Type 0} (step : S → ℕ → C → R → S → Type 0) where
 
     -- what a crash may leave after one delivery more: what it may leave where the book was open, and what was left
     -- before it where the book was closed
-    pub left_more : (ds : List (Delivery C)) (sofar later : List (Result R Fault)) (limit' m : ℕ) (mid : Content S C R) (d : Delivery C) (a : Result R Fault) (was is : Option (Content S C R) → Type 0) → length sofar ≡ length ds → later ≡ sofar ++ a ∷ [] → limit' ≡ limit → nat_lt 0 m ≡ (closed || is_some (failed (calls_of ds sofar))) → Run step limit closed old (calls_of ds sofar) mid → CrashLeaves was (Run step limit closed old (calls_of ds sofar)) → (m ≡ 0 → CrashLeaves is (Called step limit' false mid (Deliver d a))) → (0 < m → was ≡ is) → IsErrOf a Closed ↔ (0 < m) → CrashLeaves is (Run step limit closed old (calls_of (ds ++ d ∷ []) later))
+    pub left_more : (ds : List (Delivery C)) (sofar later : List (Result R Fault)) (limit' m : ℕ) (mid : Content S C R) (d : Delivery C) (a : Result R Fault) (was is : Option (Content S C R) → Type 0) → length sofar ≡ length ds → later ≡ sofar ++ a ∷ [] → limit' ≡ limit → nat_lt 0 m ≡ (closed || is_some (failed (calls_of ds sofar))) → Run step limit closed old (calls_of ds sofar) mid → CrashLeaves was (Run step limit closed old (calls_of ds sofar)) → (m ≡ 0 → CrashLeaves is (Called step limit' false mid (Deliver d a))) → (0 < m → was ≡ is) → is_closed_fault a ≡ nat_lt 0 m → CrashLeaves is (Run step limit closed old (calls_of (ds ++ d ∷ []) later))
     left_more ds sofar later limit' zero mid d a was is n more l k r w o s t =
         leaves_map is (Called step limit' false mid (Deliver d a)) (Run step limit closed old (calls_of (ds ++ d ∷ []) later)) (λ left i. run_more ds sofar later limit' false mid d a left n more l k r i) (o refl)
     left_more ds sofar later limit' (suc m) mid d a was is n more l k r w o s t =
         let above : 0 < suc m = omega arith in
-        let c : a ≡ Err Closed = t.1 above in
         let f : nat_lt 0 (suc m) ≡ true = above_zero 0 (suc m) above in
+        let c : a ≡ Err Closed = is_closed_answer a (t ∙ f) in
         leaves_map is (Run step limit closed old (calls_of ds sofar)) (Run step limit closed old (calls_of (ds ++ d ∷ []) later)) (λ left i. run_more ds sofar later limit' true left d a left n more l (sym f ∙ k) i (subst (λ x. Called step limit' true left (Deliver d x) left) (sym c) (record { may = refl; leaves = refl })))
         (subst (λ may. CrashLeaves may (Run step limit closed old (calls_of ds sofar))) (s above) w)
 

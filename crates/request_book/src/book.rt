@@ -4,6 +4,7 @@ ghost use Rattle.request_book.specs.Book.{Parts};
 ghost use Rattle.request_book.specs.Call.{ClosesAfterFault, Deliver, FaultsTold, Load, calls_of};
 ghost use Rattle.request_book.specs.Called.{Called};
 ghost use Rattle.request_book.specs.Keeper.{CrashLeaves, LeavesOnly};
+ghost use Rattle.request_book.specs.Made.{Makes};
 ghost use Rattle.request_book.specs.Run.{AnswersAlike, Run};
 ghost use Rattle.request_book.specs.declared.book.Fault.TheVariants.{NoMemory};
 
@@ -90,15 +91,8 @@ impl<M: Machine, K: Keeper<M>> Book<M, K> {
 
     /// Answers a delivery, as `deliver` does.
     fn answer(&mut self, delivery: Delivery<M::Command>) -> Answer<M::Reply>
-        ensures called { K.sound self.new.keeper → Called (M.step self.old.machine) (K.limit self.old.keeper) (nat_lt 0 (K.fault_count self.old.keeper)) (K.content self.old.keeper) (Deliver delivery result) (K.content self.new.keeper) }
-        ensures sound { K.sound self.new.keeper → K.sound self.old.keeper }
-        ensures limit { K.limit self.new.keeper ≡ K.limit self.old.keeper }
-        ensures machine { self.new.machine ≡ self.old.machine }
-        ensures faults { FaultsTold (K.fault_count self.old.keeper) (K.fault_count self.new.keeper) (Deliver delivery result ∷ []) }
-        ensures closed { IsErrOf result Fault.Closed ↔ (0 < K.fault_count self.old.keeper) }
-        ensures nothing { 0 < K.fault_count self.old.keeper → self.new ≡ self.old }
-        ensures left { K.sound self.new.keeper → K.fault_count self.old.keeper ≡ 0 → CrashLeaves (K.may_leave self.new.keeper) (Called (M.step self.old.machine) (K.limit self.old.keeper) false (K.content self.old.keeper) (Deliver delivery result)) }
-        ensures settled { K.sound self.new.keeper → K.fault_count self.new.keeper ≡ 0 → LeavesOnly (K.may_leave self.new.keeper) (K.content self.new.keeper) }
+        ensures { Makes M.step K.content K.sound K.limit K.fault_count K.may_leave self.old self.new
+            (Deliver delivery result) }
     {
         if self.is_closed() {
             return Err(Fault::Closed);
@@ -129,18 +123,15 @@ impl<M: Machine, K: Keeper<M>> Book<M, K> {
     /// is kept for good. `NoMemory` changes nothing, and `StoreFault` leaves the content as before or with the delivery.
     #[tactic(auto, using(crate::proofs::Runs::run_one))]
     pub fn deliver(&mut self, hour: Hour, key: Key, command: M::Command) -> Answer<M::Reply>
-        ensures run { K.sound self.new.keeper → Run (M.step self.old.machine) (K.limit self.old.keeper) (nat_lt 0 (K.fault_count self.old.keeper)) (K.content self.old.keeper) (Deliver (record { hour = hour; key = key; command = command }) result ∷ []) (K.content self.new.keeper) }
-        ensures called { K.sound self.new.keeper → Called (M.step self.old.machine) (K.limit self.old.keeper) (nat_lt 0 (K.fault_count self.old.keeper)) (K.content self.old.keeper) (Deliver (record { hour = hour; key = key; command = command }) result) (K.content self.new.keeper) }
-        ensures sound { K.sound self.new.keeper → K.sound self.old.keeper }
-        ensures limit { K.limit self.new.keeper ≡ K.limit self.old.keeper }
-        ensures machine { self.new.machine ≡ self.old.machine }
-        ensures faults { FaultsTold (K.fault_count self.old.keeper) (K.fault_count self.new.keeper) (Deliver (record { hour = hour; key = key; command = command }) result ∷ []) }
-        ensures closed { IsErrOf result Fault.Closed ↔ (0 < K.fault_count self.old.keeper) }
-        ensures nothing { 0 < K.fault_count self.old.keeper → self.new ≡ self.old }
-
-        // A crash after the call leaves what the call may leave, and where the store didn't fail what it left.
-        ensures left { K.sound self.new.keeper → K.fault_count self.old.keeper ≡ 0 → CrashLeaves (K.may_leave self.new.keeper) (Called (M.step self.old.machine) (K.limit self.old.keeper) false (K.content self.old.keeper) (Deliver (record { hour = hour; key = key; command = command }) result)) }
-        ensures settled { K.sound self.new.keeper → K.fault_count self.new.keeper ≡ 0 → LeavesOnly (K.may_leave self.new.keeper) (K.content self.new.keeper) }
+        ensures run { K.sound self.new.keeper →
+            Run (M.step self.old.machine) (K.limit self.old.keeper) (nat_lt 0 (K.fault_count self.old.keeper))
+            (K.content self.old.keeper) (Deliver (record { hour = hour; key = key; command = command }) result ∷ [])
+            (K.content self.new.keeper) }
+        ensures made { Makes M.step K.content K.sound K.limit K.fault_count K.may_leave self.old self.new
+            (Deliver (record { hour = hour; key = key; command = command }) result) }
+        // Where the store didn't fail, a crash leaves what the call left.
+        ensures settled { K.sound self.new.keeper → K.fault_count self.new.keeper ≡ 0 →
+            LeavesOnly (K.may_leave self.new.keeper) (K.content self.new.keeper) }
     {
         self.answer(Delivery { hour, key, command })
     }
@@ -151,21 +142,30 @@ impl<M: Machine, K: Keeper<M>> Book<M, K> {
         &mut self,
         deliveries: Vec<Delivery<M::Command>>,
     ) -> Result<Vec<Answer<M::Reply>>, AllocError>
-        ensures run { K.sound self.new.keeper → IfOk result (λ answers. Run (M.step self.old.machine) (K.limit self.old.keeper) (nat_lt 0 (K.fault_count self.old.keeper)) (K.content self.old.keeper) (calls_of deliveries.items answers.items) (K.content self.new.keeper)) }
+        ensures run { K.sound self.new.keeper → IfOk result (λ answers.
+            Run (M.step self.old.machine) (K.limit self.old.keeper) (nat_lt 0 (K.fault_count self.old.keeper))
+            (K.content self.old.keeper) (calls_of deliveries.items answers.items) (K.content self.new.keeper)) }
         // What a key is answered by a reply it is answered by each later one, and they have its command.
-        ensures alike { K.sound self.new.keeper → IfOk result (λ answers. AnswersAlike (calls_of deliveries.items answers.items)) }
+        ensures alike { K.sound self.new.keeper →
+            IfOk result (λ answers. AnswersAlike (calls_of deliveries.items answers.items)) }
         ensures count { IfOk result (λ answers. length answers.items ≡ length deliveries.items) }
         ensures sound { K.sound self.new.keeper → K.sound self.old.keeper }
         ensures limit { K.limit self.new.keeper ≡ K.limit self.old.keeper }
         ensures machine { self.new.machine ≡ self.old.machine }
-        ensures faults { IfOk result (λ answers. FaultsTold (K.fault_count self.old.keeper) (K.fault_count self.new.keeper) (calls_of deliveries.items answers.items)) }
-        ensures closed { IfOk result (λ answers. ClosesAfterFault (nat_lt 0 (K.fault_count self.old.keeper)) (calls_of deliveries.items answers.items)) }
+        ensures faults { IfOk result (λ answers.
+            FaultsTold (K.fault_count self.old.keeper) (K.fault_count self.new.keeper)
+            (calls_of deliveries.items answers.items)) }
+        ensures closed { IfOk result (λ answers.
+            ClosesAfterFault (nat_lt 0 (K.fault_count self.old.keeper)) (calls_of deliveries.items answers.items)) }
         ensures nothing { 0 < K.fault_count self.old.keeper → self.new ≡ self.old }
         ensures err { OnErr result (self.new ≡ self.old) }
 
         // A crash after the call leaves what the deliveries may leave, and where the store didn't fail what they left.
-        ensures left { K.sound self.new.keeper → K.fault_count self.old.keeper ≡ 0 → IfOk result (λ answers. CrashLeaves (K.may_leave self.new.keeper) (Run (M.step self.old.machine) (K.limit self.old.keeper) false (K.content self.old.keeper) (calls_of deliveries.items answers.items))) }
-        ensures settled { K.sound self.new.keeper → K.fault_count self.new.keeper ≡ 0 → LeavesOnly (K.may_leave self.new.keeper) (K.content self.new.keeper) }
+        ensures left { K.sound self.new.keeper → K.fault_count self.old.keeper ≡ 0 → IfOk result (λ answers.
+            CrashLeaves (K.may_leave self.new.keeper) (Run (M.step self.old.machine) (K.limit self.old.keeper) false
+            (K.content self.old.keeper) (calls_of deliveries.items answers.items))) }
+        ensures settled { K.sound self.new.keeper → K.fault_count self.new.keeper ≡ 0 →
+            LeavesOnly (K.may_leave self.new.keeper) (K.content self.new.keeper) }
     {
         let mut answers = Vec::with_capacity(self.alloc, deliveries.len())?;
         for delivery in deliveries {
@@ -180,16 +180,14 @@ impl<M: Machine, K: Keeper<M>> Book<M, K> {
     #[tactic(auto, using(crate::proofs::Runs::run_one))]
     pub fn load(&mut self) -> Result<(), Fault>
         ensures loaded { OnOk result (K.is_loaded self.new.keeper × (K.fault_count self.new.keeper ≡ 0)) }
+        ensures run { K.sound self.new.keeper →
+            Run (M.step self.old.machine) (K.limit self.old.keeper) (nat_lt 0 (K.fault_count self.old.keeper))
+            (K.content self.old.keeper) (Load result ∷ []) (K.content self.new.keeper) }
+        ensures made { Makes M.step K.content K.sound K.limit K.fault_count K.may_leave self.old self.new
+            (Load result) }
         ensures content { K.sound self.new.keeper → K.content self.new.keeper ≡ K.content self.old.keeper }
-        ensures run { K.sound self.new.keeper → Run (M.step self.old.machine) (K.limit self.old.keeper) (nat_lt 0 (K.fault_count self.old.keeper)) (K.content self.old.keeper) (Load result ∷ []) (K.content self.new.keeper) }
-        ensures called { K.sound self.new.keeper → Called (M.step self.old.machine) (K.limit self.old.keeper) (nat_lt 0 (K.fault_count self.old.keeper)) (K.content self.old.keeper) (Load result) (K.content self.new.keeper) }
-        ensures sound { K.sound self.new.keeper → K.sound self.old.keeper }
-        ensures limit { K.limit self.new.keeper ≡ K.limit self.old.keeper }
-        ensures machine { self.new.machine ≡ self.old.machine }
-        ensures faults { FaultsTold {C = M.Command} {R = M.Reply} (K.fault_count self.old.keeper) (K.fault_count self.new.keeper) (Load result ∷ []) }
-        ensures closed { IsErrOf result Fault.Closed ↔ (0 < K.fault_count self.old.keeper) }
-        ensures nothing { 0 < K.fault_count self.old.keeper → self.new ≡ self.old }
-        ensures left { K.sound self.new.keeper → K.fault_count self.old.keeper ≡ 0 → LeavesOnly (K.may_leave self.new.keeper) (K.content self.old.keeper) }
+        ensures left { K.sound self.new.keeper → K.fault_count self.old.keeper ≡ 0 →
+            LeavesOnly (K.may_leave self.new.keeper) (K.content self.old.keeper) }
     {
         if self.is_closed() {
             return Err(Fault::Closed);

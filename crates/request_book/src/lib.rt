@@ -6,6 +6,7 @@
 #![tactic(auto)]
 
 mod book;
+mod entries;
 mod entry;
 mod keeper;
 pub mod laws;

@@ -4,6 +4,7 @@ ghost use Rattle.std.specs.Option.{option_copied};
 ghost use Rattle.request_book.specs.Content.{Content, entry_of};
 ghost use Rattle.request_book.specs.Keeper.{is_only};
 
+use crate::entries::Entries;
 use crate::entry::Entry;
 use crate::keeper::{Found, KeepFault, Keeper};
 use crate::machine::Machine;
@@ -15,7 +16,7 @@ use std::marker::Model;
 #[derive(Drop)]
 pub struct MemKeeper<S, C, R> {
     state: S,
-    entries: Vec<Entry<C, R>>,
+    entries: Entries<C, R>,
     hour: Hour,
     limit: u32,
 }
@@ -23,7 +24,7 @@ pub struct MemKeeper<S, C, R> {
 impl<S, C, R> Model for MemKeeper<S, C, R> {
     ghost Value = { Content S C R × ℕ };
 
-    ghost view = { λ k. (record { state = k.state; book = k.entries.items; hour = k.hour }, k.limit) };
+    ghost view = { λ k. (record { state = k.state; book = k.entries; hour = k.hour }, k.limit) };
 }
 
 impl<S, C, R> MemKeeper<S, C, R> {
@@ -33,18 +34,11 @@ impl<S, C, R> MemKeeper<S, C, R> {
     {
         MemKeeper {
             state,
-            entries: Vec::new(alloc),
+            entries: Entries::new(alloc),
             hour: 0,
             limit: limits.numbers,
         }
     }
-}
-
-/// The entry of a key.
-fn entry_of<'a, C, R>(entries: &'a [Entry<C, R>], key: &Key) -> Option<&'a Entry<C, R>>
-    ensures { option_copied result ≡ entry_of key.now entries.now }
-{
-    entries.iter().find(|entry| entry.key == *key)
 }
 
 impl<M: Machine> Keeper<M> for MemKeeper<M::State, M::Command, M::Reply> {
@@ -67,7 +61,7 @@ impl<M: Machine> Keeper<M> for MemKeeper<M::State, M::Command, M::Reply> {
     }
 
     fn look(&mut self, key: &Key, command: &M::Command) -> Result<Found<M::Reply>, KeepFault> {
-        match entry_of(&self.entries, key) {
+        match self.entries.find(key) {
             None => Ok(Found::New),
             Some(entry) => {
                 if M::same(&entry.command, command) {

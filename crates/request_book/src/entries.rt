@@ -1,0 +1,75 @@
+//! The entries of a book in memory, in the order of the decisions, each found by its key.
+ghost use Rattle.std.specs.Prelude.{◌++◌, ◌≡◌, ◌∷◌, [], None, OnErr, OnOk, length};
+ghost use Rattle.std.specs.Option.{option_copied};
+ghost use Rattle.request_book.specs.Content.{entry_of};
+
+use crate::entry::Entry;
+use ring_words::Key;
+use std::alloc::{AllocError, Global};
+use std::collections::BTreeMap;
+use std::marker::Model;
+
+/// The entries of a book, no two of one key. Contracts see them in their order.
+#[derive(Drop)]
+pub(crate) struct Entries<C, R> {
+    list: Vec<Entry<C, R>>,
+    /// Where each key's entry stands in the list.
+    places: BTreeMap<Key, usize>,
+}
+
+impl<C, R> Model for Entries<C, R> {
+    ghost use Rattle.std.specs.Prelude.{List};
+    ghost use Rattle.request_book.specs.declared.entry.Entry.{Entry};
+    ghost use Rattle.request_book.specs.Inner.Index.{IsIndex};
+
+    ghost Value = { List (Entry C R) };
+
+    ghost view = { λ e. e.list.items };
+
+    ghost invariant = { λ e. IsIndex e.places e.list.items };
+}
+
+impl<C, R> Entries<C, R> {
+    /// No entries.
+    pub(crate) fn new(alloc: Global) -> Self
+        ensures { result ≡ [] }
+    {
+        Entries {
+            list: Vec::new(alloc),
+            places: BTreeMap::new(alloc),
+        }
+    }
+
+    /// How many there are.
+    pub(crate) fn len(&self) -> usize
+        ensures { result ≡ length self.now }
+    {
+        self.list.len()
+    }
+
+    /// The entry of a key.
+    pub(crate) fn find(&self, key: &Key) -> Option<&Entry<C, R>>
+        ensures { option_copied result ≡ entry_of key.now self.now }
+    {
+        match self.places.get(key) {
+            Some(place) => Some(&self.list[*place]),
+            None => None,
+        }
+    }
+
+    /// Adds an entry of a new key at the end.
+    pub(crate) fn push(&mut self, entry: Entry<C, R>) -> Result<(), AllocError>
+    where
+        C: Drop,
+        R: Drop,
+        requires { entry_of entry.key self.old ≡ None }
+        ensures ok { OnOk result (self.new ≡ self.old ++ entry ∷ []) }
+        ensures err { OnErr result (self.new ≡ self.old) }
+    {
+        self.list.reserve(1)?;
+        let key = entry.key.clone()?;
+        self.places.insert(key, self.list.len())?;
+        self.list.push_reserved(entry);
+        Ok(())
+    }
+}
