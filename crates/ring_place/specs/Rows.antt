@@ -1,3 +1,4 @@
+-- Words that carry proofs and contracts within the crate alone; no public contract has them.
 -- The seats of partitions as rows by partition, each by replica: the device that it is on, or `None`.
 use Rattle.std.specs.Prelude.{◌≡◌, ℕ, ◌+◌, ◌*◌, ◌≤◌, Bool, true, false, List, [], length, map, Option, Some, None, slice_get, slice_index_or, slice_range}
 use Rattle.std.specs.List.{filter_map, range_with_len}
@@ -17,7 +18,7 @@ abbrev pub devices_on : List (Option ℕ) → List ℕ
 devices_on row = filter_map (λ seat. seat) row
 
 -- These are the seats of so many partitions, each of so many replicas.
-pub record AreSeats (seats : List (Option ℕ)) (partitions replicas : ℕ) : Type 0 where
+pub record AreSeatRows (seats : List (Option ℕ)) (partitions replicas : ℕ) : Type 0 where
   pub count : length seats ≡ partitions * replicas
   pub few_partitions : partitions ≤ 16384
   pub few_replicas : replicas ≤ 5

@@ -1,6 +1,7 @@
 //! The facts of a rebalance, each tested by plain scans over the old ring, the gathered seats and the new ring.
-use ring_model::{Device, DeviceId, Hour, Ring};
+use ring_model::Ring;
 use ring_share::wanted;
+use ring_words::{Device, DeviceId, Hour};
 use std::alloc::Global;
 use std::test::Fail;
 

@@ -1,5 +1,5 @@
 //! Which seats are gathered: each is lifted, which leaves it empty.
-ghost use Rattle.std.specs.Prelude.{◌≡◌, ◌<◌, ◌≤◌, ℕ, true, length, map, slice_set, IfOk, IfSome, IfNone};
+ghost use Rattle.std.specs.Prelude.{◌≡◌, ◌<◌, ◌≤◌, ℕ, true, length, map, IfOk, IfSome, IfNone};
 ghost use Rattle.std.specs.List.{list_any, range_with_len};
 ghost use Rattle.std.specs.List.Sorted.{IsPermutation};
 ghost use Rattle.std.specs.Option.{ForSome};
@@ -7,14 +7,15 @@ ghost use Rattle.ring_model.specs.Ring.{has_device, partition_count};
 ghost use Rattle.ring_share.specs.Crowd.{seats_on};
 ghost use Rattle.ring_place.specs.Load.{IsLoad, have_in, want_in};
 ghost use Rattle.ring_place.specs.Rebalance.{is_recent};
-ghost use Rattle.ring_place.specs.Rows.{is_empty, row_at, AreKnown};
-ghost use Rattle.ring_place.specs.Gathering.{is_lost_in, present_only, has_free_in, has_less_in, is_crowded_in, Lifts, Takes, AreUncrowded, HaveNoSurplus, Falls, IsFirst, IsSecond, IsFilled, AreRows, IsFirstPass, IsSecondPass, IsGathered};
+ghost use Rattle.ring_place.specs.Rows.{is_empty, AreKnown};
+ghost use Rattle.ring_place.specs.Inner.Gathering.{is_lost_in, present_only, has_free_in, has_less_in, is_crowded_in, Lifts, Takes, AreUncrowded, HaveNoSurplus, Falls, IsFirst, IsSecond, IsFilled, AreRows, IsGathered, IsLifting, IsPass};
 
 use crate::rooms::Room;
-use crate::seats::{Seats, Taken};
+use crate::seats::{Seats, devices_on, has_empty, row_copy};
 use crate::tiers::is_less;
-use ring_model::{DeviceId, Hour, Ring};
+use ring_model::Ring;
 use ring_share::wanted;
+use ring_words::{DeviceId, Hour};
 use std::alloc::{AllocError, Global};
 
 /// Whether a seat is empty or on a device that is marked to be removed.
@@ -41,24 +42,14 @@ fn has_lost(room: &Room, row: &[Option<DeviceId>]) -> bool
     false
 }
 
-fn has_empty(row: &[Option<DeviceId>]) -> bool
-    ensures { result ≡ list_any is_empty row.now }
-{
-    for seat in row {
-        if seat.is_none() {
-            return true;
-        }
-    }
-    false
-}
-
 /// Whether some device outside a partition has room.
 fn has_free(room: &Room, row: &[Option<DeviceId>]) -> bool
     requires row { AreKnown room.now.devices row.now }
     requires few { length row.now ≤ 5 }
     ensures { result ≡ has_free_in room.now row.now }
 {
-    room.least(Taken::of(row).ids(), 0).is_some()
+    let (ids, count) = devices_on(row);
+    room.has_room_outside(&ids[..count])
 }
 
 /// Whether a device outside with room is less crowded than this one. The partition is without the seat on it.
@@ -68,13 +59,11 @@ fn has_less_crowded(room: &Room, row: &[Option<DeviceId>], device: DeviceId) -> 
     requires device { has_device device room.now.devices ≡ true }
     ensures { result ≡ has_less_in room.now row.now row.now device }
 {
-    let others = Taken::of(row);
-    match room.least(others.ids(), 0) {
+    let (ids, count) = devices_on(row);
+    let others = &ids[..count];
+    match room.least(others, 0) {
         None => false,
-        Some(best) => is_less(
-            room.crowd(others.ids(), best),
-            room.crowd(others.ids(), device),
-        ),
+        Some(best) => is_less(room.crowd(others, best), room.crowd(others, device)),
     }
 }
 
@@ -145,7 +134,7 @@ fn gather_first(was: &Room, kept: &mut Room, locked: bool, row: &mut [Option<Dev
 {
     if has_lost(kept, row) {
         lift_lost(kept, row);
-    } else if !locked {
+    } else if !locked && !was.is_calm(row) {
         if let Some(device) = lift_crowded(was, row) {
             kept.take(device);
         }
@@ -171,73 +160,52 @@ fn gather_second(was: &Room, kept: &mut Room, locked: bool, row: &mut [Option<De
     }
 }
 
-impl Seats {
-    /// The first pass at one partition.
-    fn gather_first(&mut self, was: &Room, kept: &mut Room, locked: bool, partition: usize)
-        requires load { IsLoad kept.old }
-        requires same { kept.old.devices ≡ was.now.devices }
-        requires partition { partition < length self.old }
-        requires row { AreKnown was.now.devices (row_at self.old partition) }
-        requires few { length (row_at self.old partition) ≤ 5 }
-        requires has { (id : ℕ) → has_device id kept.old.devices ≡ true → seats_on id (row_at self.old partition) ≤ have_in kept.old id }
-        ensures rows { self.new ≡ slice_set self.old partition (row_at self.new partition) }
-        ensures first { IsFirst was.now locked (row_at self.old partition) (row_at self.new partition) }
-        ensures takes { Takes kept.old kept.new (row_at self.old partition) (row_at self.new partition) }
-    {
-        let first = partition * self.replicas;
-        gather_first(
-            was,
-            kept,
-            locked,
-            &mut self.seats[first..first + self.replicas],
-        );
-    }
+/// A pass of gathering over all partitions.
+#[derive(Clone, Copy)]
+enum Pass {
+    /// Lifts lost seats, and seats for which a device outside with room is less crowded.
+    First,
+    /// Lifts seats of devices that keep more than they want.
+    Second,
+}
 
-    /// The second pass at one partition.
-    fn gather_second(&mut self, was: &Room, kept: &mut Room, locked: bool, partition: usize)
-        requires load { IsLoad kept.old }
-        requires same { kept.old.devices ≡ was.now.devices }
-        requires partition { partition < length self.old }
-        requires row { AreKnown was.now.devices (row_at self.old partition) }
-        requires few { length (row_at self.old partition) ≤ 5 }
-        ensures rows { self.new ≡ slice_set self.old partition (row_at self.new partition) }
-        ensures second { IsSecond was.now kept.new locked (row_at self.old partition) (row_at self.new partition) }
-        ensures takes { Takes kept.old kept.new (row_at self.old partition) (row_at self.new partition) }
-        ensures falls { Falls kept.old kept.new }
-    {
-        let first = partition * self.replicas;
-        gather_second(
-            was,
-            kept,
-            locked,
-            &mut self.seats[first..first + self.replicas],
-        );
+/// A pass at one partition.
+fn gather_row(pass: Pass, was: &Room, kept: &mut Room, locked: bool, row: &mut [Option<DeviceId>])
+    requires load { IsLoad kept.old }
+    requires same { kept.old.devices ≡ was.now.devices }
+    requires row { AreKnown was.now.devices row.old }
+    requires few { length row.old ≤ 5 }
+    requires has { (id : ℕ) → has_device id kept.old.devices ≡ true → seats_on id row.old ≤ have_in kept.old id }
+    ensures lifted { IsLifting pass was.now kept.new locked row.old row.new }
+    ensures takes { Takes kept.old kept.new row.old row.new }
+    ensures falls { pass ≡ Pass.Second → Falls kept.old kept.new }
+{
+    match pass {
+        Pass::First => gather_first(was, kept, locked, row),
+        Pass::Second => gather_second(was, kept, locked, row),
     }
 }
 
-/// Lifts lost seats and seats for which a device outside with room is less crowded, in an order of the partitions.
-fn gather_crowded(was: &Room, kept: &mut Room, locked: &[bool], order: &[usize], seats: &mut Seats)
+/// A pass at all partitions, in an order.
+fn gather(
+    pass: Pass,
+    was: &Room,
+    kept: &mut Room,
+    locked: &[bool],
+    order: &[usize],
+    seats: &mut Seats,
+)
     requires locked { length locked.now ≡ length seats.old }
     requires order { IsPermutation (range_with_len 0 (length seats.old)) order.now }
     requires rows { AreRows was.now.devices seats.old }
     requires filled { IsFilled kept.old was.now.devices was.now.wanted seats.old }
-    ensures { IsFirstPass order.now was.now kept.new locked.now seats.old seats.new }
+    ensures { IsPass pass order.now was.now kept.new locked.now seats.old seats.new }
 {
     for partition in order {
-        seats.gather_first(was, kept, locked[*partition], *partition);
-    }
-}
-
-/// Lifts seats of devices that keep more than they want, after the first pass.
-fn gather_surplus(was: &Room, kept: &mut Room, locked: &[bool], order: &[usize], seats: &mut Seats)
-    requires locked { length locked.now ≡ length seats.old }
-    requires order { IsPermutation (range_with_len 0 (length seats.old)) order.now }
-    requires rows { AreRows was.now.devices seats.old }
-    requires filled { IsFilled kept.old was.now.devices was.now.wanted seats.old }
-    ensures { IsSecondPass order.now was.now kept.new locked.now seats.old seats.new }
-{
-    for partition in order {
-        seats.gather_second(was, kept, locked[*partition], *partition);
+        let (mut copy, count) = row_copy(seats.row(*partition));
+        let row = &mut copy[..count];
+        gather_row(pass, was, kept, locked[*partition], row);
+        seats.set_row(*partition, row);
     }
 }
 
@@ -264,7 +232,7 @@ fn locks(alloc: Global, ring: &Ring, hour: Hour) -> Result<Vec<bool>, AllocError
 
 /// The devices and the seats of a ring without what a rebalance at an hour gathers. The partitions are gone through in an
 /// order that has each once.
-pub(crate) fn gathered(
+pub(crate) fn gathering(
     alloc: Global,
     ring: &Ring,
     hour: Hour,
@@ -278,7 +246,21 @@ pub(crate) fn gathered(
     let mut kept = Room::of(alloc, ring, wanted.as_slice())?;
     let mut seats = Seats::of(alloc, ring)?;
     let locked = locks(alloc, ring, hour)?;
-    gather_crowded(&was, &mut kept, locked.as_slice(), order, &mut seats);
-    gather_surplus(&was, &mut kept, locked.as_slice(), order, &mut seats);
+    gather(
+        Pass::First,
+        &was,
+        &mut kept,
+        locked.as_slice(),
+        order,
+        &mut seats,
+    );
+    gather(
+        Pass::Second,
+        &was,
+        &mut kept,
+        locked.as_slice(),
+        order,
+        &mut seats,
+    );
     Ok((kept, seats))
 }

@@ -10,8 +10,8 @@ mod order;
 mod place;
 mod rebalances;
 mod rooms;
+mod search;
 mod seats;
-mod tally;
 mod tiers;
 
 pub use rebalances::{PlaceError, Rebalanced, rebalance};

@@ -42,7 +42,7 @@ fn shuffle(numbers: &mut [usize], draws: &mut Pcg32)
 }
 
 /// The numbers below a count, each once, in an order that is drawn.
-pub(crate) fn shuffled(
+pub(crate) fn shuffled_order(
     alloc: Global,
     count: usize,
     draws: &mut Pcg32,

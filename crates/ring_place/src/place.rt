@@ -1,5 +1,5 @@
 //! Where lifted seats are put.
-ghost use Rattle.std.specs.Prelude.{◌≡◌, ◌<◌, ◌≤◌, ◌+◌, ℕ, true, All, count_by, length, slice_set, sum_by, IfSome};
+ghost use Rattle.std.specs.Prelude.{◌≡◌, ◌<◌, ◌≤◌, ◌+◌, ℕ, true, All, count_by, length, sum_by, IfSome};
 ghost use Rattle.std.specs.List.{range_with_len};
 ghost use Rattle.std.specs.List.Sorted.{IsPermutation};
 ghost use Rattle.ring_model.specs.Ring.{has_device, has_present};
@@ -7,14 +7,14 @@ ghost use Rattle.ring_share.specs.Crowd.{seats_on};
 ghost use Rattle.ring_share.specs.Want.{is_open as is_open_device};
 ghost use Rattle.ring_place.specs.Rows.{AreKnown, is_empty, row_at};
 ghost use Rattle.ring_place.specs.Load.{IsLeast, IsLoad, have_in, is_free_in, seats_of};
-ghost use Rattle.ring_place.specs.Placing.{AllPlaced, CanPlace, IsChosen, OpenWant, OwnWins, RowPlaced, have_on};
+ghost use Rattle.ring_place.specs.Inner.Placing.{AllPlaced, CanPlace, IsChosen, OpenWant, OwnWins, RowPlaced, have_on};
 
 use crate::rooms::Room;
-use crate::seats::{Seats, Taken};
+use crate::seats::{Seats, devices_on, has_empty, row_copy};
 use crate::tiers::is_less;
 use rand_core::Rng;
 use rand_pcg::Pcg32;
-use ring_model::DeviceId;
+use ring_words::DeviceId;
 
 /// Whether a device of the ring has room and isn't among these.
 fn is_free(room: &Room, others: &[DeviceId], device: DeviceId) -> bool
@@ -56,16 +56,17 @@ fn choose(room: &Room, row: &[Option<DeviceId>], own: Option<DeviceId>, draw: u3
     requires enough { length row.now ≤ count_by is_open_device room.now.devices }
     ensures { IsChosen room.now row.now own result }
 {
-    let others = Taken::of(row);
-    if let Some(best) = room.least(others.ids(), draw) {
-        return own_or(room, others.ids(), own, best);
+    let (ids, count) = devices_on(row);
+    let others = &ids[..count];
+    if let Some(best) = room.least(others, draw) {
+        return own_or(room, others, own, best);
     }
     if let Some(own) = own {
         if room.is_present(own) {
             return own;
         }
     }
-    room.any_open(others.ids())
+    room.any_open(others)
 }
 
 /// Puts the lifted seats of a partition one by one. `old` is the partition before any was lifted.
@@ -90,33 +91,6 @@ fn place_row(
     }
 }
 
-impl Seats {
-    /// Puts the lifted seats of one partition.
-    fn place_row(
-        &mut self,
-        room: &mut Room,
-        old: &[Option<DeviceId>],
-        partition: usize,
-        draws: &mut Pcg32,
-    )
-        requires partition { partition < length self.old }
-        requires rows { CanPlace room.old.devices old.now (row_at self.old partition) }
-        requires load { IsLoad room.old }
-        requires closed { OpenWant room.old }
-        requires fits { (id : ℕ) → has_device id room.old.devices ≡ true → have_in room.old id + length (row_at self.old partition) < 4294967295 }
-        ensures rows { self.new ≡ slice_set self.old partition (row_at self.new partition) }
-        ensures placed { RowPlaced room.old room.new old.now (row_at self.old partition) (row_at self.new partition) }
-    {
-        let first = partition * self.replicas;
-        place_row(
-            room,
-            old,
-            &mut self.seats[first..first + self.replicas],
-            draws,
-        );
-    }
-}
-
 /// Puts the lifted seats of all partitions, in an order.
 pub(crate) fn place_all(
     room: &mut Room,
@@ -135,6 +109,13 @@ pub(crate) fn place_all(
     ensures { AllPlaced room.old room.new old.now seats.old seats.new }
 {
     for partition in order {
-        seats.place_row(room, old.row(*partition), *partition, draws);
+        let row = seats.row(*partition);
+        if !has_empty(row) {
+            continue;
+        }
+        let (mut copy, count) = row_copy(row);
+        let row = &mut copy[..count];
+        place_row(room, old.row(*partition), row, draws);
+        seats.set_row(*partition, row);
     }
 }

@@ -3,15 +3,16 @@ ghost use Rattle.std.specs.Prelude.{◌≡◌, ◌<◌, ◌≤◌, ◌↔◌, co
 ghost use Rattle.ring_model.specs.Valid.{IsValid};
 ghost use Rattle.ring_share.specs.Crowd.{rows_of};
 ghost use Rattle.ring_share.specs.Want.{is_open as is_open_device};
-ghost use Rattle.ring_place.specs.Finishing.{AreAlike, AreWhole, changed_in, changed_over, stamped, stamps};
+ghost use Rattle.ring_place.specs.Inner.Finishing.{AreAlike, AreWhole, changed_in, changed_over, stamped, stamps};
 ghost use Rattle.ring_place.specs.Rebalance.{IsAfter, IsRebalance, changed_seats};
 
-use crate::gather::gathered;
-use crate::order::{draws_of, shuffled};
+use crate::gather::gathering;
+use crate::order::{draws_of, shuffled_order};
 use crate::place::place_all;
 use crate::seats::{Seats, partition_count};
-use ring_model::{BuildFault, Device, DeviceId, Hour, Ring, risen};
+use ring_model::{BuildFault, Ring, risen};
 use ring_share::is_open;
+use ring_words::{Device, DeviceId, Hour};
 use std::alloc::{AllocError, Global};
 
 /// Why a ring isn't rebalanced.
@@ -159,9 +160,9 @@ pub fn rebalance(
         return Err(PlaceError::TooFewDevices);
     }
     let mut draws = draws_of(seed);
-    let order = shuffled(alloc, partition_count(ring), &mut draws)?;
+    let order = shuffled_order(alloc, partition_count(ring), &mut draws)?;
     let old = Seats::of(alloc, ring)?;
-    let (mut room, mut seats) = gathered(alloc, ring, hour, order.as_slice())?;
+    let (mut room, mut seats) = gathering(alloc, ring, hour, order.as_slice())?;
     place_all(&mut room, order.as_slice(), &old, &mut seats, &mut draws);
     finish(alloc, ring, hour, &old, &seats)
 }

@@ -1,16 +1,17 @@
-//! Where there is room for a seat.
-ghost use Rattle.std.specs.Prelude.{◌≡◌, ◌<◌, ◌≤◌, ℕ, true, false, All, length, nat_lt, count_by, IfOk, IfSome, IfNone};
+//! How many seats devices want and have, and where there is room for more.
+ghost use Rattle.std.specs.Prelude.{◌≡◌, ◌<◌, ◌≤◌, ◌&&◌, ℕ, true, false, All, List, length, nat_lt, take, count_by, slice_set, IfOk, IfSome, IfNone};
 ghost use Rattle.ring_model.specs.Ring.{has_device, has_present};
 ghost use Rattle.ring_share.specs.Crowd.{is_outside};
-ghost use Rattle.ring_share.specs.Room.{has_open, have};
+ghost use Rattle.ring_share.specs.Room.{has_open, have, place_of as place_of_device};
 ghost use Rattle.ring_share.specs.Want.{is_open as is_open_device, AreWanted};
-ghost use Rattle.ring_place.specs.Load.{IsLoad, have_in, want_in, has_room_in, load_put, load_take, seats_of, is_free_in, crowd_in, IsLeast};
-ghost use Rattle.ring_place.specs.Places.{seats_at};
-ghost use Rattle.ring_place.specs.Lists.{IsFloor};
+ghost use Rattle.ring_place.specs.Load.{Load, IsLoad, have_in, want_in, has_room_in, load_put, load_take, seats_of, is_free_in, crowd_in, IsLeast};
+ghost use Rattle.ring_place.specs.Inner.Places.{id_at};
+ghost use Rattle.ring_place.specs.Inner.Lists.{AreRoomy};
+ghost use Rattle.ring_share.specs.Tiers.{AreTier};
 
-use crate::tally::Tally;
-use crate::tiers::{Crowd, Tier};
-use ring_model::{DeviceId, Ring};
+use ring_model::Ring;
+use ring_share::{Tier, counts_of, is_open, one_each, place_in};
+use ring_words::{Device, DeviceId};
 use std::alloc::{AllocError, Global};
 use std::marker::Model;
 
@@ -18,26 +19,73 @@ use std::marker::Model;
 /// they are found without a look at the others.
 #[derive(Drop)]
 pub struct Room {
-    tally: Tally,
+    pub(crate) devices: Vec<Device>,
+    wanted: Vec<u32>,
+    counts: Vec<u32>,
     /// As many places as there are devices; those that have room, and no others, stand at the first.
-    roomy: Vec<usize>,
+    pub(crate) roomy: Vec<usize>,
     /// How many places of `roomy` are these first.
-    count: usize,
+    pub(crate) count: usize,
     /// The place of one open device in each region, in each zone and on each server that has any.
-    regions: Vec<usize>,
-    zones: Vec<usize>,
-    servers: Vec<usize>,
+    pub(crate) regions: Vec<usize>,
+    pub(crate) zones: Vec<usize>,
+    pub(crate) servers: Vec<usize>,
 }
 
 impl Model for Room {
     ghost use Rattle.ring_place.specs.Load.{Load};
-    ghost use Rattle.ring_place.specs.Lists.{IsRoom};
+    ghost use Rattle.ring_place.specs.Inner.Lists.{IsRoom};
 
     ghost Value = { Load };
 
-    ghost view = { λ r. r.tally };
+    ghost view = { λ r. record { devices = r.devices.items; wanted = r.wanted.items; counts = r.counts.items } };
 
-    ghost invariant = { λ r. IsRoom r.tally r.roomy.items r.count r.regions.items r.zones.items r.servers.items };
+    ghost invariant = { λ r. IsRoom (record { devices = r.devices.items; wanted = r.wanted.items; counts = r.counts.items })
+        r.roomy.items r.count r.regions.items r.zones.items r.servers.items };
+}
+
+/// Whether a device that wants and has so many seats is open and has fewer than it wants.
+fn wants_more(device: &Device, wanted: u32, count: u32) -> bool
+    ensures { result ≡ (is_open_device device.now && nat_lt count wanted) }
+{
+    count < wanted && is_open(device)
+}
+
+/// Whether the device at a place is open and has fewer seats than it wants.
+fn has_room_at(devices: &[Device], wanted: &[u32], counts: &[u32], place: usize) -> bool
+    requires load { IsLoad (record { devices = devices.now; wanted = wanted.now; counts = counts.now }) }
+    requires place { place < length devices.now }
+    ensures { result ≡ has_room_in (record { devices = devices.now; wanted = wanted.now; counts = counts.now }) (id_at devices.now place) }
+{
+    wants_more(&devices[place], wanted[place], counts[place])
+}
+
+/// Lists the places of the devices that have room, in their order, and answers how many they are. What stands behind them
+/// is left over.
+fn list_roomy(devices: &[Device], wanted: &[u32], counts: &[u32], places: &mut [usize]) -> usize
+    requires load { IsLoad (record { devices = devices.now; wanted = wanted.now; counts = counts.now }) }
+    requires long { length places.old ≡ length devices.now }
+    ensures long { length places.new ≡ length places.old }
+    ensures few { result ≤ length places.new }
+    ensures roomy { AreRoomy (record { devices = devices.now; wanted = wanted.now; counts = counts.now }) (take result places.new) }
+{
+    let mut count = 0;
+    for place in 0..devices.len() {
+        if has_room_at(devices, wanted, counts, place) {
+            places[count] = place;
+            count += 1;
+        }
+    }
+    count
+}
+
+/// The place of one open device in each tier of a kind that has any.
+fn tier_places(alloc: Global, devices: &[Device], tier: Tier) -> Result<Vec<usize>, AllocError>
+    requires { length devices.now ≤ 256 }
+    ensures { IfOk result (λ places. AreTier tier devices.now places.items) }
+{
+    let (places, count) = one_each(devices, tier);
+    Vec::from_slice(alloc, &places[..count])
 }
 
 impl Room {
@@ -49,20 +97,32 @@ impl Room {
         ensures counts { IfOk result (λ room. (id : ℕ) → has_device id ring.now.devices ≡ true → have_in room id ≡ have ring.now id) }
         ensures load { IfOk result (λ room. IsLoad room) }
     {
-        let tally = Tally::of(alloc, ring, wanted)?;
-        let regions = tally.one_each(alloc, Tier::Region)?;
-        let zones = tally.one_each(alloc, Tier::Zone)?;
-        let servers = tally.one_each(alloc, Tier::Server)?;
-        let mut roomy = vec![in alloc; 0; ring.devices().len()]?;
-        let count = tally.list_roomy(&mut roomy);
+        let devices = ring.devices();
+        let counts = counts_of(ring);
+        let counts = &counts[..devices.len()];
+        let mut roomy = vec![in alloc; 0; devices.len()]?;
+        let count = list_roomy(devices, wanted, counts, &mut roomy);
         Ok(Room {
-            tally,
+            devices: devices.to_vec(alloc)?,
+            wanted: Vec::from_slice(alloc, wanted)?,
+            counts: Vec::from_slice(alloc, counts)?,
             roomy,
             count,
-            regions,
-            zones,
-            servers,
+            regions: tier_places(alloc, devices, Tier::Region)?,
+            zones: tier_places(alloc, devices, Tier::Zone)?,
+            servers: tier_places(alloc, devices, Tier::Server)?,
         })
+    }
+
+    /// The place of a device of the ring among its devices.
+    pub(crate) fn place_of(&self, id: DeviceId) -> usize
+        requires { has_device id self.now.devices ≡ true }
+        ensures value { result ≡ place_of_device id self.now.devices }
+        ensures number { id_at self.now.devices result ≡ id }
+        ensures within { result < length self.now.devices }
+        ensures load { IsLoad self.now }
+    {
+        place_in(&self.devices, id)
     }
 
     /// A device of the ring has one seat more. The count 4294967295 stays.
@@ -71,11 +131,10 @@ impl Room {
         ensures put { self.new ≡ load_put self.old device }
         ensures load { IsLoad self.new }
     {
-        let had_room = self.tally.has_room(device);
-        self.tally.put(device);
-        if self.tally.has_room(device) != had_room {
-            self.count = self.tally.list_roomy(&mut self.roomy);
-        }
+        let place = self.place_of(device);
+        let count = self.counts[place];
+        let more = if count < u32::MAX { count + 1 } else { count };
+        self.set_count(place, more);
     }
 
     /// A device of the ring has one seat less. The count 0 stays.
@@ -83,10 +142,21 @@ impl Room {
         requires { has_device device self.old.devices ≡ true }
         ensures { self.new ≡ load_take self.old device }
     {
-        let had_room = self.tally.has_room(device);
-        self.tally.take(device);
-        if self.tally.has_room(device) != had_room {
-            self.count = self.tally.list_roomy(&mut self.roomy);
+        let place = self.place_of(device);
+        let count = self.counts[place];
+        self.set_count(place, count.saturating_sub(1));
+    }
+
+    /// The device at a place has so many seats.
+    fn set_count(&mut self, place: usize, count: u32)
+        requires { place < length self.old.devices }
+        ensures count { self.new ≡ record self.old { counts = slice_set self.old.counts place count } }
+        ensures load { IsLoad self.new }
+    {
+        let had_room = self.has_room_at(place);
+        self.counts[place] = count;
+        if has_room_at(&self.devices, &self.wanted, &self.counts, place) != had_room {
+            self.count = list_roomy(&self.devices, &self.wanted, &self.counts, &mut self.roomy);
         }
     }
 
@@ -95,7 +165,16 @@ impl Room {
         requires { has_device device self.now.devices ≡ true }
         ensures { result ≡ has_room_in self.now device }
     {
-        self.tally.has_room(device)
+        self.has_room_at(self.place_of(device))
+    }
+
+    /// Whether the device at a place is open and has fewer seats than it wants.
+    pub(crate) fn has_room_at(&self, place: usize) -> bool
+        requires { place < length self.now.devices }
+        ensures value { result ≡ has_room_in self.now (id_at self.now.devices place) }
+        ensures load { IsLoad self.now }
+    {
+        has_room_at(&self.devices, &self.wanted, &self.counts, place)
     }
 
     /// Whether a device of the ring isn't marked to be removed.
@@ -103,7 +182,7 @@ impl Room {
         requires { has_device device self.now.devices ≡ true }
         ensures { result ≡ has_present device self.now.devices }
     {
-        self.tally.is_present(device)
+        !self.devices[self.place_of(device)].removed
     }
 
     /// Whether a device of the ring keeps more seats than it wants.
@@ -111,51 +190,8 @@ impl Room {
         requires { has_device device self.now.devices ≡ true }
         ensures { result ≡ nat_lt (want_in self.now device) (have_in self.now device) }
     {
-        self.tally.is_over(device)
-    }
-
-    /// How crowded a device of the ring is for a seat whose other seats are on these devices.
-    pub(crate) fn crowd(&self, others: &[DeviceId], device: DeviceId) -> Crowd
-        requires others { All (λ id. has_device id self.now.devices ≡ true) others.now }
-        requires few { length others.now ≤ 5 }
-        requires device { has_device device self.now.devices ≡ true }
-        ensures { result ≡ crowd_in self.now (seats_of others.now) device }
-    {
-        self.tally.crowd(others, device)
-    }
-
-    /// A device with room that isn't among `others`, at most five distinct devices of the ring, and than which no other
-    /// such device is less crowded for a seat whose other seats are on `others`. `None` exactly where no device outside has
-    /// room. Of several such devices the draw takes one.
-    pub fn least(&self, others: &[DeviceId], draw: u32) -> Option<DeviceId>
-        requires others { All (λ id. has_device id self.now.devices ≡ true) others.now }
-        requires few { length others.now ≤ 5 }
-        ensures found { IfSome result (λ id. IsLeast self.now (seats_of others.now) id) }
-        ensures none { IfNone result ((id : ℕ) → is_free_in self.now (seats_of others.now) id ≡ false) }
-    {
-        if self.count == 0 {
-            return None;
-        }
-        let places = self.tally.places_of(others);
-        let others = &places[..others.len()];
-        let floor = self.floor_for(others);
-        let start = draw as usize % self.count;
-        let best = self
-            .tally
-            .least_of(&self.roomy[..self.count], start, others, floor)?;
-        Some(self.tally.id_at(best.0))
-    }
-
-    /// How crowded open devices are at the least for a seat whose other seats are on the devices at these places.
-    fn floor_for(&self, others: &[usize]) -> Crowd
-        requires others { All (λ other. other < length self.now.devices) others.now }
-        requires few { length others.now ≤ 5 }
-        ensures { IsFloor self.now (seats_at self.now.devices others.now) result }
-    {
-        let tally = &self.tally;
-        let floor = tally.floor_by(Tier::Region, &self.regions, others, (0, 0, 0));
-        let floor = tally.floor_by(Tier::Zone, &self.zones, others, floor);
-        tally.floor_by(Tier::Server, &self.servers, others, floor)
+        let place = self.place_of(device);
+        self.wanted[place] < self.counts[place]
     }
 
     /// An open device that isn't among `others`, of which there are fewer than open devices.
@@ -164,6 +200,12 @@ impl Room {
         ensures takes_seats { has_open result self.now.devices ≡ true }
         ensures outside { is_outside (seats_of others.now) result ≡ true }
     {
-        self.tally.any_open(others)
+        for device in &self.devices {
+            if is_open(device) && !others.contains(&device.id) {
+                return device.id;
+            }
+        }
+        prove!(false);
+        0
     }
 }

@@ -1,14 +1,38 @@
 //! Seats of partitions while some of them are empty.
-ghost use Rattle.std.specs.Prelude.{◌≡◌, ◌<◌, ◌≤◌, length, slice_get, IfOk};
-ghost use Rattle.std.specs.List.{flat_map};
+ghost use Rattle.std.specs.Prelude.{◌≡◌, ◌<◌, ◌≤◌, length, slice_get, slice_set, take, IfOk};
+ghost use Rattle.std.specs.List.{flat_map, list_any};
 ghost use Rattle.ring_model.specs.Ring.{partition_count as partition_count_of};
 ghost use Rattle.ring_model.specs.Valid.{IsValid};
 ghost use Rattle.ring_share.specs.Crowd.{rows_of};
-ghost use Rattle.ring_place.specs.Rows.{row_at, devices_on};
+ghost use Rattle.ring_place.specs.Rows.{row_at, devices_on, is_empty};
 
-use ring_model::{DeviceId, Ring};
+use ring_model::Ring;
+use ring_words::DeviceId;
 use std::alloc::{AllocError, Global};
 use std::marker::Model;
+
+/// The seats of a partition, at most five, apart from all others, and how many they are.
+pub(crate) fn row_copy(row: &[Option<DeviceId>]) -> ([Option<DeviceId>; 5], usize)
+    requires { length row.now ≤ 5 }
+    ensures row { take result.1 result.0 ≡ row.now }
+    ensures few { result.1 ≤ 5 }
+{
+    let mut copy = [None; 5];
+    copy[..row.len()].copy_from_slice(row);
+    (copy, row.len())
+}
+
+/// Whether a partition has an empty seat.
+pub(crate) fn has_empty(row: &[Option<DeviceId>]) -> bool
+    ensures { result ≡ list_any is_empty row.now }
+{
+    for seat in row {
+        if seat.is_none() {
+            return true;
+        }
+    }
+    false
+}
 
 /// Which device is on each seat of each partition, or none. Contracts see a row for each partition, by replica.
 #[derive(Drop)]
@@ -16,18 +40,18 @@ pub(crate) struct Seats {
     // by partition and then by replica
     pub(crate) seats: Vec<Option<DeviceId>>,
     partitions: usize,
-    pub(crate) replicas: usize,
+    replicas: usize,
 }
 
 impl Model for Seats {
     ghost use Rattle.std.specs.Prelude.{ℕ, List, Option};
-    ghost use Rattle.ring_place.specs.Rows.{AreSeats, rows_in};
+    ghost use Rattle.ring_place.specs.Rows.{AreSeatRows, rows_in};
 
     ghost Value = { List (List (Option ℕ)) };
 
     ghost view = { λ s. rows_in s.seats.items s.partitions s.replicas };
 
-    ghost invariant = { λ s. AreSeats s.seats.items s.partitions s.replicas };
+    ghost invariant = { λ s. AreSeatRows s.seats.items s.partitions s.replicas };
 }
 
 /// How many partitions a ring has.
@@ -73,6 +97,16 @@ impl Seats {
         &self.seats[first..first + self.replicas]
     }
 
+    /// A partition gets other seats, as many as it has.
+    pub(crate) fn set_row(&mut self, partition: usize, row: &[Option<DeviceId>])
+        requires partition { partition < length self.old }
+        requires long { length row.now ≡ length (row_at self.old partition) }
+        ensures { self.new ≡ slice_set self.old partition row.now }
+    {
+        let first = partition * self.replicas;
+        self.seats[first..first + self.replicas].copy_from_slice(row);
+    }
+
     /// The devices of the seats, by partition and then by replica.
     pub(crate) fn devices(&self, alloc: Global) -> Result<Vec<DeviceId>, AllocError>
         ensures { IfOk result (λ devices. devices.items ≡ flat_map devices_on self.now) }
@@ -87,44 +121,20 @@ impl Seats {
     }
 }
 
-/// The devices of a partition's seats that aren't empty. Contracts see their numbers by replica.
-#[derive(Drop)]
-pub(crate) struct Taken {
-    ids: [DeviceId; 5],
-    count: usize,
-}
-
-impl Model for Taken {
-    ghost use Rattle.std.specs.Prelude.{◌≤◌, ℕ, List, take};
-
-    ghost Value = { List ℕ };
-
-    ghost view = { λ t. take t.count t.ids };
-
-    ghost invariant = { λ t. t.count ≤ 5 };
-}
-
-impl Taken {
-    /// The devices of these seats, at most five.
-    pub(crate) fn of(row: &[Option<DeviceId>]) -> Taken
-        requires { length row.now ≤ 5 }
-        ensures { result ≡ devices_on row.now }
-    {
-        let mut ids = [0; 5];
-        let mut count = 0;
-        for seat in row {
-            if let Some(id) = *seat {
-                ids[count] = id;
-                count += 1;
-            }
+/// The devices of a partition's seats that aren't empty, by replica, and how many they are. What stands behind them is left
+/// over.
+pub(crate) fn devices_on(row: &[Option<DeviceId>]) -> ([DeviceId; 5], usize)
+    requires { length row.now ≤ 5 }
+    ensures devices { take result.1 result.0 ≡ devices_on row.now }
+    ensures few { result.1 ≤ 5 }
+{
+    let mut ids = [0; 5];
+    let mut count = 0;
+    for seat in row {
+        if let Some(id) = *seat {
+            ids[count] = id;
+            count += 1;
         }
-        Taken { ids, count }
     }
-
-    /// Their numbers.
-    pub(crate) fn ids(&self) -> &[DeviceId]
-        ensures { result.now ≡ self.now }
-    {
-        &self.ids[..self.count]
-    }
+    (ids, count)
 }

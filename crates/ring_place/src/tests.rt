@@ -2,16 +2,15 @@
 ghost use Rattle.std.specs.Prelude.{◌≡◌, ◌<◌};
 
 use crate::checker::{check, crowd_among, has_room};
-use crate::gather::gathered;
-use crate::order::{draws_of, shuffled};
+use crate::gather::gathering;
+use crate::order::{draws_of, shuffled_order};
 use crate::seats::partition_count;
 use crate::{PlaceError, Rebalanced, Room, rebalance};
 use rand_core::Rng;
 use rand_pcg::Pcg32;
-use ring_model::{
-    Address, Device, DeviceName, Hour, Port, Power, Replicas, Ring, RingParts, Row, Weight,
-};
+use ring_model::{Ring, RingParts};
 use ring_share::wanted;
+use ring_words::{Address, Device, DeviceName, Hour, Port, Power, Replicas, Row, Weight};
 use std::alloc::Global;
 use std::test::Fail;
 
@@ -103,11 +102,16 @@ fn have(ring: &Ring, id: u16) -> usize {
 }
 
 /// The rebalanced ring, once it is seen to be one, with the number of changed seats.
-fn seen(alloc: Global, ring: &Ring, hour: Hour, seed: u32) -> Result<(Ring, u32), Fail> {
+fn checked_rebalance(
+    alloc: Global,
+    ring: &Ring,
+    hour: Hour,
+    seed: u32,
+) -> Result<(Ring, u32), Fail> {
     let mut draws = draws_of(seed);
-    let order = shuffled(alloc, partition_count(ring), &mut draws)?;
-    let (_, lifted) = gathered(alloc, ring, hour, order.as_slice())?;
-    let done = done(alloc, ring, hour, seed)?;
+    let order = shuffled_order(alloc, partition_count(ring), &mut draws)?;
+    let (_, lifted) = gathering(alloc, ring, hour, order.as_slice())?;
+    let done = ample_rebalance(alloc, ring, hour, seed)?;
     check(
         alloc,
         ring,
@@ -119,7 +123,7 @@ fn seen(alloc: Global, ring: &Ring, hour: Hour, seed: u32) -> Result<(Ring, u32)
     Ok((done.ring, done.changed))
 }
 
-fn done(alloc: Global, ring: &Ring, hour: Hour, seed: u32) -> Result<Rebalanced, Fail> {
+fn ample_rebalance(alloc: Global, ring: &Ring, hour: Hour, seed: u32) -> Result<Rebalanced, Fail> {
     match rebalance(alloc, ring, hour, seed) {
         Ok(done) => Ok(done),
         Err(PlaceError::TooFewDevices) => Ok(None.ok_or("too few devices")?),
@@ -131,7 +135,7 @@ fn done(alloc: Global, ring: &Ring, hour: Hour, seed: u32) -> Result<Rebalanced,
 fn a_first_rebalance_takes_every_seat(rt: HostRuntime) -> Result<(), Fail> {
     let alloc = rt.alloc();
     let ring = ring(alloc, 1, 2, 0, [10_000, 10_000].as_slice())?;
-    let (new, changed) = seen(alloc, &ring, 5, 7)?;
+    let (new, changed) = checked_rebalance(alloc, &ring, 5, 7)?;
     assert_eq!(rt; changed, 4);
     assert_eq!(rt; (have(&new, 0), have(&new, 1)), (2, 2));
     assert_eq!(rt; new.moves(), [Some(5), Some(5)].as_slice());
@@ -142,11 +146,11 @@ fn a_first_rebalance_takes_every_seat(rt: HostRuntime) -> Result<(), Fail> {
 fn power_two_takes_eight_seats(rt: HostRuntime) -> Result<(), Fail> {
     let alloc = rt.alloc();
     let ring = ring(alloc, 2, 2, 24, [10_000, 10_000].as_slice())?;
-    let (ring, changed) = seen(alloc, &ring, 0, 7)?;
+    let (ring, changed) = checked_rebalance(alloc, &ring, 0, 7)?;
     assert_eq!(rt; changed, 8);
     let third = device(alloc, 2, 1, 10_000)?;
     let ring = marked(alloc, &with_device(alloc, &ring, third)?, 0)?;
-    let (ring, changed) = seen(alloc, &ring, 1, 7)?;
+    let (ring, changed) = checked_rebalance(alloc, &ring, 1, 7)?;
     assert_eq!(rt; changed, 4);
     assert_eq!(rt;
         (have(&ring, 1), have(&ring, 2), ring.devices().len()),
@@ -159,11 +163,11 @@ fn power_two_takes_eight_seats(rt: HostRuntime) -> Result<(), Fail> {
 fn a_moved_partition_stays_for_its_hours(rt: HostRuntime) -> Result<(), Fail> {
     let alloc = rt.alloc();
     let ring = ring(alloc, 2, 1, 24, [10_000].as_slice())?;
-    let (ring, _) = seen(alloc, &ring, 100, 7)?;
+    let (ring, _) = checked_rebalance(alloc, &ring, 100, 7)?;
     let ring = with_device(alloc, &ring, device(alloc, 1, 1, 10_000)?)?;
-    let (ring, changed) = seen(alloc, &ring, 123, 7)?;
+    let (ring, changed) = checked_rebalance(alloc, &ring, 123, 7)?;
     assert_eq!(rt; changed, 0);
-    let (_, changed) = seen(alloc, &ring, 124, 7)?;
+    let (_, changed) = checked_rebalance(alloc, &ring, 124, 7)?;
     assert_eq!(rt; changed, 2);
     Ok(())
 }
@@ -172,12 +176,12 @@ fn a_moved_partition_stays_for_its_hours(rt: HostRuntime) -> Result<(), Fail> {
 fn a_drained_device_keeps_its_seats_while_they_are_locked(rt: HostRuntime) -> Result<(), Fail> {
     let alloc = rt.alloc();
     let ring = ring(alloc, 2, 2, 24, [10_000, 10_000].as_slice())?;
-    let (ring, _) = seen(alloc, &ring, 0, 7)?;
+    let (ring, _) = checked_rebalance(alloc, &ring, 0, 7)?;
     let ring = with_device(alloc, &ring, device(alloc, 2, 1, 10_000)?)?;
     let ring = weighed(alloc, &ring, 1, 0)?;
-    let (ring, changed) = seen(alloc, &ring, 1, 7)?;
+    let (ring, changed) = checked_rebalance(alloc, &ring, 1, 7)?;
     assert_eq!(rt; (changed, have(&ring, 1)), (0, 4));
-    let (ring, changed) = seen(alloc, &ring, 24, 7)?;
+    let (ring, changed) = checked_rebalance(alloc, &ring, 24, 7)?;
     assert_eq!(rt; (changed, have(&ring, 1)), (4, 0));
     Ok(())
 }
@@ -186,10 +190,10 @@ fn a_drained_device_keeps_its_seats_while_they_are_locked(rt: HostRuntime) -> Re
 fn a_want_beyond_reach_leaves_room(rt: HostRuntime) -> Result<(), Fail> {
     let alloc = rt.alloc();
     let ring = ring(alloc, 2, 2, 0, [30_000, 10_000].as_slice())?;
-    let (ring, changed) = seen(alloc, &ring, 0, 7)?;
+    let (ring, changed) = checked_rebalance(alloc, &ring, 0, 7)?;
     assert_eq!(rt; changed, 8);
     assert_eq!(rt; (have(&ring, 0), have(&ring, 1)), (4, 4));
-    let (_, changed) = seen(alloc, &ring, 0, 7)?;
+    let (_, changed) = checked_rebalance(alloc, &ring, 0, 7)?;
     assert_eq!(rt; changed, 0);
     Ok(())
 }
@@ -198,15 +202,15 @@ fn a_want_beyond_reach_leaves_room(rt: HostRuntime) -> Result<(), Fail> {
 fn one_seat_a_partition_leaves_overfull_devices(rt: HostRuntime) -> Result<(), Fail> {
     let alloc = rt.alloc();
     let ring = ring(alloc, 1, 2, 0, [10_000, 10_000].as_slice())?;
-    let (ring, _) = seen(alloc, &ring, 0, 7)?;
+    let (ring, _) = checked_rebalance(alloc, &ring, 0, 7)?;
     let ring = with_device(alloc, &ring, device(alloc, 2, 1, 10_000)?)?;
     let ring = with_device(alloc, &ring, device(alloc, 3, 1, 10_000)?)?;
-    let (ring, changed) = seen(alloc, &ring, 0, 7)?;
+    let (ring, changed) = checked_rebalance(alloc, &ring, 0, 7)?;
     assert_eq!(rt; changed, 2);
     for id in 0..4 {
         assert_eq!(rt; have(&ring, id), 1);
     }
-    let (_, changed) = seen(alloc, &ring, 0, 8)?;
+    let (_, changed) = checked_rebalance(alloc, &ring, 0, 8)?;
     assert_eq!(rt; changed, 0);
     Ok(())
 }
@@ -215,9 +219,9 @@ fn one_seat_a_partition_leaves_overfull_devices(rt: HostRuntime) -> Result<(), F
 fn one_place_takes_one_of_two_seats(rt: HostRuntime) -> Result<(), Fail> {
     let alloc = rt.alloc();
     let ring = ring(alloc, 1, 2, 0, [10_000, 10_000].as_slice())?;
-    let (ring, _) = seen(alloc, &ring, 0, 7)?;
+    let (ring, _) = checked_rebalance(alloc, &ring, 0, 7)?;
     let ring = with_device(alloc, &ring, device(alloc, 2, 2, 5_000)?)?;
-    let (ring, changed) = seen(alloc, &ring, 0, 7)?;
+    let (ring, changed) = checked_rebalance(alloc, &ring, 0, 7)?;
     assert_eq!(rt; (changed, have(&ring, 2)), (1, 1));
     Ok(())
 }
@@ -295,7 +299,7 @@ fn random_rings_meet_the_definitions(rt: HostRuntime) -> Result<(), Fail> {
                 rebalance(alloc, &ring, hour, seed),
                 Err(PlaceError::TooFewDevices)
             ) {
-                ring = seen(alloc, &ring, hour, seed)?.0;
+                ring = checked_rebalance(alloc, &ring, hour, seed)?.0;
                 rebalances = rebalances.saturating_add(1);
             }
             hour = hour.saturating_add(below(&mut draws, 3));
@@ -328,7 +332,7 @@ fn wide_ring(alloc: Global, power: u16) -> Result<Ring, Fail> {
 fn a_ring_of_full_size_is_assigned(rt: HostRuntime) -> Result<(), Fail> {
     let alloc = rt.alloc();
     let ring = wide_ring(alloc, 14)?;
-    assert_eq!(rt; done(alloc, &ring, 0, 7)?.changed, 81_920);
+    assert_eq!(rt; ample_rebalance(alloc, &ring, 0, 7)?.changed, 81_920);
     Ok(())
 }
 
@@ -379,7 +383,7 @@ fn the_least_crowded_of_256_devices_is_that_of_a_scan(rt: HostRuntime) -> Result
             assert!(rt; least_is_scanned(&room, &ring, &wants, &mut draws)?);
         }
         if round % 10 == 0 {
-            ring = done(alloc, &ring, round, 7)?.ring;
+            ring = ample_rebalance(alloc, &ring, round, 7)?.ring;
         }
         let id = below(&mut draws, 256) as u16;
         ring = weighed(alloc, &ring, id, below(&mut draws, 40_000))?;

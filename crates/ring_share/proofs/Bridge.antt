@@ -39,7 +39,7 @@ less_by_key : (a b c d e f : ℕ) → a ≤ 5 → b ≤ 5 → c ≤ 5 → d ≤ 
     → (nat_lt a d || ((a == d) && (nat_lt b e || ((b == e) && nat_lt c f)))) ≡ nat_lt (36 * a + (6 * b + c)) (36 * d + (6 * e + f))
 less_by_key a b c d e f ha hb hc hd he hf = grind (arith, nat_tests)
 
-sum_cons : {X : Type 0} (test : X → Bool) (x : X) (xs : List X) → count_by test (x ∷ xs) ≡ cond (test x) 1 0 + count_by test xs
+pub sum_cons : {X : Type 0} (test : X → Bool) (x : X) (xs : List X) → count_by test (x ∷ xs) ≡ cond (test x) 1 0 + count_by test xs
 sum_cons test x xs = sum_by-cons (λ y. cond (test y) 1 0) x xs
 
 -- how near a device is to a seat
@@ -217,7 +217,7 @@ bool_ext false true h k = k refl
 bool_ext false false h k = refl
 
 -- a number below n that passes
-found_below : (test : ℕ → Bool) (n : ℕ) → list_any test (range_with_len 0 n) ≡ true → (k : ℕ) × (k < n) × (test k ≡ true)
+pub found_below : (test : ℕ → Bool) (n : ℕ) → list_any test (range_with_len 0 n) ≡ true → (k : ℕ) × (k < n) × (test k ≡ true)
 found_below test n some =
     let found = Any-from_list_any test (range_with_len 0 n) some in
     let lt : found.0 < n = omega (arith, found.2, length-range_with_len 0 n) in

@@ -7,5 +7,7 @@ pub mod NearTable
 pub mod Better
 pub mod Counting
 pub mod Bridge
+pub mod TierLists
+pub mod SeatsApart
 pub mod Assigned
 pub mod AllSeats

@@ -15,7 +15,7 @@ use Rattle.ring_model.specs.Ring.{RingRecord}
 use Rattle.ring_model.specs.Valid.{IsValid}
 use Rattle.ring_words.specs.declared.device.Device.{Device}
 use Rattle.ring_share.specs.Want.{is_open, open_weight, total_weight, seat_count, whole_share, share_rest, AreShares, AreWanted}
-use Rattle.ring_share.specs.Turns.{waits, is_waiting, ComesBefore}
+use Rattle.ring_share.specs.Inner.Turns.{waits, is_waiting, ComesBefore}
 
 -- numbers of devices rise with their places
 pub ids_rise : (devices : List Device) → IsStrictlyIncreasing (map (λ device. device.id) devices) → (i j : ℕ) (a b : Device) → i < j

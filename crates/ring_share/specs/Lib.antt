@@ -1,6 +1,7 @@
 pub mod Want
-pub mod Turns
 pub mod Room
 pub mod Crowd
 pub mod Figures
 pub mod Near
+pub mod Tiers
+pub mod Inner

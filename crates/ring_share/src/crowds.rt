@@ -4,7 +4,8 @@ ghost use Rattle.std.specs.Option.{option_map};
 ghost use Rattle.ring_model.specs.Ring.{partition_count, has_device};
 ghost use Rattle.ring_share.specs.Crowd.{in_region, in_zone, on_server, device_of, tiers_of, row_of, others, crowd, crowd_for};
 
-use ring_model::{Device, DeviceId, Ring};
+use ring_model::Ring;
+use ring_words::{Device, DeviceId};
 
 /// Whether two devices stand in one region.
 pub fn in_region(a: &Device, b: &Device) -> bool
@@ -17,14 +18,14 @@ pub fn in_region(a: &Device, b: &Device) -> bool
 pub fn in_zone(a: &Device, b: &Device) -> bool
     ensures { result ≡ in_zone a.now b.now }
 {
-    in_region(a, b) && a.row.zone == b.row.zone
+    in_region(a, b) & (a.row.zone == b.row.zone)
 }
 
 /// Whether they stand on one server: at one address in one zone.
 pub fn on_server(a: &Device, b: &Device) -> bool
     ensures { result ≡ on_server a.now b.now }
 {
-    in_zone(a, b) && a.row.address == b.row.address
+    in_zone(a, b) & (a.row.address == b.row.address)
 }
 
 /// The device of a number.

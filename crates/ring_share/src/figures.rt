@@ -8,15 +8,20 @@ ghost use Rattle.ring_words.specs.declared.device.Device.{Device as DeviceModel}
 ghost use Rattle.ring_share.specs.Want.{total_weight};
 ghost use Rattle.ring_share.specs.Room.{have};
 ghost use Rattle.ring_share.specs.Near.{IsTable};
+ghost use Rattle.ring_share.specs.Tiers.{AreTier};
+ghost use Rattle.ring_share.specs.declared.tiers.Tier.TheVariants.{Region};
 ghost use Rattle.ring_share.specs.Crowd.{device_of, rows_of};
 ghost use Rattle.ring_share.specs.Figures.{distance, greatest_balance, device_balance, ring_balance, has_crowded, ring_dispersion};
 
+use crate::apart::stand_apart;
 use crate::crowds::device_of;
 use crate::nearness::{Table, has_better_at, table_of};
 use crate::places::{place_in, places_of};
 use crate::rooms::have;
+use crate::tiers::{Tier, one_each};
 use crate::wants::{is_open, partition_count, seat_count, total_weight};
-use ring_model::{Device, DeviceId, Ring};
+use ring_model::Ring;
+use ring_words::{Device, DeviceId};
 
 const GREATEST_BALANCE: u64 = 99_999;
 
@@ -73,8 +78,8 @@ pub fn balance_of(ring: &Ring, device: DeviceId) -> Option<u32>
     Some(device_balance(ring, total, found, have(ring, found.id)))
 }
 
-/// How many seats the device at each place has.
-fn counts_of(ring: &Ring) -> [u32; 256]
+/// How many seats the device at each place has. Behind the last device it is left open what stands.
+pub fn counts_of(ring: &Ring) -> [u32; 256]
     ensures { (place : ℕ) (device : DeviceModel) → slice_get ring.now.devices place ≡ Some device → slice_index result place ≡ have ring.now device.id }
 {
     let devices = ring.devices();
@@ -108,13 +113,17 @@ pub fn balance(ring: &Ring) -> u32
 }
 
 /// Whether a partition with these seats has one for which an open device outside it is less crowded than the seat's own.
-fn has_crowded(devices: &[Device], table: &Table, row: &[DeviceId]) -> bool
+fn has_crowded(devices: &[Device], regions: &[usize], table: &Table, row: &[DeviceId]) -> bool
     requires devices { AreDevices 65536 devices.now }
+    requires regions { AreTier Region devices.now regions.now }
     requires table { IsTable devices.now table.now }
     requires known { All (λ id. has_device id devices.now ≡ true) row.now }
     requires few { length row.now ≤ 5 }
     ensures { result ≡ has_crowded devices.now (map Some row.now) }
 {
+    if stand_apart(devices, regions, row) {
+        return false;
+    }
     let places = places_of(devices, row);
     has_better_at(devices, table, &places[..row.len()])
 }
@@ -126,13 +135,15 @@ fn crowded_count(ring: &Ring) -> u32
     ensures small { result ≤ partition_count ring.now }
 {
     let devices = ring.devices();
+    let (regions, count) = one_each(devices, Tier::Region);
     let table = table_of(devices);
     let replicas = usize::from(ring.replicas().get());
     let seats = ring.seats();
     let mut crowded = 0;
     for partition in 0..partition_count(ring) {
         let first = partition * replicas;
-        if has_crowded(devices, &table, &seats[first..first + replicas]) {
+        let row = &seats[first..first + replicas];
+        if has_crowded(devices, &regions[..count], &table, row) {
             crowded += 1;
         }
     }

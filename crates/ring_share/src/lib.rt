@@ -5,16 +5,20 @@
 //! definitions that contracts cite stand in `specs/`, and `docs/definitions.md` lists them.
 #![tactic(auto)]
 
+mod apart;
 mod crowds;
 mod figures;
 pub mod laws;
 mod nearness;
 mod places;
 mod rooms;
+mod tiers;
 mod wants;
 
+pub use apart::stand_apart;
 pub use crowds::{crowd, in_region, in_zone, on_server, shared_tiers};
-pub use figures::{balance, balance_of, dispersion};
+pub use figures::{balance, balance_of, counts_of, dispersion};
 pub use places::place_in;
 pub use rooms::{has_room, have};
+pub use tiers::{Tier, one_each};
 pub use wants::{is_open, wanted};

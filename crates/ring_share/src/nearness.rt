@@ -6,7 +6,7 @@ ghost use Rattle.ring_share.specs.Near.{near, near_at, nearness, IsTable, is_fre
 
 use crate::crowds::{in_region, in_zone, on_server};
 use crate::wants::is_open;
-use ring_model::Device;
+use ring_words::Device;
 
 /// How near each two devices are, by their places.
 pub(crate) type Table = [[u8; 256]; 256];

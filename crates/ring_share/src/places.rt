@@ -4,7 +4,7 @@ ghost use Rattle.std.specs.List.Sorted.{IsStrictlyIncreasing};
 ghost use Rattle.ring_model.specs.Ring.{has_device};
 ghost use Rattle.ring_share.specs.Near.{StandsAt};
 
-use ring_model::{Device, DeviceId};
+use ring_words::{Device, DeviceId};
 
 /// The place of the device of a number among the devices of a ring, which stand by rising number. It is looked for at the
 /// place that it has while no device was dropped, and then by halving.

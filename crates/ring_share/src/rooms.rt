@@ -6,7 +6,8 @@ ghost use Rattle.ring_share.specs.Want.{is_open, AreWanted};
 ghost use Rattle.ring_share.specs.Room.{have, has_open, place_of, want_of, has_room};
 
 use crate::wants::is_open;
-use ring_model::{Device, DeviceId, Ring};
+use ring_model::Ring;
+use ring_words::{Device, DeviceId};
 
 /// How many seats are on the device of a number.
 pub fn have(ring: &Ring, id: DeviceId) -> u32

@@ -4,10 +4,11 @@ ghost use Rattle.std.specs.List.{list_any};
 ghost use Rattle.ring_model.specs.Ring.{partition_count};
 ghost use Rattle.ring_model.specs.Valid.{IsValid};
 ghost use Rattle.ring_words.specs.declared.device.Device.{Device as DeviceModel};
-ghost use Rattle.ring_share.specs.Turns.{is_waiting, IsFirstWaiting};
+ghost use Rattle.ring_share.specs.Inner.Turns.{is_waiting, IsFirstWaiting};
 ghost use Rattle.ring_share.specs.Want.{is_open, open_weight, total_weight, seat_count, whole_share, share_rest, IsBefore, AreShares, AreWanted};
 
-use ring_model::{Device, Ring};
+use ring_model::Ring;
+use ring_words::Device;
 use std::alloc::{AllocError, Global};
 
 /// Whether seats may go to a device: it isn't marked to be removed, and it weighs something.

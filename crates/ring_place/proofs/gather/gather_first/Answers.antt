@@ -2,10 +2,12 @@ use Rattle.std.proofs.Common.{◌≡◌, ◌∙◌, sym, ap, subst, refl, arith,
 use Rattle.std.specs.List.{list_any}
 use Rattle.ring_model.specs.Ring.{has_device}
 use Rattle.ring_place.specs.Load.{load_take}
-use Rattle.ring_place.specs.Gathering.{Calm, Crowded, LostFirst, Takes, is_lost_in, present_only}
-use Rattle.ring_place.proofs.Roomier.{one_here}
-use Rattle.ring_place.proofs.Taking.{takes_none, takes_seat}
+use Rattle.ring_place.specs.Inner.Gathering.{Calm, Crowded, LostFirst, Takes, is_lost_in, present_only}
+use Rattle.ring_place.proofs.Gathering.BothPasses.{none_empty}
+use Rattle.ring_place.proofs.Searching.LessCrowded.{one_here}
+use Rattle.ring_place.proofs.Gathering.TakenSeats.{takes_none, takes_seat}
 use Rattle.ring_place.proofs.gather.gather_first.Goals as goal
+use Rattle.ring_place.proofs.gather.gather_first.Goals.{else-not-locked-via-then-not-locked+else-not-is_calm, else-not-locked-via-else-not-locked}
 
 pub returns-then-has_lost-clause-first : goal.returns-then-has_lost-clause-first
 returns-then-has_lost-clause-first c = LostFirst
@@ -33,7 +35,13 @@ returns-in_default-clause-first c =
     Calm (ap (λ ds. list_any (is_lost_in ds) c.args.row.now) (sym c.requires.same) ∙ sym c.has_lost.ensures ∙ c.if-has_lost.false)
     c.in_default.ensures.none.0 (λ unlocked. c.in_default.ensures.none.1)
 
+pub is_calm-requires-clause-full : goal.is_calm-requires-clause-full
+is_calm-requires-clause-full c = none_empty c.args.kept.now.devices c.args.row.now (sym c.has_lost.ensures ∙ c.if-has_lost.false)
+
 pub returns-else-not-locked-clause-first : goal.returns-else-not-locked-clause-first
 returns-else-not-locked-clause-first c =
     Calm (ap (λ ds. list_any (is_lost_in ds) c.args.row.now) (sym c.requires.same) ∙ sym c.has_lost.ensures ∙ c.if-has_lost.false)
-    refl (λ unlocked. absurd (cc (unlocked, c.if-not-locked.false)))
+    refl (λ unlocked. elim c.else-not-locked.branch [
+      | else-not-locked-via-then-not-locked+else-not-is_calm w ↦ w.is_calm.ensures w.if-not-is_calm.false
+      | else-not-locked-via-else-not-locked w ↦ absurd (cc (unlocked, w.if-not-locked.false))
+    ])

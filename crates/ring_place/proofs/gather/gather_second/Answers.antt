@@ -1,8 +1,8 @@
 use Rattle.std.proofs.Common.{◌≡◌, ◌∙◌, sym, ap, subst, ◌≤◌, arith, true}
 use Rattle.ring_model.specs.Ring.{has_device}
 use Rattle.ring_place.specs.Load.{have_in, load_take, want_in}
-use Rattle.ring_place.specs.Gathering.{IsSecond, Surplus, Takes}
-use Rattle.ring_place.proofs.Taking.{have_taken_same, takes_none, takes_seat}
+use Rattle.ring_place.specs.Inner.Gathering.{IsSecond, Surplus, Takes}
+use Rattle.ring_place.proofs.Gathering.TakenSeats.{have_taken_same, takes_none, takes_seat}
 use Rattle.ring_place.proofs.gather.gather_second.Goals as goal
 
 pub returns-in-Some-clause-second : goal.returns-in-Some-clause-second

@@ -1,10 +1,10 @@
 use Rattle.std.proofs.Common.{◌≡◌, ◌∙◌, ℕ, sym, ap, ◌<◌, arith, length, get_or, set, Some, None, false, below_more}
 use Rattle.std.specs.Prelude.{slice_get}
 use Rattle.std.proofs.lemmas.Option.{slice_get_within}
-use Rattle.ring_place.specs.Gathering.{has_less_in, is_crowded_in}
-use Rattle.ring_place.proofs.Lifted.{known_lifted, same_device, seat_at}
-use Rattle.ring_place.proofs.Roomier.{crowded_same}
-use Rattle.ring_place.proofs.Writes.{set_back}
+use Rattle.ring_place.specs.Inner.Gathering.{has_less_in, is_crowded_in}
+use Rattle.ring_place.proofs.Rows.LiftedSeats.{known_lifted, same_device, seat_at}
+use Rattle.ring_place.proofs.Searching.LessCrowded.{crowded_same}
+use Rattle.ring_place.proofs.Rows.OneWrite.{set_back}
 use Rattle.ring_place.proofs.gather.lift_crowded.Goals as goal
 use Rattle.ring_place.proofs.gather.lift_crowded.Goals.{in-Some+else-has_less_crowded, in_default}
 

@@ -1,6 +1,6 @@
 use Rattle.std.proofs.Common.{◌≡◌, ℕ, ◌<◌, Some, false}
 use Rattle.std.specs.Prelude.{slice_get}
-use Rattle.ring_place.specs.Gathering.{is_crowded_in}
+use Rattle.ring_place.specs.Inner.Gathering.{is_crowded_in}
 use Rattle.ring_place.proofs.gather.lift_crowded.Given as goal
 
 -- nothing is lifted, and for no seat so far is a device outside with room less crowded

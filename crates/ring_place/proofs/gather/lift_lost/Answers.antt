@@ -2,11 +2,11 @@ use Rattle.std.proofs.Common.{◌≡◌, ◌∙◌, sym, ap, subst, refl, ◌<�
 use Rattle.ring_model.specs.Ring.{has_device, has_present}
 use Rattle.ring_share.specs.Crowd.{seats_on}
 use Rattle.ring_place.specs.Load.{have_in, load_take}
-use Rattle.ring_place.specs.Gathering.{Takes, present_only}
-use Rattle.ring_place.proofs.Lifted.{kept_present, lost_absent, seat_at}
-use Rattle.ring_place.proofs.Roomier.{one_here}
-use Rattle.ring_place.proofs.RowFront.{front_all, front_lift, front_old, front_skip}
-use Rattle.ring_place.proofs.Taking.{has_taken, takes_seat}
+use Rattle.ring_place.specs.Inner.Gathering.{Takes, present_only}
+use Rattle.ring_place.proofs.Rows.LiftedSeats.{kept_present, lost_absent, seat_at}
+use Rattle.ring_place.proofs.Searching.LessCrowded.{one_here}
+use Rattle.ring_place.proofs.Rows.RowFronts.{front_all, front_lift, front_old, front_skip}
+use Rattle.ring_place.proofs.Gathering.TakenSeats.{has_taken, takes_seat}
 use Rattle.ring_place.proofs.gather.lift_lost.Goals as goal
 use Rattle.ring_place.proofs.gather.lift_lost.Goals.{in-Some+then-not-is_present, in-Some+else-not-is_present, in_default}
 

@@ -2,8 +2,8 @@ use Rattle.std.proofs.Common.{◌≡◌, ℕ, ◌≤◌, true}
 use Rattle.ring_model.specs.Ring.{has_device}
 use Rattle.ring_share.specs.Crowd.{seats_on}
 use Rattle.ring_place.specs.Load.{have_in}
-use Rattle.ring_place.specs.Gathering.{present_only, Takes}
-use Rattle.ring_place.proofs.RowFront.{front}
+use Rattle.ring_place.specs.Inner.Gathering.{present_only, Takes}
+use Rattle.ring_place.proofs.Rows.RowFronts.{front}
 use Rattle.ring_place.proofs.gather.lift_lost.Given as goal
 
 -- the lost seats so far are lifted

@@ -1,5 +1,5 @@
 use Rattle.std.proofs.Common.{◌∙◌, sym, ap, arith, get_or, Some, None}
-use Rattle.ring_place.proofs.Lifted.{seat_at}
+use Rattle.ring_place.proofs.Rows.LiftedSeats.{seat_at}
 use Rattle.ring_place.proofs.gather.lift_surplus.Goals as goal
 
 pub is_over-requires : goal.is_over-requires

@@ -1,4 +1,4 @@
-use Rattle.ring_place.proofs.Unchanged.{at_rest}
+use Rattle.ring_place.proofs.Finishing.UnchangedRing.{at_rest}
 use Rattle.ring_place.proofs.laws.unchanged_is_settled.Goals as goal
 
 pub returns : goal.returns

@@ -1,5 +1,5 @@
 use Rattle.std.proofs.Common.{sym, ◌∙◌}
-use Rattle.ring_place.proofs.Choosing.{free_ids}
+use Rattle.ring_place.proofs.Placing.ChosenDevices.{free_ids}
 use Rattle.ring_place.proofs.place.is_free.Goals as goal
 
 pub returns-then-has_room : goal.returns-then-has_room

@@ -1,6 +1,6 @@
 use Rattle.std.proofs.Common.{sym, ◌∙◌}
 use Rattle.ring_place.specs.Load.{seats_of}
-use Rattle.ring_place.proofs.Choosing.{least_known, own_crowded, own_is_least, own_not_free}
+use Rattle.ring_place.proofs.Placing.ChosenDevices.{least_known, own_crowded, own_is_least, own_not_free}
 use Rattle.ring_place.proofs.place.own_or.Goals as goal
 
 pub returns-then-not-is_free-clause-own_wins : goal.returns-then-not-is_free-clause-own_wins

@@ -1,5 +1,5 @@
 use Rattle.std.proofs.Common.{take}
-use Rattle.ring_place.proofs.AllSteps.{AllUpTo}
+use Rattle.ring_place.proofs.Placing.AllSteps.{AllUpTo}
 use Rattle.ring_place.proofs.place.place_all.Given as goal
 
 -- the partitions before this one are put

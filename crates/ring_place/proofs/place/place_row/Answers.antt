@@ -3,9 +3,9 @@ use Rattle.std.proofs.lemmas.Option.{slice_get-get_or}
 use Rattle.ring_words.specs.declared.device.Device.{Device}
 use Rattle.ring_place.specs.Rows.{AreKnown}
 use Rattle.ring_place.specs.Load.{IsLoad, load_put}
-use Rattle.ring_place.specs.Placing.{IsAlone}
-use Rattle.ring_place.proofs.AllSteps.{open_want_fills}
-use Rattle.ring_place.proofs.RowSteps.{PlacedUpTo, empty_here, full_here, own_apart, own_known, placed_end, placed_skip, placed_start, placed_step, put_fits}
+use Rattle.ring_place.specs.Inner.Placing.{IsAlone}
+use Rattle.ring_place.proofs.Placing.AllSteps.{open_want_fills}
+use Rattle.ring_place.proofs.Placing.RowSteps.{PlacedUpTo, empty_here, full_here, own_apart, own_known, placed_end, placed_skip, placed_start, placed_step, put_fits}
 use Rattle.ring_place.proofs.place.place_row.Goals as goal
 use Rattle.ring_place.proofs.place.place_row.Goals.{then-is_none, else-is_none}
 

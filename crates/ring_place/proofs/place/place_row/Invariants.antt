@@ -1,4 +1,4 @@
-use Rattle.ring_place.proofs.RowSteps.{PlacedUpTo}
+use Rattle.ring_place.proofs.Placing.RowSteps.{PlacedUpTo}
 use Rattle.ring_place.proofs.place.place_row.Given as goal
 
 -- the seats before this one are put

@@ -1,5 +1,5 @@
 use Rattle.std.proofs.Common.{true, false, sym, ◌∙◌, arith}
-use Rattle.ring_place.proofs.Finished.{changed_more}
+use Rattle.ring_place.proofs.Finishing.FinishedRing.{changed_more}
 use Rattle.ring_place.proofs.rebalances.count_changed.Goals as goal
 use Rattle.ring_place.proofs.rebalances.count_changed.Goals.{then-ne, else-ne}
 

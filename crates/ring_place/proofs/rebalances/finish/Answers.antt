@@ -2,10 +2,10 @@ use Rattle.std.proofs.Common.{ℕ, Err, List, Option, length, sum_by, sym, ap, s
 use Rattle.std.specs.List.{range_with_len}
 use Rattle.ring_model.specs.Parts.{record_of}
 use Rattle.ring_share.specs.Crowd.{rows_of}
-use Rattle.ring_place.specs.Finishing.{AreAlike, changed_in}
+use Rattle.ring_place.specs.Inner.Finishing.{AreAlike, changed_in}
 use Rattle.ring_place.specs.Rebalance.{IsAfter, changed_seats}
 use Rattle.ring_place.specs.Rows.{row_at}
-use Rattle.ring_place.proofs.Finished.{alike, count_rows, is_made, made_after, made_changed, made_valid, rows_same}
+use Rattle.ring_place.proofs.Finishing.FinishedRing.{alike, count_rows, is_made, made_after, made_changed, made_valid, rows_same}
 use Rattle.ring_place.proofs.rebalances.finish.Goals as goal
 
 pub moves-requires-clause-partitions : goal.moves-requires-clause-partitions

@@ -1,7 +1,7 @@
 use Rattle.std.proofs.Common.{◌≡◌, ℕ, List, Option, None, get_or, ap, ◌∙◌, arith}
-use Rattle.ring_place.specs.Finishing.{changed_in, stamped}
+use Rattle.ring_place.specs.Inner.Finishing.{changed_in, stamped}
 use Rattle.ring_place.specs.Rows.{row_at}
-use Rattle.ring_place.proofs.Ranges.{map_more, sum_more}
+use Rattle.ring_place.proofs.Rows.IndexRanges.{map_more, sum_more}
 use Rattle.ring_place.proofs.rebalances.moves.Goals as goal
 
 pub loop-partition-preserved : goal.loop-partition-preserved

@@ -1,6 +1,6 @@
 use Rattle.std.proofs.Common.{◌≡◌, ◌≤◌, ◌*◌, map, sum_by, None, get_or}
 use Rattle.std.specs.List.{range_with_len}
-use Rattle.ring_place.specs.Finishing.{changed_in, stamped}
+use Rattle.ring_place.specs.Inner.Finishing.{changed_in, stamped}
 use Rattle.ring_place.specs.Rows.{row_at}
 use Rattle.ring_place.proofs.rebalances.moves.Given as goal
 

@@ -4,11 +4,11 @@ use Rattle.std.specs.List.Sorted.{IsPermutation}
 use Rattle.ring_model.specs.Valid.{IsValid}
 use Rattle.ring_share.specs.Crowd.{rows_of}
 use Rattle.ring_share.specs.Want.{is_open}
-use Rattle.ring_place.specs.Placing.{AllPlaced, CanPlace}
+use Rattle.ring_place.specs.Inner.Placing.{AllPlaced, CanPlace}
 use Rattle.ring_place.specs.Rebalance.{IsAfter, IsRebalance}
 use Rattle.ring_place.specs.Rows.{row_at}
-use Rattle.ring_place.proofs.NewRing.{is_rebalance}
-use Rattle.ring_place.proofs.Placeable.{left_counts, open_want, partitions_are, rows_count, rows_few, rows_placeable, whole}
+use Rattle.ring_place.proofs.Finishing.NewRing.{is_rebalance}
+use Rattle.ring_place.proofs.Placing.Placeable.{left_counts, open_want, partitions_are, rows_count, rows_few, rows_placeable, whole}
 use Rattle.ring_place.proofs.rebalances.rebalance.Goals as goal
 
 pub place_all-requires-clause-order : goal.place_all-requires-clause-order

@@ -1,6 +1,6 @@
 use Rattle.std.proofs.Common.{⊎_elim, sym, subst, arith}
 use Rattle.std.proofs.lemmas.Bool.{cases_eq}
-use Rattle.ring_share.specs.Turns.{ComesBefore}
+use Rattle.ring_share.specs.Inner.Turns.{ComesBefore}
 use Rattle.ring_share.proofs.Sharing.{comes_first}
 use Rattle.ring_share.proofs.wants.first_with.Goals as goal
 

@@ -4,7 +4,7 @@ use Rattle.std.specs.List.{range_with_len}
 use Rattle.std.proofs.lemmas.List.FromFn.{length-map-range_with_len, map-range_with_len_more}
 use Rattle.ring_model.specs.Ring.{partition_count}
 use Rattle.ring_place.specs.Rows.{rows_in}
-use Rattle.ring_place.proofs.SeatRows.{rows_of_ring}
+use Rattle.ring_place.proofs.Rows.SeatRows.{rows_of_ring}
 use Rattle.ring_place.proofs.seats.Seats.of.Goals as goal
 
 pub loop-place-preserved : goal.loop-place-preserved

@@ -1,6 +1,6 @@
 use Rattle.std.proofs.Common.{◌<◌, length, sym, ap, ◌∙◌, arith}
 use Rattle.ring_place.specs.Rows.{row_at}
-use Rattle.ring_place.proofs.SeatRows.{length-rows_in, row_at-rows_in, row_fits}
+use Rattle.ring_place.proofs.Rows.SeatRows.{length-rows_in, row_at-rows_in, row_fits}
 use Rattle.ring_place.proofs.seats.Seats.row.Goals as goal
 
 pub overflow_mul-first : goal.overflow_mul-first

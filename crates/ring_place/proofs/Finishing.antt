@@ -1,0 +1,4 @@
+pub mod RemainingDevices
+pub mod NewRing
+pub mod FinishedRing
+pub mod UnchangedRing

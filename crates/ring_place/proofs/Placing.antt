@@ -1,0 +1,6 @@
+pub mod ChosenDevices
+pub mod Filling
+pub mod RowSteps
+pub mod AllSteps
+pub mod Placeable
+pub mod SettledSeats

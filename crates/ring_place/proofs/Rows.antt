@@ -1,0 +1,9 @@
+pub mod SeatRows
+pub mod WrittenRows
+pub mod RowFronts
+pub mod RowDevices
+pub mod OneWrite
+pub mod LiftedSeats
+pub mod PartitionOrders
+pub mod RingSeats
+pub mod IndexRanges

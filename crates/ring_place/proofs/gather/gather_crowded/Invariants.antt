@@ -1,7 +1,0 @@
-use Rattle.std.proofs.Common.{take}
-use Rattle.ring_place.specs.Gathering.{IsFirstPass}
-use Rattle.ring_place.proofs.gather.gather_crowded.Given as goal
-
--- the partitions so far
-abbrev pub invariant-loop-partition : goal.invariant-loop-partition
-invariant-loop-partition l = IsFirstPass (take l.partition-index l.order) l.was l.kept l.locked l.fn.seats l.seats

@@ -1,7 +1,0 @@
-use Rattle.std.proofs.Common.{take}
-use Rattle.ring_place.specs.Gathering.{IsSecondPass}
-use Rattle.ring_place.proofs.gather.gather_surplus.Given as goal
-
--- the partitions so far
-abbrev pub invariant-loop-partition : goal.invariant-loop-partition
-invariant-loop-partition l = IsSecondPass (take l.partition-index l.order) l.was l.kept l.locked l.fn.seats l.seats

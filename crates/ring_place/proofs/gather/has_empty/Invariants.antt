@@ -1,8 +1,0 @@
-use Rattle.std.proofs.Common.{◌≡◌, false, take}
-use Rattle.std.specs.List.{list_any}
-use Rattle.ring_place.specs.Rows.{is_empty}
-use Rattle.ring_place.proofs.gather.has_empty.Given as goal
-
--- none so far
-abbrev pub invariant-loop-seat : goal.invariant-loop-seat
-invariant-loop-seat l = list_any is_empty (take l.seat-index l.row) ≡ false

@@ -1,0 +1,16 @@
+use Rattle.std.proofs.Common.{◌≡◌, ◌<◌, ◌≤◌, ℕ, length, get_or, true}
+use Rattle.ring_place.specs.Load.{Load, has_room_in}
+use Rattle.ring_place.specs.Inner.Places.{id_at}
+use Rattle.ring_place.proofs.rooms.list_roomy.Given as goal
+
+-- the devices so far that have room are listed, and no others
+abbrev pub invariant-loop-place : goal.invariant-loop-place
+invariant-loop-place l =
+    let load : Load = record { devices = l.devices; wanted = l.wanted; counts = l.counts } in
+    record {
+      few : l.count ≤ l.place;
+      long : length l.places ≡ length l.devices;
+      within : (k : ℕ) → k < l.count → get_or l.places k 0 < length l.devices;
+      roomy : (k : ℕ) → k < l.count → has_room_in load (id_at l.devices (get_or l.places k 0)) ≡ true;
+      covered : (place : ℕ) → place < l.place → has_room_in load (id_at l.devices place) ≡ true → (k : ℕ) × (k < l.count) × (get_or l.places k 0 ≡ place);
+    }

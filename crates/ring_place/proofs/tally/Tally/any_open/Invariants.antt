@@ -1,9 +1,0 @@
-use Rattle.std.proofs.Common.{◌≡◌, ◌==◌, ◌&&◌, ◌<◌, ℕ, not, false, get_or}
-use Rattle.std.specs.List.{list_any}
-use Rattle.ring_words.specs.declared.device.Device.{Device}
-use Rattle.ring_share.specs.Want.{is_open}
-use Rattle.ring_place.proofs.tally.Tally.any_open.Given as goal
-
--- none so far is open and outside
-abbrev pub invariant-loop-device : goal.invariant-loop-device
-invariant-loop-device l = (k : ℕ) (d : Device) → k < l.device-index → (is_open (get_or l.device-items k d) && not (list_any (λ other. other == (get_or l.device-items k d).id) l.others)) ≡ false

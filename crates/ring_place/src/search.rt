@@ -1,0 +1,234 @@
+//! The search of a room for a device that is least crowded for a seat.
+ghost use Rattle.std.specs.Prelude.{◌≡◌, ◌<◌, ◌≤◌, ◌+◌, ℕ, true, false, All, length, slice_index, IfSome, IfNone};
+ghost use Rattle.std.specs.List.{list_any};
+ghost use Rattle.ring_model.specs.Ring.{has_device};
+ghost use Rattle.ring_place.specs.Inner.Gathering.{AreUncrowded, has_free_in};
+ghost use Rattle.ring_place.specs.Rows.{AreKnown, is_empty};
+ghost use Rattle.ring_place.specs.Load.{IsLoad, IsLeast, crowd_in, is_free_in, seats_of};
+ghost use Rattle.ring_place.specs.Inner.Places.{IsBestSoFar, id_at, is_within, place_after, seats_at};
+ghost use Rattle.ring_place.specs.Inner.Lists.{IsFloor};
+ghost use Rattle.ring_share.specs.Tiers.{AreTier};
+
+use crate::rooms::Room;
+use crate::seats::devices_on;
+use crate::tiers::{Crowd, cut, is_less, lesser};
+use ring_share::{Tier, shared_tiers, stand_apart};
+use ring_words::DeviceId;
+
+/// The place so many steps after another, where the first place comes after the last.
+fn place_after(count: usize, start: usize, step: usize) -> usize
+    requires start { start < count }
+    requires step { step < count }
+    ensures value { result ≡ place_after count start step }
+    ensures within { result < count }
+{
+    let before_end = count - start;
+    if step < before_end {
+        start + step
+    } else {
+        step - before_end
+    }
+}
+
+/// Whether a device is found that is no more crowded than this.
+fn is_within(best: Option<(usize, Crowd)>, floor: Crowd) -> bool
+    ensures { result ≡ is_within best floor }
+{
+    match best {
+        None => false,
+        Some(found) => !is_less(floor, found.1),
+    }
+}
+
+impl Room {
+    /// Whether the device at a place has room and isn't among those at these places.
+    fn is_free_at(&self, others: &[usize], place: usize) -> bool
+        requires others { All (λ other. other < length self.now.devices) others.now }
+        requires place { place < length self.now.devices }
+        ensures { result ≡ is_free_in self.now (seats_at self.now.devices others.now) (id_at self.now.devices place) }
+    {
+        self.has_room_at(place) && !others.contains(&place)
+    }
+
+    /// How crowded the device at a place is for a seat whose other seats are on the devices at these places.
+    fn crowd_at(&self, others: &[usize], place: usize) -> Crowd
+        requires others { All (λ other. other < length self.now.devices) others.now }
+        requires few { length others.now ≤ 5 }
+        requires place { place < length self.now.devices }
+        ensures { result ≡ crowd_in self.now (seats_at self.now.devices others.now) (id_at self.now.devices place) }
+    {
+        let mut crowd = (0, 0, 0);
+        for other in others {
+            let more = shared_tiers(&self.devices[place], &self.devices[*other]);
+            crowd = (crowd.0 + more.0, crowd.1 + more.1, crowd.2 + more.2);
+        }
+        crowd
+    }
+
+    /// The places of at most five devices of the ring.
+    fn places_of(&self, ids: &[DeviceId]) -> [usize; 5]
+        requires known { All (λ id. has_device id self.now.devices ≡ true) ids.now }
+        requires few { length ids.now ≤ 5 }
+        ensures long { length result ≡ 5 }
+        ensures stand { (index : ℕ) → index < length ids.now → (slice_index result index < length self.now.devices) × (id_at self.now.devices (slice_index result index) ≡ slice_index ids.now index) }
+    {
+        let mut places = [0; 5];
+        for (index, id) in ids.iter().enumerate() {
+            places[index] = self.place_of(*id);
+        }
+        places
+    }
+
+    /// How crowded a device of the ring is for a seat whose other seats are on these devices.
+    pub(crate) fn crowd(&self, others: &[DeviceId], device: DeviceId) -> Crowd
+        requires others { All (λ id. has_device id self.now.devices ≡ true) others.now }
+        requires few { length others.now ≤ 5 }
+        requires device { has_device device self.now.devices ≡ true }
+        ensures { result ≡ crowd_in self.now (seats_of others.now) device }
+    {
+        let places = self.places_of(others);
+        self.crowd_at(&places[..others.len()], self.place_of(device))
+    }
+
+    /// Whether it shows at a glance that no device outside a partition with room is less crowded for any of its seats, none of
+    /// which is empty.
+    pub(crate) fn is_calm(&self, row: &[Option<DeviceId>]) -> bool
+        requires row { AreKnown self.now.devices row.now }
+        requires few { length row.now ≤ 5 }
+        requires full { list_any is_empty row.now ≡ false }
+        ensures { result ≡ true → AreUncrowded self.now row.now }
+    {
+        if self.count == 0 {
+            return true;
+        }
+        let (ids, count) = devices_on(row);
+        stand_apart(&self.devices, &self.regions, &ids[..count])
+    }
+
+    /// Whether some device that isn't among `others` has room.
+    pub(crate) fn has_room_outside(&self, others: &[DeviceId]) -> bool
+        ensures { result ≡ has_free_in self.now (seats_of others.now) }
+    {
+        for place in &self.roomy[..self.count] {
+            if !others.contains(&self.devices[*place].id) {
+                return true;
+            }
+        }
+        false
+    }
+
+    /// A device with room that isn't among `others`, at most five distinct devices of the ring, and than which no other
+    /// such device is less crowded for a seat whose other seats are on `others`. `None` exactly where no device outside has
+    /// room. Of several such devices the draw takes one.
+    pub fn least(&self, others: &[DeviceId], draw: u32) -> Option<DeviceId>
+        requires others { All (λ id. has_device id self.now.devices ≡ true) others.now }
+        requires few { length others.now ≤ 5 }
+        ensures found { IfSome result (λ id. IsLeast self.now (seats_of others.now) id) }
+        ensures none { IfNone result ((id : ℕ) → is_free_in self.now (seats_of others.now) id ≡ false) }
+    {
+        if self.count == 0 {
+            return None;
+        }
+        let places = self.places_of(others);
+        let others = &places[..others.len()];
+        let floor = self.floor_for(others);
+        let start = draw as usize % self.count;
+        let best = self.least_of(&self.roomy[..self.count], start, others, floor)?;
+        Some(self.devices[best.0].id)
+    }
+
+    /// How crowded open devices are at the least for a seat whose other seats are on the devices at these places.
+    fn floor_for(&self, others: &[usize]) -> Crowd
+        requires others { All (λ other. other < length self.now.devices) others.now }
+        requires few { length others.now ≤ 5 }
+        ensures { IsFloor self.now (seats_at self.now.devices others.now) result }
+    {
+        let floor = self.floor_by(Tier::Region, &self.regions, others, (0, 0, 0));
+        let floor = self.floor_by(Tier::Zone, &self.zones, others, floor);
+        self.floor_by(Tier::Server, &self.servers, others, floor)
+    }
+
+    /// How crowded open devices are at the least, down to a tier, for a seat whose other seats are on the devices at these
+    /// places. `places` has one in each tier of that kind. The search ends at the floor of a wider tier.
+    fn floor_by(&self, tier: Tier, places: &[usize], others: &[usize], floor: Crowd) -> Crowd
+        requires load { IsLoad self.now }
+        requires tier { AreTier tier self.now.devices places.now }
+        requires others { All (λ other. other < length self.now.devices) others.now }
+        requires few { length others.now ≤ 5 }
+        requires floor { IsFloor self.now (seats_at self.now.devices others.now) floor }
+        ensures { IsFloor self.now (seats_at self.now.devices others.now) result }
+    {
+        // more crowded than any: a partition has at most five other seats
+        let mut least = (6, 6, 6);
+        for place in places {
+            let crowd = self.crowd_at(others, *place);
+            if !is_less(floor, crowd) {
+                return cut(tier, crowd);
+            }
+            least = lesser(crowd, least);
+        }
+        cut(tier, least)
+    }
+
+    /// Of the devices at some places, the place of a free one than which no other is less crowded, and how crowded it is. The
+    /// search begins at one of the places, and ends at a device than which no open device is less crowded by this floor.
+    fn least_of(
+        &self,
+        places: &[usize],
+        start: usize,
+        others: &[usize],
+        floor: Crowd,
+    ) -> Option<(usize, Crowd)>
+        requires places { All (λ place. place < length self.now.devices) places.now }
+        requires start { start < length places.now }
+        requires others { All (λ other. other < length self.now.devices) others.now }
+        requires few { length others.now ≤ 5 }
+        requires floor { IsFloor self.now (seats_at self.now.devices others.now) floor }
+        ensures best { IsBestSoFar places.now start (length places.now) self.now (seats_at self.now.devices others.now) result }
+        ensures start { start < length places.now }
+    {
+        let mut best = None;
+        for step in 0..places.len() {
+            best = self.better(places, start, step, others, best);
+            if is_within(best, floor) {
+                return best;
+            }
+        }
+        best
+    }
+
+    /// The place at a step if the device there is free and less crowded than the best before it, else that one, with how
+    /// crowded it is.
+    fn better(
+        &self,
+        places: &[usize],
+        start: usize,
+        step: usize,
+        others: &[usize],
+        best: Option<(usize, Crowd)>,
+    ) -> Option<(usize, Crowd)>
+        requires places { All (λ place. place < length self.now.devices) places.now }
+        requires start { start < length places.now }
+        requires step { step < length places.now }
+        requires others { All (λ other. other < length self.now.devices) others.now }
+        requires few { length others.now ≤ 5 }
+        requires best { IsBestSoFar places.now start step self.now (seats_at self.now.devices others.now) best }
+        ensures { IsBestSoFar places.now start (step + 1) self.now (seats_at self.now.devices others.now) result }
+    {
+        let place = places[place_after(places.len(), start, step)];
+        if !self.is_free_at(others, place) {
+            return best;
+        }
+        let crowd = self.crowd_at(others, place);
+        match best {
+            None => Some((place, crowd)),
+            Some(other) => {
+                if is_less(crowd, other.1) {
+                    Some((place, crowd))
+                } else {
+                    best
+                }
+            }
+        }
+    }
+}
