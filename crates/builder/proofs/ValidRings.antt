@@ -7,7 +7,7 @@ use Rattle.std.specs.Cmp.Lexicographic.{pointwise}
 use Rattle.std.proofs.lemmas.Bool.{and_cases, cond_both, eqb-false, leb-false, not-false}
 use Rattle.std.proofs.lemmas.List.{length-replicate}
 use Rattle.std.proofs.lemmas.List.Elements.{All-append, All-cons, All-filter, All-head, All-nil, All-tail}
-use Rattle.ring_messages.specs.Proper.{IsProperAct, IsProperCommand, IsProperNewRing}
+use Rattle.ring_messages.specs.Commands.{IsProperAct, IsProperCommand}
 use Rattle.ring_model.proofs.Amidst.{among_valid}
 use Rattle.ring_model.proofs.ByName.{at_most_with, by_name_with}
 use Rattle.ring_model.proofs.Changes.{added_valid, altered_valid, changed_valid, marked_keeps, reweighed_by_keeps, reweighed_keeps}
@@ -55,11 +55,12 @@ none_stands (cause ∷ causes) none = clear_first cause.stands cause causes refl
 
 -- ---- the ring after an act
 
-made_valid : (n : NewRing) → IsProperNewRing n → IsValid (new_ring n.power n.replicas n.min_hours)
+made_valid : (n : NewRing) → IsProperAct (act.Create n)
+    → IsValid (new_ring n.power n.replicas n.min_hours)
 made_valid n proper = record {
-  power = proper.power;
-  replicas = proper.replicas;
-  min_hours = omega (arith, proper.min_hours);
+  power = proper.0;
+  replicas = proper.1.0;
+  min_hours = let most = proper.1.1.0.1 in omega (arith, most);
   next_id = omega arith;
   version = omega arith;
   devices =
@@ -143,7 +144,8 @@ new_valid (act.SetWeight to) answer limits name old new hour clear proper valid 
 new_valid (act.Remove id) answer limits name old new hour clear proper valid effect =
     subst IsValid (sym effect.0) (changed_valid _ (altered_valid (marked id) (marked_keeps id) old valid))
 new_valid (act.SetHours hours) answer limits name old new hour clear proper valid effect =
-    subst IsValid (sym effect.0) (changed_valid _ (hours_valid old hours proper valid))
+    let most = proper.0.1 in
+    subst IsValid (sym effect.0) (changed_valid _ (hours_valid old hours (omega (arith, most)) valid))
 new_valid act.PretendPassed answer limits name old new hour clear proper valid effect =
     subst IsValid (sym effect.0) (changed_valid _ (passed_valid old valid))
 new_valid act.RaisePower answer limits name old new hour clear proper valid effect =

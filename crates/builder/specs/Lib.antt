@@ -3,9 +3,9 @@ pub mod Safety
 pub use Rattle.ring_model.specs.Ring
 pub use Rattle.ring_model.specs.Rings
 pub use Rattle.ring_model.specs.Valid
-pub mod Outcome
 pub mod Refusals
-pub use Rattle.ring_messages.specs.Canonical
+pub use Rattle.ring_messages.specs.Commands
 pub use Rattle.ring_messages.specs.Message
 pub use Rattle.ring_messages.specs.Reads
 pub use Rattle.ring_messages.specs.Replies
+pub mod Inner

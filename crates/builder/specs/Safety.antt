@@ -4,7 +4,7 @@ use Rattle.std.specs.Prelude.{◌≡◌, ◌+◌, ◌-◌, ◌/◌, ◌^◌, ◌
 use Rattle.ring_model.specs.Ring.{RingRecord}
 use Rattle.ring_model.specs.Rings.{AreByName, ring_at, with_ring}
 use Rattle.ring_model.specs.Valid.{IsValid}
-use Rattle.ring_messages.specs.Proper.{IsProperCommand}
+use Rattle.ring_messages.specs.Commands.{IsProperCommand}
 use Rattle.ring_place.specs.Rebalance.{Leaves, has_changed, is_locked}
 use Rattle.ring_words.specs.Texts.{is_label}
 use Rattle.ring_words.specs.declared.request.Limits.{Limits}

@@ -1,15 +1,15 @@
 //! Deciding commands.
 ghost use Rattle.std.specs.Prelude.{[], IfOk};
 ghost use Rattle.builder.specs.Step.{AddsDevice, NoRingEffect, PretendsPassed, PublishesText, RaisesPower, RemovesDevice, RingEffect, SetsHours, SetsWeight, Step, no_ring_causes, of_addition, of_device, of_power, of_text, ring_causes};
-ghost use Rattle.builder.specs.Outcome.{IsFirstOr, IsOutcome};
+ghost use Rattle.builder.specs.Inner.Outcome.{IsFirstOr, IsOutcome};
 
 use crate::importing::import;
 use crate::rebalancing::move_seats;
-use ring_model::{
-    Act, Command, DeviceId, Done, Hour, Limits, NewRing, NewWeight, RaiseFault, Refusal, Reply,
-    Ring, RingName, Rings, Row,
-};
+use ring_model::{RaiseFault, Ring, Rings};
 use ring_text::{snapshot, write_ring};
+use ring_words::{
+    Act, Command, DeviceId, Done, Hour, Limits, NewRing, NewWeight, Refusal, Reply, RingName, Row,
+};
 use std::alloc::{AllocError, Global};
 
 /// What a command comes to.

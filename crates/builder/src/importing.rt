@@ -2,10 +2,11 @@
 ghost use Rattle.std.specs.Prelude.{◌≡◌, ◌+◌, ◌≤◌, IfOk, None, length};
 ghost use Rattle.ring_model.specs.Import.{after_rows};
 ghost use Rattle.builder.specs.Step.{ImportsRows, first_cause, first_trouble, of_more, of_rows, of_weight, row_refusal};
-ghost use Rattle.builder.specs.Outcome.{IsFirstOr};
+ghost use Rattle.builder.specs.Inner.Outcome.{IsFirstOr};
 
 use crate::deciding::Outcome;
-use ring_model::{Device, Done, Draft, Limits, Refusal, Ring, Row, RowCause, Rows};
+use ring_model::{Draft, Ring};
+use ring_words::{Device, Done, Limits, Refusal, Row, RowCause, Rows};
 use std::alloc::AllocError;
 
 /// Why a row isn't taken as a new weight of this device, if it isn't.

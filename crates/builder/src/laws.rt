@@ -6,7 +6,7 @@ ghost use Rattle.request_book.specs.Call.{Call};
 ghost use Rattle.request_book.specs.Content.{Content};
 ghost use Rattle.request_book.specs.Run.{Run};
 ghost use Rattle.request_book.specs.declared.entry.Entry.{Entry};
-ghost use Rattle.ring_messages.specs.Proper.{IsProperCommand};
+ghost use Rattle.ring_messages.specs.Commands.{IsProperCommand};
 ghost use Rattle.ring_model.specs.Ring.{RingRecord, partition_count};
 ghost use Rattle.ring_model.specs.Rings.{ring_at};
 ghost use Rattle.ring_place.specs.Rebalance.{IsRebalance, Leaves, has_changed, is_locked};

@@ -5,7 +5,8 @@ ghost use Rattle.builder.specs.Refusals.{refused_keeps};
 
 use crate::deciding::decide;
 use request_book::Machine;
-use ring_model::{Command, Hour, Limits, Reply, Rings};
+use ring_model::Rings;
+use ring_words::{Command, Hour, Limits, Reply};
 use std::alloc::{AllocError, Global};
 
 /// The builder under limits: its states are rings, and its steps are those of the definition *Step*.

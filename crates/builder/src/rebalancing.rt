@@ -1,12 +1,13 @@
 //! Deciding rebalances.
 ghost use Rattle.std.specs.Prelude.{IfOk};
 ghost use Rattle.builder.specs.Step.{MovesSeats, of_rebalance};
-ghost use Rattle.builder.specs.Outcome.{IsFirstOr};
+ghost use Rattle.builder.specs.Inner.Outcome.{IsFirstOr};
 
 use crate::deciding::Outcome;
-use ring_model::{Done, Hour, Refusal, Ring};
+use ring_model::Ring;
 use ring_place::{PlaceError, rebalance};
 use ring_share::{balance, dispersion};
+use ring_words::{Done, Hour, Refusal};
 use std::alloc::{AllocError, Global};
 
 /// Rebalances a ring at an hour, unless fewer of its devices are open than each partition has replicas.

@@ -1,5 +1,5 @@
--- A message says what its command's text says, and has no keys but those and its own two.
-use Rattle.std.proofs.Common.{◌≡◌, ◌≢◌, ℕ, suc, ◌+◌, ◌≤◌, List, [], ◌∷◌, ◌++◌, length, Bool, true, false, Option, Some, None, codes, refl, sym, ap, subst, ◌∙◌, ⊎_elim, arith}
+-- An object that has as many members as there are keys has no others.
+use Rattle.std.proofs.Common.{◌≡◌, ◌≢◌, ℕ, suc, ◌≤◌, List, [], ◌∷◌, ◌++◌, length, map, Bool, true, false, true≢false, bytes_eq, Option, Some, None, refl, sym, ap, subst, ◌∙◌, ⊎_elim, arith}
 use Rattle.std.specs.Prelude.{◌&&◌, not, cond, is_some, ⊤}
 use Rattle.std.specs.Option.{IsSome}
 use Rattle.std.proofs.Common.{Ordering, Less, Equal, Greater}
@@ -16,21 +16,19 @@ use Rattle.std.proofs.lemmas.Map.Keys.{IsDistinct-push}
 use Rattle.std.proofs.lemmas.Map.Lookups.{exact_bytes}
 use Rattle.std.proofs.lemmas.Map.Made.{is_some-lookup}
 use Rattle.std.proofs.lemmas.Map.Steps.{length-le_from_keys}
+use Rattle.std.proofs.lemmas.Map.Text.{is_eq-slice_cmp}
 use Rattle.std.proofs.lemmas.Map.Views.{tells_apart}
+use Rattle.std.proofs.lemmas.Slice.Eq.{bytes_eq-Decides}
 use Rattle.serde_json.specs.Data.{Data, null, boolean, number, string, array, object, Members, no_members, member}
 use Rattle.serde_json.specs.Events.{members_len}
 use Rattle.serde_json.specs.Find.{get, get_member}
-use Rattle.ring_words.specs.declared.request.Key.{Key}
-use Rattle.ring_words.specs.declared.command.Command.{Command}
-use Rattle.ring_words.specs.declared.command.Act.{Act}
-use Rattle.ring_words.specs.declared.command.Act.TheVariants.{Create, Add, SetWeight, Remove, SetHours, PretendPassed, RaisePower, Import, Publish, Rebalance}
-use Rattle.ring_messages.specs.Message.{IsAct, IsDelivery, members_count, fields_count}
-use Rattle.ring_messages.specs.Canonical.{act_data, command_data}
-use Rattle.ring_messages.proofs.RowLists.{rows_found}
+use Rattle.ring_messages.specs.Fields.{Fields}
+use Rattle.ring_messages.specs.Message.{members_count}
+use Rattle.ring_messages.proofs.FieldLists.{AreApart, HasMembers, IsNoKey}
 
 -- ---- keys
 
-abbrev same_key : List ℕ → List ℕ → Bool
+abbrev pub same_key : List ℕ → List ℕ → Bool
 same_key = eq_by_cmp (slice_cmp nat_cmp)
 
 same_key_laws : IsEquivalence same_key
@@ -39,22 +37,23 @@ same_key_laws = eq_by_cmp_equiv nat_list_cmp_total
 is_key : (a b : List ℕ) → same_key a b ≡ true → a ≡ b
 is_key = tells_apart exact_bytes
 
-not_key : (a b : List ℕ) → a ≢ b → same_key a b ≡ false
+pub not_key : (a b : List ℕ) → a ≢ b → same_key a b ≡ false
 not_key a b h = false_unless (same_key a b) (λ e. h (is_key a b e))
   where
     false_unless : (x : Bool) → (x ≡ true → ⊥) → x ≡ false
     false_unless true n = absurd (n refl)
     false_unless false n = refl
 
-abbrev are_apart : List (List ℕ) → Bool
+abbrev pub are_apart : List (List ℕ) → Bool
 are_apart [] = true
 are_apart (k ∷ ks) = not (list_any (same_key k) ks) && are_apart ks
 
-none_same : (k : List ℕ) (ks : List (List ℕ)) → list_any (same_key k) ks ≡ false → AllByRecursion (λ y. same_key k y ≡ false) ks
+none_same : (k : List ℕ) (ks : List (List ℕ)) → list_any (same_key k) ks ≡ false
+    → AllByRecursion (λ y. same_key k y ≡ false) ks
 none_same k [] e = tt
 none_same k (x ∷ ks) e = let p = or_parts _ _ e in (p.0, none_same k ks p.1)
 
-distinct : (ks : List (List ℕ)) → are_apart ks ≡ true → IsDistinct same_key ks
+pub distinct : (ks : List (List ℕ)) → are_apart ks ≡ true → IsDistinct same_key ks
 unfolding IsDistinct
 distinct [] e = tt
 distinct (k ∷ ks) e = let p = and_parts _ _ e in (none_same k ks (not-true _ p.0), distinct ks p.1)
@@ -76,9 +75,10 @@ chosen Greater a b = refl
 
 lookup-entries : (q : List ℕ) (ms : Members) → lookup (same_key q) (entries ms) ≡ get_member q ms
 lookup-entries q no_members = refl
-lookup-entries q (member k d ms) = ap (λ (o : Option Data). cond (same_key q k) (Some d) o) (lookup-entries q ms) ∙ chosen (slice_cmp nat_cmp q k) (get_member q ms) (Some d)
+lookup-entries q (member k d ms) = ap (λ (o : Option Data). cond (same_key q k) (Some d) o)
+    (lookup-entries q ms) ∙ chosen (slice_cmp nat_cmp q k) (get_member q ms) (Some d)
 
-abbrev members_of : Data → Members
+abbrev pub members_of : Data → Members
 members_of null = no_members
 members_of (boolean b) = no_members
 members_of (number n) = no_members
@@ -86,7 +86,7 @@ members_of (string s) = no_members
 members_of (array ds) = no_members
 members_of (object ms) = ms
 
-abbrev keys : Data → List (List ℕ)
+abbrev pub keys : Data → List (List ℕ)
 keys d = keys_of (entries (members_of d))
 
 lookup-get : (q : List ℕ) (d : Data) → lookup (same_key q) (entries (members_of d)) ≡ get q d
@@ -108,49 +108,54 @@ length-members_count (object ms) = length-entries ms
 -- ---- as many members as keys that are there: there is no other key
 
 -- each of these keys is there
-abbrev AreFound : List (List ℕ) → Data → Type 0
+abbrev pub AreFound : List (List ℕ) → Data → Type 0
 AreFound [] d = ⊤
 AreFound (k ∷ ks) d = IsSome (get k d) × AreFound ks d
 
-found_append : (ks ls : List (List ℕ)) (d : Data) → AreFound ks d → AreFound ls d → AreFound (ks ++ ls) d
+found_append : (ks ls : List (List ℕ)) (d : Data) → AreFound ks d → AreFound ls d
+    → AreFound (ks ++ ls) d
 found_append [] ls d h g = g
 found_append (k ∷ ks) ls d h g = (h.0, found_append ks ls d h.1 g)
 
-found_key : (ks : List (List ℕ)) (d : Data) → AreFound ks d → (q : List ℕ) → list_any (same_key q) ks ≡ true → IsSome (get q d)
+found_key : (ks : List (List ℕ)) (d : Data) → AreFound ks d → (q : List ℕ)
+    → list_any (same_key q) ks ≡ true → IsSome (get q d)
 found_key [] d h q e = cc
 found_key (k ∷ ks) d h q e = ⊎_elim
     (λ same. subst (λ (x : List ℕ). IsSome (get x d)) (sym (is_key q k same)) h.0)
     (λ later. found_key ks d h.1 q later)
     (or_cases _ _ e)
 
-at_most : (ks : List (List ℕ)) (d : Data) → IsDistinct same_key ks → AreFound ks d → length ks ≤ members_count d
+at_most : (ks : List (List ℕ)) (d : Data) → IsDistinct same_key ks → AreFound ks d
+    → length ks ≤ members_count d
 at_most ks d apart h =
-    let le = length-le_from_keys same_key_laws ks (entries (members_of d)) apart (λ q e. subst IsSome (sym (lookup-get q d)) (found_key ks d h q e)) in
+    let le = length-le_from_keys same_key_laws ks (entries (members_of d)) apart
+    (λ q e. subst IsSome (sym (lookup-get q d)) (found_key ks d h q e)) in
     omega (arith, length-members_count d)
 
 none_unless : (o : Option Data) → (IsSome o → ⊥) → o ≡ None
 none_unless None n = refl
 none_unless (Some d) n = absurd (n refl)
 
-no_other : (ks : List (List ℕ)) (d : Data) → IsDistinct same_key ks → AreFound ks d → members_count d ≡ length ks → (q : List ℕ) → list_any (same_key q) ks ≡ false → get q d ≡ None
+no_other : (ks : List (List ℕ)) (d : Data) → IsDistinct same_key ks → AreFound ks d
+    → members_count d ≡ length ks → (q : List ℕ) → list_any (same_key q) ks ≡ false → get q d ≡ None
 no_other ks d apart found count q out = none_unless (get q d) (λ there.
-    let le = at_most (ks ++ q ∷ []) d (IsDistinct-push same_key_laws ks q apart out) (found_append ks (q ∷ []) d found (there, tt)) in
+    let le = at_most (ks ++ q ∷ []) d (IsDistinct-push same_key_laws ks q apart out)
+    (found_append ks (q ∷ []) d found (there, tt)) in
     omega (arith, length-append ks (q ∷ [])))
 
 -- ---- the members of one object and further keys
 
--- these members are among those of the object
-abbrev HasMembers : Members → Data → Type 0
-HasMembers no_members d = ⊤
-HasMembers (member k v base) d = (get k d ≡ Some v) × HasMembers base d
-
-by_test : {R : Type 0} (b : Bool) (x y z : Option Data) → cond b x y ≡ z → (b ≡ true → x ≡ z → R) → (b ≡ false → y ≡ z → R) → R
+by_test : {R : Type 0} (b : Bool) (x y z : Option Data) → cond b x y ≡ z → (b ≡ true → x ≡ z → R)
+    → (b ≡ false → y ≡ z → R) → R
 by_test true x y z e first second = first refl e
 by_test false x y z e first second = second refl e
 
-member_there : (base : Members) (d : Data) → HasMembers base d → (q : List ℕ) (v : Data) → get_member q base ≡ Some v → get q d ≡ Some v
+member_there : (base : Members) (d : Data) → HasMembers base d → (q : List ℕ) (v : Data)
+    → get_member q base ≡ Some v → get q d ≡ Some v
 member_there no_members d h q v e = cc
-member_there (member k c base) d h q v e = by_test (same_key q k) (Some c) (lookup (same_key q) (entries base)) (Some v) (lookup-entries q (member k c base) ∙ e)
+member_there (member k c base) d h q v e =
+    by_test (same_key q k) (Some c) (lookup (same_key q) (entries base)) (Some v)
+    (lookup-entries q (member k c base) ∙ e)
     (λ same is. ap (λ (x : List ℕ). get x d) (is_key q k same) ∙ h.0 ∙ is)
     (λ other is. member_there base d h.1 q v (sym (lookup-entries q base) ∙ is))
 
@@ -158,75 +163,47 @@ keys_found : (base : Members) (d : Data) → HasMembers base d → AreFound (key
 keys_found no_members d h = tt
 keys_found (member k v base) d h = (ap is_some h.0, keys_found base d h.1)
 
-no_key : (base : Members) (q : List ℕ) → get_member q base ≡ None → list_any (same_key q) (keys_of (entries base)) ≡ false
-no_key base q e = sym (is_some-lookup (same_key q) (entries base)) ∙ ap is_some (lookup-entries q base ∙ e)
+no_key : (base : Members) (q : List ℕ) → get_member q base ≡ None
+    → list_any (same_key q) (keys_of (entries base)) ≡ false
+no_key base q e = sym (is_some-lookup (same_key q) (entries base))
+    ∙ ap is_some (lookup-entries q base ∙ e)
 
 alike : (o p : Option Data) → ((v : Data) → o ≡ Some v → p ≡ Some v) → (o ≡ None → p ≡ None) → p ≡ o
 alike None p some none = none refl
 alike (Some v) p some none = some v refl
 
-further : (ks : List (List ℕ)) (base : Members) (d : Data) → IsDistinct same_key (ks ++ keys_of (entries base)) → AreFound ks d → HasMembers base d → members_count d ≡ length (ks ++ keys_of (entries base))
+pub further : (ks : List (List ℕ)) (base : Members) (d : Data)
+    → IsDistinct same_key (ks ++ keys_of (entries base)) → AreFound ks d → HasMembers base d
+    → members_count d ≡ length (ks ++ keys_of (entries base))
     → (q : List ℕ) → list_any (same_key q) ks ≡ false → get q d ≡ get_member q base
-further ks base d apart found has count q out = alike (get_member q base) (get q d) (member_there base d has q) (λ none.
-    no_other (ks ++ keys_of (entries base)) d apart (found_append ks (keys_of (entries base)) d found (keys_found base d has)) count q
+further ks base d apart found has count q out =
+    alike (get_member q base) (get q d) (member_there base d has q) (λ none.
+    no_other (ks ++ keys_of (entries base)) d apart
+    (found_append ks (keys_of (entries base)) d found (keys_found base d has)) count q
     (list_any-append (same_key q) ks (keys_of (entries base)) ∙ rw (out, no_key base q none) refl))
 
--- ---- messages
+-- ---- fields under keys that differ
 
-has_act : (d : Data) (ring : List ℕ) (a : Act) → get (codes "ring") d ≡ Some (string ring) → IsAct d a → HasMembers (members_of (act_data ring a)) d
-has_act d ring (Create n) r h = let f = h.fields in (h.word, (f.min_hours.is, (f.power.is, (f.replicas.is, (r, tt)))))
-has_act d ring (Add x) r h = let f = h.fields in (f.address.is, (h.word, (f.name.is, (f.port.is, (f.region.is, (r, (f.weight.is, (f.zone.is, tt))))))))
-has_act d ring (SetWeight w) r h = let f = h.fields in (h.word, (f.id.is, (r, (f.weight.is, tt))))
-has_act d ring (Remove id) r h = let f = h.fields in (h.word, (f.is, (r, tt)))
-has_act d ring (SetHours hours) r h = let f = h.fields in (h.word, (f.is, (r, tt)))
-has_act d ring PretendPassed r h = (h.word, (r, tt))
-has_act d ring RaisePower r h = (h.word, (r, tt))
-has_act d ring Publish r h = (h.word, (r, tt))
-has_act d ring (Rebalance seed) r h = let f = h.fields in (h.word, (r, (f.is, tt)))
-has_act d ring (Import rows) r h = (h.word, (r, (rows_found _ rows h.fields, tt)))
+abbrev pub names : Fields → List (List ℕ)
+names fs = map (λ f. f.0) fs
 
-abbrev own_keys : List (List ℕ)
-own_keys = codes "caller" ∷ codes "number" ∷ []
+pub differ : (a b : List ℕ) → bytes_eq a b ≡ false → a ≢ b
+differ a b other e = true≢false (sym ((bytes_eq-Decides a b).1 e) ∙ other)
 
-apart_act : (ring : List ℕ) (a : Act) → are_apart (own_keys ++ keys (act_data ring a)) ≡ true
-apart_act ring (Create n) = refl
-apart_act ring (Add x) = refl
-apart_act ring (SetWeight w) = refl
-apart_act ring (Remove id) = refl
-apart_act ring (SetHours hours) = refl
-apart_act ring PretendPassed = refl
-apart_act ring RaisePower = refl
-apart_act ring Publish = refl
-apart_act ring (Rebalance seed) = refl
-apart_act ring (Import rows) = refl
+pub no_name : (k : List ℕ) (fs : Fields) → list_any (same_key k) (names fs) ≡ false → IsNoKey k fs
+no_name k [] e = tt
+no_name k (f ∷ fs) e =
+    let parts = or_parts _ _ e in
+    (λ same. differ k f.0 (sym (is_eq-slice_cmp k f.0) ∙ parts.0) (sym same), no_name k fs parts.1)
 
-count_act : (ring : List ℕ) (a : Act) → 2 + (2 + fields_count a) ≡ length (own_keys ++ keys (act_data ring a))
-count_act ring (Create n) = refl
-count_act ring (Add x) = refl
-count_act ring (SetWeight w) = refl
-count_act ring (Remove id) = refl
-count_act ring (SetHours hours) = refl
-count_act ring PretendPassed = refl
-count_act ring RaisePower = refl
-count_act ring Publish = refl
-count_act ring (Rebalance seed) = refl
-count_act ring (Import rows) = refl
+-- a key that is none of all is none of the last
+pub behind : (k : List ℕ) (front ks : List (List ℕ)) → list_any (same_key k) (front ++ ks) ≡ false
+    → list_any (same_key k) ks ≡ false
+behind k [] ks e = e
+behind k (x ∷ front) ks e = behind k front ks (or_parts _ _ e).1
 
-get_act : (name ring : List ℕ) (a : Act) → get_member name (members_of (act_data ring a)) ≡ get name (act_data ring a)
-get_act name ring (Create n) = refl
-get_act name ring (Add x) = refl
-get_act name ring (SetWeight w) = refl
-get_act name ring (Remove id) = refl
-get_act name ring (SetHours hours) = refl
-get_act name ring PretendPassed = refl
-get_act name ring RaisePower = refl
-get_act name ring Publish = refl
-get_act name ring (Rebalance seed) = refl
-get_act name ring (Import rows) = refl
-
-pub same_members : (d : Data) (k : Key) (c : Command) → IsDelivery d k c → (name : List ℕ) → name ≢ codes "caller" → name ≢ codes "number" → get name d ≡ get name (command_data c)
-same_members d k c h name no_caller no_number =
-    let own : AreFound own_keys d = (ap is_some h.caller.is, (ap is_some h.number.is, tt)) in
-    let has = has_act d c.ring c.act h.command.ring.is h.command.act in
-    let out : list_any (same_key name) own_keys ≡ false = rw (not_key name (codes "caller") no_caller, not_key name (codes "number") no_number) refl in
-    further own_keys (members_of (command_data c)) d (distinct _ (apart_act c.ring c.act)) own has (h.command.count ∙ count_act c.ring c.act) name out ∙ get_act name c.ring c.act
+pub names_apart : (fs : Fields) → are_apart (names fs) ≡ true → AreApart fs
+names_apart [] e = tt
+names_apart (f ∷ fs) e =
+    let both = and_parts _ _ e in
+    (no_name f.0 fs (not-true _ both.0), names_apart fs both.1)

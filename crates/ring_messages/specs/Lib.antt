@@ -1,6 +1,6 @@
 pub mod Reads
+pub mod Fields
+pub mod Commands
 pub mod Message
-pub mod Proper
-pub mod Canonical
 pub mod Replies
-pub mod Says
+pub mod Inner

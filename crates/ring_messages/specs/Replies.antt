@@ -1,6 +1,6 @@
 -- The text and the status of each answer: compact JSON, its keys in byte order.
-use Rattle.std.specs.Prelude.{ℕ, List, codes}
-use Rattle.serde_json.specs.Data.{Data, string, object, no_members, member}
+use Rattle.std.specs.Prelude.{ℕ, ◌<◌, ◌^◌, List, [], ◌∷◌, codes, ⊤}
+use Rattle.serde_json.specs.Data.{Data, string, object, no_members, member, put}
 use Rattle.serde_json.specs.Written.{compact_text}
 use Rattle.ring_words.specs.declared.command.Done.{Done}
 use Rattle.ring_words.specs.declared.command.Done.TheVariants.{Create, Add, SetWeight, Remove, SetHours, PretendPassed, RaisePower, Import, Publish, Rebalance}
@@ -10,28 +10,52 @@ use Rattle.ring_words.specs.declared.command.RowCause.{RowCause}
 use Rattle.ring_words.specs.declared.command.RowCause.TheVariants as cause
 use Rattle.ring_words.specs.declared.command.Reply.{Reply}
 use Rattle.ring_words.specs.declared.command.Reply.TheVariants as reply
-use Rattle.ring_messages.specs.Canonical.{whole}
+use Rattle.ring_messages.specs.Fields.{Field, Fields, within, whole, members, AreProper}
 use Rattle.ring_messages.specs.declared.told.Told.{Told}
 use Rattle.ring_messages.specs.declared.told.Told.TheVariants as told
 
--- What is written where only the ring's version is told.
-abbrev pub version_data : List ℕ → ℕ → Data
-version_data word version = object (member (codes "done") (string word) (member (codes "version") (whole version) no_members))
+-- The word of what was done, which is its command's. It stands under the key `done`.
+abbrev pub done_word : Done → List ℕ
+done_word (Create version) = codes "create"
+done_word (Add id version) = codes "add"
+done_word (SetWeight version) = codes "set_weight"
+done_word (Remove version) = codes "remove"
+done_word (SetHours version) = codes "set_hours"
+done_word (PretendPassed version) = codes "pretend_passed"
+done_word (RaisePower version) = codes "raise_power"
+done_word (Publish version) = codes "publish"
+done_word (Rebalance balance changed dispersion version) = codes "rebalance"
+done_word (Import added reweighted version) = codes "import"
+
+-- The ring's version.
+abbrev pub version_field : ℕ → List ℕ × Field
+version_field version = (codes "version", within 0 4294967295 version)
+
+-- What is told of what was done: in each case the version that the ring has now.
+abbrev pub done_fields : Done → Fields
+done_fields (Create version) = version_field version ∷ []
+done_fields (Add id version) = version_field version ∷ (codes "id", within 0 65535 id) ∷ []
+done_fields (SetWeight version) = version_field version ∷ []
+done_fields (Remove version) = version_field version ∷ []
+done_fields (SetHours version) = version_field version ∷ []
+done_fields (PretendPassed version) = version_field version ∷ []
+done_fields (RaisePower version) = version_field version ∷ []
+done_fields (Publish version) = version_field version ∷ []
+done_fields (Rebalance balance changed dispersion version) =
+    version_field version ∷ (codes "balance", within 0 4294967295 balance)
+    ∷ (codes "changed", within 0 4294967295 changed)
+    ∷ (codes "dispersion", within 0 4294967295 dispersion) ∷ []
+done_fields (Import added reweighted version) =
+    version_field version ∷ (codes "added", within 0 18446744073709551615 added)
+    ∷ (codes "reweighted", within 0 18446744073709551615 reweighted) ∷ []
+
+-- What is written where this was done and these fields are told.
+abbrev pub done_object : List ℕ → Fields → Data
+done_object word fields = object (put (codes "done") (string word) (members fields))
 
 -- What is written of what was done.
 abbrev pub done_data : Done → Data
-done_data (Create version) = version_data (codes "create") version
-done_data (Add id version) = object (member (codes "done") (string (codes "add")) (member (codes "id") (whole id) (member (codes "version") (whole version) no_members)))
-done_data (SetWeight version) = version_data (codes "set_weight") version
-done_data (Remove version) = version_data (codes "remove") version
-done_data (SetHours version) = version_data (codes "set_hours") version
-done_data (PretendPassed version) = version_data (codes "pretend_passed") version
-done_data (RaisePower version) = version_data (codes "raise_power") version
-done_data (Publish version) = version_data (codes "publish") version
-done_data (Rebalance balance changed dispersion version) = object (member (codes "balance") (whole balance) (member (codes "changed") (whole changed)
-    (member (codes "dispersion") (whole dispersion) (member (codes "done") (string (codes "rebalance")) (member (codes "version") (whole version) no_members)))))
-done_data (Import added reweighted version) = object (member (codes "added") (whole added) (member (codes "done") (string (codes "import"))
-    (member (codes "reweighted") (whole reweighted) (member (codes "version") (whole version) no_members))))
+done_data x = done_object (done_word x) (done_fields x)
 
 -- What a refusal is called.
 abbrev pub refusal_name : Refusal → List ℕ
@@ -74,12 +98,15 @@ cause_rule cause.TierDiffers = 12
 
 -- What is written of a refusal with this name, by this rule.
 abbrev pub refused_data : List ℕ → ℕ → Data
-refused_data name rule = object (member (codes "refused") (string name) (member (codes "rule") (whole rule) no_members))
+refused_data name rule =
+    object (member (codes "refused") (string name) (member (codes "rule") (whole rule) no_members))
 
 -- What is written of the refusal of a row by this rule.
 abbrev pub row_refused_data : ℕ → ℕ → Data
-row_refused_data row rule = object (member (codes "cause") (whole rule) (member (codes "refused") (string (codes "RowRefused")) (member (codes "row") (whole row)
-    (member (codes "rule") (whole 13) no_members))))
+row_refused_data row rule =
+    object (member (codes "cause") (whole rule)
+    (member (codes "refused") (string (codes "RowRefused"))
+    (member (codes "row") (whole row) (member (codes "rule") (whole 13) no_members))))
 
 -- What is written of a refusal.
 abbrev pub refusal_data : Refusal → Data
@@ -95,18 +122,33 @@ reply_data (reply.Refused r) = refusal_data r
 abbrev pub reply_text : Reply → List ℕ
 reply_text r = compact_text (reply_data r)
 
+-- The number of a row has 64 bits.
+abbrev pub IsProperRefusal : Refusal → Type 0
+IsProperRefusal (RowRefused row why) = row < 2 ^ 64
+IsProperRefusal other = ⊤
+
+-- What was done, or why it wasn't, has numbers such as there are.
+abbrev pub IsProperReply : Reply → Type 0
+IsProperReply (reply.Done d) = AreProper (done_fields d)
+IsProperReply (reply.Refused r) = IsProperRefusal r
+
 -- What is written of a fault with this name, by this rule.
 abbrev pub fault_data : List ℕ → ℕ → Data
-fault_data name rule = object (member (codes "fault") (string name) (member (codes "rule") (whole rule) no_members))
+fault_data name rule =
+    object (member (codes "fault") (string name) (member (codes "rule") (whole rule) no_members))
 
 -- What is written of a row of the wrong length.
 abbrev pub bad_row_data : ℕ → Data
-bad_row_data row = object (member (codes "fault") (string (codes "BadRow")) (member (codes "row") (whole row) (member (codes "rule") (whole 41) no_members)))
+bad_row_data row =
+    object (member (codes "fault") (string (codes "BadRow"))
+    (member (codes "row") (whole row) (member (codes "rule") (whole 41) no_members)))
 
 -- What is written of a field that isn't of its form.
 abbrev pub bad_field_data : ℕ → ℕ → Data
-bad_field_data row column = object (member (codes "column") (whole column) (member (codes "fault") (string (codes "BadField")) (member (codes "row") (whole row)
-    (member (codes "rule") (whole 42) no_members))))
+bad_field_data row column =
+    object (member (codes "column") (whole column)
+    (member (codes "fault") (string (codes "BadField"))
+    (member (codes "row") (whole row) (member (codes "rule") (whole 42) no_members))))
 
 -- What is written of an answer.
 abbrev pub told_data : Told → Data

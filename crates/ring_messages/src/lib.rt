@@ -1,22 +1,24 @@
 //! The texts of requests and answers: read exactly, and written in one way.
 //!
-//! A message is a JSON object that says who asks, that caller's number for it, and a command. A command, a reply and
-//! each further answer has one text, which is compact JSON with its keys in byte order.
+//! A message is a JSON object that says who asks, that caller's number for it, and a command. A
+//! command, a reply and each further answer has one text, which is compact JSON with its keys in
+//! byte order.
 #![tactic(auto)]
 
-mod fault;
+mod commands;
 mod laws;
 mod parts;
 mod read;
-mod reply;
+mod replies;
+mod rows;
 mod told;
-mod write;
 
-pub use fault::MessageFault;
-pub use laws::{
-    command_is_proper, one_message, one_reply, one_text, reply_is_proper, same_members,
-};
+pub use commands::{command_is_proper, command_text};
+pub use laws::{one_message, one_reply, one_text};
 pub use read::{read_command, read_delivery};
-pub use reply::{read_reply, reply_text};
+pub use replies::{read_reply, reply_is_proper, reply_text};
+use ring_words::SpellingFault;
 pub use told::{NO_MEMORY_TEXT, Told, no_memory, status_of, told_text};
-pub use write::command_text;
+
+/// Why bytes aren't read as a message, a command or a reply: Bad where they are none, or want of memory.
+pub type MessageFault = SpellingFault;

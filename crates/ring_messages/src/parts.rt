@@ -1,13 +1,16 @@
-//! The parts of an object that a message is: each is read exactly where it is of its kind and range.
+//! The parts of an object that a message is: each is read exactly where it is of its kind and
+//! range.
 ghost use Rattle.std.specs.Prelude.{◌≡◌, ℕ, List, Some, IsUtf8, IfSome, IfNone, option_map};
 ghost use Rattle.serde_json.specs.Data.{string};
 ghost use Rattle.serde_json.specs.View.{view};
 ghost use Rattle.serde_json.specs.Read.{read};
-ghost use Rattle.ring_messages.specs.Reads.{Reads, ReadsAs, IsNumber, IsName, IsAddress, IsWeight};
+ghost use Rattle.ring_messages.specs.Reads.{IsNumber, IsName};
+ghost use Rattle.ring_words.specs.Spelling.{Reads, ReadsAs};
+ghost use Rattle.ring_messages.specs.Inner.Says.{IsAddress, IsWeight};
 ghost use Rattle.ring_messages.specs.Message.{members_count};
 
-use crate::fault::MessageFault;
-use ring_words::{Address, Bounded, Name, NameFault, NameKind, Weight};
+use crate::MessageFault;
+use ring_words::{Address, Bounded, Name, NameKind, Weight};
 use serde_json::Value;
 use std::alloc::Global;
 
@@ -20,7 +23,7 @@ pub(crate) fn value_of(alloc: Global, bytes: &[u8]) -> Result<Value, MessageFaul
         Err(e) => Err(if e.is_memory() {
             MessageFault::NoMemory
         } else {
-            MessageFault::Unreadable
+            MessageFault::Bad
         }),
     }
 }
@@ -31,7 +34,7 @@ pub(crate) fn number(found: Option<&Value>, most: u64) -> Result<u64, MessageFau
 {
     match found.and_then(Value::as_u64) {
         Some(n) if n <= most => Ok(n),
-        _ => Err(MessageFault::Unreadable),
+        _ => Err(MessageFault::Bad),
     }
 }
 
@@ -55,12 +58,14 @@ pub(crate) fn bounded<const LEAST: u16, const MOST: u16>(
     ensures { Reads (IsNumber (option_map (λ v. view v.now) found.entry) LEAST MOST) result }
 {
     let number = number16(found)?;
-    Bounded::new(number).ok_or(MessageFault::Unreadable)
+    Bounded::new(number).ok_or(MessageFault::Bad)
 }
 
-fn text(found: Option<&Value>) -> Option<&str>
-    ensures found { IfSome result (λ t. option_map (λ v. view v.now) found.entry ≡ Some (string t.now)) }
-    ensures none { IfNone result ((t : List ℕ) → option_map (λ v. view v.now) found.entry ≡ Some (string t) → ⊥) }
+pub(crate) fn text(found: Option<&Value>) -> Option<&str>
+    ensures found { IfSome result (λ t. option_map (λ v. view v.now) found.entry
+        ≡ Some (string t.now)) }
+    ensures none { IfNone result ((t : List ℕ)
+        → option_map (λ v. view v.now) found.entry ≡ Some (string t) → ⊥) }
 {
     found.and_then(Value::as_str)
 }
@@ -72,21 +77,17 @@ pub(crate) fn name<K: NameKind>(
     ensures { Reads (IsName K.allows (option_map (λ v. view v.now) found.entry)) result }
 {
     let Some(text) = text(found) else {
-        return Err(MessageFault::Unreadable);
+        return Err(MessageFault::Bad);
     };
-    match Name::new(alloc, text) {
-        Ok(name) => Ok(name),
-        Err(NameFault::Bad) => Err(MessageFault::Unreadable),
-        Err(NameFault::NoMemory) => Err(MessageFault::NoMemory),
-    }
+    Name::new(alloc, text)
 }
 
 pub(crate) fn address(found: Option<&Value>) -> Result<Address, MessageFault>
     ensures { Reads (IsAddress (option_map (λ v. view v.now) found.entry)) result }
 {
     match text(found) {
-        Some(text) => Address::parse(text).ok_or(MessageFault::Unreadable),
-        None => Err(MessageFault::Unreadable),
+        Some(text) => Address::parse(text).ok_or(MessageFault::Bad),
+        None => Err(MessageFault::Bad),
     }
 }
 
@@ -94,8 +95,8 @@ pub(crate) fn weight(found: Option<&Value>) -> Result<Weight, MessageFault>
     ensures { Reads (IsWeight (option_map (λ v. view v.now) found.entry)) result }
 {
     match text(found) {
-        Some(text) => Weight::parse(text).ok_or(MessageFault::Unreadable),
-        None => Err(MessageFault::Unreadable),
+        Some(text) => Weight::parse(text).ok_or(MessageFault::Bad),
+        None => Err(MessageFault::Bad),
     }
 }
 

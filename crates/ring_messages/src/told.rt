@@ -3,7 +3,7 @@ ghost use Rattle.std.specs.Prelude.{◌≡◌, IfOk, string_bytes};
 ghost use Rattle.serde_json.specs.View.{view};
 ghost use Rattle.ring_messages.specs.Replies.{fault_data, bad_row_data, bad_field_data, told_data, answer_text, answer_status};
 
-use crate::reply::{refused_value, reply_value};
+use crate::replies::{refused_value, reply_value};
 use ring_words::Reply;
 use serde_json::{Value, json};
 use std::alloc::{AllocError, Global};

@@ -1,4 +1,4 @@
-use Rattle.ring_messages.proofs.Once.{one_message}
+use Rattle.ring_messages.proofs.Messages.{one_message}
 use Rattle.ring_messages.proofs.laws.one_message.Goals as goal
 
 pub returns : goal.returns

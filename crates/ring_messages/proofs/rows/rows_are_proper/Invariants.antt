@@ -1,0 +1,7 @@
+use Rattle.std.proofs.Common.{take}
+use Rattle.std.specs.List.{All}
+use Rattle.ring_messages.specs.Fields.{IsProperRow}
+use Rattle.ring_messages.proofs.rows.rows_are_proper.Given as goal
+
+abbrev pub invariant-loop-row : goal.invariant-loop-row
+invariant-loop-row l = All IsProperRow (take l.row-index l.rows)

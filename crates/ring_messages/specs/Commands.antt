@@ -1,0 +1,67 @@
+-- The object and the one text of each command, and what holds of every command.
+use Rattle.std.specs.Prelude.{ℕ, List, [], ◌∷◌, IsTrue, codes}
+use Rattle.serde_json.specs.Data.{Data, string, object, put}
+use Rattle.serde_json.specs.Written.{compact_text}
+use Rattle.ring_words.specs.Texts.{is_label}
+use Rattle.ring_words.specs.declared.command.Command.{Command}
+use Rattle.ring_words.specs.declared.command.Act.{Act}
+use Rattle.ring_words.specs.declared.command.Act.TheVariants.{Create, Add, SetWeight, Remove, SetHours, PretendPassed, RaisePower, Import, Publish, Rebalance}
+use Rattle.ring_messages.specs.Fields.{Fields, within, device_name, address, weight, rows, members, AreProper}
+
+-- The word of a command, which stands under the key `do`.
+abbrev pub act_word : Act → List ℕ
+act_word (Create n) = codes "create"
+act_word (Add r) = codes "add"
+act_word (SetWeight w) = codes "set_weight"
+act_word (Remove id) = codes "remove"
+act_word (SetHours hours) = codes "set_hours"
+act_word PretendPassed = codes "pretend_passed"
+act_word RaisePower = codes "raise_power"
+act_word Publish = codes "publish"
+act_word (Rebalance seed) = codes "rebalance"
+act_word (Import rs) = codes "import"
+
+-- What stands under its further keys, beside the ring and the word.
+abbrev pub act_fields : Act → Fields
+act_fields (Create n) =
+    (codes "power", within 1 14 n.power) ∷ (codes "replicas", within 1 5 n.replicas)
+    ∷ (codes "min_hours", within 0 65535 n.min_hours) ∷ []
+act_fields (Add r) =
+    (codes "region", within 0 65535 r.region) ∷ (codes "zone", within 0 65535 r.zone)
+    ∷ (codes "address", address r.address) ∷ (codes "port", within 1 65535 r.port)
+    ∷ (codes "name", device_name r.name) ∷ (codes "weight", weight r.weight) ∷ []
+act_fields (SetWeight w) =
+    (codes "id", within 0 65535 w.id) ∷ (codes "weight", weight w.weight) ∷ []
+act_fields (Remove id) = (codes "id", within 0 65535 id) ∷ []
+act_fields (SetHours hours) = (codes "min_hours", within 0 65535 hours) ∷ []
+act_fields PretendPassed = []
+act_fields RaisePower = []
+act_fields Publish = []
+act_fields (Rebalance seed) = (codes "seed", within 0 4294967295 seed) ∷ []
+act_fields (Import rs) = (codes "rows", rows rs) ∷ []
+
+-- The object of a command with this word and these fields for this ring.
+abbrev pub command_object : List ℕ → List ℕ → Fields → Data
+command_object word ring fields =
+    object (put (codes "do") (string word) (put (codes "ring") (string ring) (members fields)))
+
+-- The object of a command that does this to this ring.
+abbrev pub act_data : List ℕ → Act → Data
+act_data ring a = command_object (act_word a) ring (act_fields a)
+
+-- The object of a command.
+abbrev pub command_data : Command → Data
+command_data c = act_data c.ring c.act
+
+-- The text of a command: its object in compact JSON, its keys in byte order.
+abbrev pub canonical : Command → List ℕ
+canonical c = compact_text (command_data c)
+
+-- The act's fields are such as there are.
+abbrev pub IsProperAct : Act → Type 0
+IsProperAct a = AreProper (act_fields a)
+
+-- The ring has a ring's name, and the fields are such as there are.
+pub record IsProperCommand (c : Command) : Type 0 where
+  pub ring : IsTrue (is_label c.ring)
+  pub act : IsProperAct c.act
