@@ -1,0 +1,9 @@
+pub mod Plain
+pub mod Keys
+pub mod Tables
+pub mod Living
+pub mod Steps
+pub mod Creates
+pub mod Reading
+pub mod Inside
+pub mod Orders

@@ -1,0 +1,46 @@
+-- What the statements on `published` make of the store, and show of it.
+use Rattle.std.proofs.Common.{◌≡◌, ℕ, List, [], ◌∷◌, map, Ok}
+use Rattle.std.specs.FinMap.{FinMap, entries}
+use Rattle.sqlite_value.specs.declared.value.Value.TheVariants.{Null}
+use Rattle.sqlite_value.specs.Order.{Row}
+use Rattle.sqlite_trees.specs.Tree.{Trees}
+use Rattle.sqlite.specs.State.{State, Executes, Shown}
+use Rattle.store_tables.specs.Tables.{store_schema}
+use Rattle.store_tables.specs.Entries.{map_of, NameNumber, meta_rows, ring_rows, device_rows, seat_rows, moved_rows, published_rows, request_rows, part_rows}
+use Rattle.store_tables.specs.Contents.{contents_of, with_published}
+use Rattle.store_tables.specs.Store.{IsStore, Becomes}
+use Rattle.store_tables.specs.Texts.{put_published, list_published}
+use Rattle.store_tables.proofs.Plain.Writes.{Spares}
+use Rattle.store_tables.proofs.Plain.Puts.{puts_row}
+use Rattle.store_tables.proofs.Plain.Queries.{lists_all}
+use Rattle.store_tables.proofs.Tables.Published.{published_facts, published_params, published_puts, published_lists as lists}
+use Rattle.store_tables.proofs.Living.{lives_in, store_from}
+
+-- only this table changed
+published_only : (old new : Trees) → Spares store_schema published_rows.plain old new
+    → (m : FinMap published_rows.cmp (List ℕ))
+    → map_of published_rows (new published_rows.plain.tree) ≡ m
+    → contents_of new ≡ record (contents_of old) { published = m }
+published_only old new h m is = λ j. record {
+  meta = map_of meta_rows (h.0 (λ e. cc) j);
+  rings = map_of ring_rows (h.1.0 (λ e. cc) j);
+  devices = map_of device_rows (h.1.1.0 (λ e. cc) j);
+  seats = map_of seat_rows (h.1.1.1.0 (λ e. cc) j);
+  moved = map_of moved_rows (h.1.1.1.1.0 (λ e. cc) j);
+  published = is j;
+  requests = map_of request_rows (h.1.1.1.1.1.1.0 (λ e. cc) j);
+  parts = map_of part_rows (h.1.1.1.1.1.1.1.0 (λ e. cc) j);
+}
+
+pub puts_published : (old new : State) (key : NameNumber) (value : List ℕ) (count : ℕ)
+    → IsStore old.now → Executes put_published (published_params key value) old new (Ok count)
+    → Becomes new.now (with_published (contents_of old.now.trees) key value)
+puts_published old new key value count is h =
+    let it = puts_row store_schema published_rows published_facts put_published published_params published_puts key value old new count (lives_in old.now is) h in
+    record { store = store_from new.now it.0; contents = published_only old.now.trees new.now.trees it.1 _ it.2 }
+
+pub lists_published : (old new : State) (rows : List Row) → IsStore old.now
+    → Shown list_published [] old new rows
+    → map (λ r. published_rows.entry (Null ∷ r)) rows
+    ≡ entries (contents_of old.now.trees).published
+lists_published old new rows is h = lists_all store_schema published_rows published_facts list_published lists old new rows (lives_in old.now is) h

@@ -1,0 +1,219 @@
+-- The rows of each table as entries: a key and what the row says of it.
+use Rattle.std.specs.Prelude.{ℕ, ℤ, List, [], ◌∷◌, map}
+use Rattle.std.specs.declared.cmp.Ordering.{Ordering}
+use Rattle.std.specs.Ordering.{nat_cmp, int_cmp, ordering_then}
+use Rattle.std.specs.Cmp.Lexicographic.{slice_cmp}
+use Rattle.std.specs.FinMap.{FinMap, from_entries}
+use Rattle.sqlite_value.specs.declared.value.Value.TheVariants.{Null, Int, Text, Blob}
+use Rattle.sqlite_value.specs.Order.{Row, column, bytes}
+use Rattle.sqlite_rules.specs.Edit.{id_in}
+use Rattle.store_tables.specs.Plain.{Plain}
+use Rattle.store_tables.specs.Tables as tables
+
+-- How the rows of a plain table are read: the order of the keys, the row of an entry under a
+-- rowid, the entry of a row, and the columns of the key.
+pub record Layout (K V : Type 0) : Type 0 where
+  pub plain : Plain
+  pub cmp : K → K → Ordering
+  pub row : ℤ → K → V → Row
+  pub entry : Row → K × V
+  pub key : List ℕ
+
+-- The map that rows stand for.
+abbrev pub map_of : {K V : Type 0} (l : Layout K V) → List Row → FinMap l.cmp V
+map_of l rows = from_entries {R = l.cmp} (map l.entry rows)
+
+-- The entry of a row as a query shows it: all its columns, and no rowid.
+abbrev pub shown_as : {K V : Type 0} → Layout K V → Row → K × V
+shown_as l r = l.entry (Null ∷ r)
+
+-- ---- keys and their orders
+
+abbrev pub name_cmp : List ℕ → List ℕ → Ordering
+name_cmp = slice_cmp nat_cmp
+
+-- A name and a number, as a ring and the id of a device.
+abbrev pub NameNumber : Type 0
+NameNumber = List ℕ × ℤ
+
+-- By name, and then by number.
+abbrev pub name_number_cmp : NameNumber → NameNumber → Ordering
+name_number_cmp x y = ordering_then (name_cmp x.0 y.0) (int_cmp x.1 y.1)
+
+-- Two numbers, as a partition and a replica.
+abbrev pub numbers_cmp : ℤ × ℤ → ℤ × ℤ → Ordering
+numbers_cmp x y = ordering_then (int_cmp x.0 y.0) (int_cmp x.1 y.1)
+
+-- A ring, and a partition and a replica of it.
+abbrev pub SeatKey : Type 0
+SeatKey = List ℕ × (ℤ × ℤ)
+
+-- By ring, then by partition, then by replica.
+abbrev pub seat_cmp : SeatKey → SeatKey → Ordering
+seat_cmp x y = ordering_then (name_cmp x.0 y.0) (numbers_cmp x.1 y.1)
+
+-- ---- what the rows say
+
+-- The schema of the store and the greatest hour.
+pub record Meta : Type 0 where
+  pub schema : ℤ
+  pub hour : ℤ
+
+-- What a ring has besides its name.
+pub record Ring : Type 0 where
+  pub power : ℤ
+  pub replicas : ℤ
+  pub min_hours : ℤ
+  pub next_id : ℤ
+  pub version : ℤ
+
+-- What a device has besides its ring and its id.
+pub record Device : Type 0 where
+  pub region : ℤ
+  pub zone : ℤ
+  pub address : List ℕ
+  pub port : ℤ
+  pub name : List ℕ
+  pub weight : ℤ
+  pub removed : ℤ
+
+-- What a decided request has besides its caller and number.
+pub record Request : Type 0 where
+  pub place : ℤ
+  pub hour : ℤ
+  pub command : List ℕ
+  pub reply : List ℕ
+
+-- The devices of a partition, in two bytes each, and the hour of its last move.
+pub record Part : Type 0 where
+  pub devices : List ℕ
+  pub hour : ℤ
+
+-- ---- the rows
+
+abbrev pub meta_rows : Layout ℤ Meta
+meta_rows = record {
+  plain = tables.meta;
+  cmp = int_cmp;
+  row = λ id key value. Int id ∷ Int key ∷ Int value.schema ∷ Int value.hour ∷ [];
+  entry = λ r. (
+    id_in (column r 1),
+    record {
+      schema = id_in (column r 2);
+      hour = id_in (column r 3);
+    },
+  );
+  key = 1 ∷ [];
+}
+
+-- The shape of the rows of `ring`: their key, their value, and how both are read of a row.
+abbrev pub ring_rows : Layout (List ℕ) Ring
+ring_rows = record {
+  plain = tables.ring;
+  cmp = name_cmp;
+  row = λ id key value.
+      Int id ∷ Text key ∷ Int value.power ∷ Int value.replicas ∷ Int value.min_hours ∷
+      Int value.next_id ∷
+      Int value.version ∷ [];
+  entry = λ r. (
+    bytes (column r 1),
+    record {
+      power = id_in (column r 2);
+      replicas = id_in (column r 3);
+      min_hours = id_in (column r 4);
+      next_id = id_in (column r 5);
+      version = id_in (column r 6);
+    },
+  );
+  key = 1 ∷ [];
+}
+
+-- The shape of the rows of `device`: their key, their value, and how both are read of a row.
+abbrev pub device_rows : Layout NameNumber Device
+device_rows = record {
+  plain = tables.device;
+  cmp = name_number_cmp;
+  row = λ id key value.
+      Int id ∷ Text key.0 ∷ Int key.1 ∷ Int value.region ∷ Int value.zone ∷ Text value.address ∷
+      Int value.port ∷
+      Text value.name ∷ Int value.weight ∷ Int value.removed ∷ [];
+  entry = λ r. (
+    (bytes (column r 1), id_in (column r 2)),
+    record {
+      region = id_in (column r 3);
+      zone = id_in (column r 4);
+      address = bytes (column r 5);
+      port = id_in (column r 6);
+      name = bytes (column r 7);
+      weight = id_in (column r 8);
+      removed = id_in (column r 9);
+    },
+  );
+  key = 1 ∷ 2 ∷ [];
+}
+
+-- The shape of the rows of `seat`: their key, their value, and how both are read of a row.
+abbrev pub seat_rows : Layout SeatKey ℤ
+seat_rows = record {
+  plain = tables.seat;
+  cmp = seat_cmp;
+  row = λ id key device. Int id ∷ Text key.0 ∷ Int key.1.0 ∷ Int key.1.1 ∷ Int device ∷ [];
+  entry = λ r. ((bytes (column r 1), (id_in (column r 2), id_in (column r 3))), id_in (column r 4));
+  key = 1 ∷ 2 ∷ 3 ∷ [];
+}
+
+-- The shape of the rows of `moved`: their key, their value, and how both are read of a row.
+abbrev pub moved_rows : Layout NameNumber ℤ
+moved_rows = record {
+  plain = tables.moved;
+  cmp = name_number_cmp;
+  row = λ id key hour. Int id ∷ Text key.0 ∷ Int key.1 ∷ Int hour ∷ [];
+  entry = λ r. ((bytes (column r 1), id_in (column r 2)), id_in (column r 3));
+  key = 1 ∷ 2 ∷ [];
+}
+
+-- The shape of the rows of `published`: their key, their value, and how both are read of a row.
+abbrev pub published_rows : Layout NameNumber (List ℕ)
+published_rows = record {
+  plain = tables.published;
+  cmp = name_number_cmp;
+  row = λ id key body. Int id ∷ Text key.0 ∷ Int key.1 ∷ Text body ∷ [];
+  entry = λ r. ((bytes (column r 1), id_in (column r 2)), bytes (column r 3));
+  key = 1 ∷ 2 ∷ [];
+}
+
+-- The shape of the rows of `request`: their key, their value, and how both are read of a row.
+abbrev pub request_rows : Layout NameNumber Request
+request_rows = record {
+  plain = tables.request;
+  cmp = name_number_cmp;
+  row = λ id key value.
+      Int id ∷ Text key.0 ∷ Int key.1 ∷ Int value.place ∷ Int value.hour ∷ Text value.command ∷
+      Text value.reply ∷ [];
+  entry = λ r. (
+    (bytes (column r 1), id_in (column r 2)),
+    record {
+      place = id_in (column r 3);
+      hour = id_in (column r 4);
+      command = bytes (column r 5);
+      reply = bytes (column r 6);
+    },
+  );
+  key = 1 ∷ 2 ∷ [];
+}
+
+-- The shape of the rows of `part`: their key, their value, and how both are read of a row.
+abbrev pub part_rows : Layout NameNumber Part
+part_rows = record {
+  plain = tables.part;
+  cmp = name_number_cmp;
+  row = λ id key value. Int id ∷ Text key.0 ∷ Int key.1 ∷ Blob value.devices ∷ Int value.hour ∷ [];
+  entry = λ r. (
+    (bytes (column r 1), id_in (column r 2)),
+    record {
+      devices = bytes (column r 3);
+      hour = id_in (column r 4);
+    },
+  );
+  key = 1 ∷ 2 ∷ [];
+}

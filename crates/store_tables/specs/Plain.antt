@@ -1,0 +1,80 @@
+-- Plain tables: STRICT, no column NULL, texts, whole numbers and bytes alone, and no rowid that a
+-- column names.
+use Rattle.std.specs.Prelude.{true, false, [], None, List, ℕ, map}
+use Rattle.sqlite.specs.Collation.TheVariants.{Binary}
+use Rattle.sqlite.specs.declared.types.Value.TheVariants.{Null}
+use Rattle.sqlite.specs.Table.{Table}
+use Rattle.sqlite.specs.Kind.{Kind}
+use Rattle.sqlite.specs.Kind.TheVariants.{Integer, Text, Blob}
+use Rattle.sqlite_schema.specs.declared.schema.Column.{Column}
+use Rattle.sqlite_schema.specs.declared.schema.Reference.{Reference}
+use Rattle.sqlite_schema.specs.declared.schema.Index.{Index}
+use Rattle.sqlite_value.specs.declared.keys.Order.{Order}
+use Rattle.sqlite_value.specs.Keys.{plain}
+
+-- What a column holds.
+pub data Holds : Type 0 where
+  text : Holds
+  number : Holds
+  bytes : Holds
+
+-- The kind of column that a value fits.
+abbrev pub kind_of : Holds → Kind
+kind_of text = Text
+kind_of number = Integer
+kind_of bytes = Blob
+
+-- A column by its name and what it holds.
+pub record Field : Type 0 where
+  pub name : List ℕ
+  pub holds : Holds
+
+-- A column of a STRICT table that is never NULL.
+abbrev pub column_of : Field → Column
+column_of f = record {
+  name = f.name;
+  kind = kind_of f.holds;
+  is_strict = true;
+  not_null = true;
+  default = Null;
+  collation = Binary;
+}
+
+-- A plain table: its name, the tree of its rows, its columns and its keys.
+pub record Plain : Type 0 where
+  pub name : List ℕ
+  pub tree : ℕ
+  pub fields : List Field
+  pub primary : List ℕ
+  pub uniques : List (List ℕ)
+  pub orders : List Order
+  pub references : List Reference
+
+-- The same as the schema has it.
+abbrev pub table_of : Plain → Table
+table_of p = record {
+  name = p.name;
+  tree = p.tree;
+  columns = map column_of p.fields;
+  key = None;
+  primary = p.primary;
+  uniques = p.uniques;
+  orders = p.orders;
+  checks = [];
+  references = p.references;
+  computed = [];
+  stamps = record { places = []; terms = []; formats = [] };
+  is_counted = false;
+}
+
+-- The index that keeps a key of a table unique.
+abbrev pub unique : List ℕ → ℕ → ℕ → List ℕ → Index
+unique name tree table columns =
+    record {
+      name = name;
+      tree = tree;
+      table = table;
+      columns = columns;
+      order = plain;
+      is_unique = true;
+    }
