@@ -16,7 +16,7 @@ use Rattle.std.specs.List.{AllZip}
 use Rattle.std.proofs.lemmas.Slice.Zip.{AllZip-long}
 use Rattle.ring_words.specs.declared.device.Row.{Row}
 use Rattle.csv_import.specs.Fields.{IsRow, header}
-use Rattle.csv_import.specs.Midway.{HasGiven, IsWrongWith}
+use Rattle.csv_import.specs.Inner.Midway.{HasGiven, IsWrongWith}
 use Rattle.byte_streams.specs.Counted.{read_faults}
 use Rattle.byte_streams.specs.declared.counted.CountedReader.{CountedReader}
 use Rattle.csv_import.specs.Rows.{IsBehindRows, IsCsvCaused, IsWrong, records_of}

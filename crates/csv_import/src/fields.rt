@@ -1,9 +1,13 @@
-//! The values that fields spell.
-ghost use Rattle.std.specs.Prelude.{◌≡◌, ℕ, List, IfSome, IfNone, IfOk, IsUtf8, Some, None};
-ghost use Rattle.csv_import.specs.Fields.{SpellsAddress, SpellsName, SpellsNumber, SpellsPort, SpellsWeight};
+//! The values that fields spell. A field that isn't UTF-8 spells none.
+ghost use Rattle.std.specs.Prelude.{◌≡◌, IsErrOf, IfNone, IfSome, IsUtf8};
+ghost use Rattle.ring_words.specs.Spelling.{Reads, SpellsAddress, SpellsName, SpellsNumber, SpellsWeight};
+ghost use Rattle.ring_words.specs.Texts.{is_device_name};
 
-use ring_words::{Address, DeviceName, NameFault, Port, Weight, parse_decimal};
-use std::alloc::{AllocError, Global};
+use ring_words::{
+    Address, DeviceName, Port, SpellingFault, Weight, read_address, read_bounded, read_name,
+    read_number16, read_weight,
+};
+use std::alloc::Global;
 use std::str;
 
 /// The field as a text.
@@ -15,53 +19,55 @@ fn text_of(field: &[u8]) -> Option<&str>
 }
 
 /// The number of a region or a zone.
-pub(crate) fn number_of(field: &[u8]) -> Option<u16>
-    ensures found { IfSome result (λ number. SpellsNumber field.now number) }
-    ensures none { IfNone result ((number : ℕ) → SpellsNumber field.now number → ⊥) }
+pub(crate) fn number_of(field: &[u8]) -> Result<u16, SpellingFault>
+    ensures read { Reads (SpellsNumber field.now 0 65535) result }
+    ensures memory { IsErrOf result SpellingFault.NoMemory → ⊥ }
 {
-    let number = parse_decimal(text_of(field)?)?;
-    if number <= 65535 {
-        Some(number as u16)
-    } else {
-        None
-    }
+    let Some(text) = text_of(field) else {
+        return Err(SpellingFault::Bad);
+    };
+    read_number16(text)
 }
 
 /// The address.
-pub(crate) fn address_of(field: &[u8]) -> Option<Address>
-    ensures found { IfSome result (λ address. SpellsAddress field.now address) }
-    ensures none { IfNone result ((address : ℕ) → SpellsAddress field.now address → ⊥) }
+pub(crate) fn address_of(field: &[u8]) -> Result<Address, SpellingFault>
+    ensures read { Reads (SpellsAddress field.now) result }
+    ensures memory { IsErrOf result SpellingFault.NoMemory → ⊥ }
 {
-    Address::parse(text_of(field)?)
+    let Some(text) = text_of(field) else {
+        return Err(SpellingFault::Bad);
+    };
+    read_address(text)
 }
 
 /// The port.
-pub(crate) fn port_of(field: &[u8]) -> Option<Port>
-    ensures found { IfSome result (λ port. SpellsPort field.now port) }
-    ensures none { IfNone result ((port : ℕ) → SpellsPort field.now port → ⊥) }
-{
-    Port::new(number_of(field)?)
-}
-
-/// The name, if the field is one.
-pub(crate) fn name_of(alloc: Global, field: &[u8]) -> Result<Option<DeviceName>, AllocError>
-    ensures found { IfOk result (λ found. IfSome found (λ name. SpellsName field.now name)) }
-    ensures none { IfOk result (λ found. IfNone found ((name : List ℕ) → SpellsName field.now name → ⊥)) }
+pub(crate) fn port_of(field: &[u8]) -> Result<Port, SpellingFault>
+    ensures read { Reads (SpellsNumber field.now 1 65535) result }
+    ensures memory { IsErrOf result SpellingFault.NoMemory → ⊥ }
 {
     let Some(text) = text_of(field) else {
-        return Ok(None);
+        return Err(SpellingFault::Bad);
     };
-    match DeviceName::new(alloc, text) {
-        Ok(name) => Ok(Some(name)),
-        Err(NameFault::Bad) => Ok(None),
-        Err(NameFault::NoMemory) => Err(AllocError),
-    }
+    read_bounded(text)
+}
+
+/// The name.
+pub(crate) fn name_of(alloc: Global, field: &[u8]) -> Result<DeviceName, SpellingFault>
+    ensures { Reads (SpellsName is_device_name field.now) result }
+{
+    let Some(text) = text_of(field) else {
+        return Err(SpellingFault::Bad);
+    };
+    read_name(alloc, text)
 }
 
 /// The weight.
-pub(crate) fn weight_of(field: &[u8]) -> Option<Weight>
-    ensures found { IfSome result (λ weight. SpellsWeight field.now weight) }
-    ensures none { IfNone result ((weight : ℕ) → SpellsWeight field.now weight → ⊥) }
+pub(crate) fn weight_of(field: &[u8]) -> Result<Weight, SpellingFault>
+    ensures read { Reads (SpellsWeight field.now) result }
+    ensures memory { IsErrOf result SpellingFault.NoMemory → ⊥ }
 {
-    Weight::parse(text_of(field)?)
+    let Some(text) = text_of(field) else {
+        return Err(SpellingFault::Bad);
+    };
+    read_weight(text)
 }

@@ -3,7 +3,7 @@ ghost use Rattle.std.specs.Prelude.{◌≡◌, ◌≢◌, ◌∷◌, ◌++◌, [
 ghost use Rattle.byte_streams.specs.Counted.{read_faults, reader_of};
 ghost use Rattle.csv.specs.Records.{fields_of};
 ghost use Rattle.csv_import.specs.Fields.{header};
-ghost use Rattle.csv_import.specs.Midway.{HasGiven, IsOpen};
+ghost use Rattle.csv_import.specs.Inner.Midway.{HasGiven, IsOpen};
 ghost use Rattle.csv_import.specs.Rows.{AreRows, IsCsvCaused, IsWrong, records_of};
 ghost use Rattle.csv_import.specs.declared.fault.CsvFault.TheVariants.{ReadFailed};
 

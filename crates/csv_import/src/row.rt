@@ -2,12 +2,12 @@
 ghost use Rattle.std.specs.Prelude.{◌≡◌, ◌≤◌, ◌↔◌, IfOk, IfErr, IsTrue, length};
 ghost use Rattle.csv.specs.Records.{fields_of};
 ghost use Rattle.csv_import.specs.Fields.{IsRow, field_in, header};
-ghost use Rattle.csv_import.specs.Midway.{AreFirstNamed, AreLastNamed, IsWrongWith};
+ghost use Rattle.csv_import.specs.Inner.Midway.{AreFirstNamed, AreLastNamed, IsWrongWith};
 
 use crate::fault::CsvFault;
 use crate::fields::{address_of, name_of, number_of, port_of, weight_of};
 use csv::ByteRecord;
-use ring_words::Row;
+use ring_words::{Row, SpellingFault};
 use std::alloc::Global;
 
 /// How many fields a record has.
@@ -60,22 +60,24 @@ pub(crate) fn row_of(alloc: Global, fields: &ByteRecord, number: u64) -> Result<
     if fields.len() != COLUMNS {
         return Err(CsvFault::BadRow(number));
     }
-    let Some(region) = number_of(field(fields, 1)) else {
+    let Ok(region) = number_of(field(fields, 1)) else {
         return Err(CsvFault::BadField(number, 1));
     };
-    let Some(zone) = number_of(field(fields, 2)) else {
+    let Ok(zone) = number_of(field(fields, 2)) else {
         return Err(CsvFault::BadField(number, 2));
     };
-    let Some(address) = address_of(field(fields, 3)) else {
+    let Ok(address) = address_of(field(fields, 3)) else {
         return Err(CsvFault::BadField(number, 3));
     };
-    let Some(port) = port_of(field(fields, 4)) else {
+    let Ok(port) = port_of(field(fields, 4)) else {
         return Err(CsvFault::BadField(number, 4));
     };
-    let Some(name) = name_of(alloc, field(fields, 5))? else {
-        return Err(CsvFault::BadField(number, 5));
+    let name = match name_of(alloc, field(fields, 5)) {
+        Ok(name) => name,
+        Err(SpellingFault::Bad) => return Err(CsvFault::BadField(number, 5)),
+        Err(SpellingFault::NoMemory) => return Err(CsvFault::NoMemory),
     };
-    let Some(weight) = weight_of(field(fields, 6)) else {
+    let Ok(weight) = weight_of(field(fields, 6)) else {
         return Err(CsvFault::BadField(number, 6));
     };
     Ok(Row {

@@ -1,7 +1,7 @@
 //! The lines of `run`: numbered requests and questions in, answers out.
 ghost use Rattle.std.specs.Prelude.{◌≡◌, IfErr, IfOk, OnOk, Result, Some, string_bytes};
 ghost use Rattle.std.specs.Io.KnownBytes.{IsAtEnd};
-ghost use Rattle.builder.specs.Reads.{Reads};
+ghost use Rattle.ring_words.specs.Spelling.{Reads};
 ghost use Rattle.builder.specs.Safety.{IsSafeRun};
 ghost use Rattle.byte_streams.specs.Counted.{FailsWithCause, LeavesFlushed, reader_of, writer_of};
 ghost use Rattle.request_book.specs.Call.{Load};
@@ -16,7 +16,8 @@ use builder::{MessageFault, RingMachine, Told, read_delivery, status_of, told_te
 use byte_streams::{CountedReader, CountedWriter, StreamFault};
 use line_stream::{Handler, serve_lines};
 use request_book::{Answer, Book, Fault, Keeper};
-use ring_model::{Command, Delivery, Refusal, Reply, Rings, parse_decimal_up_to};
+use ring_model::Rings;
+use ring_words::{Command, Delivery, Refusal, Reply, parse_decimal_up_to};
 use std::alloc::{AllocError, Global};
 use std::io::{Read, Write};
 use std::marker::PhantomData;
@@ -36,10 +37,10 @@ fn read_line(alloc: Global, line: &[u8]) -> Result<Delivery<Command>, MessageFau
     ensures { Reads (Asks line.now) result }
 {
     let Ok(text) = str::from_utf8(line) else {
-        return Err(MessageFault::Unreadable);
+        return Err(MessageFault::Bad);
     };
     let Some((hour, message)) = parse_decimal_up_to(text, ' ') else {
-        return Err(MessageFault::Unreadable);
+        return Err(MessageFault::Bad);
     };
     let (key, command) = read_delivery(alloc, message.as_bytes())?;
     Ok(Delivery { hour, key, command })
@@ -52,7 +53,7 @@ fn read_request(alloc: Global, line: &[u8]) -> Result<Request, MessageFault>
     match read_question(alloc, line) {
         Ok(question) => Ok(Request::Question(question)),
         Err(MessageFault::NoMemory) => Err(MessageFault::NoMemory),
-        Err(MessageFault::Unreadable) => Ok(Request::Delivery(read_line(alloc, line)?)),
+        Err(MessageFault::Bad) => Ok(Request::Delivery(read_line(alloc, line)?)),
     }
 }
 
@@ -149,7 +150,7 @@ impl<K: Keeper<RingMachine>> Handler for RingLines<K> {
         match read_request(alloc, line) {
             Ok(Request::Delivery(delivery)) => answer_text(alloc, &deliver(book, delivery)),
             Ok(Request::Question(question)) => show(alloc, book, &question),
-            Err(MessageFault::Unreadable) => answer_text(alloc, &Told::Unreadable),
+            Err(MessageFault::Bad) => answer_text(alloc, &Told::Unreadable),
             Err(MessageFault::NoMemory) => Err(AllocError),
         }
     }

@@ -1,11 +1,12 @@
 //! Questions: lines that ask for a table of a ring.
 ghost use Rattle.std.specs.Prelude.{◌≡◌, ◌++◌, ◌∷◌, [], ℕ, List, IfOk, IfSome, IfNone, string_bytes};
-ghost use Rattle.builder.specs.Reads.{Reads};
+ghost use Rattle.ring_words.specs.Spelling.{Reads};
 ghost use Rattle.line_api.specs.Lines.{AsksTable, IsTable, words_of};
 
 use builder::MessageFault;
-use ring_model::{NameFault, Ring, RingName};
+use ring_model::Ring;
 use ring_tables::{balance_table, device_table};
+use ring_words::{NameFault, RingName};
 use std::alloc::{AllocError, Global};
 use std::str;
 
@@ -43,14 +44,14 @@ pub fn read_question(alloc: Global, line: &[u8]) -> Result<Question, MessageFaul
     ensures { Reads (AsksTable line.now) result }
 {
     let Some((table, name)) = table_asked(line) else {
-        return Err(MessageFault::Unreadable);
+        return Err(MessageFault::Bad);
     };
     let Ok(name) = str::from_utf8(name) else {
-        return Err(MessageFault::Unreadable);
+        return Err(MessageFault::Bad);
     };
     match RingName::new(alloc, name) {
         Ok(ring) => Ok(Question { table, ring }),
-        Err(NameFault::Bad) => Err(MessageFault::Unreadable),
+        Err(NameFault::Bad) => Err(MessageFault::Bad),
         Err(NameFault::NoMemory) => Err(MessageFault::NoMemory),
     }
 }

@@ -6,7 +6,7 @@ use Rattle.std.proofs.lemmas.List.Concat.{flat_map-append}
 use Rattle.std.proofs.lemmas.List.{length_push}
 use Rattle.std.proofs.lemmas.Bool.{cases_eq, leb-true, leb-false, lt-leb, cases_Bool}
 use Rattle.line_stream.specs.Lines.{IsLine, ended, Divides, with_rest, AreLines}
-use Rattle.line_stream.specs.Midway.{kept_of}
+use Rattle.line_stream.specs.Inner.Midway.{kept_of}
 
 pub ended-append : (a b : List (List ℕ)) → ended (a ++ b) ≡ ended a ++ ended b
 ended-append a b = flat_map-append (λ (line : List ℕ). line ++ 10 ∷ []) a b

@@ -9,7 +9,7 @@ use Rattle.byte_streams.specs.InTurn.{InTurn}
 use Rattle.byte_streams.specs.Serving.{Tells}
 use Rattle.byte_streams.specs.Writing.{Forwards, WritesBeginning}
 use Rattle.line_stream.specs.Serving.{LinesServed, LinesServedInPart, LinesServedSoFar}
-use Rattle.line_stream.specs.Midway.{kept_of, IsMidway, IsEnded, IsCutOff}
+use Rattle.line_stream.specs.Inner.Midway.{kept_of, IsMidway, IsEnded, IsCutOff}
 use Rattle.byte_streams.proofs.KnownLemmas.{Forwards-then, Forwards-none, Forwards-all, Forwards-whole, beginning_of_left, beginning_then}
 use Rattle.line_stream.proofs.LineLemmas.{Divides-nil, Divides-byte, Divides-feed, ended-push, kept_of-push, kept_cases, lines_after}
 use Rattle.byte_streams.proofs.InTurnLemmas.{InTurn-push}

@@ -1,4 +1,4 @@
 pub mod Lines
 pub mod Answers
 pub mod Serving
-pub mod Midway
+pub mod Inner

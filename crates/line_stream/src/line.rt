@@ -1,6 +1,6 @@
 //! The line that the bytes of a stream make up.
 ghost use Rattle.std.specs.Prelude.{◌≡◌, ◌↔◌, ◌≤◌, ◌++◌, ℕ, List, [], ◌∷◌, Option, Some, None, IfOk, IsTrue, MatchOption, vec_len, vec_capacity, option_and_then, if◌then◌else◌};
-ghost use Rattle.line_stream.specs.Midway.{kept_of};
+ghost use Rattle.line_stream.specs.Inner.Midway.{kept_of};
 
 use std::alloc::{AllocError, Global};
 use std::marker::Model;

@@ -7,7 +7,7 @@ ghost use Rattle.byte_streams.specs.Writing.{Forwards, WritesBeginning};
 ghost use Rattle.byte_streams.specs.declared.fault.StreamFault.TheVariants.{WriteFailed};
 ghost use Rattle.line_stream.specs.Answers.{Answered};
 ghost use Rattle.line_stream.specs.Serving.{LinesServed, LinesServedInPart, LinesStopped};
-ghost use Rattle.line_stream.specs.Midway.{kept_of, IsMidway, IsEnded, IsCutOff};
+ghost use Rattle.line_stream.specs.Inner.Midway.{kept_of, IsMidway, IsEnded, IsCutOff};
 
 use crate::handler::Handler;
 use crate::line::LineBuffer;

@@ -7,7 +7,7 @@ ghost use Rattle.path_lookup.specs.Nodes.{partition_of, path_hash};
 
 use crate::path::Path;
 use md5::{Digest, Md5};
-use ring_model::Power;
+use ring_words::Power;
 
 /// Adds a `/` and a name to what is hashed, if there is a name.
 fn add_name(hasher: &mut Md5, name: Option<&[u8]>)

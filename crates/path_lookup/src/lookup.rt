@@ -4,7 +4,8 @@ ghost use Rattle.ring_model.specs.Ring.{partition_count, is_assigned};
 ghost use Rattle.path_lookup.specs.Nodes.{AreSeated};
 
 use crate::fault::NodesFault;
-use ring_model::{DeviceId, Ring};
+use ring_model::Ring;
+use ring_words::DeviceId;
 use std::alloc::Global;
 
 /// The devices that hold a partition, in order of replica. The partition is one of the ring's. NotAssigned exactly

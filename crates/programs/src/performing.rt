@@ -12,7 +12,8 @@ use builder::RingMachine;
 use byte_streams::{CountedReader, CountedWriter, StreamFault, write_text};
 use line_api::run_lines;
 use request_book::{Book, MemKeeper};
-use ring_model::{Limits, Rings};
+use ring_model::Rings;
+use ring_words::Limits;
 use std::alloc::Global;
 use std::io::{Read, Write};
 

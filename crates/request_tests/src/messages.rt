@@ -12,7 +12,7 @@ use std::test::Fail;
 fn is_read<T: Drop>(answer: Result<T, MessageFault>) -> Result<bool, MessageFault> {
     match answer {
         Ok(_) => Ok(true),
-        Err(MessageFault::Unreadable) => Ok(false),
+        Err(MessageFault::Bad) => Ok(false),
         Err(MessageFault::NoMemory) => Err(MessageFault::NoMemory),
     }
 }

@@ -7,8 +7,9 @@ ghost use Rattle.ring_tables.specs.Layout.{row};
 ghost use Rattle.ring_tables.specs.Tables.{balance_columns, balance_titles, balance_texts, figures_line, balance_table};
 
 use crate::cells::{hundredths_cell, hundredths_text, number_cell};
-use ring_model::{Device, Ring};
+use ring_model::Ring;
 use ring_share::{balance, balance_of, dispersion, have, wanted};
+use ring_words::Device;
 use std::alloc::{AllocError, Global};
 
 /// The balance of a device of the ring.

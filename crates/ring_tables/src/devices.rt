@@ -4,7 +4,8 @@ ghost use Rattle.ring_tables.specs.Layout.{cells, row};
 ghost use Rattle.ring_tables.specs.Tables.{state_text, place_columns, place_texts, device_columns, device_titles, device_texts, device_table};
 
 use crate::cells::{at_left, hundredths_cell, number_cell};
-use ring_model::{Device, Ring};
+use ring_model::Ring;
+use ring_words::Device;
 use std::alloc::{AllocError, Global};
 
 /// Whether seats may go to a device, in a word.

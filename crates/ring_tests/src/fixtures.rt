@@ -1,7 +1,6 @@
 //! Rows, devices and rings that the tests start from.
-use ring_model::{
-    Address, Device, DeviceName, Port, Power, Replicas, Ring, RingParts, Row, Weight,
-};
+use ring_model::{Ring, RingParts};
+use ring_words::{Address, Device, DeviceName, Port, Power, Replicas, Row, Weight};
 use std::alloc::Global;
 use std::test::Fail;
 

@@ -3,10 +3,8 @@ ghost use Rattle.std.specs.Prelude.{◌≡◌, IfOk};
 ghost use Rattle.ring_model.specs.Parts.{record_of};
 
 use crate::fixtures::{device, row};
-use ring_model::{
-    BuildFault, Device, Draft, Port, Power, RaiseFault, Replicas, Ring, RingName, RingParts, Rings,
-    Row, Rows, Weight,
-};
+use ring_model::{BuildFault, Draft, RaiseFault, Ring, RingParts, Rings};
+use ring_words::{Device, Port, Power, Replicas, RingName, Row, Rows, Weight};
 use std::alloc::Global;
 use std::rc::RcStr;
 use std::test::Fail;

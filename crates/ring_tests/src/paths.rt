@@ -2,9 +2,8 @@
 //! digests are those of Python's hashlib.
 use md5::{Digest, Md5};
 use path_lookup::{NodesFault, Path, PathFault, hash_path, nodes, partition_of};
-use ring_model::{
-    Address, Device, DeviceName, Port, Power, Replicas, Ring, RingParts, Row, Weight,
-};
+use ring_model::{Ring, RingParts};
+use ring_words::{Address, Device, DeviceName, Port, Power, Replicas, Row, Weight};
 use std::alloc::Global;
 use std::test::Fail;
 

@@ -3,8 +3,9 @@
 ghost use Rattle.std.specs.Prelude.{◌<◌};
 
 use crate::fixtures::{device, devices, ring, two_regions};
-use ring_model::{Device, Port, Ring};
+use ring_model::Ring;
 use ring_share::{balance, balance_of, crowd, dispersion, has_room, have, place_in, wanted};
+use ring_words::{Device, Port};
 use std::alloc::Global;
 use std::test::Fail;
 

@@ -2,11 +2,11 @@
 ghost use Rattle.std.specs.Prelude.{◌≡◌, IfOk};
 ghost use Rattle.ring_model.specs.Parts.{record_of};
 
-use ring_model::{
-    Address, Device, DeviceId, DeviceName, Port, Power, Replicas, Ring, RingName, RingParts, Row,
-    Weight,
-};
+use ring_model::{Ring, RingParts};
 use ring_text::{Snapshot, TextFault, read_ring, snapshot, write_ring};
+use ring_words::{
+    Address, Device, DeviceId, DeviceName, Port, Power, Replicas, RingName, Row, Weight,
+};
 use std::alloc::Global;
 use std::test::Fail;
 
@@ -82,7 +82,7 @@ fn a_tiny_ring_is_written(rt: HostRuntime) -> Result<(), Fail> {
 
 /// Whether bytes are refused as the text of no ring.
 fn is_bad(alloc: Global, bytes: &[u8]) -> bool {
-    matches!(read_ring(alloc, bytes), Err(TextFault::BadText))
+    matches!(read_ring(alloc, bytes), Err(TextFault::Bad))
 }
 
 /// The text of `tiny` with another text in place of a part of it.

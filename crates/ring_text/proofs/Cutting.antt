@@ -3,7 +3,7 @@ use Rattle.std.proofs.Common.{◌≡◌, ℕ, ◌+◌, ◌-◌, ◌<◌, ◌≤�
 use Rattle.std.specs.Prelude.{codes}
 use Rattle.std.specs.List.{join_with_byte}
 use Rattle.std.proofs.lemmas.List.{length-map, length-append, length-take-le, length-drop, take_at, drop_at, take_all, take-map, drop-map, take-append-drop}
-use Rattle.ring_text.specs.Reading.{text_at, IsCut}
+use Rattle.ring_text.specs.Inner.Reading.{text_at, IsCut}
 
 abbrev pub Texts : Type 0
 Texts = List (List ℕ)

@@ -1,18 +1,18 @@
 -- The lines of devices.
-use Rattle.std.proofs.Common.{lit≤, ◌≡◌, ℕ, ◌+◌, ◌/◌, ◌%◌, ◌^◌, ◌<◌, ◌≤◌, Bool, true, false, true≢false, List, [], ◌∷◌, ◌++◌, length, get_or, take, drop, map, decimal, Bor, refl, sym, ap, ap₂, ◌∙◌, arith}
+use Rattle.std.proofs.Common.{lit≤, ◌≡◌, ℕ, ◌+◌, ◌^◌, ◌<◌, Bool, true, false, true≢false, List, [], ◌∷◌, ◌++◌, length, get_or, take, drop, map, decimal, Bor, refl, sym, ap, ap₂, ◌∙◌, arith}
 use Rattle.std.specs.Prelude.{All, ◌==◌}
 use Rattle.std.specs.List.{join_with_byte, slice_split}
 use Rattle.std.proofs.lemmas.List.{get_or-map, length-map, map_more, map_push}
 use Rattle.std.proofs.lemmas.List.Elements.{All-push, All-head, All-tail, All-get_or, All-weaker, All-from_recursion}
 use Rattle.std.proofs.lemmas.List.Splits.{join_with_byte-slice_split}
-use Rattle.ring_words.specs.Texts.{address_text, address_limit, hundredths_text, greatest_weight, two_digits}
-use Rattle.ring_words.proofs.Decimals.{same_parts, same_number, weight_of_parts, after_first_point, after_second_point}
 use Rattle.ring_words.specs.declared.device.Device.{Device}
 use Rattle.ring_words.specs.declared.device.Row.{Row}
 use Rattle.ring_text.specs.Snapshot.{IsWithinLimits}
 use Rattle.ring_text.specs.Spelling.{device_line, state_word}
-use Rattle.ring_text.specs.Reading.{text_at, IsNumber, IsDevice, IsDeviceLine, AreDeviceLines}
-use Rattle.ring_text.proofs.Reading.{one_number}
+use Rattle.ring_words.specs.Spelling.{SpellsNumber}
+use Rattle.ring_text.specs.Inner.Reading.{text_at, IsDevice, IsDeviceLine, AreDeviceLines}
+use Rattle.ring_words.proofs.AlikeRows.{same_row}
+use Rattle.ring_words.proofs.Spelled.{one_number, one_weight, one_address}
 use Rattle.ring_text.proofs.Graphic.{AreGraphic, Lacks, graphic-decimal, graphic-address, graphic-weight, graphic-state, graphic-device_name, lacks_of_graphic, parts-joined}
 
 -- eight words, one by one
@@ -33,7 +33,7 @@ limits_of_device ws d h = record {
   weight = h.weight.valid;
 }
 
-number_of : (w : List ℕ) (n : ℕ) → w ≡ decimal n → n < 2 ^ 16 → IsNumber w 0 65535 n
+number_of : (w : List ℕ) (n : ℕ) → w ≡ decimal n → n < 2 ^ 16 → SpellsNumber w 0 65535 n
 number_of w n e lt = record { is = e; above = omega arith; below = omega arith }
 
 device_of_words : (ws : List (List ℕ)) (d : Device) → ws ≡ device_line d → d.id < 2 ^ 16 → IsWithinLimits d → IsDevice ws d
@@ -90,42 +90,11 @@ words_of_line line ws d e h = device_of_words ws d (e ∙ ap (slice_split (λ b.
 
 -- ---- a line is of one device
 
-one_weight : (a b : ℕ) → a ≤ greatest_weight → b ≤ greatest_weight → hundredths_text a ≡ hundredths_text b → a ≡ b
-one_weight a b la lb e =
-    let high : a / 100 < 2 ^ 32 = omega arith in
-    let low : a % 100 < 100 = omega arith in
-    let whole = weight_of_parts (hundredths_text a) (two_digits (a % 100)) (a / 100) (a % 100) b high low refl refl lb e in
-    omega arith
-
-one_address : (a b : ℕ) → a < address_limit → b < address_limit → address_text a ≡ address_text b → a ≡ b
-one_address a b la lb e =
-    let fa : a / 16777216 < 2 ^ 32 = omega arith in
-    let fb : b / 16777216 < 2 ^ 32 = omega arith in
-    let sa : a / 65536 % 256 < 2 ^ 32 = omega arith in
-    let sb : b / 65536 % 256 < 2 ^ 32 = omega arith in
-    let ta : a / 256 % 256 < 2 ^ 32 = omega arith in
-    let tb : b / 256 % 256 < 2 ^ 32 = omega arith in
-    let la4 : a % 256 < 2 ^ 32 = omega arith in
-    let lb4 : b % 256 < 2 ^ 32 = omega arith in
-    let first = same_parts (address_text a) (a / 16777216) (b / 16777216) (after_first_point a) (after_first_point b) fa fb refl e in
-    let second = same_parts (after_first_point a) (a / 65536 % 256) (b / 65536 % 256) (after_second_point a) (after_second_point b) sa sb refl first.1 in
-    let third = same_parts (after_second_point a) (a / 256 % 256) (b / 256 % 256) (decimal (a % 256)) (decimal (b % 256)) ta tb refl second.1 in
-    let fourth = same_number (a % 256) (b % 256) la4 lb4 third.1 in
-    omega (arith, first.0, second.0, third.0, fourth)
-
 one_state : (a b : Bool) → state_word a ≡ state_word b → a ≡ b
 one_state true true e = refl
 one_state false false e = refl
 one_state true false e = absurd (true≢false (ap (λ (l : List ℕ). get_or l 0 0 == 114) e))
 one_state false true e = absurd (true≢false (sym (ap (λ (l : List ℕ). get_or l 0 0 == 114) e)))
-
-abbrev row : ℕ → ℕ → ℕ → ℕ → List ℕ → ℕ → Row
-row r z a p n w = record { region = r; zone = z; address = a; port = p; name = n; weight = w }
-
-equal_rows : (r q : Row) → r.region ≡ q.region → r.zone ≡ q.zone → r.address ≡ q.address → r.port ≡ q.port → r.name ≡ q.name → r.weight ≡ q.weight → r ≡ q
-equal_rows r q a b c d e f = ap (λ (x : ℕ). row x r.zone r.address r.port r.name r.weight) a ∙ ap (λ (x : ℕ). row q.region x r.address r.port r.name r.weight) b
-    ∙ ap (λ (x : ℕ). row q.region q.zone x r.port r.name r.weight) c ∙ ap (λ (x : ℕ). row q.region q.zone q.address x r.name r.weight) d
-    ∙ ap (λ (x : List ℕ). row q.region q.zone q.address q.port x r.weight) e ∙ ap (λ (x : ℕ). row q.region q.zone q.address q.port q.name x) f
 
 abbrev device : ℕ → Row → Bool → Device
 device i r m = record { id = i; row = r; removed = m }
@@ -133,15 +102,19 @@ device i r m = record { id = i; row = r; removed = m }
 equal_devices : (d e : Device) → d.id ≡ e.id → d.row ≡ e.row → d.removed ≡ e.removed → d ≡ e
 equal_devices d e a b c = ap (λ (x : ℕ). device x d.row d.removed) a ∙ ap (λ (x : Row). device e.id x d.removed) b ∙ ap (λ (x : Bool). device e.id e.row x) c
 
-same_short : (w : List ℕ) (l a b : ℕ) → IsNumber w l 65535 a → IsNumber w l 65535 b → a ≡ b
+same_short : (w : List ℕ) (l a b : ℕ) → SpellsNumber w l 65535 a → SpellsNumber w l 65535 b → a ≡ b
 same_short w l a b h i = let all : 65535 < 2 ^ 32 = omega arith in one_number w l 65535 l 65535 a b all all h i
 
 one_of_words : (ws : List (List ℕ)) (d e : Device) → IsDevice ws d → IsDevice ws e → d ≡ e
 one_of_words ws d e h i =
-    equal_devices d e (same_short _ _ _ _ h.id i.id)
-    (equal_rows d.row e.row (same_short _ _ _ _ h.region i.region) (same_short _ _ _ _ h.zone i.zone) (one_address _ _ h.address.valid i.address.valid (sym h.address.is ∙ i.address.is))
-    (same_short _ _ _ _ h.port i.port) (sym h.name.is ∙ i.name.is) (one_weight _ _ h.weight.valid i.weight.valid (sym h.weight.is ∙ i.weight.is)))
-    (one_state _ _ (sym h.state ∙ i.state))
+    let region = same_short _ _ _ _ h.region i.region in
+    let zone = same_short _ _ _ _ h.zone i.zone in
+    let port = same_short _ _ _ _ h.port i.port in
+    let name = sym h.name.is ∙ i.name.is in
+    let address = one_address _ _ h.address.valid i.address.valid (sym h.address.is ∙ i.address.is) in
+    let weight = one_weight _ _ h.weight.valid i.weight.valid (sym h.weight.is ∙ i.weight.is) in
+    let row = same_row d.row e.row (region, (zone, (address, (port, (name, weight))))) in
+    equal_devices d e (same_short _ _ _ _ h.id i.id) row (one_state _ _ (sym h.state ∙ i.state))
 
 pub one_device : (line : List ℕ) (d e : Device) → IsDeviceLine line d → IsDeviceLine line e → d ≡ e
 one_device line d e h i = one_of_words _ d e (words_of_line line _ d refl h) (words_of_line line _ e refl i)

@@ -1,6 +1,6 @@
 pub mod Validity
 pub mod Written
-pub mod Reading
+pub mod Keys
 pub mod Graphic
 pub mod Devices
 pub mod Partitions

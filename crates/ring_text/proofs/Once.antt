@@ -7,7 +7,7 @@ use Rattle.std.proofs.lemmas.List.FromFn.{length-range_with_len}
 use Rattle.std.proofs.lemmas.List.Splits.{join_with_byte-slice_split}
 use Rattle.ring_text.specs.Snapshot.{SnapshotRecord, IsValidSnapshot}
 use Rattle.ring_text.specs.Spelling.{head_lines, device_line, partition_lines, lines_of, Spells}
-use Rattle.ring_text.specs.Reading.{AreLines}
+use Rattle.ring_text.specs.Inner.Reading.{AreLines}
 use Rattle.ring_text.specs.declared.head.Head.{Head}
 use Rattle.ring_text.proofs.Text.{lines_of_text, split-lines, all_words}
 use Rattle.ring_text.proofs.Whole.{head_of, first_texts, length-first_texts, head_is, one_head, device_texts, partition_texts, head_within, cut_within, parts_are, lines_of_made}

@@ -10,7 +10,8 @@ use Rattle.std.proofs.Math.Seq.{take-add}
 use Rattle.std.proofs.Math.Nat.{mul-le-mul_right}
 use Rattle.ring_words.proofs.Decimals.{same_number}
 use Rattle.ring_text.specs.Spelling.{partition_line, partition_lines}
-use Rattle.ring_text.specs.Reading.{text_at, IsNumber, AreNumbers, IsPartitionLine, ArePartitionLines}
+use Rattle.ring_words.specs.Spelling.{SpellsNumber}
+use Rattle.ring_text.specs.Inner.Reading.{text_at, AreNumbers, IsPartitionLine, ArePartitionLines}
 use Rattle.ring_text.proofs.Graphic.{AreGraphic, Lacks, graphic-decimal, lacks_of_graphic, parts-joined}
 
 abbrev joined : List (List ℕ) → List ℕ
@@ -18,7 +19,7 @@ joined words = join_with_byte 32 words
 
 -- ---- the numbers of one line
 
-pub number_inside : (words : List (Bor (List ℕ))) (i : ℕ) (word : Bor (List ℕ)) (ns : List ℕ) → i < length words → AreNumbers (map (λ w. w.now) words) ns → (n : ℕ) × IsNumber (get_or words i word).now 0 65535 n
+pub number_inside : (words : List (Bor (List ℕ))) (i : ℕ) (word : Bor (List ℕ)) (ns : List ℕ) → i < length words → AreNumbers (map (λ w. w.now) words) ns → (n : ℕ) × SpellsNumber (get_or words i word).now 0 65535 n
 number_inside words i word ns lt are =
     let n : ℕ = get_or ns i 0 in
     let long : length words ≡ length ns = simp length-map at (ap (λ (x : List (List ℕ)). length x) are.are) in

@@ -11,7 +11,7 @@ use Rattle.ring_model.specs.Ring.{has_device}
 use Rattle.ring_words.specs.declared.device.Device.{Device}
 use Rattle.ring_text.specs.Snapshot.{SnapshotRecord, IsValidSnapshot}
 use Rattle.ring_text.specs.Spelling.{line, head_lines, device_line, partition_line, partition_lines, lines_of, spelling, Spells}
-use Rattle.ring_text.specs.Reading.{AreLines}
+use Rattle.ring_text.specs.Inner.Reading.{AreLines}
 use Rattle.ring_text.proofs.Graphic.{IsGraphic, AreGraphic, Lacks, graphic_from, graphic-decimal, graphic-label}
 use Rattle.ring_text.proofs.Devices.{graphic-device}
 

@@ -8,7 +8,7 @@ use Rattle.ring_words.proofs.Decimals.{same_number}
 use Rattle.ring_words.specs.declared.device.Device.{Device}
 use Rattle.ring_text.specs.Snapshot.{SnapshotRecord, IsValidSnapshot}
 use Rattle.ring_text.specs.Spelling.{head_lines, device_line, partition_lines}
-use Rattle.ring_text.specs.Reading.{text_at, IsHead, IsNumberAfter, IsNameAfter, IsCut, AreDeviceLines, ArePartitionLines, IsMade, AreLines, made}
+use Rattle.ring_text.specs.Inner.Reading.{text_at, IsHead, IsNumberAfter, IsNameAfter, IsCut, AreDeviceLines, ArePartitionLines, IsMade, AreLines, made}
 use Rattle.ring_text.specs.declared.head.Head.{Head}
 use Rattle.ring_text.proofs.Text.{seats_below}
 use Rattle.ring_text.proofs.Devices.{same_devices}

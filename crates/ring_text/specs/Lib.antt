@@ -1,3 +1,3 @@
 pub mod Snapshot
 pub mod Spelling
-pub mod Reading
+pub mod Inner

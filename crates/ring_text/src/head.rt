@@ -1,10 +1,11 @@
 //! The first lines of a text.
 ghost use Rattle.std.specs.Prelude.{map};
-ghost use Rattle.ring_text.specs.Reading.{Reads, IsHead};
+ghost use Rattle.ring_text.specs.Inner.Reading.{IsHead};
+ghost use Rattle.ring_words.specs.Spelling.{Reads};
 
-use crate::fault::TextFault;
+use crate::TextFault;
 use crate::words::{bounded_after, name_after, number_after, text_at};
-use ring_model::{Power, Replicas, RingName};
+use ring_words::{Power, Replicas, RingName};
 use std::alloc::Global;
 
 /// What the first lines tell.
@@ -23,7 +24,7 @@ pub(crate) fn read_head(alloc: Global, lines: &[&str]) -> Result<Head, TextFault
     ensures { Reads (IsHead (map (λ line. line.now) lines.now)) result }
 {
     if lines.len() != 6 || text_at(lines, 0) != "swift-ring-text 1" {
-        return Err(TextFault::BadText);
+        return Err(TextFault::Bad);
     }
     let name = name_after(alloc, text_at(lines, 1), "ring ")?;
     let version = number_after(text_at(lines, 2), "version ", 4_294_967_295)?;

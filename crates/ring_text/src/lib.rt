@@ -4,7 +4,6 @@
 //! partition with the devices of its seats. Lines end with a line feed and words are parted by one space.
 #![tactic(auto)]
 
-mod fault;
 mod head;
 pub mod laws;
 mod lines;
@@ -14,8 +13,11 @@ mod taking;
 mod words;
 mod write;
 
-pub use fault::TextFault;
 pub use read::read_ring;
+use ring_words::SpellingFault;
 pub use state::Snapshot;
 pub use taking::snapshot;
 pub use write::write_ring;
+
+/// Why bytes aren't read as the text of a ring: Bad where they are the text of none, or want of memory.
+pub type TextFault = SpellingFault;

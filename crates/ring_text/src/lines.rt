@@ -1,10 +1,14 @@
 //! The lines of devices and of partitions.
 ghost use Rattle.std.specs.Prelude.{◌≡◌, length, map};
-ghost use Rattle.ring_text.specs.Reading.{Reads, ReadsAs, IsDevice, IsDeviceLine, AreDeviceLines, AreNumbers, IsPartitionLine, ArePartitionLines};
+ghost use Rattle.ring_words.specs.Spelling.{Reads, ReadsAs};
+ghost use Rattle.ring_text.specs.Inner.Reading.{IsDevice, IsDeviceLine, AreDeviceLines, AreNumbers, IsPartitionLine, ArePartitionLines};
 
-use crate::fault::TextFault;
-use crate::words::{address, bounded, name, number16, parts_of, state, text_at, weight};
-use ring_model::{Device, DeviceId, Replicas, Row};
+use crate::TextFault;
+use crate::words::{parts_of, state, text_at};
+use ring_words::{
+    Device, DeviceId, Replicas, Row, read_address, read_bounded, read_name, read_number16,
+    read_weight,
+};
 use std::alloc::Global;
 
 /// The device of a line's words.
@@ -12,16 +16,16 @@ fn device_of(alloc: Global, words: &[&str]) -> Result<Device, TextFault>
     ensures { Reads (IsDevice (map (λ word. word.now) words.now)) result }
 {
     if words.len() != 8 {
-        return Err(TextFault::BadText);
+        return Err(TextFault::Bad);
     }
-    let id = number16(text_at(words, 0))?;
-    let region = number16(text_at(words, 1))?;
-    let zone = number16(text_at(words, 2))?;
-    let address = address(text_at(words, 3))?;
-    let port = bounded(text_at(words, 4))?;
-    let weight = weight(text_at(words, 5))?;
+    let id = read_number16(text_at(words, 0))?;
+    let region = read_number16(text_at(words, 1))?;
+    let zone = read_number16(text_at(words, 2))?;
+    let address = read_address(text_at(words, 3))?;
+    let port = read_bounded(text_at(words, 4))?;
+    let weight = read_weight(text_at(words, 5))?;
     let removed = state(text_at(words, 6))?;
-    let name = name(alloc, text_at(words, 7))?;
+    let name = read_name(alloc, text_at(words, 7))?;
     let row = Row {
         region,
         zone,
@@ -59,7 +63,7 @@ fn numbers_of(alloc: Global, words: &[&str]) -> Result<Vec<DeviceId>, TextFault>
 {
     let mut numbers = Vec::with_capacity(alloc, words.len())?;
     for word in words {
-        let number = number16(word)?;
+        let number = read_number16(word)?;
         numbers.push(number)?;
     }
     Ok(numbers)
@@ -71,7 +75,7 @@ fn partition_at(alloc: Global, line: &str, replicas: Replicas) -> Result<Vec<Dev
 {
     let words = parts_of(alloc, line, ' ')?;
     if words.len() != usize::from(replicas.get()) {
-        return Err(TextFault::BadText);
+        return Err(TextFault::Bad);
     }
     numbers_of(alloc, &words)
 }

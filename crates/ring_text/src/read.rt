@@ -1,15 +1,17 @@
 //! From bytes to the snapshot that they spell.
 ghost use Rattle.std.specs.Prelude.{◌^◌, map};
 ghost use Rattle.ring_text.specs.Spelling.{Spells};
-ghost use Rattle.ring_text.specs.Reading.{Reads, ReadsAs, AreLines, IsCut, IsMade};
+ghost use Rattle.ring_text.specs.Inner.Reading.{AreLines, IsCut, IsMade};
+ghost use Rattle.ring_words.specs.Spelling.{Reads, ReadsAs};
 
-use crate::fault::TextFault;
+use crate::TextFault;
 use crate::head::{Head, read_head};
 use crate::lines::{devices_of, seats_of};
 use crate::state::{Snapshot, partition_count};
 use crate::taking::snapshot;
 use crate::words::{parts_of, text_at};
-use ring_model::{BuildFault, Device, DeviceId, Ring, RingParts};
+use ring_model::{BuildFault, Ring, RingParts};
+use ring_words::{Device, DeviceId};
 use std::alloc::Global;
 
 /// The lines of the devices and those of the partitions, among the lines that follow the first.
@@ -22,18 +24,18 @@ fn cut<'a>(
 {
     let (devices, partitions) = (usize::from(devices), partitions as usize);
     if lines.len() != devices + partitions + 3 {
-        return Err(TextFault::BadText);
+        return Err(TextFault::Bad);
     }
     let (first, rest) = lines.split_at(devices);
     let (middle, last) = rest.split_at(partitions + 1);
     if text_at(middle, 0) != "seats" {
-        return Err(TextFault::BadText);
+        return Err(TextFault::Bad);
     }
     if text_at(last, 0) != "end" {
-        return Err(TextFault::BadText);
+        return Err(TextFault::Bad);
     }
     if !text_at(last, 1).is_empty() {
-        return Err(TextFault::BadText);
+        return Err(TextFault::Bad);
     }
     Ok((first, &middle[1..]))
 }
@@ -60,11 +62,11 @@ fn checked(
     };
     let ring = match Ring::build(alloc, parts) {
         Ok(ring) => ring,
-        Err(BuildFault::Invalid) => return Err(TextFault::BadText),
+        Err(BuildFault::Invalid) => return Err(TextFault::Bad),
         Err(BuildFault::NoMemory) => return Err(TextFault::NoMemory),
     };
     if !ring.is_assigned() {
-        return Err(TextFault::BadText);
+        return Err(TextFault::Bad);
     }
     Ok(snapshot(alloc, &head.name, &ring)?)
 }
@@ -74,7 +76,7 @@ fn read_lines(alloc: Global, lines: &[&str]) -> Result<Snapshot, TextFault>
     ensures { Reads (AreLines (map (λ line. line.now) lines.now)) result }
 {
     if lines.len() < 6 {
-        return Err(TextFault::BadText);
+        return Err(TextFault::Bad);
     }
     let (first, rest) = lines.split_at(6);
     let head = read_head(alloc, first)?;
@@ -89,7 +91,7 @@ pub fn read_ring(alloc: Global, bytes: &[u8]) -> Result<Snapshot, TextFault>
     ensures { Reads (Spells bytes.now) result }
 {
     let Ok(text) = str::from_utf8(bytes) else {
-        return Err(TextFault::BadText);
+        return Err(TextFault::Bad);
     };
     let lines = parts_of(alloc, text, '\n')?;
     read_lines(alloc, &lines)

@@ -1,7 +1,7 @@
 //! Snapshots of rings.
 ghost use Rattle.std.specs.Prelude.{◌≡◌, ◌^◌};
 
-use ring_model::{Device, DeviceId, Power, Replicas, RingName};
+use ring_words::{Device, DeviceId, Power, Replicas, RingName};
 use std::marker::Model;
 
 /// What the text of a ring tells: its name, and the ring without its hours and its published texts. Each value is

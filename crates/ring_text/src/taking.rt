@@ -4,7 +4,8 @@ ghost use Rattle.ring_model.specs.Ring.{is_assigned};
 ghost use Rattle.ring_text.specs.Snapshot.{IsValidSnapshot, IsWithinLimits, snapshot_of};
 
 use crate::state::Snapshot;
-use ring_model::{Device, Ring, RingName};
+use ring_model::Ring;
+use ring_words::{Device, RingName};
 use std::alloc::{AllocError, Global};
 
 /// Each device is within the limits, since its fields are by their types.

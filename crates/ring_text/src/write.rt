@@ -4,7 +4,7 @@ ghost use Rattle.std.specs.List.{flat_map};
 ghost use Rattle.ring_text.specs.Spelling.{line, head_lines, device_line, partition_lines, spelling};
 
 use crate::state::{Snapshot, partition_count};
-use ring_model::{Device, DeviceId};
+use ring_words::{Device, DeviceId};
 use std::alloc::{AllocError, Global};
 use std::fmt::Write;
 

@@ -12,6 +12,7 @@ mod device;
 mod name;
 mod request;
 mod rows;
+mod spelling;
 mod weight;
 
 pub use address::Address;
@@ -24,4 +25,7 @@ pub use name::{
 };
 pub use request::{Delivery, Hour, Key, Limits};
 pub use rows::Rows;
+pub use spelling::{
+    SpellingFault, read_address, read_bounded, read_name, read_number, read_number16, read_weight,
+};
 pub use weight::Weight;

@@ -1,32 +1,21 @@
 //! Names of rings, callers and devices.
-ghost use Rattle.std.specs.Prelude.{◌≡◌, ◌↔◌, ◌≢◌, Bool, ℕ, List, IfOk, IsErrOf, IsTrue, Some, nat_eq, true};
+ghost use Rattle.std.specs.Prelude.{◌≡◌, refl, ◌↔◌, ◌≢◌, Bool, ℕ, List, IfOk, IsErrOf, IsTrue, Some, nat_eq, true};
 ghost use Rattle.std.specs.List.{list_all};
 ghost use Rattle.std.specs.Cmp.Lexicographic.{pointwise, nat_list_eq_equiv};
 ghost use Rattle.std.specs.Cmp;
 ghost use Rattle.ring_words.specs.Texts.{is_label, is_label_byte, is_device_name, is_device_name_byte};
-ghost use Rattle.ring_words.specs.declared.name.NameFault.TheVariants.{NoMemory};
+ghost use Rattle.std.specs.Cmp.Lexicographic.{slice_cmp, nat_list_cmp_total, texts_po, texts_ties};
+ghost use Rattle.std.specs.Ordering.{nat_cmp};
 
+use crate::spelling::SpellingFault;
 use std::alloc::{AllocError, Global};
+use std::cmp::Ordering;
 use std::fmt;
 use std::marker::{Model, PhantomData};
 use std::rc::RcStr;
 
 /// Why a text isn't made a name.
-#[derive(Clone, Copy, Debug, PartialEq, Eq)]
-pub enum NameFault {
-    /// It isn't of the form of such a name.
-    Bad,
-    /// A growth of memory was refused.
-    NoMemory,
-}
-
-impl From<AllocError> for NameFault {
-    ghost from_gives = { λ _ f. f ≡ NoMemory };
-
-    fn from(_refused: AllocError) -> NameFault {
-        NameFault::NoMemory
-    }
-}
+pub type NameFault = SpellingFault;
 
 /// What a kind of name allows.
 pub trait NameKind {
@@ -148,7 +137,7 @@ impl<K: NameKind> Name<K> {
     pub fn new(alloc: Global, text: &str) -> Result<Self, NameFault>
         ensures name { IfOk result (λ name. name ≡ text.now) }
         ensures good { IfOk result (λ _. IsTrue (K.allows text.now)) }
-        ensures bad { IsErrOf result NameFault.Bad ↔ (K.allows text.now ≢ true) }
+        ensures bad { IsErrOf result SpellingFault.Bad ↔ (K.allows text.now ≢ true) }
     {
         if !K::allows(text) {
             return Err(NameFault::Bad);
@@ -193,6 +182,30 @@ impl<K: NameKind> PartialEq for Name<K> {
 
 impl<K: NameKind> Eq for Name<K> {
     ghost laws = { nat_list_eq_equiv };
+}
+
+impl<K: NameKind> PartialOrd for Name<K> {
+    ghost partial_cmp = { λ a b. Some (slice_cmp nat_cmp a b) };
+
+    ghost laws = { texts_po };
+
+    fn partial_cmp(&self, other: &Name<K>) -> Option<Ordering> {
+        Some(self.cmp(other))
+    }
+}
+
+impl<K: NameKind> Ord for Name<K> {
+    ghost cmp = { slice_cmp nat_cmp };
+
+    ghost total = { nat_list_cmp_total };
+
+    ghost matches_partial_cmp = { λ a b. refl };
+
+    ghost matches_eq = { texts_ties };
+
+    fn cmp(&self, other: &Name<K>) -> Ordering {
+        self.text.cmp(&other.text)
+    }
 }
 
 impl<K: NameKind> fmt::Display for Name<K> {

@@ -7,7 +7,7 @@ use crate::name::Caller;
 pub type Hour = u32;
 
 /// Which request it is: the caller, and that caller's number for it.
-#[derive(Clone, PartialEq, Eq, Debug, Drop)]
+#[derive(Clone, PartialEq, Eq, PartialOrd, Ord, Debug, Drop)]
 pub struct Key {
     /// Who asks.
     pub caller: Caller,

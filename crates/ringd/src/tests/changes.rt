@@ -1,6 +1,6 @@
 //! What each command answers, line by line.
 use super::{ask, open};
-use ring_model::Limits;
+use ring_words::Limits;
 use std::alloc::Global;
 use std::test::Fail;
 

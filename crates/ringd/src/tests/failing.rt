@@ -3,7 +3,8 @@ ghost use Rattle.std.specs.Prelude.{◌≡◌, cond, false, true};
 
 use builder::RingMachine;
 use request_book::{Found, KeepFault, Keeper};
-use ring_model::{Command, Hour, Key, Reply, Rings};
+use ring_model::Rings;
+use ring_words::{Command, Hour, Key, Reply};
 
 /// A keeper over another one. Its store fails once its state was made ready so often.
 #[derive(Drop)]

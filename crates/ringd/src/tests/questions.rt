@@ -4,7 +4,8 @@ use super::failing::Failing;
 use super::{Memory, UNREADABLE, answers, ask, ask_again, open};
 use builder::RingMachine;
 use request_book::{Book, MemKeeper};
-use ring_model::{Limits, Rings};
+use ring_model::Rings;
+use ring_words::Limits;
 use std::alloc::{AllocError, Global};
 use std::test::Fail;
 

@@ -1,7 +1,8 @@
 //! Rebalances, raised rings and published texts, line by line. The rows are written with `'` for `"`.
 use super::{ask, open};
 use builder::{decide, read_delivery};
-use ring_model::{Limits, RingName, Rings};
+use ring_model::Rings;
+use ring_words::{Limits, RingName};
 use std::alloc::{AllocError, Global};
 use std::test::Fail;
 

@@ -1,5 +1,5 @@
 use Rattle.std.proofs.Common.{◌≡◌, ◌+◌, ℕ, List, Some, length}
-use Rattle.csv_import.specs.Midway.{HasGivenRows, IsOpen}
+use Rattle.csv_import.specs.Inner.Midway.{HasGivenRows, IsOpen}
 use Rattle.csv_import.proofs.read.rows_from.Given as goal
 
 abbrev pub invariant-loop-number : goal.invariant-loop-number

@@ -3,7 +3,7 @@ use Rattle.std.proofs.lemmas.Result.{err_from_is_err_and}
 use Rattle.ring_words.specs.declared.command.Command.{Command}
 use Rattle.ring_words.specs.declared.request.Key.{Key}
 use Rattle.ring_messages.specs.Message.{IsMessage}
-use Rattle.ring_messages.proofs.Reading.{reads_err}
+use Rattle.ring_words.proofs.Spelled.{reads_err}
 use Rattle.line_api.specs.Lines.{Asks}
 use Rattle.line_api.proofs.Asking.{asks_text, asks_message}
 use Rattle.line_api.proofs.lines.read_line.Goals as goal

@@ -2,7 +2,7 @@ use Rattle.std.proofs.Common.{◌≡◌, ℕ, List, [], vec_len}
 use Rattle.std.specs.Io.KnownBytes.{Consumes}
 use Rattle.line_stream.specs.Answers.{Answered}
 use Rattle.byte_streams.specs.Counted.{read_faults, reader_of, reads_left, write_faults, writer_of}
-use Rattle.line_stream.specs.Midway.{IsMidway}
+use Rattle.line_stream.specs.Inner.Midway.{IsMidway}
 use Rattle.line_stream.proofs.serving.serve_lines.Given as goal
 
 abbrev pub invariant-loop-chunk : goal.invariant-loop-chunk

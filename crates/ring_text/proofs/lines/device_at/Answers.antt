@@ -1,5 +1,5 @@
-use Rattle.ring_text.specs.Reading.{IsDevice, IsDeviceLine}
-use Rattle.ring_text.proofs.Reading.{reads_same}
+use Rattle.ring_text.specs.Inner.Reading.{IsDevice, IsDeviceLine}
+use Rattle.ring_words.proofs.Spelled.{reads_same}
 use Rattle.ring_text.proofs.Devices.{line_of_words, words_of_line}
 use Rattle.ring_text.proofs.lines.device_at.Goals as goal
 

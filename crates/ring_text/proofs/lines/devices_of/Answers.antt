@@ -1,7 +1,7 @@
 use Rattle.std.proofs.Common.{map, Bor, List, ℕ, arith}
 use Rattle.std.proofs.lemmas.Result.{err_from_is_err_and}
-use Rattle.ring_text.specs.Reading.{IsDeviceLine, AreDeviceLines}
-use Rattle.ring_text.proofs.Reading.{list_err}
+use Rattle.ring_text.specs.Inner.Reading.{IsDeviceLine, AreDeviceLines}
+use Rattle.ring_words.proofs.Spelled.{list_err}
 use Rattle.ring_text.proofs.Devices.{devices_pushed, device_inside}
 use Rattle.ring_text.proofs.lines.devices_of.Goals as goal
 

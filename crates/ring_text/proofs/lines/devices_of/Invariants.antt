@@ -1,5 +1,5 @@
 use Rattle.std.proofs.Common.{map, take}
-use Rattle.ring_text.specs.Reading.{AreDeviceLines}
+use Rattle.ring_text.specs.Inner.Reading.{AreDeviceLines}
 use Rattle.ring_text.proofs.lines.devices_of.Given as goal
 
 abbrev pub invariant-loop-line : goal.invariant-loop-line

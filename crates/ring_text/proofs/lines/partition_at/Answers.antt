@@ -1,7 +1,7 @@
 use Rattle.std.proofs.Common.{map, ap, Bor, List, ℕ, ◌≡◌, ◌<◌, length, arith}
 use Rattle.std.proofs.lemmas.List.{length-map}
-use Rattle.ring_text.specs.Reading.{AreNumbers, IsPartitionLine}
-use Rattle.ring_text.proofs.Reading.{list_same}
+use Rattle.ring_text.specs.Inner.Reading.{AreNumbers, IsPartitionLine}
+use Rattle.ring_words.proofs.Spelled.{list_same}
 use Rattle.ring_text.proofs.Partitions.{words_of_partition, numbers_of_partition, partition_of_numbers}
 use Rattle.ring_text.proofs.lines.partition_at.Goals as goal
 

@@ -1,7 +1,7 @@
 use Rattle.std.proofs.Common.{map, Bor, List, ℕ, arith}
 use Rattle.std.proofs.lemmas.Result.{err_from_is_err_and}
-use Rattle.ring_text.specs.Reading.{IsPartitionLine, ArePartitionLines}
-use Rattle.ring_text.proofs.Reading.{lists_err}
+use Rattle.ring_text.specs.Inner.Reading.{IsPartitionLine, ArePartitionLines}
+use Rattle.ring_words.proofs.Spelled.{lists_err}
 use Rattle.ring_text.proofs.Partitions.{seats_pushed, partition_inside}
 use Rattle.ring_text.proofs.lines.seats_of.Goals as goal
 

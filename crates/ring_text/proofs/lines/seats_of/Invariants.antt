@@ -1,5 +1,5 @@
 use Rattle.std.proofs.Common.{map, take}
-use Rattle.ring_text.specs.Reading.{ArePartitionLines}
+use Rattle.ring_text.specs.Inner.Reading.{ArePartitionLines}
 use Rattle.ring_text.proofs.lines.seats_of.Given as goal
 
 abbrev pub invariant-loop-line : goal.invariant-loop-line

@@ -3,8 +3,8 @@ use Rattle.std.specs.declared.alloc.Global.{Global}
 use Rattle.std.proofs.lemmas.List.{length-map}
 use Rattle.ring_words.specs.declared.device.Device.{Device}
 use Rattle.std.proofs.lemmas.Result.{err_from_is_err_and}
-use Rattle.ring_text.specs.Reading.{IsHead, IsCut, AreDeviceLines, ArePartitionLines, IsMade, AreLines}
-use Rattle.ring_text.proofs.Reading.{reads_err, as_reads_err, reads_same}
+use Rattle.ring_text.specs.Inner.Reading.{IsHead, IsCut, AreDeviceLines, ArePartitionLines, IsMade, AreLines}
+use Rattle.ring_words.proofs.Spelled.{reads_err, as_reads_err, reads_same}
 use Rattle.ring_text.proofs.Cutting.{Texts, Lent, seen, seen-take, seen-drop}
 use Rattle.ring_text.proofs.Whole.{head_of, device_texts, partition_texts, at_least_six, head_within, cut_within, parts_are, lines_of_parts, lines_of_made}
 use Rattle.ring_text.proofs.read.read_lines.Goals as goal

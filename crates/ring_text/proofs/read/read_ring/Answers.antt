@@ -1,6 +1,6 @@
 use Rattle.ring_text.specs.Spelling.{Spells}
-use Rattle.ring_text.specs.Reading.{AreLines}
-use Rattle.ring_text.proofs.Reading.{reads_same}
+use Rattle.ring_text.specs.Inner.Reading.{AreLines}
+use Rattle.ring_words.proofs.Spelled.{reads_same}
 use Rattle.ring_text.proofs.Text.{text_of_lines, lines_of_text, text_is_utf8}
 use Rattle.ring_text.proofs.read.read_ring.Goals as goal
 

@@ -1,9 +1,18 @@
-use Rattle.ring_text.specs.Reading.{IsNumber, IsNumberAfter}
-use Rattle.ring_text.proofs.Reading.{reads_same, number_after_of, number_of_after}
+use Rattle.ring_words.specs.Spelling.{SpellsNumber}
+use Rattle.ring_text.specs.Inner.Reading.{IsNumberAfter}
+use Rattle.ring_words.proofs.Spelled.{reads_same}
+use Rattle.ring_text.proofs.Keys.{number_after_of, number_of_after}
 use Rattle.ring_text.proofs.words.bounded_after.Goals as goal
 
 pub returns : goal.returns
 returns g c =
+    let key = c.args.key.now in
     let line = c.args.line.now in
     let rest = c.in_ok-rest.rest.now in
-    reads_same (IsNumber rest g.row.LEAST g.row.MOST) (IsNumberAfter c.args.key.now line g.row.LEAST g.row.MOST) c.bounded.result (λ n. number_after_of c.args.key.now line rest g.row.LEAST g.row.MOST n c.in_ok-rest.ensures) (λ n. number_of_after c.args.key.now line rest g.row.LEAST g.row.MOST n c.in_ok-rest.ensures) c.bounded.ensures
+    let cut = c.in_ok-rest.ensures in
+    let least = g.row.LEAST in
+    let most = g.row.MOST in
+    reads_same (SpellsNumber rest least most) (IsNumberAfter key line least most) c.read_bounded.result
+    (λ n. number_after_of key line rest least most n cut)
+    (λ n. number_of_after key line rest least most n cut)
+    c.read_bounded.ensures.read

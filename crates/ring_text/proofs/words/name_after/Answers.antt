@@ -1,10 +1,17 @@
 use Rattle.ring_words.specs.Texts.{is_label}
-use Rattle.ring_text.specs.Reading.{IsName, IsNameAfter}
-use Rattle.ring_text.proofs.Reading.{reads_same, name_after_of, name_of_after}
+use Rattle.ring_words.specs.Spelling.{SpellsName}
+use Rattle.ring_text.specs.Inner.Reading.{IsNameAfter}
+use Rattle.ring_words.proofs.Spelled.{reads_same}
+use Rattle.ring_text.proofs.Keys.{name_after_of, name_of_after}
 use Rattle.ring_text.proofs.words.name_after.Goals as goal
 
 pub returns : goal.returns
 returns c =
+    let key = c.args.key.now in
     let line = c.args.line.now in
     let rest = c.in_ok-rest.rest.now in
-    reads_same (IsName is_label rest) (IsNameAfter c.args.key.now line) c.name.result (λ n. name_after_of c.args.key.now line rest n c.in_ok-rest.ensures) (λ n. name_of_after c.args.key.now line rest n c.in_ok-rest.ensures) c.name.ensures
+    let cut = c.in_ok-rest.ensures in
+    reads_same (SpellsName is_label rest) (IsNameAfter key line) c.read_name.result
+    (λ name. name_after_of key line rest name cut)
+    (λ name. name_of_after key line rest name cut)
+    c.read_name.ensures

@@ -1,9 +1,17 @@
-use Rattle.ring_text.specs.Reading.{IsNumber, IsNumberAfter}
-use Rattle.ring_text.proofs.Reading.{reads_same, number_after_of, number_of_after}
+use Rattle.ring_words.specs.Spelling.{SpellsNumber}
+use Rattle.ring_text.specs.Inner.Reading.{IsNumberAfter}
+use Rattle.ring_words.proofs.Spelled.{reads_same}
+use Rattle.ring_text.proofs.Keys.{number_after_of, number_of_after}
 use Rattle.ring_text.proofs.words.number_after.Goals as goal
 
 pub returns : goal.returns
 returns c =
+    let key = c.args.key.now in
     let line = c.args.line.now in
     let rest = c.in_ok-rest.rest.now in
-    reads_same (IsNumber rest 0 c.args.most) (IsNumberAfter c.args.key.now line 0 c.args.most) c.number.result (λ n. number_after_of c.args.key.now line rest 0 c.args.most n c.in_ok-rest.ensures) (λ n. number_of_after c.args.key.now line rest 0 c.args.most n c.in_ok-rest.ensures) c.number.ensures
+    let cut = c.in_ok-rest.ensures in
+    let most = c.args.most in
+    reads_same (SpellsNumber rest 0 most) (IsNumberAfter key line 0 most) c.read_number.result
+    (λ n. number_after_of key line rest 0 most n cut)
+    (λ n. number_of_after key line rest 0 most n cut)
+    c.read_number.ensures.read

@@ -2,7 +2,7 @@ use Rattle.std.proofs.Common.{◌+◌, ◌++◌, ℕ, List, take, drop, subst, r
 use Rattle.std.proofs.lemmas.Result.{err_from_is_err_and}
 use Rattle.line_stream.specs.Answers.{Answered}
 use Rattle.byte_streams.specs.Counted.{writer_of}
-use Rattle.line_stream.specs.Midway.{IsCutOff}
+use Rattle.line_stream.specs.Inner.Midway.{IsCutOff}
 use Rattle.line_stream.proofs.MidwayLemmas.{more_taken, all_taken, midway_byte, midway_feed, cut_at_feed, cut_longer}
 use Rattle.line_stream.proofs.serving.Progress.take.Goals as goal
 use Rattle.line_stream.proofs.serving.Progress.take.Goals.{then-byte-eq10+in_ok-end_line, else-byte-eq10}

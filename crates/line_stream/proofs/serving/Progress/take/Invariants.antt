@@ -1,7 +1,7 @@
 use Rattle.std.proofs.Common.{◌≡◌, ℕ, List, ◌++◌, take, Option}
 use Rattle.line_stream.specs.Answers.{Answered}
 use Rattle.byte_streams.specs.Counted.{write_faults, writer_of}
-use Rattle.line_stream.specs.Midway.{IsMidway}
+use Rattle.line_stream.specs.Inner.Midway.{IsMidway}
 use Rattle.line_stream.proofs.serving.Progress.take.Given as goal
 
 abbrev pub invariant-loop-byte : goal.invariant-loop-byte

@@ -1,47 +1,12 @@
--- What a reader of a part of a text answers, and the parts that are read.
-use Rattle.std.specs.Prelude.{◌≡◌, ℕ, ◌*◌, ◌≤◌, ◌<◌, ◌^◌, ◌++◌, Bool, List, [], ◌∷◌, length, map, slice_index_or, Result, Ok, Err, ⊤, IsTrue, All, codes, decimal}
+-- The parts of a text, as they are read one after another.
+use Rattle.std.specs.Prelude.{◌≡◌, ℕ, ◌*◌, ◌≤◌, ◌<◌, ◌^◌, ◌++◌, List, [], ◌∷◌, length, map, slice_index_or, IsTrue, All, codes, decimal}
 use Rattle.std.specs.List.{join_with_byte}
-use Rattle.ring_words.specs.Texts.{address_text, address_limit, hundredths_text, greatest_weight, is_label, is_device_name}
+use Rattle.ring_words.specs.Texts.{is_label, is_device_name}
 use Rattle.ring_words.specs.declared.device.Device.{Device}
 use Rattle.ring_text.specs.Snapshot.{SnapshotRecord, IsValidSnapshot, IsWithinLimits}
 use Rattle.ring_text.specs.Spelling.{lines_of, device_line, partition_lines, state_word}
-use Rattle.ring_text.specs.declared.fault.TextFault.{TextFault}
-use Rattle.ring_text.specs.declared.fault.TextFault.TheVariants.{BadText, NoMemory}
+use Rattle.ring_words.specs.Spelling.{SpellsNumber, SpellsName, SpellsAddress, SpellsWeight}
 use Rattle.ring_text.specs.declared.head.Head.{Head}
-
--- What was read is what is written there; where the text is bad, nothing of the kind is written there. Want of memory
--- says nothing.
-abbrev pub Reads : {X : Type 0} → (X → Type 0) → Result X TextFault → Type 0
-Reads Is (Ok x) = Is x
-Reads {X = X} Is (Err BadText) = (x : X) → Is x → ⊥
-Reads Is (Err NoMemory) = ⊤
-
--- The same, of what a value is seen as.
-abbrev pub ReadsAs : {X Y : Type 0} → (X → Y) → (Y → Type 0) → Result X TextFault → Type 0
-ReadsAs view Is (Ok x) = Is (view x)
-ReadsAs {Y = Y} view Is (Err BadText) = (y : Y) → Is y → ⊥
-ReadsAs view Is (Err NoMemory) = ⊤
-
--- The word is this number, which is within these bounds.
-pub record IsNumber (word : List ℕ) (least most n : ℕ) : Type 0 where
-  pub is : word ≡ decimal n
-  pub above : least ≤ n
-  pub below : n ≤ most
-
--- The word is this name, which is one by this rule.
-pub record IsName (allows : List ℕ → Bool) (word name : List ℕ) : Type 0 where
-  pub is : word ≡ name
-  pub valid : IsTrue (allows name)
-
--- The word is this address.
-pub record IsAddress (word : List ℕ) (address : ℕ) : Type 0 where
-  pub is : word ≡ address_text address
-  pub valid : address < address_limit
-
--- The word is this weight.
-pub record IsWeight (word : List ℕ) (hundredths : ℕ) : Type 0 where
-  pub is : word ≡ hundredths_text hundredths
-  pub valid : hundredths ≤ greatest_weight
 
 -- The line is a key, and then this number.
 pub record IsNumberAfter (key text : List ℕ) (least most n : ℕ) : Type 0 where
@@ -71,14 +36,14 @@ pub record IsHead (texts : List (List ℕ)) (head : Head) : Type 0 where
 -- These are the words of a device.
 pub record IsDevice (words : List (List ℕ)) (device : Device) : Type 0 where
   pub count : length words ≡ 8
-  pub id : IsNumber (text_at words 0) 0 65535 device.id
-  pub region : IsNumber (text_at words 1) 0 65535 device.row.region
-  pub zone : IsNumber (text_at words 2) 0 65535 device.row.zone
-  pub address : IsAddress (text_at words 3) device.row.address
-  pub port : IsNumber (text_at words 4) 1 65535 device.row.port
-  pub weight : IsWeight (text_at words 5) device.row.weight
+  pub id : SpellsNumber (text_at words 0) 0 65535 device.id
+  pub region : SpellsNumber (text_at words 1) 0 65535 device.row.region
+  pub zone : SpellsNumber (text_at words 2) 0 65535 device.row.zone
+  pub address : SpellsAddress (text_at words 3) device.row.address
+  pub port : SpellsNumber (text_at words 4) 1 65535 device.row.port
+  pub weight : SpellsWeight (text_at words 5) device.row.weight
   pub state : text_at words 6 ≡ state_word device.removed
-  pub name : IsName is_device_name (text_at words 7) device.row.name
+  pub name : SpellsName is_device_name (text_at words 7) device.row.name
 
 -- The line, without its line feed, is that of this device.
 pub record IsDeviceLine (text : List ℕ) (device : Device) : Type 0 where
