@@ -3,8 +3,9 @@
 
 A contract of a public call cites words that stand in crates/NAME/specs, and each of these rests on others. Who wants to
 know what is proved has to read these words, and no others. This script finds them in the sources. It compares them with
-docs/definitions.md and fails where that page isn't up to date; --write writes the page anew, and --inner lists the words of
-specs/ that no public contract rests on.
+docs/definitions.md and fails where that page isn't up to date, where a word has no sentence before it, and where a word
+that no public contract rests on stands outside of specs/Inner. --write writes the page anew, and --inner lists the words
+that no public contract rests on.
 """
 import re
 import sys
@@ -208,6 +209,10 @@ def main():
     if "--write" in sys.argv:
         PAGE.write_text(text)
     faults = [f"no sentence before {name}" for name in untold]
+    for key, word in words.items():
+        if key not in reached and not word.file.startswith("Inner"):
+            place = f"{word.crate}/specs/{word.file.replace('.', '/')}.antt"
+            faults.append(f"{place}: {word.name} carries proofs alone, so its place is specs/Inner")
     if PAGE.read_text() != text:
         faults.append("docs/definitions.md isn't up to date: checks/definitions.py --write")
     for fault in faults:

@@ -1,5 +1,6 @@
 -- What a step makes of a ring, as far as power, hours and moves go.
-use Rattle.std.proofs.Common.{◌≡◌, ℕ, ◌⊎◌, Bool, true, false, cond, List, [], ◌∷◌, Some, refl, sym, ap, subst, ◌∙◌, inl, inr, ⊎_elim, true≢false}
+use Rattle.std.proofs.Common.{◌≡◌, ℕ, ◌⊎◌, Bool, true, false, cond, List, [], ◌∷◌, Some, refl, sym}
+use Rattle.std.proofs.Common.{ap, subst, ◌∙◌, inl, inr, ⊎_elim, true≢false}
 use Rattle.std.specs.Prelude.{nat_eq}
 use Rattle.std.specs.Cmp.Lexicographic.{pointwise}
 use Rattle.std.proofs.lemmas.Bool.{cases_Bool}
@@ -66,7 +67,12 @@ alike_rows ring [] = record { power = refl; min_hours = refl; moved = refl }
 alike_rows ring (row ∷ rows) =
     let one = alike_row ring row in
     let rest = alike_rows (after_row ring row) rows in
-    record { power = rest.power ∙ one.power; min_hours = rest.min_hours ∙ one.min_hours; moved = rest.moved ∙ one.moved }
+    record {
+      power = rest.power ∙ one.power;
+      min_hours = rest.min_hours ∙ one.min_hours;
+      moved =
+          rest.moved ∙ one.moved;
+    }
 
 alike_published_if : (b : Bool) (ring : RingRecord) (published : List (ℕ × List ℕ))
     → AreAlike ring (cond b ring (record ring { published = published }))
@@ -83,7 +89,11 @@ change_of (act.Remove id) answer name old new hour effect =
     alike_as _ hour old _ new effect.0 (record { power = refl; min_hours = refl; moved = refl })
 change_of (act.SetHours hours) answer name old new hour effect =
     SetHours hours refl
-    (subst (λ r. HasHours old hours r) (sym effect.0) (record { power = refl; min_hours = refl; moved = refl }))
+    (subst (λ r. HasHours old hours r) (sym effect.0) (record {
+      power = refl;
+      min_hours = refl;
+      moved = refl;
+    }))
 change_of act.PretendPassed answer name old new hour effect =
     PretendPassed refl (ap (λ (r : RingRecord). r.min_hours) effect.0)
 change_of act.RaisePower answer name old new hour effect =
@@ -101,10 +111,12 @@ change_of a answer name old new hour effect = absurd effect
 -- What a step makes of the ring of a name: the ring stays, or the step's act is done on it.
 abbrev pub Next : List ℕ → Entry Command Reply → RingRecord → RingRecord → Type 0
 Next name entry old new =
-    (new ≡ old) ⊎ (IsDone name entry.command.act entry × Change entry.command.act entry.hour old new)
+    (new ≡ old) ⊎ (IsDone name entry.command.act entry × Change entry.command.act entry.hour old
+    new)
 
 -- A ring that was there before a step is there after it.
-pub record IsNext (name : List ℕ) (entry : Entry Command Reply) (old : RingRecord) (after : State) : Type 0 where
+pub record IsNext (name : List ℕ) (entry : Entry Command Reply) (old : RingRecord) (after : State) :
+    Type 0 where
   pub new : RingRecord
   pub is : ring_at name after ≡ Some new
   pub next : Next name entry old new
@@ -121,8 +133,13 @@ by_reply limits rings after name entry (reply.Done answer) old gives step was =
     same : pointwise nat_eq entry.command.ring name ≡ true → IsNext name entry old after
     same e =
         let is : entry.command.ring ≡ name = (bytes_eq-Decides entry.command.ring name).0 e in
-        let at : Step limits rings entry.hour (record { ring = name; act = entry.command.act }) (reply.Done answer) after =
-        subst (λ (n : List ℕ). Step limits rings entry.hour (record { ring = n; act = entry.command.act }) (reply.Done answer) after) is step in
+        let at : Step limits rings entry.hour (record { ring = name; act = entry.command.act })
+        (reply.Done answer) after =
+        subst (λ (n : List ℕ). Step limits rings entry.hour (record {
+          ring = n;
+          act =
+              entry.command.act;
+        }) (reply.Done answer) after) is step in
         let new : RingRecord = at.1.0 in
         let effect : RingEffect name entry.hour old entry.command.act answer new =
         subst (λ o. Effect name entry.hour o entry.command.act answer new) was at.1.1 in
@@ -140,7 +157,12 @@ by_reply limits rings after name entry (reply.Done answer) old gives step was =
         let ne : name ≡ entry.command.ring → ⊥ =
         λ is. true≢false
         (sym (ap (λ (n : List ℕ). pointwise nat_eq n name) (sym is) ∙ same_name name) ∙ e) in
-        record { new = old; is = others_stay limits rings after entry.hour entry.command (reply.Done answer) name step ne ∙ was; next = inl refl }
+        record {
+          new = old;
+          is = others_stay limits rings after entry.hour entry.command
+              (reply.Done answer) name step ne ∙ was;
+          next = inl refl;
+        }
 
 pub next_ring : (limits : Limits) (rings after : State) (name : List ℕ)
     (entry : Entry Command Reply) (old : RingRecord)

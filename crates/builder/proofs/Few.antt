@@ -34,7 +34,8 @@ pub few_left : (limits : Limits) (rings after : State) (hour seed : ℕ) (name :
     (reply.Done answer) after → FewLeft rings name hour after
 few_left limits rings after hour seed name answer step =
     let done =
-    step.1 in by_ring rings after name hour seed (ring_at name rings) answer done.0 refl done.1 done.2
+    step.1 in by_ring rings after name hour seed (ring_at name rings) answer done.0 refl done.1
+    done.2
 
 -- ---- of an entry
 
@@ -50,9 +51,15 @@ pub plain_step : (limits : Limits) (rings after : State) (name : List ℕ) (seed
     (reply.Done (done_answer e.reply is.done).0) after
 plain_step limits rings after name seed e is step =
     let answer = done_answer e.reply is.done in
-    subst (λ (r : Reply). Step limits rings e.hour (record { ring = name; act = act.Rebalance seed }) r after) answer.1
-    (subst (λ (n : List ℕ). Step limits rings e.hour (record { ring = n; act = act.Rebalance seed }) e.reply after) is.ring
-    (subst (λ (a : Act). Step limits rings e.hour (record { ring = e.command.ring; act = a }) e.reply after) is.is step))
+    subst (λ (r : Reply). Step limits rings e.hour (record {
+      ring = name;
+      act =
+          act.Rebalance seed;
+    }) r after) answer.1
+    (subst (λ (n : List ℕ). Step limits rings e.hour (record { ring = n; act = act.Rebalance seed })
+    e.reply after) is.ring
+    (subst (λ (a : Act). Step limits rings e.hour (record { ring = e.command.ring; act = a })
+    e.reply after) is.is step))
 
 pub few_left_of : (limits : Limits) (rings after : State) (name : List ℕ) (seed : ℕ)
     (entry : Entry Command Reply) → IsDone name (act.Rebalance seed) entry

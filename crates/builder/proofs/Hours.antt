@@ -1,5 +1,6 @@
 -- What becomes of a ring's hours, and of the hours of a book.
-use Rattle.std.proofs.Common.{◌≡◌, ℕ, ◌<◌, ◌≤◌, ◌⊎◌, List, [], ◌∷◌, max, sym, ap, subst, ◌∙◌, inl, inr, ⊎_elim, arith}
+use Rattle.std.proofs.Common.{◌≡◌, ℕ, ◌<◌, ◌≤◌, ◌⊎◌, List, [], ◌∷◌, max, sym, ap, subst, ◌∙◌, inl}
+use Rattle.std.proofs.Common.{inr, ⊎_elim, arith}
 use Rattle.std.specs.Prelude.{All}
 use Rattle.std.proofs.Math.Nat.{le-max_left}
 use Rattle.std.proofs.lemmas.Bool.{cases_lt}
@@ -23,10 +24,13 @@ AreSet what old new = (new.min_hours ≡ old.min_hours) ⊎ (what ≡ act.SetHou
 hours_changed : (what : Act) (hour : ℕ) (old new : RingRecord) → Change what hour old new
     → AreSet what old new
 hours_changed what hour old new (Alike alike) = inl alike.min_hours
-hours_changed what hour old new (SetHours hours is set) = inr (is ∙ ap act.SetHours (sym set.min_hours))
+hours_changed what hour old new (SetHours hours is set) =
+    inr (is ∙ ap act.SetHours (sym set.min_hours))
 hours_changed what hour old new (PretendPassed is same) = inl same
-hours_changed what hour old new (Raise raised) = inl (ap (λ (r : RingRecord). r.min_hours) raised.rest)
-hours_changed what hour old new (Rebalance is) = inl (ap (λ (r : RingRecord). r.min_hours) is.after.rest)
+hours_changed what hour old new (Raise raised) =
+    inl (ap (λ (r : RingRecord). r.min_hours) raised.rest)
+hours_changed what hour old new (Rebalance is) =
+    inl (ap (λ (r : RingRecord). r.min_hours) is.after.rest)
 
 -- A ring has at least so many hours, unless fewer were set.
 pub hours_next : (name : List ℕ) (entry : Entry Command Reply) (hours : ℕ)
@@ -37,7 +41,12 @@ hours_next name entry hours never old new next many = ⊎_elim
     (λ did. ⊎_elim
     (λ same. omega arith)
     (λ is. ⊎_elim
-    (λ few. absurd (never new.min_hours few (record { ring = did.0.ring; is = is; done = did.0.done })))
+    (λ few. absurd (never new.min_hours few (record {
+      ring = did.0.ring;
+      is = is;
+      done =
+          did.0.done;
+    })))
     (λ enough. enough)
     (cases_lt new.min_hours hours))
     (hours_changed entry.command.act entry.hour old new did.1))
@@ -56,6 +65,10 @@ kept_late least hour (e ∷ es) low =
 pub kept_do_not_fall : (hour : ℕ) (es : Entries) → DoNotFall (kept hour es)
 kept_do_not_fall hour [] = λ i j d less lt. absurd (omega arith)
 kept_do_not_fall hour (e ∷ es) =
-    AllPairs-cons (λ (a b : Entry Command Reply). a.hour ≤ b.hour) (record e { hour = max hour e.hour })
+    AllPairs-cons (λ (a b : Entry Command Reply). a.hour ≤ b.hour) (record e {
+      hour =
+          max hour e.hour;
+    })
     (kept (max hour e.hour) es)
-    (kept_late (max hour e.hour) (max hour e.hour) es (omega arith)) (kept_do_not_fall (max hour e.hour) es)
+    (kept_late (max hour e.hour) (max hour e.hour) es (omega arith))
+    (kept_do_not_fall (max hour e.hour) es)

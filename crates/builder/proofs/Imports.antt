@@ -1,5 +1,7 @@
 -- Rows that are put into a ring one after another, up to the first that is refused.
-use Rattle.std.proofs.Common.{◌≡◌, ℕ, ◌+◌, ◌<◌, ◌≤◌, Bool, true, false, cond, List, [], ◌∷◌, ◌++◌, length, take, drop, get_or, Option, Some, None, refl, sym, ap, ◌∙◌, arith}
+use Rattle.std.proofs.Common.{◌≡◌, ℕ, ◌+◌, ◌<◌, ◌≤◌, Bool, true, false, cond, List, [], ◌∷◌, ◌++◌}
+use Rattle.std.proofs.Common.{length, take, drop, get_or, Option, Some, None, refl, sym, ap, ◌∙◌}
+use Rattle.std.proofs.Common.{arith}
 use Rattle.std.specs.Prelude.{find}
 use Rattle.std.specs.List.{list_any}
 use Rattle.std.specs.Option.{option_map}
@@ -14,82 +16,123 @@ use Rattle.ring_words.specs.declared.device.Row.{Row}
 use Rattle.ring_words.specs.declared.command.Refusal.TheVariants.{RowRefused}
 use Rattle.ring_words.specs.declared.command.RowCause.{RowCause}
 use Rattle.ring_words.specs.declared.request.Limits.{Limits}
-use Rattle.builder.specs.Step.{Cause, RowTrouble, first_trouble, of_more, of_row, of_rows, row_refusal, troubles_at}
+use Rattle.builder.specs.Step.{Cause, RowTrouble, first_trouble, of_more, of_row, of_rows}
+use Rattle.builder.specs.Step.{row_refusal, troubles_at}
 
 abbrev pub stood : List Cause → Option Cause
 stood causes = find (λ cause. cause.stands) causes
 
 -- ---- one row
 
-find_none : (p : Device → Bool) (devices : List Device) → list_any p devices ≡ false → find p devices ≡ None
+find_none : (p : Device → Bool) (devices : List Device) → list_any p devices ≡ false →
+    find p devices ≡ None
 find_none p [] e = refl
-find_none p (d ∷ ds) e = let parts = or_parts (p d) (list_any p ds) e in rw (parts.0, find_none p ds parts.1) refl
+find_none p (d ∷ ds) e = let parts = or_parts (p d) (list_any p ds) e in
+    rw (parts.0, find_none p ds parts.1) refl
 
 abbrev trouble : RowCause → Bool → RowTrouble
 trouble cause stands = record { cause = cause; stands = stands }
 
-neither : (x y : RowCause) (a b : Bool) → first_trouble (trouble x a ∷ trouble y b ∷ []) ≡ None → (a ≡ false) × (b ≡ false)
+neither : (x y : RowCause) (a b : Bool) → first_trouble (trouble x a ∷ trouble y b ∷ []) ≡ None →
+    (a ≡ false) × (b ≡ false)
 neither x y true b e = cc
 neither x y false true e = cc
 neither x y false false e = (refl, refl)
 
 -- where no cause stands against a row that finds no device, one more device fits
-pub row_fits : (limits : Limits) (ring : RingRecord) (row : Row) → row_refusal limits ring row ≡ None → has_place row ring.devices ≡ false → (length ring.devices < limits.devices) × (ring.next_id < limits.ids)
+pub row_fits : (limits : Limits) (ring : RingRecord) (row : Row) →
+    row_refusal limits ring row ≡ None → has_place row ring.devices ≡ false →
+    (length ring.devices < limits.devices) × (ring.next_id < limits.ids)
 row_fits limits ring row none free =
-    let more : first_trouble (of_more limits ring) ≡ None = ap (λ o. first_trouble (troubles_at limits ring row o)) (sym (find_none _ ring.devices free)) ∙ none in
-    let both = neither _ _ _ _ more in
-    (leb-false limits.devices (length ring.devices) both.0, leb-false limits.ids ring.next_id both.1)
+    let more : first_trouble (of_more limits ring) ≡ None =
+    ap (λ o. first_trouble (troubles_at limits ring row o))
+    (sym (find_none _ ring.devices free)) ∙ none in
+    let both = neither _ _ _ _ more in (
+      leb-false limits.devices (length ring.devices) both.0,
+      leb-false limits.ids ring.next_id
+          both.1,
+    )
 
-numbers_if : (b : Bool) (ring : RingRecord) (row : Row) (devices : List Device) → let new : RingRecord = cond b (record ring { devices = devices }) (added ring row) in (ring.next_id ≤ new.next_id) × (new.next_id ≤ ring.next_id + 1)
+numbers_if : (b : Bool) (ring : RingRecord) (row : Row) (devices : List Device) →
+    let new : RingRecord = cond b (record ring { devices = devices }) (added ring row) in
+    (ring.next_id ≤ new.next_id) × (new.next_id ≤ ring.next_id + 1)
 numbers_if true ring row devices = (omega arith, omega arith)
 numbers_if false ring row devices = (omega arith, omega arith)
 
 -- a row takes one number at most
-row_numbers : (ring : RingRecord) (row : Row) → (ring.next_id ≤ (after_row ring row).next_id) × ((after_row ring row).next_id ≤ ring.next_id + 1)
+row_numbers : (ring : RingRecord) (row : Row) → (ring.next_id ≤ (after_row ring row).next_id) ×
+    ((after_row ring row).next_id ≤ ring.next_id + 1)
 row_numbers ring row = numbers_if (has_place row ring.devices) ring row _
 
 -- ---- the rows so far
 
 -- The first n rows were put into the old ring, and none of them was refused.
-pub record IsPut (limits : Limits) (old : RingRecord) (rows : List Row) (n : ℕ) (now : RingRecord) : Type 0 where
+pub record IsPut (limits : Limits) (old : RingRecord) (rows : List Row) (n : ℕ) (now : RingRecord) :
+    Type 0 where
   pub after : now ≡ after_rows old (take n rows)
   pub causes : stood (of_rows limits 1 old rows) ≡ stood (of_rows limits (n + 1) now (drop n rows))
   pub least : old.next_id ≤ now.next_id
   pub most : now.next_id ≤ old.next_id + n
 
 pub none_put : (limits : Limits) (old : RingRecord) (rows : List Row) → IsPut limits old rows 0 old
-none_put limits old rows = record { after = refl; causes = refl; least = omega arith; most = omega arith }
+none_put limits old rows = record {
+  after = refl;
+  causes = refl;
+  least = omega arith;
+  most =
+      omega arith;
+}
 
-next_rows : (rows : List Row) (n : ℕ) (row : Row) → n < length rows → row ≡ get_or rows n row → drop n rows ≡ row ∷ drop (n + 1) rows
-next_rows rows n row within is = drop_more rows n row within ∙ ap (λ (x : Row). x ∷ drop (n + 1) rows) (sym is)
+next_rows : (rows : List Row) (n : ℕ) (row : Row) → n < length rows → row ≡ get_or rows n row →
+    drop n rows ≡ row ∷ drop (n + 1) rows
+next_rows rows n row within is = drop_more rows n row within ∙ ap (λ (x : Row). x ∷
+    drop (n + 1) rows) (sym is)
 
-next_taken : (old : RingRecord) (rows : List Row) (n : ℕ) (row : Row) → n < length rows → row ≡ get_or rows n row → after_rows old (take (n + 1) rows) ≡ after_row (after_rows old (take n rows)) row
+next_taken : (old : RingRecord) (rows : List Row) (n : ℕ) (row : Row) → n < length rows →
+    row ≡ get_or rows n row → after_rows old (take (n + 1) rows) ≡ after_row
+    (after_rows old (take n rows)) row
 next_taken old rows n row within is =
-    ap (after_rows old) (take_more rows n row within) ∙ fold-append after_row old (take n rows) (get_or rows n row ∷ []) ∙ ap (after_row (after_rows old (take n rows))) (sym is)
+    ap (after_rows old) (take_more rows n row within) ∙ fold-append after_row old (take n rows)
+    (get_or rows n row ∷ []) ∙ ap (after_row (after_rows old (take n rows))) (sym is)
 
-pub one_more_put : (limits : Limits) (old now : RingRecord) (rows : List Row) (n : ℕ) (row : Row) → n < length rows → row ≡ get_or rows n row → IsPut limits old rows n now → row_refusal limits now row ≡ None
+pub one_more_put : (limits : Limits) (old now : RingRecord) (rows : List Row) (n : ℕ) (row : Row) →
+    n < length rows → row ≡ get_or rows n row → IsPut limits old rows n now →
+    row_refusal limits now row ≡ None
     → IsPut limits old rows (n + 1) (after_row now row)
 one_more_put limits old now rows n row within is put none =
     let numbers = row_numbers now row in
     record {
-      after = ap (λ (r : RingRecord). after_row r row) put.after ∙ sym (next_taken old rows n row within is);
-      causes = put.causes ∙ ap (λ (rs : List Row). stood (of_rows limits (n + 1) now rs)) (next_rows rows n row within is)
-          ∙ ap (λ o. stood (of_row (n + 1) o ++ of_rows limits (n + 1 + 1) (after_row now row) (drop (n + 1) rows))) none;
+      after = ap (λ (r : RingRecord). after_row r row) put.after ∙ sym (next_taken old rows n row
+          within is);
+      causes = put.causes ∙ ap (λ (rs : List Row). stood (of_rows limits (n + 1) now rs))
+          (next_rows rows n row within is)
+          ∙ ap (λ o. stood (of_row (n + 1) o ++ of_rows limits (n + 1 + 1) (after_row now row)
+          (drop (n + 1) rows))) none;
       least = omega (arith, put.least, numbers.0);
       most = omega (arith, put.most, numbers.1);
     }
 
 -- a row that is refused is the first
-pub refused_next : (limits : Limits) (old now : RingRecord) (rows : List Row) (n : ℕ) (row : Row) (why : RowCause) → n < length rows → row ≡ get_or rows n row → IsPut limits old rows n now → row_refusal limits now row ≡ Some why
-    → option_map (λ cause. cause.refused) (stood (of_rows limits 1 old rows)) ≡ Some (RowRefused (n + 1) why)
+pub refused_next : (limits : Limits) (old now : RingRecord) (rows : List Row) (n : ℕ) (row : Row)
+    (why : RowCause) → n < length rows → row ≡ get_or rows n row → IsPut limits old rows n now →
+    row_refusal limits now row ≡ Some why
+    → option_map (λ cause. cause.refused) (stood (of_rows limits 1 old rows)) ≡ Some
+    (RowRefused (n + 1) why)
 refused_next limits old now rows n row why within is put some =
-    ap (option_map (λ cause. cause.refused)) (put.causes ∙ ap (λ (rs : List Row). stood (of_rows limits (n + 1) now rs)) (next_rows rows n row within is)
-    ∙ ap (λ o. stood (of_row (n + 1) o ++ of_rows limits (n + 1 + 1) (after_row now row) (drop (n + 1) rows))) some)
+    ap (option_map (λ cause. cause.refused))
+    (put.causes ∙ ap (λ (rs : List Row). stood (of_rows limits (n + 1) now rs))
+    (next_rows rows n row within is)
+    ∙ ap (λ o. stood (of_row (n + 1) o ++ of_rows limits (n + 1 + 1) (after_row now row)
+    (drop (n + 1) rows))) some)
 
 -- at the end none is
-pub none_refused : (limits : Limits) (old now : RingRecord) (rows : List Row) (n : ℕ) → length rows ≤ n → IsPut limits old rows n now
-    → (option_map (λ cause. cause.refused) (stood (of_rows limits 1 old rows)) ≡ None) × (now ≡ after_rows old rows)
+pub none_refused : (limits : Limits) (old now : RingRecord) (rows : List Row) (n : ℕ) →
+    length rows ≤ n → IsPut limits old rows n now
+    → (option_map (λ cause. cause.refused) (stood (of_rows limits 1 old rows)) ≡ None) ×
+    (now ≡ after_rows old rows)
 none_refused limits old now rows n end put = (
-  ap (option_map (λ cause. cause.refused)) (put.causes ∙ ap (λ (rs : List Row). stood (of_rows limits (n + 1) now rs)) (drop_all n rows end)),
+  ap (option_map (λ cause. cause.refused))
+      (put.causes ∙ ap (λ (rs : List Row). stood (of_rows limits (n + 1) now rs))
+      (drop_all n rows end)),
   put.after ∙ ap (after_rows old) (take_all n rows end),
 )

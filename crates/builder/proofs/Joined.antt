@@ -1,5 +1,6 @@
 -- Runs one after the other are safe as one.
-use Rattle.std.proofs.Common.{◌≡◌, ℕ, ◌++◌, Bool, List, [], ◌∷◌, append_assoc, refl, sym, ap, subst, ◌∙◌}
+use Rattle.std.proofs.Common.{◌≡◌, ℕ, ◌++◌, Bool, List, [], ◌∷◌, append_assoc, refl, sym, ap, subst}
+use Rattle.std.proofs.Common.{◌∙◌}
 use Rattle.std.specs.Option.{option_to_list}
 use Rattle.ring_words.specs.declared.request.Limits.{Limits}
 use Rattle.ring_words.specs.declared.command.Command.{Command}
@@ -32,14 +33,18 @@ pub leads_on : (limits : Limits) (old mid new : Content State Command Reply)
     → Leads (Step limits) mid after new → Leads (Step limits) old (before ++ after) new
 leads_on limits old mid new before after first second =
     let all : kept old.hour before ++ kept mid.hour after ≡ kept old.hour (before ++ after) =
-    ap (λ (h : ℕ). kept old.hour before ++ kept h after) first.hour ∙ sym (kept-append old.hour before after) in
+    ap (λ (h : ℕ). kept old.hour before ++ kept h after) first.hour ∙ sym
+    (kept-append old.hour before after) in
     record {
       book = second.book ∙ ap (λ (b : Entries). b ++ kept mid.hour after) first.book
-          ∙ append_assoc old.book (kept old.hour before) (kept mid.hour after) ∙ ap (λ (es : Entries). old.book ++ es) all;
+          ∙ append_assoc old.book (kept old.hour before) (kept mid.hour after) ∙ ap
+          (λ (es : Entries). old.book ++ es) all;
       chain = subst (λ (es : Entries). Chain (Step limits) old.state es new.state) all
-          (chain-append limits old.state (kept old.hour before) (kept mid.hour after) mid.state new.state first.chain second.chain);
+          (chain-append limits old.state (kept old.hour before) (kept mid.hour after) mid.state
+          new.state first.chain second.chain);
       hour = second.hour ∙ ap (λ (h : ℕ). last_hour h (kept mid.hour after)) first.hour
-          ∙ sym (last_hour-append old.hour (kept old.hour before) (kept mid.hour after)) ∙ ap (last_hour old.hour) all;
+          ∙ sym (last_hour-append old.hour (kept old.hour before) (kept mid.hour after)) ∙ ap
+          (last_hour old.hour) all;
     }
 
 -- What a run moved rests in the next one too.
@@ -50,4 +55,5 @@ pub safe_runs : (limits : Limits) (limit more : ℕ) (closed later : Bool)
 safe_runs limits limit more closed later old mid new first second one two =
     let before : Entries = once old.book first ++ option_to_list one.doubt in
     let after : Entries = once mid.book second ++ option_to_list two.doubt in
-    safe_leads limits old new (before ++ after) (leads_on limits old mid new before after one.leads two.leads)
+    safe_leads limits old new (before ++ after) (leads_on limits old mid new before after one.leads
+    two.leads)

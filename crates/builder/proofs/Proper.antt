@@ -1,11 +1,13 @@
 -- The commands of a run's entries are those of its calls.
-use Rattle.std.proofs.Common.{◌≡◌, ℕ, ◌≤◌, ◌++◌, Bool, true, false, cond, List, [], ◌∷◌, length, Option, Some, None, refl, sym, subst, ◌∙◌, max}
+use Rattle.std.proofs.Common.{◌≡◌, ℕ, ◌≤◌, ◌++◌, Bool, true, false, cond, List, [], ◌∷◌, length}
+use Rattle.std.proofs.Common.{Option, Some, None, refl, sym, subst, ◌∙◌, max}
 use Rattle.std.specs.Prelude.{All, Err, MatchOption, Ok, ⊤}
 use Rattle.std.specs.List.{AllByRecursion, flat_map}
 use Rattle.std.specs.Option.{option_to_list}
 use Rattle.std.proofs.lemmas.Bool.{cond_both}
 use Rattle.std.proofs.lemmas.List.{append_cancel_left}
-use Rattle.std.proofs.lemmas.List.Elements.{All-append, All-cons, All-from_recursion, All-nil, recursion_from_All}
+use Rattle.std.proofs.lemmas.List.Elements.{All-append, All-cons, All-from_recursion, All-nil}
+use Rattle.std.proofs.lemmas.List.Elements.{recursion_from_All}
 use Rattle.ring_messages.specs.Commands.{IsProperCommand}
 use Rattle.ring_words.specs.declared.request.Limits.{Limits}
 use Rattle.ring_words.specs.declared.command.Command.{Command}
@@ -52,7 +54,8 @@ proper_kept hour (e ∷ es) proper = (proper.0, proper_kept (max hour e.hour) es
 proper_if : (b : Bool) (first call : Call Command Reply) (rest : Option (Call Command Reply))
     → cond b (Some first) rest ≡ Some call → IsProperCall first
     → (rest ≡ Some call → IsProperCall call) → IsProperCall call
-proper_if true first call rest found proper others = subst IsProperCall (one_call first call found) proper
+proper_if true first call rest found proper others = subst IsProperCall (one_call first call found)
+    proper
   where
     one_call : (a b : Call Command Reply) → Some a ≡ Some b → a ≡ b
     one_call a b e = cc
@@ -96,7 +99,8 @@ proper_entries limits limit closed old new calls run proper safe =
     All-from_recursion IsProperEntry (kept old.hour decided)
     (proper_kept old.hour decided (recursion_from_All IsProperEntry decided all)) in
     let same : kept old.hour decided ≡ safe.entries =
-    append_cancel_left old.book (kept old.hour decided) safe.entries (sym run.leads.book ∙ safe.book) in
+    append_cancel_left old.book (kept old.hour decided) safe.entries
+    (sym run.leads.book ∙ safe.book) in
     subst (All IsProperEntry) same entries
 
 -- Where the old rings are valid too, so are all rings on the way.

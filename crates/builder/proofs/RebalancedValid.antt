@@ -6,5 +6,6 @@ use Rattle.ring_place.specs.Rebalance.{IsRebalance}
 use Rattle.ring_place.proofs.Lawful.{lawful}
 use Rattle.ring_place.proofs.ValidAfter.{stays_valid}
 
-pub rebalanced_valid : (old new : RingRecord) (hour : ℕ) → IsValid old → IsRebalance old hour new → IsValid new
+pub rebalanced_valid : (old new : RingRecord) (hour : ℕ) → IsValid old → IsRebalance old hour new →
+    IsValid new
 rebalanced_valid old new hour valid is = stays_valid old new hour valid (lawful old new hour is)

@@ -1,5 +1,7 @@
 -- How long the replicas of a moved partition stay.
-use Rattle.std.proofs.Common.{◌≡◌, ℕ, ◌+◌, ◌-◌, ◌*◌, ◌/◌, ◌%◌, ◌^◌, ◌<◌, ◌≤◌, ◌⊎◌, Bool, true, false, cond, List, length, get_or, Option, Some, None, refl, sym, ap, subst, ◌∙◌, inl, inr, ⊎_elim, arith}
+use Rattle.std.proofs.Common.{◌≡◌, ℕ, ◌+◌, ◌-◌, ◌*◌, ◌/◌, ◌%◌, ◌^◌, ◌<◌, ◌≤◌, ◌⊎◌, Bool, true}
+use Rattle.std.proofs.Common.{false, cond, List, length, get_or, Option, Some, None, refl, sym, ap}
+use Rattle.std.proofs.Common.{subst, ◌∙◌, inl, inr, ⊎_elim, arith}
 use Rattle.std.specs.Prelude.{slice_get}
 use Rattle.std.proofs.lemmas.Bool.{cases_eq, lt-ltb, ltb-false}
 use Rattle.std.proofs.lemmas.Nat.{shr-shr, shr_below}
@@ -17,7 +19,8 @@ use Rattle.ring_words.specs.declared.command.Reply.TheVariants as reply
 use Rattle.request_book.specs.declared.entry.Entry.{Entry}
 use Rattle.ring_place.specs.Rebalance.{IsAfter, IsRebalance, Leaves, has_changed, is_locked}
 use Rattle.ring_place.proofs.Lawful.{lawful, unlocked_leave}
-use Rattle.builder.specs.Safety.{DoNotFall, Entries, IsDone, IsWay, NeverBetween, RebalanceAt, origin}
+use Rattle.builder.specs.Safety.{DoNotFall, Entries, IsDone, IsWay, NeverBetween, RebalanceAt}
+use Rattle.builder.specs.Safety.{origin}
 use Rattle.builder.specs.Step.{Effect, RingEffect, State, Step}
 use Rattle.builder.proofs.Changes.{Alike, Change, Next, PretendPassed, Raise, Rebalance, SetHours}
 use Rattle.builder.proofs.RingAt.{one_ring, ring_at-with}
@@ -137,7 +140,8 @@ rebalanced : (limits : Limits) (rings after : State) (name : List ℕ) (seed : �
     → ring_at name after ≡ Some new → IsRebalance old e.hour new
 rebalanced limits rings after name seed e old new is step was found =
     let answer : Done = (done_answer e.reply is.done).0 in
-    let at : Step limits rings e.hour (record { ring = name; act = act.Rebalance seed }) (reply.Done answer) after =
+    let at : Step limits rings e.hour (record { ring = name; act = act.Rebalance seed })
+    (reply.Done answer) after =
     plain_step limits rings after name seed e is step in
     let it : RingRecord = at.1.0 in
     let effect : RingEffect name e.hour old (act.Rebalance seed) answer it =
@@ -159,8 +163,11 @@ moved_now old new hour partition after changed =
           let one : part / 1 ≡ partition = simp none at from in
           let itself : part ≡ partition = omega arith in
           let within : partition < partition_count old =
-          subst (λ (p : ℕ). p < partition_count old) itself (below_same old new part same there) in
-          (hour, ap (moved_at new) itself ∙ rw changed at (after.moved partition within), omega arith);
+          subst (λ (p : ℕ). p < partition_count old) itself (below_same old new part same there) in (
+            hour,
+            ap (moved_at new) itself ∙ rw changed at (after.moved partition within),
+            omega arith,
+          );
     }
 
 unlocked_since : (first ring : RingRecord) (partition part hour at : ℕ)
@@ -169,7 +176,8 @@ unlocked_since : (first ring : RingRecord) (partition part hour at : ℕ)
     → hour + ring.min_hours ≤ at
 unlocked_since first ring partition part hour at held there from free =
     let was = held.moved part there from in
-    let past : was.0 + ring.min_hours ≤ at = ltb-false at (was.0 + ring.min_hours) (rw was.1 at free) in
+    let past : was.0 + ring.min_hours ≤ at = ltb-false at (was.0 + ring.min_hours)
+    (rw was.1 at free) in
     omega (arith, past, was.2)
 
 locked_since : (first ring : RingRecord) (partition part hour at : ℕ)
@@ -183,17 +191,20 @@ locked_since first ring partition part hour at held there from early =
 
 -- ---- a rebalance on a way, and what is known later of the ring
 
-module _ (limits : Limits) (old new : State) (entries : Entries) (rings : ℕ → State) (way : IsWay limits old entries new rings) where
+module _ (limits : Limits) (old new : State) (entries : Entries) (rings : ℕ → State)
+    (way : IsWay limits old entries new rings) where
   rebalanced_at : (name : List ℕ) (i : ℕ) (it : RebalanceAt entries rings name i)
       → IsRebalance it.old it.entry.hour it.new
   rebalanced_at name i it =
       rebalanced limits (rings i) (rings (i + 1)) name it.seed it.entry it.old it.new it.done
       (way.steps i it.entry it.there) it.found it.left
 
-  -- What is known of a ring just after an entry, and what each later one keeps, is known of it further on.
+  -- What is known of a ring just after an entry, and what each later one keeps, is known of it
+  -- further on.
   known_later : (name : List ℕ) (P : RingRecord → Type 0) (i j : ℕ) (first now : RingRecord) → i < j
       → j ≤ length entries
-      → ((k : ℕ) (entry : Entry Command Reply) → i < k → k < j → slice_get entries k ≡ Some entry → (old new : RingRecord) → Next name entry old new → P old → P new)
+      → ((k : ℕ) (entry : Entry Command Reply) → i < k → k < j → slice_get entries k ≡ Some entry →
+      (old new : RingRecord) → Next name entry old new → P old → P new)
       → ring_at name (rings (i + 1)) ≡ Some first → P first → ring_at name (rings j) ≡ Some now
       → P now
   known_later name P i j first now less within keeps was known is =
@@ -211,9 +222,13 @@ module _ (limits : Limits) (old new : State) (entries : Entries) (rings : ℕ �
       → has_changed move.old move.new partition ≡ true
       → IsMovedSince move.old partition move.entry.hour now
   moved_later rise name i j less within never move now is partition changed =
-      known_later name (IsMovedSince move.old partition move.entry.hour) i j move.new now less within
-      (λ k entry low high at. since_next name entry move.old partition move.entry.hour (never k entry low high at) (later_hour entries rise i k move.entry entry low move.there at))
-      move.left (moved_now move.old move.new move.entry.hour partition (rebalanced_at name i move).after changed) is
+      known_later name (IsMovedSince move.old partition move.entry.hour) i j move.new now less
+      within
+      (λ k entry low high at. since_next name entry move.old partition move.entry.hour
+      (never k entry low high at) (later_hour entries rise i k move.entry entry low move.there
+      at))
+      move.left (moved_now move.old move.new move.entry.hour partition
+      (rebalanced_at name i move).after changed) is
 
   pub lock_stays : DoNotFall entries → (name : List ℕ) (i j : ℕ) → i < j → j ≤ length entries
       → NeverBetween entries i j name act.PretendPassed → (move : RebalanceAt entries rings name i)
@@ -223,7 +238,8 @@ module _ (limits : Limits) (old new : State) (entries : Entries) (rings : ℕ �
       → hour < move.entry.hour + now.min_hours → is_locked now hour partition ≡ true
   lock_stays rise name i j less within never move now is partition hour there changed early =
       locked_since move.old now (origin move.old now partition) partition move.entry.hour hour
-      (moved_later rise name i j less within never move now is (origin move.old now partition) changed) there refl early
+      (moved_later rise name i j less within never move now is (origin move.old now partition)
+      changed) there refl early
 
   pub rests : DoNotFall entries → (name : List ℕ) (i j : ℕ) → i < j
       → NeverBetween entries i j name act.PretendPassed → (move : RebalanceAt entries rings name i)
@@ -237,8 +253,10 @@ module _ (limits : Limits) (old new : State) (entries : Entries) (rings : ℕ �
       moved_later rise name i j less (omega arith) never move later.old later.found
       (origin move.old later.old partition) changed in
       unlocked_since move.old later.old
-      (origin move.old later.old partition) partition move.entry.hour later.entry.hour held leaves.0.partition_there refl
-      (unlocked_leave later.old later.new later.entry.hour partition replica (lawful later.old later.new later.entry.hour (rebalanced_at name j later)) leaves)
+      (origin move.old later.old partition) partition move.entry.hour later.entry.hour held
+      leaves.0.partition_there refl
+      (unlocked_leave later.old later.new later.entry.hour partition replica
+      (lawful later.old later.new later.entry.hour (rebalanced_at name j later)) leaves)
 
   -- Where none set fewer, a ring has at least so many hours.
   hours_later : (name : List ℕ) (hours i j : ℕ) → i < j → j ≤ length entries
@@ -247,7 +265,8 @@ module _ (limits : Limits) (old new : State) (entries : Entries) (rings : ℕ �
       → hours ≤ first.min_hours → ring_at name (rings j) ≡ Some now → hours ≤ now.min_hours
   hours_later name hours i j less within never first now was many is =
       known_later name (λ (ring : RingRecord). hours ≤ ring.min_hours) i j first now less within
-      (λ k entry low high at. hours_next name entry hours (λ set few. never set few k entry low high at)) was many is
+      (λ k entry low high at. hours_next name entry hours (λ set few. never set few k entry low high
+      at)) was many is
 
   pub rests_for : DoNotFall entries → (name : List ℕ) (hours i j : ℕ) → i < j
       → NeverBetween entries i j name act.PretendPassed

@@ -1,5 +1,6 @@
 -- A ring that is put under its name is found there.
-use Rattle.std.proofs.Common.{◌≡◌, ℕ, Bool, true, false, cond, List, [], ◌∷◌, Some, None, refl, sym, ap, ◌∙◌, true≢false}
+use Rattle.std.proofs.Common.{◌≡◌, ℕ, Bool, true, false, cond, List, [], ◌∷◌, Some, None, refl, sym}
+use Rattle.std.proofs.Common.{ap, ◌∙◌, true≢false}
 use Rattle.std.specs.Prelude.{filter, find, nat_eq}
 use Rattle.std.specs.Option.{option_map}
 use Rattle.std.specs.Ordering.{is_eq, is_lt}
@@ -31,7 +32,8 @@ dropped_first p q x xs true true e f h rest = absurd (true≢false (sym f ∙ h 
 find_dropped : {X : Type 0} (p q : X → Bool) (xs : List X) → ((x : X) → p x ≡ true → q x ≡ false)
     → find p (filter q xs) ≡ None
 find_dropped p q [] h = refl
-find_dropped p q (x ∷ xs) h = dropped_first p q x xs (p x) (q x) refl refl (h x) (find_dropped p q xs h)
+find_dropped p q (x ∷ xs) h = dropped_first p q x xs (p x) (q x) refl refl (h x)
+    (find_dropped p q xs h)
 
 pub ring_at-with : (rings : State) (name : List ℕ) (ring : RingRecord)
     → ring_at name (with_ring rings name ring) ≡ Some ring

@@ -1,5 +1,6 @@
 -- A run is safe.
-use Rattle.std.proofs.Common.{◌≡◌, ℕ, ◌+◌, ◌≤◌, ◌++◌, Bool, List, length, zero, suc, Some, sym, subst, ⊎_elim, arith}
+use Rattle.std.proofs.Common.{◌≡◌, ℕ, ◌+◌, ◌≤◌, ◌++◌, Bool, List, length, zero, suc, Some, sym}
+use Rattle.std.proofs.Common.{subst, ⊎_elim, arith}
 use Rattle.std.specs.Prelude.{All, slice_get}
 use Rattle.std.specs.Option.{option_to_list}
 use Rattle.std.proofs.lemmas.Option.{get_or_from_slice_get, slice_get_cases, slice_get_within}
@@ -13,7 +14,8 @@ use Rattle.request_book.specs.Content.{Content}
 use Rattle.request_book.specs.Once.{once}
 use Rattle.request_book.specs.Run.{Leads, Run, kept}
 use Rattle.request_book.specs.declared.entry.Entry.{Entry}
-use Rattle.builder.specs.Safety.{AreValid, DoNotFall, Entries, FewLeft, IsDone, IsSafe, IsSafeRun, IsWay}
+use Rattle.builder.specs.Safety.{AreValid, DoNotFall, Entries, FewLeft, IsDone, IsSafe, IsSafeRun}
+use Rattle.builder.specs.Safety.{IsWay}
 use Rattle.builder.specs.Step.{State, Step}
 use Rattle.builder.proofs.Few.{few_left_of}
 use Rattle.builder.proofs.Hours.{kept_do_not_fall}
@@ -37,11 +39,15 @@ valid_on_the_way limits old new entries rings way valid proper zero within =
 valid_on_the_way limits old new entries rings way valid proper (suc n) within =
     let before : AreValid (rings n) =
     valid_on_the_way limits old new entries rings way valid proper n (omega arith) in
-    let on : (entry : Entry Command Reply) → slice_get entries n ≡ Some entry → AreValid (rings (suc n)) =
+    let on : (entry : Entry Command Reply) → slice_get entries n ≡ Some entry →
+    AreValid (rings (suc n)) =
     λ entry at. subst (λ (k : ℕ). AreValid (rings k)) (omega arith)
-    (stay_valid limits (rings n) (rings (n + 1)) entry.hour entry.command entry.reply (way.steps n entry at)
-    (subst (λ (e : Entry Command Reply). IsProperCommand e.command) (get_or_from_slice_get entries n entry entry at) (proper n entry (slice_get_within entries n entry at))) before) in
-    ⊎_elim (λ some. on some.0 some.2) (λ past. absurd (omega (arith, past.0))) (slice_get_cases entries n).1
+    (stay_valid limits (rings n) (rings (n + 1)) entry.hour entry.command entry.reply
+    (way.steps n entry at)
+    (subst (λ (e : Entry Command Reply). IsProperCommand e.command) (get_or_from_slice_get entries n
+    entry entry at) (proper n entry (slice_get_within entries n entry at))) before) in
+    ⊎_elim (λ some. on some.0 some.2) (λ past. absurd (omega (arith, past.0)))
+    (slice_get_cases entries n).1
 
 -- Every way of entries whose hours don't fall is safe.
 pub safe_way : (limits : Limits) (old : State) (entries : Entries) (new : State)
@@ -67,7 +73,8 @@ safe_leads limits old new decided leads =
       rings = rings_of limits old.state new.state entries leads.chain;
       safe = safe_way limits old.state entries new.state
           (rings_of limits old.state new.state entries leads.chain)
-          (way_of limits old.state new.state entries leads.chain) (kept_do_not_fall old.hour decided);
+          (way_of limits old.state new.state entries leads.chain) (kept_do_not_fall old.hour
+          decided);
     }
 
 pub safe_run : (limits : Limits) (limit : ℕ) (closed : Bool) (old new : Content State Command Reply)

@@ -1,16 +1,20 @@
 -- A step keeps valid rings valid.
-use Rattle.std.proofs.Common.{◌≡◌, ℕ, ◌+◌, ◌<◌, ◌^◌, Bool, true, false, cond, List, [], ◌∷◌, ◌++◌, length, replicate, filter, Option, Some, None, refl, sym, ap, subst, ◌∙◌, ⊎_elim, arith, find, true≢false}
+use Rattle.std.proofs.Common.{◌≡◌, ℕ, ◌+◌, ◌<◌, ◌^◌, Bool, true, false, cond, List, [], ◌∷◌, ◌++◌}
+use Rattle.std.proofs.Common.{length, replicate, filter, Option, Some, None, refl, sym, ap, subst}
+use Rattle.std.proofs.Common.{◌∙◌, ⊎_elim, arith, find, true≢false}
 use Rattle.std.specs.Prelude.{All, IsTrue, is_some, nat_eq}
 use Rattle.std.specs.List.{AllByRecursion}
 use Rattle.std.specs.Option.{option_map}
 use Rattle.std.specs.Cmp.Lexicographic.{pointwise}
 use Rattle.std.proofs.lemmas.Bool.{and_cases, cond_both, eqb-false, leb-false, not-false}
 use Rattle.std.proofs.lemmas.List.{length-replicate}
-use Rattle.std.proofs.lemmas.List.Elements.{All-append, All-cons, All-filter, All-head, All-nil, All-tail}
+use Rattle.std.proofs.lemmas.List.Elements.{All-append, All-cons, All-filter, All-head, All-nil}
+use Rattle.std.proofs.lemmas.List.Elements.{All-tail}
 use Rattle.ring_messages.specs.Commands.{IsProperAct, IsProperCommand}
 use Rattle.ring_model.proofs.Amidst.{among_valid}
 use Rattle.ring_model.proofs.ByName.{at_most_with, by_name_with}
-use Rattle.ring_model.proofs.Changes.{added_valid, altered_valid, changed_valid, marked_keeps, reweighed_by_keeps, reweighed_keeps}
+use Rattle.ring_model.proofs.Changes.{added_valid, altered_valid, changed_valid, marked_keeps}
+use Rattle.ring_model.proofs.Changes.{reweighed_by_keeps, reweighed_keeps}
 use Rattle.ring_model.proofs.Raising.{raised_valid}
 use Rattle.ring_model.specs.Import.{after_row, after_rows, reweighed_by}
 use Rattle.ring_model.specs.Publish.{among, is_published, with_published}
@@ -31,7 +35,9 @@ use Rattle.ring_words.specs.declared.command.Reply.{Reply}
 use Rattle.ring_words.specs.declared.command.Reply.TheVariants as reply
 use Rattle.ring_words.specs.declared.command.RowCause.{RowCause}
 use Rattle.builder.specs.Safety.{AreValid}
-use Rattle.builder.specs.Step.{Cause, Effect, NoRingEffect, RingEffect, State, Step, causes, first_cause, no_ring_causes, of_row, of_rows, ring_causes, row_refusal}
+use Rattle.builder.specs.Step.{Cause, Effect, NoRingEffect, RingEffect, State, Step, causes}
+use Rattle.builder.specs.Step.{first_cause, no_ring_causes, of_row, of_rows, ring_causes}
+use Rattle.builder.specs.Step.{row_refusal}
 use Rattle.builder.proofs.Imports.{row_fits}
 use Rattle.builder.proofs.RebalancedValid.{rebalanced_valid}
 use Rattle.builder.proofs.RingAt.{one_ring}
@@ -51,7 +57,8 @@ clear_first false cause causes is none rest = (is, rest none)
 
 none_stands : (causes : List Cause) → first_cause causes ≡ None → AreClear causes
 none_stands [] none = tt
-none_stands (cause ∷ causes) none = clear_first cause.stands cause causes refl none (none_stands causes)
+none_stands (cause ∷ causes) none = clear_first cause.stands cause causes refl none
+    (none_stands causes)
 
 -- ---- the ring after an act
 
@@ -64,9 +71,20 @@ made_valid n proper = record {
   next_id = omega arith;
   version = omega arith;
   devices =
-      record { count = omega arith; below = All-nil _; rise = λ k low. absurd (omega arith); apart = λ i j d less low. absurd (omega arith) };
+      record {
+        count = omega arith;
+        below = All-nil _;
+        rise = λ k low. absurd (omega arith);
+        apart =
+            λ i j d less low. absurd (omega arith);
+      };
   seats =
-      record { whole = λ some. absurd (omega arith); known = All-nil _; distinct = λ partition one other id low high at. cc };
+      record {
+        whole = λ some. absurd (omega arith);
+        known = All-nil _;
+        distinct =
+            λ partition one other id low high at. cc;
+      };
   moved = length-replicate _ _;
   published = record { count = omega arith; rise = λ k low. absurd (omega arith) };
 }
@@ -90,8 +108,10 @@ rows_valid : (limits : Limits) (n : ℕ) (ring : RingRecord) (rows : List Row)
 rows_valid limits n ring [] clear valid = valid
 rows_valid limits n ring (row ∷ rows) clear valid =
     let first =
-    clear_row n (row_refusal limits ring row) (of_rows limits (n + 1) (after_row ring row) rows) clear in
-    rows_valid limits (n + 1) (after_row ring row) rows first.1 (row_valid limits ring row first.0 valid)
+    clear_row n (row_refusal limits ring row) (of_rows limits (n + 1) (after_row ring row) rows)
+    clear in
+    rows_valid limits (n + 1) (after_row ring row) rows first.1 (row_valid limits ring row first.0
+    valid)
 
 hours_valid : (ring : RingRecord) (hours : ℕ) → hours < 2 ^ 16 → IsValid ring
     → IsValid (record ring { min_hours = hours })
@@ -128,36 +148,45 @@ published_valid limits ring text room valid =
     cond_both (is_published ring) ring
     (record ring { published = among ring.version text ring.published }) IsValid
     (λ known. valid)
-    (λ new. among_valid ring text valid (let low = room new in omega (arith, limits.versions_within)))
+    (λ new. among_valid ring text valid (let low = room new in
+    omega (arith, limits.versions_within)))
 
 new_valid : (a : Act) (answer : Done) (limits : Limits) (name : List ℕ) (old new : RingRecord)
     (hour : ℕ) → AreClear (ring_causes limits old a) → IsProperAct a → IsValid old
     → RingEffect name hour old a answer new → IsValid new
 new_valid (act.Add row) answer limits name old new hour clear proper valid effect =
     subst IsValid (sym effect.0) (changed_valid (added old row) (added_valid old row valid
-    (let room = leb-false limits.devices (length old.devices) clear.1.0 in omega (arith, limits.devices_within))
+    (let room = leb-false limits.devices (length old.devices) clear.1.0 in
+    omega (arith, limits.devices_within))
     (let room = leb-false limits.ids old.next_id clear.1.1.0 in omega (arith, limits.ids_within))
     clear.0))
 new_valid (act.SetWeight to) answer limits name old new hour clear proper valid effect =
     subst IsValid (sym effect.0)
-    (changed_valid _ (altered_valid (reweighed to.id to.weight) (reweighed_keeps to.id to.weight) old valid))
+    (changed_valid _ (altered_valid (reweighed to.id to.weight) (reweighed_keeps to.id to.weight)
+    old valid))
 new_valid (act.Remove id) answer limits name old new hour clear proper valid effect =
-    subst IsValid (sym effect.0) (changed_valid _ (altered_valid (marked id) (marked_keeps id) old valid))
+    subst IsValid (sym effect.0) (changed_valid _ (altered_valid (marked id) (marked_keeps id) old
+    valid))
 new_valid (act.SetHours hours) answer limits name old new hour clear proper valid effect =
     let most = proper.0.1 in
-    subst IsValid (sym effect.0) (changed_valid _ (hours_valid old hours (omega (arith, most)) valid))
+    subst IsValid (sym effect.0) (changed_valid _ (hours_valid old hours (omega (arith, most))
+    valid))
 new_valid act.PretendPassed answer limits name old new hour clear proper valid effect =
     subst IsValid (sym effect.0) (changed_valid _ (passed_valid old valid))
 new_valid act.RaisePower answer limits name old new hour clear proper valid effect =
     let below : old.power ≡ 14 → ⊥ = eqb-false old.power 14 clear.0 in
-    raised_valid old new valid effect.0 (let up = effect.0.power in let most = valid.power.1 in omega arith)
-new_valid (act.Import rows) (done.Import added reweighted version) limits name old new hour clear proper valid effect =
+    raised_valid old new valid effect.0 (let up = effect.0.power in let most = valid.power.1 in
+    omega arith)
+new_valid (act.Import rows) (done.Import added reweighted version) limits name old new hour clear
+    proper valid effect =
     subst IsValid (sym effect.0) (changed_valid _ (rows_valid limits 1 old rows clear valid))
 new_valid (act.Rebalance seed) answer limits name old new hour clear proper valid effect =
     rebalanced_valid old new hour valid effect.0
 new_valid act.Publish answer limits name old new hour clear proper valid effect =
     subst IsValid (sym effect.0) (published_valid limits old _
-    (λ unpublished. ⊎_elim (λ published. absurd (true≢false (sym (not-false _ published) ∙ unpublished))) (λ room. leb-false limits.versions (length old.published) room) (and_cases _ _ clear.1.0))
+    (λ unpublished. ⊎_elim (λ published. absurd
+    (true≢false (sym (not-false _ published) ∙ unpublished))) (λ room. leb-false limits.versions
+    (length old.published) room) (and_cases _ _ clear.1.0))
     valid)
 new_valid a answer limits name old new hour clear proper valid effect = absurd effect
 
@@ -173,7 +202,8 @@ valid_at : (rings : State) (name : List ℕ) (ring : RingRecord)
     → All (λ named. IsValid named.1) rings → ring_at name rings ≡ Some ring → IsValid ring
 valid_at [] name ring valid found = cc
 valid_at (first ∷ rest) name ring valid found =
-    found_if (pointwise nat_eq first.0 name) first (find (λ e. pointwise nat_eq e.0 name) rest) ring found
+    found_if (pointwise nat_eq first.0 name) first (find (λ e. pointwise nat_eq e.0 name) rest) ring
+    found
     (All-head (λ named. IsValid named.1) first rest valid)
     (valid_at rest name ring (All-tail (λ named. IsValid named.1) first rest valid))
 
@@ -183,7 +213,8 @@ put_among P rings name ring all here =
     All-append P (filter (λ e. is_before e.0 name) rings)
     ((name, ring) ∷ filter (λ e. is_before name e.0) rings)
     (All-filter (λ e. is_before e.0 name) P rings all)
-    (All-cons P (name, ring) (filter (λ e. is_before name e.0) rings) here (All-filter (λ e. is_before name e.0) P rings all))
+    (All-cons P (name, ring) (filter (λ e. is_before name e.0) rings) here
+    (All-filter (λ e. is_before name e.0) P rings all))
 
 put_valid : (rings : State) (name : List ℕ) (ring : RingRecord) → AreValid rings
     → IsTrue (is_label name) → IsValid ring
@@ -196,18 +227,21 @@ put_valid rings name ring valid label new room = record {
   each = put_among (λ named. IsValid named.1) rings name ring valid.each new;
 }
 
--- A ring that was made where there was none, or that was changed, is valid, and there is room for it.
+-- A ring that was made where there was none, or that was changed, is valid, and there is room for
+-- it.
 record IsNewValid (rings : State) (name : List ℕ) (new : RingRecord) : Type 0 where
   ring : IsValid new
   room : is_some (ring_at name rings) ≡ false → length rings < 16
 
 first_valid : (a : Act) (answer : Done) (limits : Limits) (rings : State) (name : List ℕ)
-    (new : RingRecord) → AreClear (no_ring_causes limits rings a) → IsProperAct a → NoRingEffect a answer new
+    (new : RingRecord) → AreClear (no_ring_causes limits rings a) → IsProperAct a →
+    NoRingEffect a answer new
     → IsNewValid rings name new
 first_valid (act.Create made) answer limits rings name new clear proper effect = record {
   ring = subst IsValid (sym effect.0) (made_valid made proper);
   room =
-      λ none. (let few = leb-false limits.rings (length rings) clear.0 in omega (arith, limits.rings_within));
+      λ none. (let few = leb-false limits.rings (length rings) clear.0 in
+      omega (arith, limits.rings_within));
 }
 first_valid a answer limits rings name new clear proper effect = absurd effect
 
@@ -218,7 +252,8 @@ by_found : (found : Option RingRecord) (a : Act) (answer : Done) (limits : Limit
 by_found None a answer limits rings name new hour is clear proper valid effect =
     first_valid a answer limits rings name new clear proper effect
 by_found (Some old) a answer limits rings name new hour is clear proper valid effect = record {
-  ring = new_valid a answer limits name old new hour clear proper (valid_at rings name old valid.each is) effect;
+  ring = new_valid a answer limits name old new hour clear proper (valid_at rings name old
+      valid.each is) effect;
   room = λ none. absurd (true≢false (sym (ap is_some is) ∙ none));
 }
 
@@ -231,9 +266,17 @@ stay_valid limits rings after hour command (reply.Done answer) step proper valid
     let new : RingRecord = step.1.0 in
     let clear = none_stands (causes limits rings (ring_at command.ring rings) command.act) step.0 in
     let is =
-    by_found (ring_at command.ring rings) command.act answer limits rings command.ring new hour refl clear proper.act valid step.1.1 in
-    subst AreValid (sym step.1.2) (put_valid rings command.ring new valid proper.ring is.ring is.room)
+    by_found (ring_at command.ring rings) command.act answer limits rings command.ring new hour refl
+    clear proper.act valid step.1.1 in
+    subst AreValid (sym step.1.2) (put_valid rings command.ring new valid proper.ring is.ring
+    is.room)
 
 pub none_valid : AreValid []
 none_valid =
-    record { count = omega arith; by_name = λ i j d less low. absurd (omega arith); named = All-nil _; each = All-nil _ }
+    record {
+      count = omega arith;
+      by_name = λ i j d less low. absurd (omega arith);
+      named =
+          All-nil _;
+      each = All-nil _;
+    }

@@ -1,5 +1,6 @@
 -- The rings on the way of a run.
-use Rattle.std.proofs.Common.{◌≡◌, ℕ, ◌+◌, ◌<◌, ◌≤◌, List, [], ◌∷◌, length, zero, suc, Some, refl, sym, subst, ◌∙◌, ⊎_elim, arith}
+use Rattle.std.proofs.Common.{◌≡◌, ℕ, ◌+◌, ◌<◌, ◌≤◌, List, [], ◌∷◌, length, zero, suc, Some, refl}
+use Rattle.std.proofs.Common.{sym, subst, ◌∙◌, ⊎_elim, arith}
 use Rattle.std.specs.Prelude.{slice_get}
 use Rattle.std.proofs.lemmas.Option.{get_or_from_slice_get, slice_get_cases, slice_get_within}
 use Rattle.ring_model.specs.Ring.{RingRecord}
@@ -29,7 +30,8 @@ one_entry a b e = cc
 step_of : (limits : Limits) (old new : State) (entries : Entries)
     (chain : Chain (Step limits) old entries new) (n : ℕ) (entry : Entry Command Reply)
     → slice_get entries n ≡ Some entry
-    → Step limits (rings_of limits old new entries chain n) entry.hour entry.command entry.reply (rings_of limits old new entries chain (n + 1))
+    → Step limits (rings_of limits old new entries chain n) entry.hour entry.command entry.reply
+    (rings_of limits old new entries chain (n + 1))
 unfolding rings_of
 step_of limits old new [] chain n entry at = cc
 step_of limits old new (e ∷ es) chain zero entry at =
@@ -37,7 +39,8 @@ step_of limits old new (e ∷ es) chain zero entry at =
     (one_entry e entry at) chain.1
 step_of limits old new (e ∷ es) chain (suc n) entry at =
     let next : suc (n + 1) ≡ suc n + 1 = omega arith in
-    subst (λ (k : ℕ). Step limits (rings_of limits chain.0 new es chain.2 n) entry.hour entry.command entry.reply (rings_of limits old new (e ∷ es) chain k)) next
+    subst (λ (k : ℕ). Step limits (rings_of limits chain.0 new es chain.2 n) entry.hour
+    entry.command entry.reply (rings_of limits old new (e ∷ es) chain k)) next
     (step_of limits chain.0 new es chain.2 n entry at)
 
 last_of : (limits : Limits) (old new : State) (entries : Entries)
@@ -52,7 +55,12 @@ pub way_of : (limits : Limits) (old new : State) (entries : Entries)
     → IsWay limits old entries new (rings_of limits old new entries chain)
 unfolding rings_of
 way_of limits old new entries chain =
-    record { first = refl; steps = step_of limits old new entries chain; last = last_of limits old new entries chain }
+    record {
+      first = refl;
+      steps = step_of limits old new entries chain;
+      last =
+          last_of limits old new entries chain;
+    }
 
 -- ---- a ring on a way
 
@@ -78,7 +86,9 @@ there_next limits rings after name P entry step keeps there =
 pub there_later : (limits : Limits) (old new : State) (entries : Entries)
     (rings : ℕ → State) → IsWay limits old entries new rings → (name : List ℕ)
     (P : RingRecord → Type 0) (from n : ℕ) → from + n ≤ length entries
-    → ((k : ℕ) (entry : Entry Command Reply) → from ≤ k → k < from + n → slice_get entries k ≡ Some entry → (old new : RingRecord) → Next name entry old new → P old → P new)
+    → ((k : ℕ) (entry : Entry Command Reply) → from ≤ k → k < from + n →
+    slice_get entries k ≡ Some entry → (old new : RingRecord) → Next name entry old new →
+    P old → P new)
     → IsThere (rings from) name P → IsThere (rings (from + n)) name P
 there_later limits old new entries rings way name P from zero within keeps there =
     subst (λ (k : ℕ). IsThere (rings k) name P) (omega arith) there
@@ -86,9 +96,12 @@ there_later limits old new entries rings way name P from (suc n) within keeps th
     let before : IsThere (rings (from + n)) name P =
     there_later limits old new entries rings way name P from n (omega arith)
     (λ k entry low high at. keeps k entry low (omega arith) at) there in
-    let on : (entry : Entry Command Reply) → slice_get entries (from + n) ≡ Some entry → IsThere (rings (from + suc n)) name P =
+    let on : (entry : Entry Command Reply) → slice_get entries (from + n) ≡ Some entry →
+    IsThere (rings (from + suc n)) name P =
     λ entry at. subst (λ (k : ℕ). IsThere (rings k) name P) (omega arith)
-    (there_next limits (rings (from + n)) (rings (from + n + 1)) name P entry (way.steps (from + n) entry at) (keeps (from + n) entry (omega arith) (omega arith) at) before) in
+    (there_next limits (rings (from + n)) (rings (from + n + 1)) name P entry
+    (way.steps (from + n) entry at) (keeps (from + n) entry (omega arith) (omega arith) at)
+    before) in
     ⊎_elim (λ some. on some.0 some.2) (λ past. absurd (omega (arith, past.0)))
     (slice_get_cases entries (from + n)).1
 

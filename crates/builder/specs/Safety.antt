@@ -1,6 +1,7 @@
 -- What operators are promised of a run: how few replicas a rebalance takes off the devices that
 -- remain, how long those of a moved partition stay, and that the rings stay valid.
-use Rattle.std.specs.Prelude.{◌≡◌, ◌+◌, ◌-◌, ◌/◌, ◌^◌, ◌<◌, ◌≤◌, ◌++◌, ℕ, IsTrue, true, false, List, length, slice_get, Some, All, AllPairs}
+use Rattle.std.specs.Prelude.{◌≡◌, ◌+◌, ◌-◌, ◌/◌, ◌^◌, ◌<◌, ◌≤◌, ◌++◌, ℕ, IsTrue, true, false, List}
+use Rattle.std.specs.Prelude.{length, slice_get, Some, All, AllPairs}
 use Rattle.ring_model.specs.Ring.{RingRecord}
 use Rattle.ring_model.specs.Rings.{AreByName, ring_at, with_ring}
 use Rattle.ring_model.specs.Valid.{IsValid}
@@ -75,15 +76,16 @@ NeverBetween entries i j name what = (n : ℕ) (entry : Entry Command Reply) →
 
 -- At this place a rebalance of the ring of this name was done. It found the one ring, and left the
 -- other.
-pub record RebalanceAt (entries : Entries) (rings : ℕ → State) (name : List ℕ) (n : ℕ) : Type 0 where
-  pub entry : Entry Command Reply
-  pub there : slice_get entries n ≡ Some entry
-  pub seed : ℕ
-  pub done : IsDone name (act.Rebalance seed) entry
-  pub old : RingRecord
-  pub new : RingRecord
-  pub found : ring_at name (rings n) ≡ Some old
-  pub left : ring_at name (rings (n + 1)) ≡ Some new
+pub record RebalanceAt (entries : Entries) (rings : ℕ → State) (name : List ℕ) (n : ℕ) : Type 0
+  where
+    pub entry : Entry Command Reply
+    pub there : slice_get entries n ≡ Some entry
+    pub seed : ℕ
+    pub done : IsDone name (act.Rebalance seed) entry
+    pub old : RingRecord
+    pub new : RingRecord
+    pub found : ring_at name (rings n) ≡ Some old
+    pub left : ring_at name (rings (n + 1)) ≡ Some new
 
 -- Each raise of the power splits every partition in two. This is the partition of the earlier ring
 -- from which a partition of the later ring came.

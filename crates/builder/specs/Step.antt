@@ -1,10 +1,13 @@
 -- One step of the builder: what a command is replied, and what it does to the rings.
-use Rattle.std.specs.Prelude.{◌≡◌, ◌+◌, ◌==◌, ◌&&◌, ℕ, Bool, true, false, not, nat_le, nat_lt, count_by, List, [], ◌∷◌, ◌++◌, length, find, Option, Some, None}
+use Rattle.std.specs.Prelude.{◌≡◌, ◌+◌, ◌==◌, ◌&&◌, ℕ, Bool, true, false, not, nat_le, nat_lt}
+use Rattle.std.specs.Prelude.{count_by, List, [], ◌∷◌, ◌++◌, length, find, Option, Some, None}
 use Rattle.std.specs.Option.{option_map}
 use Rattle.ring_model.specs.Import.{after_row, after_rows}
 use Rattle.ring_model.specs.Publish.{is_published, with_published}
 use Rattle.ring_model.specs.Raise.{IsRaised}
-use Rattle.ring_model.specs.Ring.{RingRecord, changed, has_device, has_present, is_assigned, new_ring, with_device, with_hours_passed, with_mark, with_min_hours, with_weight}
+use Rattle.ring_model.specs.Ring.{RingRecord, changed, has_device, has_present, is_assigned}
+use Rattle.ring_model.specs.Ring.{new_ring, with_device, with_hours_passed, with_mark}
+use Rattle.ring_model.specs.Ring.{with_min_hours, with_weight}
 use Rattle.ring_words.specs.Rows.{has_place, same_place}
 use Rattle.ring_model.specs.Rings.{ring_at, with_ring}
 use Rattle.ring_place.specs.Rebalance.{IsRebalance, changed_seats}
@@ -54,53 +57,74 @@ pub record RowTrouble : Type 0 where
 
 -- the first cause that stands
 abbrev pub first_trouble : List RowTrouble → Option RowCause
-first_trouble troubles = option_map (λ trouble. trouble.cause) (find (λ trouble. trouble.stands) troubles)
+first_trouble troubles = option_map (λ trouble. trouble.cause) (find (λ trouble. trouble.stands)
+    troubles)
 
 -- the causes that may stand against a row's weight at a device
 abbrev pub of_weight : Row → Device → List RowTrouble
 of_weight row device =
     record { cause = row_cause.DeviceRemoved; stands = device.removed }
-    ∷ record { cause = row_cause.TierDiffers; stands = not ((device.row.region == row.region) && (device.row.zone == row.zone)) }
+    ∷ record {
+      cause = row_cause.TierDiffers;
+      stands = not ((device.row.region == row.region) &&
+          (device.row.zone == row.zone));
+    }
     ∷ []
 
 -- the causes that may stand against one more device
 abbrev pub of_more : Limits → RingRecord → List RowTrouble
 of_more limits ring =
-    record { cause = row_cause.TooManyDevices; stands = nat_le limits.devices (length ring.devices) }
+    record {
+      cause = row_cause.TooManyDevices;
+      stands = nat_le limits.devices (length ring.devices);
+    }
     ∷ record { cause = row_cause.IdsUsedUp; stands = nat_le limits.ids ring.next_id }
     ∷ []
 
--- the causes that may stand against a row, by the device of its address, port and name, if there is one
+-- the causes that may stand against a row, by the device of its address, port and name, if there is
+-- one
 abbrev pub troubles_at : Limits → RingRecord → Row → Option Device → List RowTrouble
 troubles_at limits ring row (Some device) = of_weight row device
 troubles_at limits ring row None = of_more limits ring
 
 -- the first cause that stands against a row
 abbrev pub row_refusal : Limits → RingRecord → Row → Option RowCause
-row_refusal limits ring row = first_trouble (troubles_at limits ring row (find (λ device. same_place device.row row) ring.devices))
+row_refusal limits ring row = first_trouble (troubles_at limits ring row
+    (find (λ device. same_place device.row row) ring.devices))
 
 -- a cause against the n-th row, if there is one
 abbrev pub of_row : ℕ → Option RowCause → List Cause
 of_row n (Some cause) = record { refused = refusal.RowRefused n cause; stands = true } ∷ []
 of_row n None = []
 
--- The causes against rows, the first of which is the n-th. Each row is put into the ring that those before it leave.
+-- The causes against rows, the first of which is the n-th. Each row is put into the ring that those
+-- before it leave.
 abbrev pub of_rows : Limits → ℕ → RingRecord → List Row → List Cause
 of_rows limits n ring [] = []
-of_rows limits n ring (row ∷ rows) = of_row n (row_refusal limits ring row) ++ of_rows limits (n + 1) (after_row ring row) rows
+of_rows limits n ring (row ∷ rows) = of_row n (row_refusal limits ring row) ++
+    of_rows limits (n + 1) (after_row ring row) rows
 
--- the causes that may stand against publishing a ring: a version that is published already takes no more room
+-- the causes that may stand against publishing a ring: a version that is published already takes no
+-- more room
 abbrev pub of_text : Limits → RingRecord → List Cause
 of_text limits ring =
     record { refused = refusal.NotAssigned; stands = not (is_assigned ring) }
-    ∷ record { refused = refusal.TooManyVersions; stands = not (is_published ring) && nat_le limits.versions (length ring.published) }
+    ∷ record {
+      refused = refusal.TooManyVersions;
+      stands = not (is_published ring) &&
+          nat_le limits.versions (length ring.published);
+    }
     ∷ []
 
 -- the causes that may stand against adding a device
 abbrev pub of_addition : Limits → Row → RingRecord → List Cause
 of_addition limits row ring =
     record { refused = refusal.DeviceExists; stands = has_place row ring.devices }
-    ∷ record { refused = refusal.TooManyDevices; stands = nat_le limits.devices (length ring.devices) }
+    ∷ record {
+      refused = refusal.TooManyDevices;
+      stands =
+          nat_le limits.devices (length ring.devices);
+    }
     ∷ record { refused = refusal.IdsUsedUp; stands = nat_le limits.ids ring.next_id }
     ∷ []
 
@@ -110,11 +134,16 @@ of_power ring = record { refused = refusal.PowerLimit; stands = ring.power == 14
 
 -- the cause that may stand against a rebalance
 abbrev pub of_rebalance : RingRecord → List Cause
-of_rebalance ring = record { refused = refusal.TooFewDevices; stands = nat_lt (count_by is_open ring.devices) ring.replicas } ∷ []
+of_rebalance ring = record {
+  refused = refusal.TooFewDevices;
+  stands =
+      nat_lt (count_by is_open ring.devices) ring.replicas;
+} ∷ []
 
 -- the causes that may stand against an act on this ring, in the order in which they are looked at
 abbrev pub ring_causes : Limits → RingRecord → Act → List Cause
-ring_causes limits ring (act.Create new) = record { refused = refusal.RingExists; stands = true } ∷ []
+ring_causes limits ring (act.Create new) = record { refused = refusal.RingExists; stands = true } ∷
+    []
 ring_causes limits ring (act.Add row) = of_addition limits row ring
 ring_causes limits ring (act.SetWeight to) = of_device to.id ring
 ring_causes limits ring (act.Remove id) = of_device id ring
@@ -125,9 +154,14 @@ ring_causes limits ring (act.Import rows) = of_rows limits 1 ring rows
 ring_causes limits ring (act.Rebalance seed) = of_rebalance ring
 ring_causes limits ring act.Publish = of_text limits ring
 
--- the causes that may stand against an act where no ring has the name: only making a ring needs none
+-- the causes that may stand against an act where no ring has the name: only making a ring needs
+-- none
 abbrev pub no_ring_causes : Limits → State → Act → List Cause
-no_ring_causes limits rings (act.Create new) = record { refused = refusal.TooManyRings; stands = nat_le limits.rings (length rings) } ∷ []
+no_ring_causes limits rings (act.Create new) = record {
+  refused = refusal.TooManyRings;
+  stands =
+      nat_le limits.rings (length rings);
+} ∷ []
 no_ring_causes limits rings other = record { refused = refusal.NoRing; stands = true } ∷ []
 
 -- the causes that may stand against an act, by the ring of the name, if there is one
@@ -141,7 +175,8 @@ first_cause causes = option_map (λ cause. cause.refused) (find (λ cause. cause
 
 -- the first cause that stands against a command
 abbrev pub first_refusal : Limits → State → Command → Option Refusal
-first_refusal limits rings command = first_cause (causes limits rings (ring_at command.ring rings) command.act)
+first_refusal limits rings command = first_cause (causes limits rings (ring_at command.ring rings)
+    command.act)
 
 -- WHAT A COMMAND DOES
 
@@ -149,15 +184,18 @@ first_refusal limits rings command = first_cause (causes limits rings (ring_at c
 
 -- A ring is made.
 abbrev pub MakesRing : NewRing → Done → RingRecord → Type 0
-MakesRing made answer new = (new ≡ new_ring made.power made.replicas made.min_hours) × (answer ≡ done.Create new.version)
+MakesRing made answer new = (new ≡ new_ring made.power made.replicas made.min_hours) ×
+    (answer ≡ done.Create new.version)
 
 -- A device is added. Told is its number.
 abbrev pub AddsDevice : Row → RingRecord → Done → RingRecord → Type 0
-AddsDevice row old answer new = (new ≡ with_device old row) × (answer ≡ done.Add old.next_id new.version)
+AddsDevice row old answer new = (new ≡ with_device old row) ×
+    (answer ≡ done.Add old.next_id new.version)
 
 -- A device gets a weight.
 abbrev pub SetsWeight : NewWeight → RingRecord → Done → RingRecord → Type 0
-SetsWeight to old answer new = (new ≡ with_weight old to.id to.weight) × (answer ≡ done.SetWeight new.version)
+SetsWeight to old answer new = (new ≡ with_weight old to.id to.weight) ×
+    (answer ≡ done.SetWeight new.version)
 
 -- A device is marked to be removed.
 abbrev pub RemovesDevice : ℕ → RingRecord → Done → RingRecord → Type 0
@@ -165,11 +203,13 @@ RemovesDevice id old answer new = (new ≡ with_mark old id) × (answer ≡ done
 
 -- A partition that was moved stays for so many hours from now on.
 abbrev pub SetsHours : ℕ → RingRecord → Done → RingRecord → Type 0
-SetsHours hours old answer new = (new ≡ with_min_hours old hours) × (answer ≡ done.SetHours new.version)
+SetsHours hours old answer new = (new ≡ with_min_hours old hours) ×
+    (answer ≡ done.SetHours new.version)
 
 -- Each partition is as if it never had been moved.
 abbrev pub PretendsPassed : RingRecord → Done → RingRecord → Type 0
-PretendsPassed old answer new = (new ≡ with_hours_passed old) × (answer ≡ done.PretendPassed new.version)
+PretendsPassed old answer new = (new ≡ with_hours_passed old) ×
+    (answer ≡ done.PretendPassed new.version)
 
 -- Each partition is split into two.
 abbrev pub RaisesPower : RingRecord → Done → RingRecord → Type 0
@@ -178,17 +218,20 @@ RaisesPower old answer new = IsRaised old new × (answer ≡ done.RaisePower new
 -- Rows are put in. Each that found no device took a number, and every other found one.
 abbrev pub ImportsRows : List Row → RingRecord → Done → RingRecord → Type 0
 ImportsRows rows old (done.Import added reweighted version) new =
-    (new ≡ changed (after_rows old rows)) × (new.next_id ≡ old.next_id + added) × (added + reweighted ≡ length rows) × (version ≡ new.version)
+    (new ≡ changed (after_rows old rows)) × (new.next_id ≡ old.next_id + added) ×
+    (added + reweighted ≡ length rows) × (version ≡ new.version)
 ImportsRows rows old other new = ⊥
 
 -- Any rebalance. Told are how many seats differ, and the figures of the new ring.
 abbrev pub MovesSeats : ℕ → RingRecord → Done → RingRecord → Type 0
 MovesSeats hour old answer new =
-    IsRebalance old hour new × (answer ≡ done.Rebalance (ring_balance new) (changed_seats old new) (ring_dispersion new) new.version)
+    IsRebalance old hour new × (answer ≡ done.Rebalance (ring_balance new) (changed_seats old new)
+    (ring_dispersion new) new.version)
 
 -- The text of the ring as it is, under its name, is published.
 abbrev pub PublishesText : List ℕ → RingRecord → Done → RingRecord → Type 0
-PublishesText name old answer new = (new ≡ with_published old (spelling (snapshot_of name old))) × (answer ≡ done.Publish new.version)
+PublishesText name old answer new = (new ≡ with_published old (spelling (snapshot_of name old))) ×
+    (answer ≡ done.Publish new.version)
 
 -- the effect of an act on this ring of this name at an hour
 abbrev pub RingEffect : List ℕ → ℕ → RingRecord → Act → Done → RingRecord → Type 0
@@ -217,11 +260,14 @@ Effect name hour (Some old) = RingEffect name hour old
 -- From these rings, a command at an hour may be given this reply, and leave those rings.
 abbrev pub Step : Limits → State → ℕ → Command → Reply → State → Type 0
 -- refused: the first cause that stands is answered, and the rings are as they were
-Step limits rings hour command (reply.Refused refused) after = (first_refusal limits rings command ≡ Some refused) × (after ≡ rings)
--- done: no cause stands, the named ring is changed by the effect, and the other rings are as they were
+Step limits rings hour command (reply.Refused refused) after =
+    (first_refusal limits rings command ≡ Some refused) × (after ≡ rings)
+-- done: no cause stands, the named ring is changed by the effect, and the other rings are as they
+-- were
 Step limits rings hour command (reply.Done answer) after =
     (first_refusal limits rings command ≡ None)
-    × ((new : RingRecord) × Effect command.ring hour (ring_at command.ring rings) command.act answer new × (after ≡ with_ring rings command.ring new))
+    × ((new : RingRecord) × Effect command.ring hour (ring_at command.ring rings) command.act answer
+    new × (after ≡ with_ring rings command.ring new))
 
 -- whether a reply is a refusal
 abbrev pub is_refused : Reply → Bool

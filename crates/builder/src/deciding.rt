@@ -1,6 +1,9 @@
 //! Deciding commands.
 ghost use Rattle.std.specs.Prelude.{[], IfOk};
-ghost use Rattle.builder.specs.Step.{AddsDevice, NoRingEffect, PretendsPassed, PublishesText, RaisesPower, RemovesDevice, RingEffect, SetsHours, SetsWeight, Step, no_ring_causes, of_addition, of_device, of_power, of_text, ring_causes};
+ghost use Rattle.builder.specs.Step.{AddsDevice, NoRingEffect, PretendsPassed, PublishesText};
+ghost use Rattle.builder.specs.Step.{RaisesPower, RemovesDevice, RingEffect, SetsHours, SetsWeight};
+ghost use Rattle.builder.specs.Step.{Step, no_ring_causes, of_addition, of_device, of_power};
+ghost use Rattle.builder.specs.Step.{of_text, ring_causes};
 ghost use Rattle.builder.specs.Inner.Outcome.{IsFirstOr, IsOutcome};
 
 use crate::importing::import;
@@ -23,7 +26,8 @@ pub(crate) enum Outcome {
 
 /// Adds a device, unless its place is taken, there are too many, or the numbers are used up.
 fn add(ring: &Ring, row: &Row, limits: &Limits) -> Result<Outcome, AllocError>
-    ensures { IfOk result (IsFirstOr (of_addition limits.now row.now ring.now) (AddsDevice row.now ring.now)) }
+    ensures { IfOk result (IsFirstOr (of_addition limits.now row.now ring.now)
+        (AddsDevice row.now ring.now)) }
 {
     if ring.has_place(row) {
         return Ok(Outcome::Refused(Refusal::DeviceExists));
@@ -113,15 +117,16 @@ fn raise_power(ring: &Ring) -> Result<Outcome, AllocError>
     Ok(Outcome::Done(done, raised))
 }
 
-/// Publishes the text of the ring as it is under its version, unless the seats are empty, or as many other versions are
-/// published as there may be.
+/// Publishes the text of the ring as it is under its version, unless the seats are empty, or as
+/// many other versions are published as there may be.
 fn publish(
     alloc: Global,
     name: &RingName,
     ring: &Ring,
     limits: &Limits,
 ) -> Result<Outcome, AllocError>
-    ensures { IfOk result (IsFirstOr (of_text limits.now ring.now) (PublishesText name.now ring.now)) }
+    ensures { IfOk result (IsFirstOr (of_text limits.now ring.now) (PublishesText name.now
+        ring.now)) }
 {
     if !ring.is_assigned() {
         return Ok(Outcome::Refused(Refusal::NotAssigned));
@@ -146,7 +151,8 @@ fn on_ring(
     act: &Act,
     limits: &Limits,
 ) -> Result<Outcome, AllocError>
-    ensures { IfOk result (IsFirstOr (ring_causes limits.now ring.now act.now) (RingEffect name.now hour ring.now act.now)) }
+    ensures { IfOk result (IsFirstOr (ring_causes limits.now ring.now act.now)
+        (RingEffect name.now hour ring.now act.now)) }
 {
     match act {
         Act::Create(_) => Ok(Outcome::Refused(Refusal::RingExists)),
@@ -169,7 +175,8 @@ fn on_no_ring(
     act: &Act,
     limits: &Limits,
 ) -> Result<Outcome, AllocError>
-    ensures { IfOk result (IsFirstOr (no_ring_causes limits.now rings.now act.now) (NoRingEffect act.now)) }
+    ensures { IfOk result (IsFirstOr (no_ring_causes limits.now rings.now act.now)
+        (NoRingEffect act.now)) }
 {
     let Act::Create(new) = act else {
         return Ok(Outcome::Refused(Refusal::NoRing));
@@ -197,7 +204,8 @@ fn outcome_of(
     }
 }
 
-/// Decides a command at an hour: its reply, and the rings after it. The rings before it stay as they were.
+/// Decides a command at an hour: its reply, and the rings after it. The rings before it stay as
+/// they were.
 pub fn decide(
     alloc: Global,
     rings: &Rings,
@@ -205,7 +213,8 @@ pub fn decide(
     command: &Command,
     limits: &Limits,
 ) -> Result<(Rings, Reply), AllocError>
-    ensures { IfOk result (λ decided. Step limits.now rings.now hour command.now decided.1 decided.0) }
+    ensures { IfOk result (λ decided. Step limits.now rings.now hour command.now decided.1
+        decided.0) }
 {
     match outcome_of(alloc, rings, hour, command, limits)? {
         Outcome::Refused(refusal) => Ok((rings.clone()?, Reply::Refused(refusal))),

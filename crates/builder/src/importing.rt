@@ -1,7 +1,8 @@
 //! Imports: rows that are put into a ring, all or none.
 ghost use Rattle.std.specs.Prelude.{◌≡◌, ◌+◌, ◌≤◌, IfOk, None, length};
 ghost use Rattle.ring_model.specs.Import.{after_rows};
-ghost use Rattle.builder.specs.Step.{ImportsRows, first_cause, first_trouble, of_more, of_rows, of_weight, row_refusal};
+ghost use Rattle.builder.specs.Step.{ImportsRows, first_cause, first_trouble, of_more, of_rows};
+ghost use Rattle.builder.specs.Step.{of_weight, row_refusal};
 ghost use Rattle.builder.specs.Inner.Outcome.{IsFirstOr};
 
 use crate::deciding::Outcome;
@@ -47,9 +48,12 @@ fn row_refusal(draft: &Draft, row: &Row, limits: &Limits) -> Option<RowCause>
 
 /// Puts rows into a ring up to the first that is refused, and answers its refusal.
 fn put_rows(draft: &mut Draft, rows: &[Row], limits: &Limits) -> Result<Option<Refusal>, AllocError>
-    ensures refused { IfOk result (λ refused. refused ≡ first_cause (of_rows limits.now 1 draft.old rows.now)) }
-    ensures put { IfOk result (λ refused. refused ≡ None → draft.new ≡ after_rows draft.old rows.now) }
-    ensures numbers { IfOk result (λ refused. (draft.old.next_id ≤ draft.new.next_id) × (draft.new.next_id ≤ draft.old.next_id + length rows.now)) }
+    ensures refused { IfOk result (λ refused. refused ≡ first_cause (of_rows limits.now 1 draft.old
+        rows.now)) }
+    ensures put { IfOk result (λ refused. refused ≡ None → draft.new ≡ after_rows draft.old
+        rows.now) }
+    ensures numbers { IfOk result (λ refused. (draft.old.next_id ≤ draft.new.next_id) ×
+        (draft.new.next_id ≤ draft.old.next_id + length rows.now)) }
 {
     for (place, row) in rows.iter().enumerate() {
         if let Some(cause) = row_refusal(draft, row, limits) {
@@ -63,7 +67,8 @@ fn put_rows(draft: &mut Draft, rows: &[Row], limits: &Limits) -> Result<Option<R
 
 /// Adds devices and sets weights by rows, unless one of them is refused.
 pub(crate) fn import(ring: &Ring, rows: &Rows, limits: &Limits) -> Result<Outcome, AllocError>
-    ensures { IfOk result (IsFirstOr (of_rows limits.now 1 ring.now rows.now) (ImportsRows rows.now ring.now)) }
+    ensures { IfOk result (IsFirstOr (of_rows limits.now 1 ring.now rows.now)
+        (ImportsRows rows.now ring.now)) }
 {
     let mut draft = Draft::of(ring)?;
     if let Some(refusal) = put_rows(&mut draft, rows.as_slice(), limits)? {

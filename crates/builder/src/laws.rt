@@ -1,6 +1,8 @@
 //! What follows from the definitions alone.
-ghost use Rattle.std.specs.Prelude.{◌≡◌, ◌≢◌, ◌+◌, ◌<◌, ◌≤◌, ℕ, Bool, List, length, slice_get, Some, true};
-ghost use Rattle.builder.specs.Safety.{AreValid, DoNotFall, Entries, FewLeft, IsDone, IsSafeRun, IsWay, NeverBetween, RebalanceAt, origin};
+ghost use Rattle.std.specs.Prelude.{◌≡◌, ◌≢◌, ◌+◌, ◌<◌, ◌≤◌, ℕ, Bool, List, length, slice_get};
+ghost use Rattle.std.specs.Prelude.{Some, true};
+ghost use Rattle.builder.specs.Safety.{AreValid, DoNotFall, Entries, FewLeft, IsDone, IsSafeRun};
+ghost use Rattle.builder.specs.Safety.{IsWay, NeverBetween, RebalanceAt, origin};
 ghost use Rattle.builder.specs.Step.{State, Step};
 ghost use Rattle.request_book.specs.Call.{Call};
 ghost use Rattle.request_book.specs.Content.{Content};
@@ -19,7 +21,8 @@ ghost use Rattle.ring_words.specs.declared.command.Reply.TheVariants as reply;
 
 /// A step changes no ring but the one that its command names.
 pub fn other_rings_stay()
-    ensures { (limits : Limits) (rings after : State) (hour : ℕ) (command : Command) (reply : Reply) (name : List ℕ)
+    ensures { (limits : Limits) (rings after : State) (hour : ℕ) (command : Command) (reply : Reply)
+        (name : List ℕ)
         → Step limits rings hour command reply after → name ≢ command.ring → ring_at name after ≡ ring_at name rings }
 {}
 
@@ -30,10 +33,11 @@ pub fn valid_rings_stay_valid()
         → AreValid rings → AreValid after }
 {}
 
-/// In each rebalance at most one replica of a partition leaves a device that remains, and none before its hours have
-/// passed. No other ring is touched.
+/// In each rebalance at most one replica of a partition leaves a device that remains, and none
+/// before its hours have passed. No other ring is touched.
 pub fn few_replicas_leave()
-    ensures { (limits : Limits) (rings after : State) (hour seed : ℕ) (name : List ℕ) (answer : Done)
+    ensures { (limits : Limits) (rings after : State) (hour seed : ℕ) (name : List ℕ)
+        (answer : Done)
         → Step limits rings hour (record { ring = name; act = act.Rebalance seed }) (reply.Done answer) after
         → FewLeft rings name hour after }
 {}
@@ -47,7 +51,8 @@ pub fn few_replicas_leave_in_a_run()
         → FewLeft (rings n) name entry.hour (rings (n + 1)) }
 {}
 
-/// A partition of which a rebalance changed a seat is locked from then on, until the hours of its ring have passed.
+/// A partition of which a rebalance changed a seat is locked from then on, until the hours of its
+/// ring have passed.
 pub fn a_move_locks()
     ensures { (old new : RingRecord) (hour partition later : ℕ)
         → IsRebalance old hour new → partition < partition_count old
@@ -55,8 +60,8 @@ pub fn a_move_locks()
         → later < hour + old.min_hours → is_locked new later partition ≡ true }
 {}
 
-/// The lock stays, while the ring gets no `pretend_passed`, until as many hours have passed since the move as the ring
-/// then says. A raise of the power hands it to both halves of the partition.
+/// The lock stays, while the ring gets no `pretend_passed`, until as many hours have passed since
+/// the move as the ring then says. A raise of the power hands it to both halves of the partition.
 pub fn a_lock_stays()
     ensures { (limits : Limits) (old new : State) (entries : Entries) (rings : ℕ → State)
         → IsWay limits old entries new rings → DoNotFall entries
@@ -69,8 +74,9 @@ pub fn a_lock_stays()
         → hour < move.entry.hour + now.min_hours → is_locked now hour partition ≡ true }
 {}
 
-/// So, if a rebalance changed a seat of a partition, no later one takes a replica of it off a device that remains before
-/// the ring's hours have passed, unless the ring got a `pretend_passed` in between, or a `set_hours` of fewer hours.
+/// So, if a rebalance changed a seat of a partition, no later one takes a replica of it off a
+/// device that remains before the ring's hours have passed, unless the ring got a `pretend_passed`
+/// in between, or a `set_hours` of fewer hours.
 pub fn moved_partitions_rest()
     ensures { (limits : Limits) (old new : State) (entries : Entries) (rings : ℕ → State)
         → IsWay limits old entries new rings → DoNotFall entries
@@ -85,9 +91,10 @@ pub fn moved_partitions_rest()
         → move.entry.hour + hours ≤ later.entry.hour }
 {}
 
-/// Whatever calls come, a run is safe: on its way few replicas leave in each rebalance, moved partitions rest, and valid
-/// rings stay valid.
+/// Whatever calls come, a run is safe: on its way few replicas leave in each rebalance, moved
+/// partitions rest, and valid rings stay valid.
 pub fn a_run_is_safe()
-    ensures { (limits : Limits) (limit : ℕ) (closed : Bool) (old new : Content State Command Reply) (calls : List (Call Command Reply))
+    ensures { (limits : Limits) (limit : ℕ) (closed : Bool) (old new : Content State Command Reply)
+        (calls : List (Call Command Reply))
         → Run (Step limits) limit closed old calls new → IsSafeRun limits old new }
 {}

@@ -9,7 +9,8 @@ use ring_model::Rings;
 use ring_words::{Command, Hour, Limits, Reply};
 use std::alloc::{AllocError, Global};
 
-/// The builder under limits: its states are rings, and its steps are those of the definition *Step*.
+/// The builder under limits: its states are rings, and its steps are those of the definition
+/// *Step*.
 #[derive(Clone, Copy, Debug)]
 pub struct RingMachine {
     /// How much is kept at most.
@@ -23,13 +24,15 @@ impl Machine for RingMachine {
 
     type Reply = Reply;
 
-    ghost step = { λ machine rings hour command reply after. Step machine.limits rings hour command reply after };
+    ghost step = { λ machine rings hour command reply after. Step machine.limits rings hour command
+        reply after };
 
     ghost refuses = { is_refused };
 
     ghost begins = { λ machine rings. rings ≡ [] };
 
-    ghost refusal_keeps = { λ machine old new hour command reply step refused. refused_keeps machine.limits old new hour command reply step refused };
+    ghost refusal_keeps = { λ machine old new hour command reply step refused. refused_keeps
+        machine.limits old new hour command reply step refused };
 
     fn start(&self, alloc: Global) -> Rings {
         Rings::new(alloc)

@@ -10,7 +10,8 @@ use ring_share::{balance, dispersion};
 use ring_words::{Done, Hour, Refusal};
 use std::alloc::{AllocError, Global};
 
-/// Rebalances a ring at an hour, unless fewer of its devices are open than each partition has replicas.
+/// Rebalances a ring at an hour, unless fewer of its devices are open than each partition has
+/// replicas.
 pub(crate) fn move_seats(
     alloc: Global,
     ring: &Ring,

@@ -3,7 +3,8 @@ use Rattle.std.specs.Prelude.{◌≡◌, IsTrue, ℕ, ◌+◌, ◌-◌, ◌^◌,
 use Rattle.byte_streams.specs.declared.counted.CountedReader.{CountedReader}
 use Rattle.byte_streams.specs.declared.counted.CountedWriter.{CountedWriter}
 use Rattle.byte_streams.specs.declared.fault.StreamFault.{StreamFault}
-use Rattle.byte_streams.specs.declared.fault.StreamFault.TheVariants.{ReadFailed, WriteFailed, NoMemory}
+use Rattle.byte_streams.specs.declared.fault.StreamFault.TheVariants.{ReadFailed, WriteFailed}
+use Rattle.byte_streams.specs.declared.fault.StreamFault.TheVariants.{NoMemory}
 
 -- the reader that is counted
 abbrev pub reader_of : {R : Type 0} → CountedReader R → R
@@ -41,29 +42,37 @@ one_more count = min (count + 1) (2 ^ 64 - 1)
 abbrev pub Counts : {A E : Type 0} → ℕ → ℕ → Result A E → Type 0
 Counts old new result = MatchResult result (λ _. new ≡ old) (λ _. new ≡ one_more old)
 
--- The fault of a call that only reads has its cause: the reader failed once more exactly at ReadFailed.
+-- The fault of a call that only reads has its cause: the reader failed once more exactly at
+-- ReadFailed.
 abbrev pub IsReadFault : {R : Type 0} → CountedReader R → CountedReader R → StreamFault → Type 0
 IsReadFault r s ReadFailed = read_faults s ≡ one_more (read_faults r)
 IsReadFault r s WriteFailed = ⊥
 IsReadFault r s NoMemory = read_faults s ≡ read_faults r
 
 -- Neither the reader nor the writer has failed again.
-abbrev pub NoneFailed : {R W : Type 0} → CountedReader R → CountedReader R → CountedWriter W → CountedWriter W
+abbrev pub NoneFailed : {R W : Type 0} → CountedReader R → CountedReader R → CountedWriter W →
+    CountedWriter W
     → Type 0
 NoneFailed r s w x = (read_faults s ≡ read_faults r) × (write_faults x ≡ write_faults w)
 
--- The fault has its cause: the reader failed once more exactly at ReadFailed, the writer exactly at WriteFailed.
-abbrev pub IsCaused : {R W : Type 0} → CountedReader R → CountedReader R → CountedWriter W → CountedWriter W
+-- The fault has its cause: the reader failed once more exactly at ReadFailed, the writer exactly at
+-- WriteFailed.
+abbrev pub IsCaused : {R W : Type 0} → CountedReader R → CountedReader R → CountedWriter W →
+    CountedWriter W
     → StreamFault → Type 0
-IsCaused r s w x ReadFailed = (read_faults s ≡ one_more (read_faults r)) × (write_faults x ≡ write_faults w)
-IsCaused r s w x WriteFailed = (read_faults s ≡ read_faults r) × (write_faults x ≡ one_more (write_faults w))
+IsCaused r s w x ReadFailed = (read_faults s ≡ one_more (read_faults r)) ×
+    (write_faults x ≡ write_faults w)
+IsCaused r s w x WriteFailed = (read_faults s ≡ read_faults r) ×
+    (write_faults x ≡ one_more (write_faults w))
 IsCaused r s w x NoMemory = NoneFailed r s w x
 
 -- A call that fails has its cause in the counts, and one that succeeds leaves them.
-abbrev pub FailsWithCause : {R W A : Type 0} → CountedReader R → CountedReader R → CountedWriter W → CountedWriter W
+abbrev pub FailsWithCause : {R W A : Type 0} → CountedReader R → CountedReader R → CountedWriter W →
+    CountedWriter W
     → Result A StreamFault → Type 0
 FailsWithCause r s w x result = MatchResult result (λ _. NoneFailed r s w x) (IsCaused r s w x)
 
 -- Everything that was written was flushed, unless a write or a flush failed or nothing was begun.
 abbrev pub LeavesFlushed : {W A : Type 0} → CountedWriter W → Result A StreamFault → Type 0
-LeavesFlushed writer result = MatchResult result (λ _. IsFlushed writer) (λ fault. fault ≡ ReadFailed → IsFlushed writer)
+LeavesFlushed writer result = MatchResult result (λ _. IsFlushed writer)
+    (λ fault. fault ≡ ReadFailed → IsFlushed writer)

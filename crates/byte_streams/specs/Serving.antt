@@ -2,7 +2,8 @@
 use Rattle.std.specs.Prelude.{◌≡◌, ℕ, ◌-◌, ◌^◌, min, List, ◌++◌, length, ⊤, Option, Some, None}
 use Rattle.std.specs.Io.KnownBytes.{Appends, Consumes}
 use Rattle.byte_streams.specs.declared.fault.StreamFault.{StreamFault}
-use Rattle.byte_streams.specs.declared.fault.StreamFault.TheVariants.{ReadFailed, WriteFailed, NoMemory}
+use Rattle.byte_streams.specs.declared.fault.StreamFault.TheVariants.{ReadFailed, WriteFailed}
+use Rattle.byte_streams.specs.declared.fault.StreamFault.TheVariants.{NoMemory}
 use Rattle.byte_streams.specs.Writing.{WritesBeginning}
 
 -- where a reader tells its bytes, they are these
@@ -10,13 +11,13 @@ abbrev pub Tells : Option (List ℕ) → List ℕ → Type 0
 Tells None bytes = ⊤
 Tells (Some known) bytes = known ≡ bytes
 
--- A protocol says which items the bytes of a whole stream are, which items are whole in the bytes that came so far, and
--- what answers are written as. That these items may get these texts, while one state becomes the other, is what the
--- server of the protocol promises.
+-- A protocol says which items the bytes of a whole stream are, which items are whole in the bytes
+-- that came so far, and what answers are written as. That these items may get these texts, while
+-- one state becomes the other, is what the server of the protocol promises.
 module _ {I S : Type 0} (AreItems : List ℕ → List I → Type 0) (HaveCome : List ℕ → List I → Type 0)
     (written_as : List (List ℕ) → List ℕ) (Get : S → List I → List (List ℕ) → S → Type 0) where
-  -- Each item of the bytes that the reader gave was answered, and what was written is the answers in order and nothing
-  -- else. The count is that of the items, or 4294967295 where they are more.
+  -- Each item of the bytes that the reader gave was answered, and what was written is the answers
+  -- in order and nothing else. The count is that of the items, or 4294967295 where they are more.
   pub record Served (known before after : Option (List ℕ)) (old new : S) (count : ℕ) : Type 0 where
     pub bytes : List ℕ
     pub told : Tells known bytes
@@ -37,7 +38,8 @@ module _ {I S : Type 0} (AreItems : List ℕ → List I → Type 0) (HaveCome : 
     pub get : Get old items texts new
     pub written : Appends before after (written_as texts)
 
-  -- Some items from the front of the stream were answered, and a beginning of the answers was written.
+  -- Some items from the front of the stream were answered, and a beginning of the answers was
+  -- written.
   pub record ServedInPart (known before after : Option (List ℕ)) (old new : S) : Type 0 where
     pub bytes : List ℕ
     pub told : Tells known bytes
@@ -49,8 +51,11 @@ module _ {I S : Type 0} (AreItems : List ℕ → List I → Type 0) (HaveCome : 
     pub written : WritesBeginning before after (written_as texts)
 
   -- what a fault leaves; where no memory was there, nothing was touched
-  abbrev pub Stopped : Option (List ℕ) → Option (List ℕ) → Option (List ℕ) → Option (List ℕ) → S → S → Type 0
+  abbrev pub Stopped : Option (List ℕ) → Option (List ℕ) → Option (List ℕ) → Option (List ℕ) → S →
+      S → Type 0
       → StreamFault → Type 0
-  Stopped known left before after old new untouched ReadFailed = ServedSoFar known left before after old new
-  Stopped known left before after old new untouched WriteFailed = ServedInPart known before after old new
+  Stopped known left before after old new untouched ReadFailed = ServedSoFar known left before after
+      old new
+  Stopped known left before after old new untouched WriteFailed = ServedInPart known before after
+      old new
   Stopped known left before after old new untouched NoMemory = untouched

@@ -4,8 +4,10 @@ use Rattle.std.specs.Io.KnownBytes.{Appends}
 
 -- a beginning of the text was written, perhaps none of it or all
 abbrev pub WritesBeginning : Option (List ℕ) → Option (List ℕ) → List ℕ → Type 0
-WritesBeginning before after text = (front left : List ℕ) × (text ≡ front ++ left) × Appends before after front
+WritesBeginning before after text = (front left : List ℕ) × (text ≡ front ++ left) ×
+    Appends before after front
 
 -- a front of the text was written, and this is left of it
 abbrev pub Forwards : Option (List ℕ) → Option (List ℕ) → List ℕ → List ℕ → Type 0
-Forwards before after text left = (front : List ℕ) × (text ≡ front ++ left) × Appends before after front
+Forwards before after text left = (front : List ℕ) × (text ≡ front ++ left) ×
+    Appends before after front

@@ -1,19 +1,22 @@
 //! A reader and a writer that count their own faults.
 //!
-//! std says of a read and of a write what became of the bytes, and not why one fails. Here a count says it: the fields are
-//! private to this file, so nothing raises a count but a call of `read`, of `write` or of `flush` that fails.
-ghost use Rattle.std.specs.Prelude.{◌≡◌, ◌≢◌, ◌<◌, ◌-◌, ◌^◌, ◌↔◌, length, IfOk, IfErr, IsTrue, OnOk};
+//! std says of a read and of a write what became of the bytes, and not why one fails. Here a count
+//! says it: the fields are private to this file, so nothing raises a count but a call of `read`, of
+//! `write` or of `flush` that fails.
+ghost use Rattle.std.specs.Prelude.{◌≡◌, ◌≢◌, ◌<◌, ◌-◌, ◌^◌, ◌↔◌, length, IfOk, IfErr, IsTrue};
+ghost use Rattle.std.specs.Prelude.{OnOk};
 ghost use Rattle.std.specs.Io.{ReadsAtMost, WritesAtMost};
 ghost use Rattle.std.specs.Io.KnownBytes.{Keeps, ReadConsumes, WriteAppends};
 ghost use Rattle.std.specs.IoError.{error_kind};
-ghost use Rattle.byte_streams.specs.Counted.{IsFlushed, calls_left, one_more, read_faults, reader_of, reads_left, write_faults, writer_of};
+ghost use Rattle.byte_streams.specs.Counted.{IsFlushed, calls_left, one_more, read_faults};
+ghost use Rattle.byte_streams.specs.Counted.{reader_of, reads_left, write_faults, writer_of};
 
 use std::io::{self, Error, ErrorKind, Read, Write};
 
 /// A reader that counts how often it failed.
 ///
-/// A read fails where the inner one fails and was not interrupted. A reader may be asked 2^64 - 1 times, and each read
-/// after those fails too.
+/// A read fails where the inner one fails and was not interrupted. A reader may be asked 2^64 - 1
+/// times, and each read after those fails too.
 #[derive(Drop)]
 pub struct CountedReader<R> {
     inner: R,
@@ -55,7 +58,8 @@ impl<R: Read> Read for CountedReader<R> {
 
     fn read(&mut self, buf: &mut [u8]) -> io::Result<usize>
         ensures bound { ReadsAtMost result buf.new }
-        ensures bytes { ReadConsumes (R.remaining (reader_of self.old)) (R.remaining (reader_of self.new)) result buf.new }
+        ensures bytes { ReadConsumes (R.remaining (reader_of self.old))
+            (R.remaining (reader_of self.new)) result buf.new }
         ensures ok { IfOk result (λ _. read_faults self.new ≡ read_faults self.old) }
         ensures interrupted { IfErr result (λ error. error_kind error ≡ ErrorKind.Interrupted
             → read_faults self.new ≡ read_faults self.old) }
@@ -82,8 +86,9 @@ impl<R: Read> Read for CountedReader<R> {
 
 /// A writer that counts how often it failed, and knows whether it is flushed.
 ///
-/// A write fails where the inner one fails and was not interrupted, or takes no byte of some; a flush where the inner
-/// one fails and was not interrupted. A writer may be called 2^64 - 1 times, and each call after those fails too.
+/// A write fails where the inner one fails and was not interrupted, or takes no byte of some; a
+/// flush where the inner one fails and was not interrupted. A writer may be called 2^64 - 1 times,
+/// and each call after those fails too.
 #[derive(Drop)]
 pub struct CountedWriter<W> {
     inner: W,
@@ -136,11 +141,14 @@ impl<W: Write> Write for CountedWriter<W> {
 
     fn write(&mut self, buf: &[u8]) -> io::Result<usize>
         ensures bound { WritesAtMost result buf.now }
-        ensures bytes { WriteAppends (W.contents (writer_of self.old)) (W.contents (writer_of self.new)) result buf.now }
-        ensures some { IfOk result (λ count. 0 < count → write_faults self.new ≡ write_faults self.old) }
+        ensures bytes { WriteAppends (W.contents (writer_of self.old))
+            (W.contents (writer_of self.new)) result buf.now }
+        ensures some { IfOk result (λ count. 0 < count → write_faults self.new ≡ write_faults
+            self.old) }
         ensures none { IfOk result (λ count. count ≡ 0 → 0 < length buf.now
             → write_faults self.new ≡ one_more (write_faults self.old)) }
-        ensures empty { IfOk result (λ _. length buf.now ≡ 0 → write_faults self.new ≡ write_faults self.old) }
+        ensures empty { IfOk result (λ _. length buf.now ≡ 0 → write_faults self.new ≡ write_faults
+            self.old) }
         ensures interrupted { IfErr result (λ error. error_kind error ≡ ErrorKind.Interrupted
             → write_faults self.new ≡ write_faults self.old) }
         ensures failed { IfErr result (λ error. error_kind error ≢ ErrorKind.Interrupted

@@ -1,7 +1,8 @@
 //! What is read: pieces of a stream.
 ghost use Rattle.std.specs.Prelude.{◌≡◌, ◌≤◌, ◌<◌, length, take, IfOk, IfErr, OnOk, vec_len};
 ghost use Rattle.std.specs.Io.KnownBytes.{Consumes, IsAtEnd, Keeps};
-ghost use Rattle.byte_streams.specs.Counted.{Counts, IsFlushed, IsReadFault, read_faults, reader_of, reads_left};
+ghost use Rattle.byte_streams.specs.Counted.{Counts, IsFlushed, IsReadFault, read_faults};
+ghost use Rattle.byte_streams.specs.Counted.{reader_of, reads_left};
 ghost use Rattle.byte_streams.specs.declared.fault.StreamFault.TheVariants.{ReadFailed};
 
 use crate::counted::{CountedReader, CountedWriter};
@@ -46,10 +47,11 @@ fn read_piece<R: Read>(
     }
 }
 
-/// Reads once, and again where that is interrupted, for a peer that gets what the writer writes. Only at the end of the
-/// input it gives no byte.
+/// Reads once, and again where that is interrupted, for a peer that gets what the writer writes.
+/// Only at the end of the input it gives no byte.
 ///
-/// What was written before has to be flushed: who waits for an answer has it before more is asked for.
+/// What was written before has to be flushed: who waits for an answer has it before more is asked
+/// for.
 pub fn read_some<R: Read, W>(
     reader: &mut CountedReader<R>,
     _writer: &CountedWriter<W>,
@@ -69,7 +71,8 @@ pub fn read_some<R: Read, W>(
     read_piece(reader, chunk)
 }
 
-/// Reads all that is left. `ReadFailed` comes where the reader failed, and `NoMemory` where a growth was refused.
+/// Reads all that is left. `ReadFailed` comes where the reader failed, and `NoMemory` where a
+/// growth was refused.
 pub fn read_all<R: Read>(
     alloc: Global,
     reader: &mut CountedReader<R>,

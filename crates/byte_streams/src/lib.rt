@@ -1,10 +1,11 @@
-//! Streams of bytes that are read and written: faults with their cause, a buffer for answers, and what it means that a
-//! stream was served.
+//! Streams of bytes that are read and written: faults with their cause, a buffer for answers, and
+//! what it means that a stream was served.
 //!
-//! A reader and a writer are counted: `CountedReader` and `CountedWriter` count their own faults, so a caller who is told
-//! `ReadFailed` or `WriteFailed` can see that the reader or the writer really failed. `Outbox` gathers answers and writes
-//! them in large pieces. `specs/Serving.antt` says what serving a stream wrote and left, whole, after a failed read and
-//! after a failed write, whatever the items of the stream are.
+//! A reader and a writer are counted: `CountedReader` and `CountedWriter` count their own faults,
+//! so a caller who is told `ReadFailed` or `WriteFailed` can see that the reader or the writer
+//! really failed. `Outbox` gathers answers and writes them in large pieces. `specs/Serving.antt`
+//! says what serving a stream wrote and left, whole, after a failed read and after a failed write,
+//! whatever the items of the stream are.
 #![tactic(auto)]
 
 mod counted;

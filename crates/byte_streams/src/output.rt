@@ -1,5 +1,6 @@
 //! What is written: answers are gathered, and written in large pieces.
-ghost use Rattle.std.specs.Prelude.{◌≡◌, ◌≤◌, ◌++◌, ℕ, List, [], ◌∷◌, OnOk, IfOk, IfErr, vec_len, vec_capacity};
+ghost use Rattle.std.specs.Prelude.{◌≡◌, ◌≤◌, ◌++◌, ℕ, List, [], ◌∷◌, OnOk, IfOk, IfErr, vec_len};
+ghost use Rattle.std.specs.Prelude.{vec_capacity};
 ghost use Rattle.std.specs.Io.KnownBytes.{Appends, Keeps};
 ghost use Rattle.byte_streams.specs.Counted.{Counts, IsFlushed, write_faults, writer_of};
 ghost use Rattle.byte_streams.specs.Writing.{Forwards, WritesBeginning};
@@ -40,7 +41,8 @@ impl Outbox {
 
     /// Writes what waits.
     fn write_out<W: Write>(&mut self, writer: &mut CountedWriter<W>) -> Result<(), StreamFault>
-        ensures ok { OnOk result ((self.new ≡ []) × Appends (W.contents (writer_of writer.old)) (W.contents (writer_of writer.new)) self.old) }
+        ensures ok { OnOk result ((self.new ≡ []) × Appends (W.contents (writer_of writer.old))
+            (W.contents (writer_of writer.new)) self.old) }
         ensures failed { IfErr result (λ fault. (fault ≡ WriteFailed)
             × WritesBeginning (W.contents (writer_of writer.old)) (W.contents (writer_of writer.new)) self.old) }
         ensures cause { Counts (write_faults writer.old) (write_faults writer.new) result }
@@ -56,7 +58,8 @@ impl Outbox {
         text: &[u8],
         writer: &mut CountedWriter<W>,
     ) -> Result<(), StreamFault>
-        ensures ok { OnOk result (Forwards (W.contents (writer_of writer.old)) (W.contents (writer_of writer.new)) (self.old ++ text.now) self.new) }
+        ensures ok { OnOk result (Forwards (W.contents (writer_of writer.old))
+            (W.contents (writer_of writer.new)) (self.old ++ text.now) self.new) }
         ensures failed { IfErr result (λ fault. (fault ≡ WriteFailed)
             × WritesBeginning (W.contents (writer_of writer.old)) (W.contents (writer_of writer.new)) (self.old ++ text.now)) }
         ensures cause { Counts (write_faults writer.old) (write_faults writer.new) result }
@@ -77,7 +80,8 @@ impl Outbox {
         text: &[u8],
         writer: &mut CountedWriter<W>,
     ) -> Result<(), StreamFault>
-        ensures ok { OnOk result (Forwards (W.contents (writer_of writer.old)) (W.contents (writer_of writer.new)) (self.old ++ (text.now ++ 10 ∷ [])) self.new) }
+        ensures ok { OnOk result (Forwards (W.contents (writer_of writer.old))
+            (W.contents (writer_of writer.new)) (self.old ++ (text.now ++ 10 ∷ [])) self.new) }
         ensures failed { IfErr result (λ fault. (fault ≡ WriteFailed)
             × WritesBeginning (W.contents (writer_of writer.old)) (W.contents (writer_of writer.new)) (self.old ++ (text.now ++ 10 ∷ []))) }
         ensures cause { Counts (write_faults writer.old) (write_faults writer.new) result }
@@ -88,7 +92,8 @@ impl Outbox {
 
     /// Writes what waits, and flushes the writer unless it is flushed.
     pub fn flush<W: Write>(&mut self, writer: &mut CountedWriter<W>) -> Result<(), StreamFault>
-        ensures ok { OnOk result ((self.new ≡ []) × Appends (W.contents (writer_of writer.old)) (W.contents (writer_of writer.new)) self.old) }
+        ensures ok { OnOk result ((self.new ≡ []) × Appends (W.contents (writer_of writer.old))
+            (W.contents (writer_of writer.new)) self.old) }
         ensures failed { IfErr result (λ fault. (fault ≡ WriteFailed)
             × WritesBeginning (W.contents (writer_of writer.old)) (W.contents (writer_of writer.new)) self.old) }
         ensures cause { Counts (write_faults writer.old) (write_faults writer.new) result }
@@ -99,9 +104,11 @@ impl Outbox {
     }
 }
 
-/// Writes all of the text. A write that is interrupted is tried again, and one that takes no byte is a fault.
+/// Writes all of the text. A write that is interrupted is tried again, and one that takes no byte
+/// is a fault.
 fn write_whole<W: Write>(writer: &mut CountedWriter<W>, text: &[u8]) -> Result<(), StreamFault>
-    ensures ok { OnOk result (Appends (W.contents (writer_of writer.old)) (W.contents (writer_of writer.new)) text.now) }
+    ensures ok { OnOk result (Appends (W.contents (writer_of writer.old))
+        (W.contents (writer_of writer.new)) text.now) }
     ensures failed { IfErr result (λ fault. (fault ≡ WriteFailed)
         × WritesBeginning (W.contents (writer_of writer.old)) (W.contents (writer_of writer.new)) text.now) }
     ensures cause { Counts (write_faults writer.old) (write_faults writer.new) result }
@@ -140,7 +147,8 @@ fn flush_writer<W: Write>(writer: &mut CountedWriter<W>) -> Result<(), StreamFau
 
 /// Writes all of a text, and flushes the writer.
 pub fn write_text<W: Write>(writer: &mut CountedWriter<W>, text: &[u8]) -> Result<(), StreamFault>
-    ensures ok { OnOk result (Appends (W.contents (writer_of writer.old)) (W.contents (writer_of writer.new)) text.now) }
+    ensures ok { OnOk result (Appends (W.contents (writer_of writer.old))
+        (W.contents (writer_of writer.new)) text.now) }
     ensures failed { IfErr result (λ fault. (fault ≡ WriteFailed)
         × WritesBeginning (W.contents (writer_of writer.old)) (W.contents (writer_of writer.new)) text.now) }
     ensures cause { Counts (write_faults writer.old) (write_faults writer.new) result }

@@ -6,7 +6,8 @@ use Rattle.ring_words.specs.declared.device.Row.{Row}
 
 -- the names of the columns
 abbrev pub header : List (List ℕ)
-header = codes "region" ∷ codes "zone" ∷ codes "address" ∷ codes "port" ∷ codes "name" ∷ codes "weight" ∷ []
+header = codes "region" ∷ codes "zone" ∷ codes "address" ∷ codes "port" ∷ codes "name" ∷
+    codes "weight" ∷ []
 
 -- the field in a column, counted from 1
 abbrev pub field_in : List (List ℕ) → ℕ → List ℕ

@@ -5,7 +5,8 @@ ghost use Rattle.csv.specs.Reading.{error_kind, stops_reader};
 use csv::{Error, ErrorKind};
 use std::alloc::AllocError;
 
-/// Why no rows are told. Rows are counted from 1, the record that names the columns aside, and columns from 1 to 6.
+/// Why no rows are told. Rows are counted from 1, the record that names the columns aside, and
+/// columns from 1 to 6.
 #[derive(Clone, Copy, Debug, PartialEq, Eq)]
 pub enum CsvFault {
     /// The first record isn't `region,zone,address,port,name,weight`, or there is none.

@@ -1,6 +1,7 @@
 //! The values that fields spell. A field that isn't UTF-8 spells none.
 ghost use Rattle.std.specs.Prelude.{◌≡◌, IsErrOf, IfNone, IfSome, IsUtf8};
-ghost use Rattle.ring_words.specs.Spelling.{Reads, SpellsAddress, SpellsName, SpellsNumber, SpellsWeight};
+ghost use Rattle.ring_words.specs.Spelling.{Reads, SpellsAddress, SpellsName, SpellsNumber};
+ghost use Rattle.ring_words.specs.Spelling.{SpellsWeight};
 ghost use Rattle.ring_words.specs.Texts.{is_device_name};
 
 use ring_words::{

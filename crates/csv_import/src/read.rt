@@ -1,5 +1,6 @@
 //! Records, one after another.
-ghost use Rattle.std.specs.Prelude.{◌≡◌, ◌≢◌, ◌∷◌, ◌++◌, [], ℕ, List, Some, IfOk, IfErr, MatchBool, MatchResult, OnOk};
+ghost use Rattle.std.specs.Prelude.{◌≡◌, ◌≢◌, ◌∷◌, ◌++◌, [], ℕ, List, Some, IfOk, IfErr, MatchBool};
+ghost use Rattle.std.specs.Prelude.{MatchResult, OnOk};
 ghost use Rattle.byte_streams.specs.Counted.{read_faults, reader_of};
 ghost use Rattle.csv.specs.Records.{fields_of};
 ghost use Rattle.csv_import.specs.Fields.{header};
@@ -19,7 +20,8 @@ use std::io::Read;
 fn read_next<R: Read>(reader: &mut Reader<R>, fields: &mut ByteRecord) -> Result<bool, CsvFault>
     requires { IsOpen reader.old }
     ensures open { OnOk result (IsOpen reader.new) }
-    ensures read { IfOk result (λ found. (text : List ℕ) (given : List (List (List ℕ))) → HasGiven R.remaining text given reader.old
+    ensures read { IfOk result (λ found. (text : List ℕ) (given : List (List (List ℕ))) →
+        HasGiven R.remaining text given reader.old
         → MatchBool found (HasGiven R.remaining text (given ++ fields_of fields.new ∷ []) reader.new) (records_of text ≡ given)) }
     ensures given_up { IfErr result (λ fault. fault ≡ CsvFault.NoMemory) }
 {
@@ -32,7 +34,8 @@ fn read_next<R: Read>(reader: &mut Reader<R>, fields: &mut ByteRecord) -> Result
 /// A reader of records that may differ in length, none of which it takes for names.
 fn open<R: Read>(alloc: Global, reader: R) -> Reader<R>
     ensures open { IsOpen result }
-    ensures given { (text : List ℕ) → R.remaining reader ≡ Some text → HasGiven R.remaining text [] result }
+    ensures given { (text : List ℕ) → R.remaining reader ≡ Some text →
+        HasGiven R.remaining text [] result }
 {
     ReaderBuilder::new()
         .has_headers(false)
@@ -44,8 +47,10 @@ fn open<R: Read>(alloc: Global, reader: R) -> Reader<R>
 fn read_header<R: Read>(reader: &mut Reader<R>, fields: &mut ByteRecord) -> Result<(), CsvFault>
     requires { IsOpen reader.old }
     ensures open { OnOk result (IsOpen reader.new) }
-    ensures named { IfOk result (λ _. (text : List ℕ) → HasGiven R.remaining text [] reader.old → HasGiven R.remaining text (header ∷ []) reader.new) }
-    ensures wrong { IfErr result (λ fault. (text : List ℕ) → HasGiven R.remaining text [] reader.old → IsWrong (records_of text) fault) }
+    ensures named { IfOk result (λ _. (text : List ℕ) → HasGiven R.remaining text [] reader.old →
+        HasGiven R.remaining text (header ∷ []) reader.new) }
+    ensures wrong { IfErr result (λ fault. (text : List ℕ) → HasGiven R.remaining text [] reader.old
+        → IsWrong (records_of text) fault) }
 {
     if read_next(reader, fields)? && is_header(fields) {
         Ok(())
@@ -54,11 +59,13 @@ fn read_header<R: Read>(reader: &mut Reader<R>, fields: &mut ByteRecord) -> Resu
     }
 }
 
-/// The rows of the text that a reader gives, in order, or the first fault in it. That a text in memory can't be read is
-/// told as want of memory.
+/// The rows of the text that a reader gives, in order, or the first fault in it. That a text in
+/// memory can't be read is told as want of memory.
 fn rows_from<R: Read + Drop>(alloc: Global, reader: R) -> Result<Vec<Row>, CsvFault>
-    ensures rows { IfOk result (λ rows. (text : List ℕ) → R.remaining reader ≡ Some text → AreRows (records_of text) rows.items) }
-    ensures wrong { IfErr result (λ fault. (text : List ℕ) → R.remaining reader ≡ Some text → IsWrong (records_of text) fault) }
+    ensures rows { IfOk result (λ rows. (text : List ℕ) → R.remaining reader ≡ Some text →
+        AreRows (records_of text) rows.items) }
+    ensures wrong { IfErr result (λ fault. (text : List ℕ) → R.remaining reader ≡ Some text →
+        IsWrong (records_of text) fault) }
 {
     let mut records = open(alloc, reader);
     let mut fields = ByteRecord::new(alloc);
@@ -77,21 +84,25 @@ fn rows_from<R: Read + Drop>(alloc: Global, reader: R) -> Result<Vec<Row>, CsvFa
     Err(CsvFault::NoMemory)
 }
 
-/// The rows of the text that a reader gives, in order. The text is CSV: fields between commas, in double quotes where
-/// need be (RFC 4180, as the crate `csv` reads it); its first record is `region,zone,address,port,name,weight`.
+/// The rows of the text that a reader gives, in order. The text is CSV: fields between commas, in
+/// double quotes where need be (RFC 4180, as the crate `csv` reads it); its first record is
+/// `region,zone,address,port,name,weight`.
 ///
-/// The whole text is read first. ReadFailed comes where the reader failed, and the reader counts one more fault exactly
-/// then; a read that is interrupted is tried again. Else the first fault in the text is answered, BadHeader, BadRow or
-/// BadField, or NoMemory where a growth was refused.
+/// The whole text is read first. ReadFailed comes where the reader failed, and the reader counts
+/// one more fault exactly then; a read that is interrupted is tried again. Else the first fault in
+/// the text is answered, BadHeader, BadRow or BadField, or NoMemory where a growth was refused.
 pub fn read_rows<R: Read>(
     alloc: Global,
     reader: &mut CountedReader<R>,
 ) -> Result<Vec<Row>, CsvFault>
-    ensures rows { IfOk result (λ rows. (text : List ℕ) → R.remaining (reader_of reader.old) ≡ Some text
+    ensures rows { IfOk result (λ rows. (text : List ℕ) → R.remaining (reader_of reader.old) ≡ Some
+        text
         → AreRows (records_of text) rows.items) }
-    ensures wrong { IfErr result (λ fault. fault ≢ ReadFailed → (text : List ℕ) → R.remaining (reader_of reader.old) ≡ Some text
+    ensures wrong { IfErr result (λ fault. fault ≢ ReadFailed → (text : List ℕ) →
+        R.remaining (reader_of reader.old) ≡ Some text
         → IsWrong (records_of text) fault) }
-    ensures cause { MatchResult result (λ _. read_faults reader.new ≡ read_faults reader.old) (IsCsvCaused reader.old reader.new) }
+    ensures cause { MatchResult result (λ _. read_faults reader.new ≡ read_faults reader.old)
+        (IsCsvCaused reader.old reader.new) }
 {
     let text = match read_all(alloc, reader) {
         Ok(text) => text,

@@ -1,9 +1,11 @@
 -- Lines that are answered one after another are one run.
-use Rattle.std.proofs.Common.{◌≡◌, Err, List, None, Ok, Option, Result, Some, [], inl, inr, refl, subst, sym, ℕ}
+use Rattle.std.proofs.Common.{◌≡◌, Err, List, None, Ok, Option, Result, [], inl, inr, refl}
+use Rattle.std.proofs.Common.{subst, sym, ℕ}
 use Rattle.std.specs.Prelude.{IfErr, IfOk}
 use Rattle.byte_streams.specs.InTurn.{InTurn}
 use Rattle.byte_streams.specs.declared.fault.StreamFault.{StreamFault}
-use Rattle.byte_streams.specs.declared.fault.StreamFault.TheVariants.{NoMemory, ReadFailed, WriteFailed}
+use Rattle.byte_streams.specs.declared.fault.StreamFault.TheVariants.{NoMemory, ReadFailed}
+use Rattle.byte_streams.specs.declared.fault.StreamFault.TheVariants.{WriteFailed}
 use Rattle.byte_streams.proofs.ServedLemmas.{served_as, stopped_as}
 use Rattle.ring_words.specs.declared.command.Command.{Command}
 use Rattle.ring_words.specs.declared.command.Reply.{Reply}
@@ -22,59 +24,94 @@ use Rattle.line_stream.specs.Serving.{LinesServed, LinesStopped}
 use Rattle.line_api.specs.Lines.{Asked, Gets, answer_line}
 use Rattle.line_api.specs.Served.{Answers, Found, Loses, Made, RingBook, ServesLines, steps_of}
 
-module _ {K : Type 0} (content : K → Content State Command Reply) (sound : K → Type 0) (limit : K → ℕ) (faults : K → ℕ) where
+module _ {K : Type 0} (content : K → Content State Command Reply) (sound : K → Type 0) (limit : K →
+    ℕ) (faults : K → ℕ) where
   abbrev Book : Type 0
   Book = RingBook content sound limit faults
 
   -- what the handler of lines gives
   abbrev Gives : Book → List ℕ → List ℕ → Book → Type 0
-  Gives old line text new = Answered (Answers content sound limit faults) (Loses content sound limit faults) (answer_line told.NoMemory) (answer_line told.Unreadable) old line text new
+  Gives old line text new = Answered (Answers content sound limit faults) (Loses content sound limit
+      faults) (answer_line told.NoMemory) (answer_line told.Unreadable) old line text new
 
   abbrev IsTurn : Book → List ℕ → Asked → List ℕ → Book → Type 0
   IsTurn old line asked text new = Turn steps_of content sound limit faults (λ book. book)
-      (λ before item asks answer after. Gets (Found content sound limit faults before after) item asks answer) old line asked text new
+      (λ before item asks answer after. Gets (Found content sound limit faults before after) item
+      asks answer) old line asked text new
 
-  turns : (old : Book) (line text : List ℕ) (new : Book) → Gives old line text new → (asked : Asked) × IsTurn old line asked text new
-  turns old line text new (inl (short, inl answered)) = (answered.0, record { gets = inl (short, inl answered.1); made = answered.2 })
-  turns old line text new (inl (short, inr lost)) = (lost.0.0, record { gets = inl (short, inr (lost.0.1, lost.1)); made = lost.0.2 })
-  turns old line text new (inr (long, text_is, same)) =
-      (None, record { gets = inr (long, refl, text_is); made = subst (λ book. Made content sound limit faults old book None) (sym same) (none_made steps_of content sound limit faults old) })
+  turns : (old : Book) (line text : List ℕ) (new : Book) → Gives old line text new →
+      (asked : Asked) × IsTurn old line asked text new
+  turns old line text new (inl (short, inl answered)) =
+      (answered.0, record { gets = inl (short, inl answered.1); made = answered.2 })
+  turns old line text new (inl (short, inr lost)) =
+      (lost.0.0, record { gets = inl (short, inr (lost.0.1, lost.1)); made = lost.0.2 })
+  turns old line text new (inr (long, text_is, same)) = (
+    None,
+    record {
+      gets = inr (long, refl, text_is);
+      made =
+          subst (λ book. Made content sound limit faults old book None) (sym same)
+          (none_made steps_of content sound limit faults old);
+    },
+  )
 
-  serves : (old : Book) (lines texts : List (List ℕ)) (new : Book) → InTurn Gives old lines texts new → ServesLines content sound limit faults old lines texts new
-  serves old lines texts new turn = in_turn_serves steps_of content sound limit faults (λ book. book)
-      (λ before item asks answer after. Gets (Found content sound limit faults before after) item asks answer) Gives turns old lines texts new turn
+  serves : (old : Book) (lines texts : List (List ℕ)) (new : Book) →
+      InTurn Gives old lines texts new → ServesLines content sound limit faults old lines texts new
+  serves old lines texts new turn = in_turn_serves steps_of content sound limit faults
+      (λ book. book)
+      (λ before item asks answer after. Gets (Found content sound limit faults before after) item
+      asks answer) Gives turns old lines texts new turn
 
   -- what the server of lines tells of its handler holds of the run
-  pub served_run : (known before after : Option (List ℕ)) (old new : Book) (count : ℕ) → LinesServed (InTurn Gives) known before after old new count
+  pub served_run : (known before after : Option (List ℕ)) (old new : Book) (count : ℕ) →
+      LinesServed (InTurn Gives) known before after old new count
       → LinesServed (ServesLines content sound limit faults) known before after old new count
-  served_run = served_as AreLines HaveEnded ended (InTurn Gives) (ServesLines content sound limit faults) serves
+  served_run = served_as AreLines HaveEnded ended (InTurn Gives) (ServesLines content sound limit
+      faults) serves
 
-  pub stopped_run : (known left before after : Option (List ℕ)) (old new : Book) (untouched : Type 0) (fault : StreamFault)
+  pub stopped_run : (known left before after : Option (List ℕ)) (old new : Book)
+      (untouched : Type 0) (fault : StreamFault)
       → LinesStopped (InTurn Gives) known left before after old new untouched fault
-      → LinesStopped (ServesLines content sound limit faults) known left before after old new untouched fault
-  stopped_run = stopped_as AreLines HaveEnded ended (InTurn Gives) (ServesLines content sound limit faults) serves
+      → LinesStopped (ServesLines content sound limit faults) known left before after old new
+      untouched fault
+  stopped_run = stopped_as AreLines HaveEnded ended (InTurn Gives) (ServesLines content sound limit
+      faults) serves
 
   -- calls that are one run are a safe run
-  safe_calls : (old new : Book) (calls : List (Call Command Reply)) → CallsMade steps_of content sound limit faults old new calls → sound new.keeper
+  safe_calls : (old new : Book) (calls : List (Call Command Reply)) →
+      CallsMade steps_of content sound limit faults old new calls → sound new.keeper
       → IsSafeRun old.machine.limits (content old.keeper) (content new.keeper)
   safe_calls old new calls made s =
-      safe_run old.machine.limits (limit old.keeper) (is_closed steps_of content sound limit faults old) (content old.keeper) (content new.keeper) calls (made.run s)
+      safe_run old.machine.limits (limit old.keeper) (is_closed steps_of content sound limit faults
+      old) (content old.keeper) (content new.keeper) calls (made.run s)
 
-  unmoved : (old new : Book) → new ≡ old → sound new.keeper → IsSafeRun old.machine.limits (content old.keeper) (content new.keeper)
-  unmoved old new same = subst (λ (book : Book). sound book.keeper → IsSafeRun old.machine.limits (content old.keeper) (content book.keeper)) (sym same)
+  unmoved : (old new : Book) → new ≡ old → sound new.keeper →
+      IsSafeRun old.machine.limits (content old.keeper) (content new.keeper)
+  unmoved old new same = subst (λ (book : Book). sound book.keeper →
+      IsSafeRun old.machine.limits (content old.keeper) (content book.keeper)) (sym same)
       (λ s. safe_calls old old [] (starts steps_of content sound limit faults old) s)
 
-  stopped_safe : (known left before after : Option (List ℕ)) (old new : Book) (readers writers : Type 0) (fault : StreamFault)
-      → LinesStopped (ServesLines content sound limit faults) known left before after old new (readers × writers × (new ≡ old)) fault
+  stopped_safe : (known left before after : Option (List ℕ)) (old new : Book)
+      (readers writers : Type 0) (fault : StreamFault)
+      → LinesStopped (ServesLines content sound limit faults) known left before after old new
+      (readers × writers × (new ≡ old)) fault
       → sound new.keeper → IsSafeRun old.machine.limits (content old.keeper) (content new.keeper)
-  stopped_safe known left before after old new readers writers ReadFailed stopped s = safe_calls old new stopped.get.calls stopped.get.made s
-  stopped_safe known left before after old new readers writers WriteFailed stopped s = safe_calls old new stopped.get.calls stopped.get.made s
-  stopped_safe known left before after old new readers writers NoMemory stopped s = unmoved old new stopped.2 s
+  stopped_safe known left before after old new readers writers ReadFailed stopped s =
+      safe_calls old new stopped.get.calls stopped.get.made s
+  stopped_safe known left before after old new readers writers WriteFailed stopped s =
+      safe_calls old new stopped.get.calls stopped.get.made s
+  stopped_safe known left before after old new readers writers NoMemory stopped s =
+      unmoved old new stopped.2 s
 
   -- whatever lines came, what the book was led to is a safe run
-  pub served_safe : (known left before after : Option (List ℕ)) (old new : Book) (readers writers : Type 0) (result : Result ℕ StreamFault)
-      → IfOk result (LinesServed (ServesLines content sound limit faults) known before after old new)
-      → IfErr result (LinesStopped (ServesLines content sound limit faults) known left before after old new (readers × writers × (new ≡ old)))
+  pub served_safe : (known left before after : Option (List ℕ)) (old new : Book)
+      (readers writers : Type 0) (result : Result ℕ StreamFault)
+      → IfOk result (LinesServed (ServesLines content sound limit faults) known before after old
+      new)
+      → IfErr result (LinesStopped (ServesLines content sound limit faults) known left before after
+      old new (readers × writers × (new ≡ old)))
       → sound new.keeper → IsSafeRun old.machine.limits (content old.keeper) (content new.keeper)
-  served_safe known left before after old new readers writers (Ok count) served stopped s = safe_calls old new served.get.calls served.get.made s
-  served_safe known left before after old new readers writers (Err fault) served stopped s = stopped_safe known left before after old new readers writers fault stopped s
+  served_safe known left before after old new readers writers (Ok count) served stopped s =
+      safe_calls old new served.get.calls served.get.made s
+  served_safe known left before after old new readers writers (Err fault) served stopped s =
+      stopped_safe known left before after old new readers writers fault stopped s

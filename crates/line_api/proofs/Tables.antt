@@ -1,36 +1,56 @@
 -- A table ends with a line feed.
-use Rattle.std.proofs.Common.{◌≡◌, ℕ, List, [], ◌∷◌, ◌++◌, codes, decimal, map, refl, sym, ap, ◌∙◌, append-nil, append_assoc}
+use Rattle.std.proofs.Common.{◌≡◌, ℕ, List, [], ◌∷◌, ◌++◌, codes, decimal, map, refl, sym, ap, ◌∙◌}
+use Rattle.std.proofs.Common.{append-nil, append_assoc}
 use Rattle.std.specs.List.{concat, zip}
 use Rattle.ring_model.specs.Ring.{RingRecord}
 use Rattle.ring_words.specs.Texts.{hundredths_text}
 use Rattle.ring_share.specs.Figures.{ring_balance, ring_dispersion}
 use Rattle.ring_share.specs.Want.{AreWanted}
 use Rattle.ring_tables.specs.Layout.{Columns, cells, row, table}
-use Rattle.ring_tables.specs.Tables.{balance_columns, balance_table, balance_texts, balance_titles, device_columns, device_table, device_texts, device_titles, figures_line}
+use Rattle.ring_tables.specs.Tables.{balance_columns, balance_table, balance_texts, balance_titles}
+use Rattle.ring_tables.specs.Tables.{device_columns, device_table, device_texts, device_titles}
+use Rattle.ring_tables.specs.Tables.{figures_line}
 
 -- a text ends with a line feed
 abbrev pub IsEnded : List ℕ → Type 0
 IsEnded text = (front : List ℕ) × (text ≡ front ++ 10 ∷ [])
 
 -- rows behind a text that ends so end so
-rows_end : (columns : Columns) (front : List ℕ) (rows : List (List (List ℕ))) → IsEnded ((front ++ 10 ∷ []) ++ concat (map (row columns) rows))
+rows_end : (columns : Columns) (front : List ℕ) (rows : List (List (List ℕ))) →
+    IsEnded ((front ++ 10 ∷ []) ++ concat (map (row columns) rows))
 rows_end columns front [] = (front, append-nil (front ++ 10 ∷ []))
 rows_end columns front (texts ∷ rows) =
     let before : List ℕ = front ++ 10 ∷ [] in
     let after : List ℕ = concat (map (row columns) rows) in
-    let rest = rows_end columns (before ++ cells columns texts) rows in
-    (rest.0, sym (append_assoc before (row columns texts) after) ∙ ap (λ (t : List ℕ). t ++ after) (sym (append_assoc before (cells columns texts) (10 ∷ []))) ∙ rest.1)
+    let rest = rows_end columns (before ++ cells columns texts) rows in (
+      rest.0,
+      sym (append_assoc before (row columns texts) after) ∙ ap (λ (t : List ℕ). t ++ after)
+          (sym (append_assoc before (cells columns texts) (10 ∷ []))) ∙ rest.1,
+    )
 
-pub device_table_ends : (ring : RingRecord) (text : List ℕ) → text ≡ device_table ring → IsEnded text
+pub device_table_ends : (ring : RingRecord) (text : List ℕ) → text ≡ device_table ring →
+    IsEnded text
 device_table_ends ring text is =
-    let rest = rows_end device_columns (cells device_columns device_titles) (map device_texts ring.devices) in
+    let rest = rows_end device_columns (cells device_columns device_titles)
+    (map device_texts ring.devices) in
     (rest.0, is ∙ rest.1)
 
 figures_end : (ring : RingRecord) → IsEnded (figures_line ring)
-figures_end ring = (codes "balance " ++ hundredths_text (ring_balance ring) ++ codes " dispersion " ++ hundredths_text (ring_dispersion ring) ++ codes " version " ++ decimal ring.version, refl)
+figures_end ring = (
+  codes "balance " ++ hundredths_text (ring_balance ring) ++
+      codes " dispersion " ++ hundredths_text (ring_dispersion ring) ++ codes " version " ++
+      decimal ring.version,
+  refl,
+)
 
-pub balance_table_ends : (ring : RingRecord) (text : List ℕ) → (wants : List ℕ) × AreWanted ring wants → ((wants : List ℕ) → AreWanted ring wants → text ≡ balance_table ring wants) → IsEnded text
+pub balance_table_ends : (ring : RingRecord) (text : List ℕ) → (wants : List ℕ) ×
+    AreWanted ring wants → ((wants : List ℕ) → AreWanted ring wants →
+    text ≡ balance_table ring wants) → IsEnded text
 balance_table_ends ring text some is =
-    let rows : List ℕ = table balance_columns balance_titles (map (λ e. balance_texts ring e.0 e.1) (zip ring.devices some.0)) in
-    let last = figures_end ring in
-    (rows ++ last.0, is some.0 some.1 ∙ ap (λ (t : List ℕ). rows ++ t) last.1 ∙ sym (append_assoc rows last.0 (10 ∷ [])))
+    let rows : List ℕ = table balance_columns balance_titles (map (λ e. balance_texts ring e.0 e.1)
+    (zip ring.devices some.0)) in
+    let last = figures_end ring in (
+      rows ++ last.0,
+      is some.0 some.1 ∙ ap (λ (t : List ℕ). rows ++ t) last.1 ∙ sym
+          (append_assoc rows last.0 (10 ∷ [])),
+    )

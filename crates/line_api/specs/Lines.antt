@@ -1,5 +1,6 @@
 -- What `ringd run` answers to its lines.
-use Rattle.std.specs.Prelude.{◌≡◌, ◌⊎◌, ℕ, ◌^◌, ◌<◌, ◌≤◌, ◌++◌, ◌∷◌, [], List, IsTrue, MatchOption, Option, Some, None, Result, Ok, Err, ⊤, codes, decimal, length}
+use Rattle.std.specs.Prelude.{◌≡◌, ◌⊎◌, ℕ, ◌^◌, ◌<◌, ◌≤◌, ◌++◌, ◌∷◌, [], List, IsTrue, MatchOption}
+use Rattle.std.specs.Prelude.{Option, Some, None, Result, Ok, Err, ⊤, codes, decimal, length}
 use Rattle.ring_model.specs.Ring.{RingRecord}
 use Rattle.ring_model.specs.Rings.{ring_at}
 use Rattle.ring_words.specs.Texts.{is_label}
@@ -26,7 +27,8 @@ use Rattle.line_api.specs.declared.lines.Request.TheVariants as request
 
 -- WHAT A LINE ASKS FOR
 
--- The line asks for this delivery: its hour in decimal, one space, and the message of its key and its command.
+-- The line asks for this delivery: its hour in decimal, one space, and the message of its key and
+-- its command.
 pub record Asks (line : List ℕ) (delivery : Delivery Command) : Type 0 where
   pub message : List ℕ
   pub is : line ≡ decimal delivery.hour ++ 32 ∷ message
@@ -70,14 +72,18 @@ answer_line t = decimal (answer_status t) ++ 32 ∷ answer_text t
 -- The text, with the line feed that ends it, is this table of the ring.
 abbrev pub IsTable : Table → RingRecord → List ℕ → Type 0
 IsTable Devices ring text = text ++ 10 ∷ [] ≡ tables.device_table ring
-IsTable Balance ring text = (wants : List ℕ) × AreWanted ring wants × (text ++ 10 ∷ [] ≡ tables.balance_table ring wants)
+IsTable Balance ring text = (wants : List ℕ) × AreWanted ring wants ×
+    (text ++ 10 ∷ [] ≡ tables.balance_table ring wants)
 
--- What a question is told where these are the rings: the table of the ring of its name, or that there is none.
+-- What a question is told where these are the rings: the table of the ring of its name, or that
+-- there is none.
 abbrev pub IsShown : State → Question → List ℕ → Type 0
-IsShown rings question text = MatchOption (ring_at question.ring rings) (text ≡ answer_line (told.Reply (reply.Refused refusal.NoRing))) (λ ring. IsTable question.table ring text)
+IsShown rings question text = MatchOption (ring_at question.ring rings)
+    (text ≡ answer_line (told.Reply (reply.Refused refusal.NoRing))) (λ ring. IsTable question.table
+    ring text)
 
--- What a question is told where this is the answer of the call that makes the rings ready to be read: what the rings
--- that are found show, or why none can be read.
+-- What a question is told where this is the answer of the call that makes the rings ready to be
+-- read: what the rings that are found show, or why none can be read.
 abbrev pub IsTold : (State → Type 0) → Question → Result (Unit {0}) Fault → List ℕ → Type 0
 IsTold Finds question (Ok ready) text = (rings : State) × Finds rings × IsShown rings question text
 IsTold Finds question (Err fault) text = text ≡ answer_line (told_fault fault)
@@ -86,22 +92,28 @@ IsTold Finds question (Err fault) text = text ≡ answer_line (told_fault fault)
 abbrev pub Asked : Type 0
 Asked = Option (Call Command Reply)
 
--- A line gets this text where this is the call that it leads to, if any: a delivery's answer, what a question is told of
--- the rings that are found, or that it is unreadable.
+-- A line gets this text where this is the call that it leads to, if any: a delivery's answer, what
+-- a question is told of the rings that are found, or that it is unreadable.
 abbrev pub IsAnswer : (State → Type 0) → List ℕ → Asked → List ℕ → Type 0
-IsAnswer Finds line None text = ((request : Request) → AsksFor line request → ⊥) × (text ≡ answer_line told.Unreadable)
-IsAnswer Finds line (Some (Deliver delivery answer)) text = Asks line delivery × (text ≡ answer_line (told_of answer))
-IsAnswer Finds line (Some (Load answer)) text = (question : Question) × AsksTable line question × IsTold Finds question answer text
+IsAnswer Finds line None text = ((request : Request) → AsksFor line request → ⊥) ×
+    (text ≡ answer_line told.Unreadable)
+IsAnswer Finds line (Some (Deliver delivery answer)) text = Asks line delivery ×
+    (text ≡ answer_line (told_of answer))
+IsAnswer Finds line (Some (Load answer)) text = (question : Question) × AsksTable line question ×
+    IsTold Finds question answer text
 
--- A line whose answer found no memory: it led to no call, or to that of its delivery or its question.
+-- A line whose answer found no memory: it led to no call, or to that of its delivery or its
+-- question.
 abbrev pub IsLost : List ℕ → Asked → Type 0
 IsLost line None = ⊤
 IsLost line (Some (Deliver delivery answer)) = Asks line delivery
 IsLost line (Some (Load answer)) = (question : Question) × AsksTable line question
 
--- What a line is given where this is the call that it leads to, if any: its answer, or what stands for an answer that
--- found no memory. A line of more than 65536 bytes is unreadable and leads to no call.
+-- What a line is given where this is the call that it leads to, if any: its answer, or what stands
+-- for an answer that found no memory. A line of more than 65536 bytes is unreadable and leads to no
+-- call.
 abbrev pub Gets : (State → Type 0) → List ℕ → Asked → List ℕ → Type 0
 Gets Finds line asked text =
-    ((length line ≤ 65536) × (IsAnswer Finds line asked text ⊎ (IsLost line asked × (text ≡ answer_line told.NoMemory))))
+    ((length line ≤ 65536) × (IsAnswer Finds line asked text ⊎
+    (IsLost line asked × (text ≡ answer_line told.NoMemory))))
     ⊎ ((65536 < length line) × (asked ≡ None) × (text ≡ answer_line told.Unreadable))

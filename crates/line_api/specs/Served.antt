@@ -1,24 +1,20 @@
 -- What serving lines does to a book, and what it writes.
-use Rattle.std.specs.Prelude.{ℕ, List, Option}
+use Rattle.std.specs.Prelude.{ℕ, List}
 use Rattle.ring_words.specs.declared.command.Command.{Command}
 use Rattle.ring_words.specs.declared.command.Reply.{Reply}
-use Rattle.ring_words.specs.declared.request.Delivery.{Delivery}
-use Rattle.ring_messages.specs.declared.told.Told.{Told}
 use Rattle.request_book.specs.Book.{Parts}
-use Rattle.request_book.specs.Call.{Deliver}
 use Rattle.request_book.specs.Content.{Content}
-use Rattle.request_book.specs.declared.book.Fault.{Fault}
-use Rattle.std.specs.Prelude.{◌≡◌, Result, Some}
 use Rattle.book_front.specs.Front.{CallMade, Finds, Serves}
 use Rattle.builder.specs.Step.{State, Step}
 use Rattle.builder.specs.declared.machine.RingMachine.{RingMachine}
-use Rattle.line_api.specs.Lines.{Asked, Gets, IsAnswer, IsLost, told_of}
+use Rattle.line_api.specs.Lines.{Asked, Gets, IsAnswer, IsLost}
 
 -- the steps of a builder
 abbrev pub steps_of : RingMachine → State → ℕ → Command → Reply → State → Type 0
 steps_of machine rings hour command reply after = Step machine.limits rings hour command reply after
 
-module _ {K : Type 0} (content : K → Content State Command Reply) (sound : K → Type 0) (limit : K → ℕ) (faults : K → ℕ) where
+module _ {K : Type 0} (content : K → Content State Command Reply) (sound : K → Type 0) (limit : K →
+    ℕ) (faults : K → ℕ) where
   -- a book of the builder
   abbrev pub RingBook : Type 0
   RingBook = Parts RingMachine K
@@ -31,22 +27,18 @@ module _ {K : Type 0} (content : K → Content State Command Reply) (sound : K �
   abbrev pub Found : RingBook → RingBook → State → Type 0
   Found old new rings = Finds steps_of content sound limit faults old new rings
 
-  -- A delivery gets an answer that is told so, and one book becomes the other.
-  pub record Delivers (old new : RingBook) (delivery : Delivery Command) (told : Told) : Type 0 where
-    pub answer : Result Reply Fault
-    pub told_is : told ≡ told_of answer
-    pub made : Made old new (Some (Deliver delivery answer))
-
   -- a line is answered by this text, and one book becomes the other
   abbrev pub Answers : RingBook → List ℕ → List ℕ → RingBook → Type 0
-  Answers old line text new = (asked : Asked) × IsAnswer (Found old new) line asked text × Made old new asked
+  Answers old line text new = (asked : Asked) × IsAnswer (Found old new) line asked text ×
+      Made old new asked
 
   -- the answer to a line is lost for want of memory, and one book becomes the other
   abbrev pub Loses : RingBook → List ℕ → RingBook → Type 0
   Loses old line new = (asked : Asked) × IsLost line asked × Made old new asked
 
-  -- The lines get these texts, and the calls that they lead to are one run: of each line by what it asks for, from the
-  -- rings that the lines before it left.
+  -- The lines get these texts, and the calls that they lead to are one run: of each line by what it
+  -- asks for, from the rings that the lines before it left.
   abbrev pub ServesLines : RingBook → List (List ℕ) → List (List ℕ) → RingBook → Type 0
   ServesLines old lines texts new = Serves steps_of content sound limit faults (λ book. book)
-      (λ before line asked text after. Gets (Found before after) line asked text) old lines texts new
+      (λ before line asked text after. Gets (Found before after) line asked text) old lines texts
+      new

@@ -6,8 +6,10 @@ ghost use Rattle.builder.specs.Safety.{IsSafeRun};
 ghost use Rattle.byte_streams.specs.Counted.{FailsWithCause, LeavesFlushed, reader_of, writer_of};
 ghost use Rattle.request_book.specs.Call.{Load};
 ghost use Rattle.request_book.specs.declared.book.Fault.{Fault};
-ghost use Rattle.line_api.specs.Lines.{Asks, AsksFor, IsShown, IsTold, answer_line, told_fault, told_of};
-ghost use Rattle.line_api.specs.Served.{Answers, Delivers, Found, Loses, Made, ServesLines};
+ghost use Rattle.line_api.specs.Lines.{Asks, AsksFor, IsShown, IsTold, answer_line, told_fault};
+ghost use Rattle.line_api.specs.Lines.{told_of};
+ghost use Rattle.line_api.specs.Served.{Answers, Found, Loses, Made, ServesLines};
+ghost use Rattle.line_api.specs.Inner.Delivered.{Delivers};
 ghost use Rattle.line_stream.specs.Serving.{LinesServed, LinesStopped};
 ghost use Rattle.ring_messages.specs.declared.told.Told.TheVariants as told;
 
@@ -32,7 +34,8 @@ enum Request {
     Question(Question),
 }
 
-/// The delivery that a line asks for: its hour, a space, and a message. Unreadable exactly where it asks for none.
+/// The delivery that a line asks for: its hour, a space, and a message. Unreadable exactly where it
+/// asks for none.
 fn read_line(alloc: Global, line: &[u8]) -> Result<Delivery<Command>, MessageFault>
     ensures { Reads (Asks line.now) result }
 {
@@ -164,18 +167,20 @@ impl<K: Keeper<RingMachine>> Handler for RingLines<K> {
     }
 }
 
-/// Answers every line of a reader on a writer, in order, and tells how many there were, 4294967295 for more. A line is
-/// an hour in decimal, one space, and a message with the request's key and its command; it is answered by a status, a
-/// space and the answer. Or it is `? devices RING` or `? balance RING`, and is answered by that table of the ring, or by
-/// a status, a space and why there is none. What came is answered and flushed before the reader is asked for more.
+/// Answers every line of a reader on a writer, in order, and tells how many there were, 4294967295
+/// for more. A line is an hour in decimal, one space, and a message with the request's key and its
+/// command; it is answered by a status, a space and the answer. Or it is `? devices RING` or `?
+/// balance RING`, and is answered by that table of the ring, or by a status, a space and why there
+/// is none. What came is answered and flushed before the reader is asked for more.
 ///
-/// The deliveries are one run of the book: each number is decided once, in the order of the lines, and every repeat
-/// gets its kept reply. A question is answered from the rings that the deliveries of the lines before it left, and
-/// changes nothing.
+/// The deliveries are one run of the book: each number is decided once, in the order of the lines,
+/// and every repeat gets its kept reply. A question is answered from the rings that the deliveries
+/// of the lines before it left, and changes nothing.
 ///
-/// After ReadFailed the answers so far were written and flushed, and after WriteFailed a beginning of them was written;
-/// what was decided stays decided. NoMemory comes before the first read, and nothing was touched. The reader counts one
-/// more fault exactly at ReadFailed, and the writer exactly at WriteFailed.
+/// After ReadFailed the answers so far were written and flushed, and after WriteFailed a beginning
+/// of them was written; what was decided stays decided. NoMemory comes before the first read, and
+/// nothing was touched. The reader counts one more fault exactly at ReadFailed, and the writer
+/// exactly at WriteFailed.
 pub fn run_lines<R: Read, W: Write, K: Keeper<RingMachine>>(
     alloc: Global,
     reader: &mut CountedReader<R>,
@@ -186,14 +191,16 @@ pub fn run_lines<R: Read, W: Write, K: Keeper<RingMachine>>(
         (R.remaining (reader_of reader.old)) (W.contents (writer_of writer.old)) (W.contents (writer_of writer.new))
         book.old book.new) }
     ensures at_end { OnOk result (IsAtEnd (R.remaining (reader_of reader.new))) }
-    ensures stopped { IfErr result (LinesStopped (ServesLines K.content K.sound K.limit K.fault_count)
+    ensures stopped { IfErr result (LinesStopped (ServesLines K.content K.sound K.limit
+        K.fault_count)
         (R.remaining (reader_of reader.old)) (R.remaining (reader_of reader.new))
         (W.contents (writer_of writer.old)) (W.contents (writer_of writer.new)) book.old book.new
         ((reader.new ≡ reader.old) × (writer.new ≡ writer.old) × (book.new ≡ book.old))) }
     ensures cause { FailsWithCause reader.old reader.new writer.old writer.new result }
     ensures flushed { LeavesFlushed writer.new result }
 
-    // Whatever came of it, few replicas left in each rebalance, and those of a moved partition rested.
+    // Whatever came of it, few replicas left in each rebalance, and those of a moved partition
+    // rested.
     ensures safe { K.sound book.new.keeper
         → IsSafeRun book.old.machine.limits (K.content book.old.keeper) (K.content book.new.keeper) }
 {

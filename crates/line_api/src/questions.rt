@@ -1,5 +1,6 @@
 //! Questions: lines that ask for a table of a ring.
-ghost use Rattle.std.specs.Prelude.{◌≡◌, ◌++◌, ◌∷◌, [], ℕ, List, IfOk, IfSome, IfNone, string_bytes};
+ghost use Rattle.std.specs.Prelude.{◌≡◌, ◌++◌, ◌∷◌, [], ℕ, List, IfOk, IfSome, IfNone};
+ghost use Rattle.std.specs.Prelude.{string_bytes};
 ghost use Rattle.ring_words.specs.Spelling.{Reads};
 ghost use Rattle.line_api.specs.Lines.{AsksTable, IsTable, words_of};
 
@@ -26,11 +27,12 @@ pub struct Question {
     pub ring: RingName,
 }
 
-/// The table that a line's words ask for, and what stands behind them. `None` exactly where the line begins with no such
-/// words.
+/// The table that a line's words ask for, and what stands behind them. `None` exactly where the
+/// line begins with no such words.
 fn table_asked(line: &[u8]) -> Option<(Table, &[u8])>
     ensures found { IfSome result (λ x. line.now ≡ words_of x.0 ++ x.1.now) }
-    ensures none { IfNone result ((table : Table) (rest : List ℕ) → line.now ≡ words_of table ++ rest → ⊥) }
+    ensures none { IfNone result ((table : Table) (rest : List ℕ) → line.now ≡ words_of table ++
+        rest → ⊥) }
 {
     if let Some(rest) = line.strip_prefix(b"? devices ") {
         return Some((Table::Devices, rest));

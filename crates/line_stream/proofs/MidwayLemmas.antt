@@ -1,5 +1,7 @@
 -- Steps in mid-stream.
-use Rattle.std.proofs.Common.{◌≡◌, ◌≢◌, ℕ, ◌+◌, ◌-◌, ◌^◌, List, [], ◌∷◌, ◌++◌, length, get_or, take, drop, ◌<◌, Option, Some, None, refl, sym, ap, ◌∙◌, append_assoc, append-nil, inl, inr, arith}
+use Rattle.std.proofs.Common.{◌≡◌, ◌≢◌, ℕ, ◌+◌, ◌-◌, ◌^◌, List, [], ◌∷◌, ◌++◌, length, get_or, take}
+use Rattle.std.proofs.Common.{drop, ◌<◌, Option, Some, None, refl, sym, ap, ◌∙◌, append_assoc}
+use Rattle.std.proofs.Common.{append-nil, inl, inr, arith}
 use Rattle.std.specs.Prelude.{min, option_and_then}
 use Rattle.std.proofs.lemmas.List.{length_push, take_more, take-append-drop}
 use Rattle.std.proofs.Math.Seq.{take-append_seam}
@@ -8,36 +10,59 @@ use Rattle.line_stream.specs.Lines.{ended, with_rest}
 use Rattle.byte_streams.specs.InTurn.{InTurn}
 use Rattle.byte_streams.specs.Serving.{Tells}
 use Rattle.byte_streams.specs.Writing.{Forwards, WritesBeginning}
-use Rattle.line_stream.specs.Serving.{LinesServed, LinesServedInPart, LinesServedSoFar}
+use Rattle.line_stream.specs.Serving.{LinesServed}
+use Rattle.line_stream.specs.Inner.Lines.{LinesServedInPart, LinesServedSoFar}
 use Rattle.line_stream.specs.Inner.Midway.{kept_of, IsMidway, IsEnded, IsCutOff}
-use Rattle.byte_streams.proofs.KnownLemmas.{Forwards-then, Forwards-none, Forwards-all, Forwards-whole, beginning_of_left, beginning_then}
-use Rattle.line_stream.proofs.LineLemmas.{Divides-nil, Divides-byte, Divides-feed, ended-push, kept_of-push, kept_cases, lines_after}
+use Rattle.byte_streams.proofs.KnownLemmas.{Forwards-then, Forwards-none, Forwards-all}
+use Rattle.byte_streams.proofs.KnownLemmas.{Forwards-whole, beginning_of_left, beginning_then}
+use Rattle.line_stream.proofs.LineLemmas.{Divides-nil, Divides-byte, Divides-feed, ended-push}
+use Rattle.line_stream.proofs.LineLemmas.{kept_of-push, kept_cases, lines_after}
 use Rattle.byte_streams.proofs.InTurnLemmas.{InTurn-push}
 
 -- what is read into a buffer of this length stands in all of it
-pub piece_of_chunk : (chunk buffer rest : List ℕ) (len count : ℕ) → chunk ≡ take len (buffer ++ rest) → length buffer ≡ len → take count chunk ≡ take count buffer
-piece_of_chunk chunk buffer rest len count is same = ap (λ (t : List ℕ). take count t) (is ∙ ap (λ (n : ℕ). take n (buffer ++ rest)) (sym same) ∙ take-append_seam buffer rest)
+pub piece_of_chunk : (chunk buffer rest : List ℕ) (len count : ℕ) → chunk ≡ take len (buffer ++
+    rest) → length buffer ≡ len → take count chunk ≡ take count buffer
+piece_of_chunk chunk buffer rest len count is same = ap (λ (t : List ℕ). take count t)
+    (is ∙ ap (λ (n : ℕ). take n (buffer ++ rest)) (sym same) ∙ take-append_seam buffer rest)
 
 -- one byte more of the bytes that came
-pub more_taken : (came bytes : List ℕ) (i byte : ℕ) → i < length bytes → get_or bytes i 0 ≡ byte → (came ++ take i bytes) ++ byte ∷ [] ≡ came ++ take (i + 1) bytes
-more_taken came bytes i byte within is = append_assoc came (take i bytes) (byte ∷ []) ∙ ap (λ (t : List ℕ). came ++ t) (ap (λ (b : ℕ). take i bytes ++ b ∷ []) (sym is) ∙ sym (take_more bytes i 0 within))
+pub more_taken : (came bytes : List ℕ) (i byte : ℕ) → i < length bytes → get_or bytes i 0 ≡ byte →
+    (came ++ take i bytes) ++ byte ∷ [] ≡ came ++ take (i + 1) bytes
+more_taken came bytes i byte within is = append_assoc came (take i bytes) (byte ∷ []) ∙ ap
+    (λ (t : List ℕ). came ++ t) (ap (λ (b : ℕ). take i bytes ++ b ∷ []) (sym is) ∙ sym
+    (take_more bytes i 0 within))
 
-pub all_taken : (came bytes : List ℕ) (i : ℕ) → (came ++ take i bytes) ++ drop i bytes ≡ came ++ bytes
-all_taken came bytes i = append_assoc came (take i bytes) (drop i bytes) ∙ ap (λ (t : List ℕ). came ++ t) (take-append-drop i bytes)
+pub all_taken : (came bytes : List ℕ) (i : ℕ) → (came ++ take i bytes) ++ drop i bytes ≡ came ++
+    bytes
+all_taken came bytes i = append_assoc came (take i bytes) (drop i bytes) ∙ ap
+    (λ (t : List ℕ). came ++ t) (take-append-drop i bytes)
 
 module _ {S : Type 0} (gives : S → List ℕ → List ℕ → S → Type 0) where
-  pub midway_starts : (before : Option (List ℕ)) (old : S) → IsMidway gives [] before before old old (Some []) [] 0
-  midway_starts before old = record { lines = []; rest = []; divides = Divides-nil; kept_is = refl; texts = []; in_turn = (refl, refl); forwards = Forwards-none before []; count_is = refl }
+  pub midway_starts : (before : Option (List ℕ)) (old : S) → IsMidway gives [] before before old old
+      (Some []) [] 0
+  midway_starts before old = record {
+    lines = [];
+    rest = [];
+    divides = Divides-nil;
+    kept_is = refl;
+    texts = [];
+    in_turn = (refl, refl);
+    forwards = Forwards-none before [];
+    count_is = refl;
+  }
 
   -- a byte of a line
-  pub midway_byte : (bytes : List ℕ) (before now : Option (List ℕ)) (old new : S) (kept next : Option (List ℕ)) (waiting : List ℕ) (count byte : ℕ)
-      → IsMidway gives bytes before now old new kept waiting count → byte ≢ 10 → next ≡ option_and_then (λ (line : List ℕ). kept_of (line ++ byte ∷ [])) kept
+  pub midway_byte : (bytes : List ℕ) (before now : Option (List ℕ)) (old new : S)
+      (kept next : Option (List ℕ)) (waiting : List ℕ) (count byte : ℕ)
+      → IsMidway gives bytes before now old new kept waiting count → byte ≢ 10 →
+      next ≡ option_and_then (λ (line : List ℕ). kept_of (line ++ byte ∷ [])) kept
       → IsMidway gives (bytes ++ byte ∷ []) before now old new next waiting count
   midway_byte bytes before now old new kept next waiting count byte m other is = record {
     lines = m.lines;
     rest = m.rest ++ byte ∷ [];
     divides = Divides-byte bytes m.lines m.rest byte m.divides other;
-    kept_is = is ∙ ap (option_and_then (λ (line : List ℕ). kept_of (line ++ byte ∷ []))) m.kept_is ∙ sym (kept_of-push m.rest byte);
+    kept_is = is ∙ ap (option_and_then (λ (line : List ℕ). kept_of (line ++ byte ∷ []))) m.kept_is ∙
+        sym (kept_of-push m.rest byte);
     texts = m.texts;
     in_turn = m.in_turn;
     forwards = m.forwards;
@@ -45,24 +70,33 @@ module _ {S : Type 0} (gives : S → List ℕ → List ℕ → S → Type 0) whe
   }
 
   -- a line feed, whose line is answered
-  pub midway_feed : (bytes : List ℕ) (before now next : Option (List ℕ)) (old mid new : S) (kept : Option (List ℕ)) (waiting left text : List ℕ) (count counted : ℕ)
-      → IsMidway gives bytes before now old mid kept waiting count → ((line : List ℕ) → kept ≡ kept_of line → gives mid line text new)
-      → Forwards now next (waiting ++ (text ++ 10 ∷ [])) left → counted ≡ min (count + 1) (2 ^ 32 - 1)
+  pub midway_feed : (bytes : List ℕ) (before now next : Option (List ℕ)) (old mid new : S)
+      (kept : Option (List ℕ)) (waiting left text : List ℕ) (count counted : ℕ)
+      → IsMidway gives bytes before now old mid kept waiting count →
+      ((line : List ℕ) → kept ≡ kept_of line → gives mid line text new)
+      → Forwards now next (waiting ++ (text ++ 10 ∷ [])) left →
+      counted ≡ min (count + 1) (2 ^ 32 - 1)
       → IsMidway gives (bytes ++ 10 ∷ []) before next old new (Some []) left counted
-  midway_feed bytes before now next old mid new kept waiting left text count counted m given more is = record {
-    lines = m.lines ++ m.rest ∷ [];
-    rest = [];
-    divides = Divides-feed bytes m.lines m.rest m.divides;
-    kept_is = refl;
-    texts = m.texts ++ text ∷ [];
-    in_turn = InTurn-push gives old mid new m.lines m.texts m.rest text m.in_turn (given m.rest m.kept_is);
-    forwards = rw (ended-push m.texts text) (Forwards-then before now next (ended m.texts) (text ++ 10 ∷ []) waiting left m.forwards more);
-    count_is = omega (arith, is, m.count_is, length_push m.lines m.rest);
-  }
+  midway_feed bytes before now next old mid new kept waiting left text count counted m given more is
+      = record {
+        lines = m.lines ++ m.rest ∷ [];
+        rest = [];
+        divides = Divides-feed bytes m.lines m.rest m.divides;
+        kept_is = refl;
+        texts = m.texts ++ text ∷ [];
+        in_turn = InTurn-push gives old mid new m.lines m.texts m.rest text m.in_turn
+            (given m.rest m.kept_is);
+        forwards = rw (ended-push m.texts text) (Forwards-then before now next (ended m.texts)
+            (text ++
+            10 ∷ []) waiting left m.forwards more);
+        count_is = omega (arith, is, m.count_is, length_push m.lines m.rest);
+      }
 
   -- a line feed whose answer is not written
-  pub cut_at_feed : (bytes : List ℕ) (before now next : Option (List ℕ)) (old mid new : S) (kept : Option (List ℕ)) (waiting text : List ℕ) (count : ℕ)
-      → IsMidway gives bytes before now old mid kept waiting count → ((line : List ℕ) → kept ≡ kept_of line → gives mid line text new)
+  pub cut_at_feed : (bytes : List ℕ) (before now next : Option (List ℕ)) (old mid new : S)
+      (kept : Option (List ℕ)) (waiting text : List ℕ) (count : ℕ)
+      → IsMidway gives bytes before now old mid kept waiting count →
+      ((line : List ℕ) → kept ≡ kept_of line → gives mid line text new)
       → WritesBeginning now next (waiting ++ (text ++ 10 ∷ []))
       → IsCutOff gives (bytes ++ 10 ∷ []) before next old new
   cut_at_feed bytes before now next old mid new kept waiting text count m given more =
@@ -73,11 +107,14 @@ module _ {S : Type 0} (gives : S → List ℕ → List ℕ → S → Type 0) whe
         begins = d.whole;
         are_lines = d.are_lines;
         texts = m.texts ++ text ∷ [];
-        in_turn = InTurn-push gives old mid new m.lines m.texts m.rest text m.in_turn (given m.rest m.kept_is);
-        written = rw (ended-push m.texts text) (beginning_then before now next (ended m.texts) (text ++ 10 ∷ []) waiting m.forwards more);
+        in_turn = InTurn-push gives old mid new m.lines m.texts m.rest text m.in_turn
+            (given m.rest m.kept_is);
+        written = rw (ended-push m.texts text) (beginning_then before now next (ended m.texts)
+            (text ++ 10 ∷ []) waiting m.forwards more);
       }
 
-  pub cut_longer : (bytes more : List ℕ) (before now : Option (List ℕ)) (old new : S) → IsCutOff gives bytes before now old new → IsCutOff gives (bytes ++ more) before now old new
+  pub cut_longer : (bytes more : List ℕ) (before now : Option (List ℕ)) (old new : S) →
+      IsCutOff gives bytes before now old new → IsCutOff gives (bytes ++ more) before now old new
   cut_longer bytes more before now old new x = record {
     answered = x.answered;
     tail = x.tail ++ more;
@@ -89,8 +126,10 @@ module _ {S : Type 0} (gives : S → List ℕ → List ℕ → S → Type 0) whe
   }
 
   -- what waits is written
-  pub midway_flushed : (bytes : List ℕ) (before now next : Option (List ℕ)) (old new : S) (kept : Option (List ℕ)) (waiting left : List ℕ) (count : ℕ)
-      → IsMidway gives bytes before now old new kept waiting count → left ≡ [] → Appends now next waiting → IsMidway gives bytes before next old new kept left count
+  pub midway_flushed : (bytes : List ℕ) (before now next : Option (List ℕ)) (old new : S)
+      (kept : Option (List ℕ)) (waiting left : List ℕ) (count : ℕ)
+      → IsMidway gives bytes before now old new kept waiting count → left ≡ [] →
+      Appends now next waiting → IsMidway gives bytes before next old new kept left count
   midway_flushed bytes before now next old new kept waiting left count m none more = record {
     lines = m.lines;
     rest = m.rest;
@@ -98,12 +137,15 @@ module _ {S : Type 0} (gives : S → List ℕ → List ℕ → S → Type 0) whe
     kept_is = m.kept_is;
     texts = m.texts;
     in_turn = m.in_turn;
-    forwards = rw none (Forwards-all before next (ended m.texts) (Forwards-whole before now next (ended m.texts) waiting m.forwards more));
+    forwards = rw none (Forwards-all before next (ended m.texts) (Forwards-whole before now next
+        (ended m.texts) waiting m.forwards more));
     count_is = m.count_is;
   }
 
-  pub cut_at_flush : (bytes : List ℕ) (before now next : Option (List ℕ)) (old new : S) (kept : Option (List ℕ)) (waiting : List ℕ) (count : ℕ)
-      → IsMidway gives bytes before now old new kept waiting count → WritesBeginning now next waiting → IsCutOff gives bytes before next old new
+  pub cut_at_flush : (bytes : List ℕ) (before now next : Option (List ℕ)) (old new : S)
+      (kept : Option (List ℕ)) (waiting : List ℕ) (count : ℕ)
+      → IsMidway gives bytes before now old new kept waiting count →
+      WritesBeginning now next waiting → IsCutOff gives bytes before next old new
   cut_at_flush bytes before now next old new kept waiting count m more = record {
     answered = m.lines;
     tail = m.rest;
@@ -115,8 +157,10 @@ module _ {S : Type 0} (gives : S → List ℕ → List ℕ → S → Type 0) whe
   }
 
   -- a read fails where nothing waits
-  pub so_far_midway : (known left : Option (List ℕ)) (bytes : List ℕ) (before now : Option (List ℕ)) (old new : S) (kept : Option (List ℕ)) (waiting : List ℕ) (count : ℕ)
-      → Consumes known left bytes → IsMidway gives bytes before now old new kept waiting count → waiting ≡ [] → LinesServedSoFar (InTurn gives) known left before now old new
+  pub so_far_midway : (known left : Option (List ℕ)) (bytes : List ℕ) (before now : Option (List ℕ))
+      (old new : S) (kept : Option (List ℕ)) (waiting : List ℕ) (count : ℕ)
+      → Consumes known left bytes → IsMidway gives bytes before now old new kept waiting count →
+      waiting ≡ [] → LinesServedSoFar (InTurn gives) known left before now old new
   so_far_midway known left bytes before now old new kept waiting count came m none = record {
     bytes = bytes;
     came = came;
@@ -124,21 +168,35 @@ module _ {S : Type 0} (gives : S → List ℕ → List ℕ → S → Type 0) whe
     have_come = (m.rest, m.divides);
     texts = m.texts;
     get = m.in_turn;
-    written = rw (m.forwards.1 ∙ ap (λ (t : List ℕ). m.forwards.0 ++ t) none ∙ append-nil m.forwards.0) m.forwards.2;
+    written = rw (m.forwards.1 ∙ ap (λ (t : List ℕ). m.forwards.0 ++ t) none ∙ append-nil
+        m.forwards.0) m.forwards.2;
   }
 
   -- what is cut off, of all that the reader told
-  pub in_part_cut : (known left : Option (List ℕ)) (bytes : List ℕ) (before now : Option (List ℕ)) (old new : S)
-      → Consumes known left bytes → IsCutOff gives bytes before now old new → LinesServedInPart (InTurn gives) known before now old new
+  pub in_part_cut : (known left : Option (List ℕ)) (bytes : List ℕ) (before now : Option (List ℕ))
+      (old new : S)
+      → Consumes known left bytes → IsCutOff gives bytes before now old new →
+      LinesServedInPart (InTurn gives) known before now old new
   in_part_cut None left bytes before now old new came x =
       let l = lines_after x.answered x.tail x.are_lines in
-      record { bytes = ended x.answered ++ x.tail; told = tt; answered = x.answered; unanswered = l.0; are_items = l.1; texts = x.texts; get = x.in_turn; written = x.written }
+      record {
+        bytes = ended x.answered ++ x.tail;
+        told = tt;
+        answered = x.answered;
+        unanswered =
+            l.0;
+        are_items = l.1;
+        texts = x.texts;
+        get = x.in_turn;
+        written = x.written;
+      }
   in_part_cut (Some xs) None bytes before now old new came x = absurd came
   in_part_cut (Some xs) (Some ys) bytes before now old new came x =
       let l = lines_after x.answered (x.tail ++ ys) x.are_lines in
       record {
         bytes = ended x.answered ++ (x.tail ++ ys);
-        told = came ∙ ap (λ (t : List ℕ). t ++ ys) x.begins ∙ append_assoc (ended x.answered) x.tail ys;
+        told = came ∙ ap (λ (t : List ℕ). t ++ ys) x.begins ∙ append_assoc (ended x.answered) x.tail
+            ys;
         answered = x.answered;
         unanswered = l.0;
         are_items = l.1;
@@ -148,8 +206,10 @@ module _ {S : Type 0} (gives : S → List ℕ → List ℕ → S → Type 0) whe
       }
 
   -- the end of the input, with no byte after the last line feed
-  pub ends_empty : (bytes : List ℕ) (before now : Option (List ℕ)) (old new : S) (kept : Option (List ℕ)) (waiting : List ℕ) (count : ℕ)
-      → IsMidway gives bytes before now old new kept waiting count → kept ≡ Some [] → IsEnded gives bytes before now old new waiting count
+  pub ends_empty : (bytes : List ℕ) (before now : Option (List ℕ)) (old new : S)
+      (kept : Option (List ℕ)) (waiting : List ℕ) (count : ℕ)
+      → IsMidway gives bytes before now old new kept waiting count → kept ≡ Some [] →
+      IsEnded gives bytes before now old new waiting count
   ends_empty bytes before now old new kept waiting count m is =
       let none : m.rest ≡ [] = elim (kept_cases m.rest) [
         | inl fits ↦ let same : Some m.rest ≡ Some [] = sym fits.1 ∙ sym m.kept_is ∙ is in cc
@@ -157,28 +217,46 @@ module _ {S : Type 0} (gives : S → List ℕ → List ℕ → S → Type 0) whe
       ] in
       record {
         lines = m.lines;
-        are_lines = record { front = m.lines; rest = m.rest; divides = m.divides; all = rw none refl };
+        are_lines = record {
+          front = m.lines;
+          rest = m.rest;
+          divides = m.divides;
+          all =
+              rw none refl;
+        };
         texts = m.texts;
         in_turn = m.in_turn;
         forwards = m.forwards;
         count_is = m.count_is;
       }
 
-  some_rest : (lines : List (List ℕ)) (rest : List ℕ) → rest ≢ [] → lines ++ rest ∷ [] ≡ with_rest lines rest
+  some_rest : (lines : List (List ℕ)) (rest : List ℕ) → rest ≢ [] → lines ++ rest ∷
+      [] ≡ with_rest lines rest
   some_rest lines [] some = absurd (some refl)
   some_rest lines (byte ∷ rest) some = refl
 
   -- the end of the input, with a last line that has no line feed
-  pub ends_line : (bytes : List ℕ) (before now next : Option (List ℕ)) (old mid new : S) (kept : Option (List ℕ)) (waiting left text : List ℕ) (count counted : ℕ)
-      → IsMidway gives bytes before now old mid kept waiting count → kept ≢ Some [] → ((line : List ℕ) → kept ≡ kept_of line → gives mid line text new)
-      → Forwards now next (waiting ++ (text ++ 10 ∷ [])) left → counted ≡ min (count + 1) (2 ^ 32 - 1)
+  pub ends_line : (bytes : List ℕ) (before now next : Option (List ℕ)) (old mid new : S)
+      (kept : Option (List ℕ)) (waiting left text : List ℕ) (count counted : ℕ)
+      → IsMidway gives bytes before now old mid kept waiting count → kept ≢ Some [] →
+      ((line : List ℕ) → kept ≡ kept_of line → gives mid line text new)
+      → Forwards now next (waiting ++ (text ++ 10 ∷ [])) left →
+      counted ≡ min (count + 1) (2 ^ 32 - 1)
       → IsEnded gives bytes before next old new left counted
   unfolding midway_feed
-  ends_line bytes before now next old mid new kept waiting left text count counted m other given more is =
-      let f = midway_feed bytes before now next old mid new kept waiting left text count counted m given more is in
+  ends_line bytes before now next old mid new kept waiting left text count counted m other given
+      more is =
+      let f = midway_feed bytes before now next old mid new kept waiting left text count counted m
+      given more is in
       record {
         lines = m.lines ++ m.rest ∷ [];
-        are_lines = record { front = m.lines; rest = m.rest; divides = m.divides; all = some_rest m.lines m.rest (λ none. other (m.kept_is ∙ ap kept_of none)) };
+        are_lines = record {
+          front = m.lines;
+          rest = m.rest;
+          divides = m.divides;
+          all =
+              some_rest m.lines m.rest (λ none. other (m.kept_is ∙ ap kept_of none));
+        };
         texts = f.texts;
         in_turn = f.in_turn;
         forwards = f.forwards;
@@ -186,8 +264,10 @@ module _ {S : Type 0} (gives : S → List ℕ → List ℕ → S → Type 0) whe
       }
 
   -- the same, where the answer is not written
-  pub in_part_line : (bytes : List ℕ) (before now next : Option (List ℕ)) (old mid new : S) (kept : Option (List ℕ)) (waiting text : List ℕ) (count : ℕ)
-      → IsMidway gives bytes before now old mid kept waiting count → kept ≢ Some [] → ((line : List ℕ) → kept ≡ kept_of line → gives mid line text new)
+  pub in_part_line : (bytes : List ℕ) (before now next : Option (List ℕ)) (old mid new : S)
+      (kept : Option (List ℕ)) (waiting text : List ℕ) (count : ℕ)
+      → IsMidway gives bytes before now old mid kept waiting count → kept ≢ Some [] →
+      ((line : List ℕ) → kept ≡ kept_of line → gives mid line text new)
       → WritesBeginning now next (waiting ++ (text ++ 10 ∷ []))
       → LinesServedInPart (InTurn gives) (Some bytes) before next old new
   unfolding cut_at_feed
@@ -198,15 +278,24 @@ module _ {S : Type 0} (gives : S → List ℕ → List ℕ → S → Type 0) whe
         told = refl;
         answered = x.answered;
         unanswered = [];
-        are_items = record { front = m.lines; rest = m.rest; divides = m.divides; all = append-nil (m.lines ++ m.rest ∷ []) ∙ some_rest m.lines m.rest (λ none. other (m.kept_is ∙ ap kept_of none)) };
+        are_items = record {
+          front = m.lines;
+          rest = m.rest;
+          divides = m.divides;
+          all =
+              append-nil (m.lines ++ m.rest ∷ []) ∙ some_rest m.lines m.rest
+              (λ none. other (m.kept_is ∙ ap kept_of none));
+        };
         texts = x.texts;
         get = x.in_turn;
         written = x.written;
       }
 
   -- at the end what waits is written, or a beginning of it
-  pub served_ended : (bytes : List ℕ) (before now next : Option (List ℕ)) (old new : S) (waiting : List ℕ) (count : ℕ)
-      → IsEnded gives bytes before now old new waiting count → Appends now next waiting → LinesServed (InTurn gives) (Some bytes) before next old new count
+  pub served_ended : (bytes : List ℕ) (before now next : Option (List ℕ)) (old new : S)
+      (waiting : List ℕ) (count : ℕ)
+      → IsEnded gives bytes before now old new waiting count → Appends now next waiting →
+      LinesServed (InTurn gives) (Some bytes) before next old new count
   served_ended bytes before now next old new waiting count e more = record {
     bytes = bytes;
     told = refl;
@@ -218,8 +307,10 @@ module _ {S : Type 0} (gives : S → List ℕ → List ℕ → S → Type 0) whe
     count_is = e.count_is;
   }
 
-  pub in_part_ended : (bytes : List ℕ) (before now next : Option (List ℕ)) (old new : S) (waiting : List ℕ) (count : ℕ)
-      → IsEnded gives bytes before now old new waiting count → WritesBeginning now next waiting → LinesServedInPart (InTurn gives) (Some bytes) before next old new
+  pub in_part_ended : (bytes : List ℕ) (before now next : Option (List ℕ)) (old new : S)
+      (waiting : List ℕ) (count : ℕ)
+      → IsEnded gives bytes before now old new waiting count → WritesBeginning now next waiting →
+      LinesServedInPart (InTurn gives) (Some bytes) before next old new
   in_part_ended bytes before now next old new waiting count e more = record {
     bytes = bytes;
     told = refl;
@@ -231,14 +322,18 @@ module _ {S : Type 0} (gives : S → List ℕ → List ℕ → S → Type 0) whe
     written = beginning_of_left before now next (ended e.texts) waiting e.forwards more;
   }
 
-  told_whole : (known left : Option (List ℕ)) (bytes read : List ℕ) → Consumes known left bytes → IsAtEnd left → Tells (Some bytes) read → Tells known read
+  told_whole : (known left : Option (List ℕ)) (bytes read : List ℕ) → Consumes known left bytes →
+      IsAtEnd left → Tells (Some bytes) read → Tells known read
   told_whole None left bytes read came end told = tt
   told_whole (Some xs) None bytes read came end told = absurd came
-  told_whole (Some xs) (Some ys) bytes read came end told = came ∙ ap (λ (t : List ℕ). bytes ++ t) end ∙ append-nil bytes ∙ told
+  told_whole (Some xs) (Some ys) bytes read came end told = came ∙ ap (λ (t : List ℕ). bytes ++
+      t) end ∙ append-nil bytes ∙ told
 
   -- the bytes that came are all that the reader told
-  pub served_told : (known left : Option (List ℕ)) (bytes : List ℕ) (before after : Option (List ℕ)) (old new : S) (count : ℕ)
-      → Consumes known left bytes → IsAtEnd left → LinesServed (InTurn gives) (Some bytes) before after old new count → LinesServed (InTurn gives) known before after old new count
+  pub served_told : (known left : Option (List ℕ)) (bytes : List ℕ) (before after : Option (List ℕ))
+      (old new : S) (count : ℕ)
+      → Consumes known left bytes → IsAtEnd left → LinesServed (InTurn gives) (Some bytes) before
+      after old new count → LinesServed (InTurn gives) known before after old new count
   served_told known left bytes before after old new count came end s = record {
     bytes = s.bytes;
     told = told_whole known left bytes s.bytes came end s.told;
@@ -250,8 +345,10 @@ module _ {S : Type 0} (gives : S → List ℕ → List ℕ → S → Type 0) whe
     count_is = s.count_is;
   }
 
-  pub in_part_told : (known left : Option (List ℕ)) (bytes : List ℕ) (before after : Option (List ℕ)) (old new : S)
-      → Consumes known left bytes → IsAtEnd left → LinesServedInPart (InTurn gives) (Some bytes) before after old new → LinesServedInPart (InTurn gives) known before after old new
+  pub in_part_told : (known left : Option (List ℕ)) (bytes : List ℕ)
+      (before after : Option (List ℕ)) (old new : S)
+      → Consumes known left bytes → IsAtEnd left → LinesServedInPart (InTurn gives) (Some bytes)
+      before after old new → LinesServedInPart (InTurn gives) known before after old new
   in_part_told known left bytes before after old new came end s = record {
     bytes = s.bytes;
     told = told_whole known left bytes s.bytes came end s.told;

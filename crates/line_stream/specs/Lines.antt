@@ -19,7 +19,8 @@ pub record Divides (bytes : List ℕ) (lines : List (List ℕ)) (rest : List ℕ
 abbrev pub HaveEnded : List ℕ → List (List ℕ) → Type 0
 HaveEnded bytes lines = (rest : List ℕ) × Divides bytes lines rest
 
--- lines that had their line feed, and then what came after the last line feed, which is a line if it has a byte
+-- lines that had their line feed, and then what came after the last line feed, which is a line if
+-- it has a byte
 abbrev pub with_rest : List (List ℕ) → List ℕ → List (List ℕ)
 with_rest lines [] = lines
 with_rest lines (byte ∷ rest) = lines ++ (byte ∷ rest) ∷ []

@@ -1,12 +1,15 @@
 //! The lines of a stream are answered.
-ghost use Rattle.std.specs.Prelude.{◌≡◌, ◌+◌, ◌-◌, ◌^◌, ◌++◌, min, ℕ, List, [], ◌∷◌, Some, OnOk, IfOk, IfErr, MatchResult, Option};
+ghost use Rattle.std.specs.Prelude.{◌≡◌, ◌+◌, ◌-◌, ◌^◌, ◌++◌, min, ℕ, List, [], ◌∷◌, Some, OnOk};
+ghost use Rattle.std.specs.Prelude.{IfOk, IfErr, MatchResult, Option};
 ghost use Rattle.std.specs.Io.KnownBytes.{IsAtEnd};
-ghost use Rattle.byte_streams.specs.Counted.{Counts, FailsWithCause, IsFlushed, LeavesFlushed, reader_of, write_faults, writer_of};
+ghost use Rattle.byte_streams.specs.Counted.{Counts, FailsWithCause, IsFlushed, LeavesFlushed};
+ghost use Rattle.byte_streams.specs.Counted.{reader_of, write_faults, writer_of};
 ghost use Rattle.byte_streams.specs.InTurn.{InTurn};
 ghost use Rattle.byte_streams.specs.Writing.{Forwards, WritesBeginning};
 ghost use Rattle.byte_streams.specs.declared.fault.StreamFault.TheVariants.{WriteFailed};
 ghost use Rattle.line_stream.specs.Answers.{Answered};
-ghost use Rattle.line_stream.specs.Serving.{LinesServed, LinesServedInPart, LinesStopped};
+ghost use Rattle.line_stream.specs.Serving.{LinesServed, LinesStopped};
+ghost use Rattle.line_stream.specs.Inner.Lines.{LinesServedInPart};
 ghost use Rattle.line_stream.specs.Inner.Midway.{kept_of, IsMidway, IsEnded, IsCutOff};
 
 use crate::handler::Handler;
@@ -142,7 +145,8 @@ impl Progress {
         self.end_line::<W, H>(state, writer)
     }
 
-    /// Answers what is left at the end of the input, writes what waits, and tells the count of answers.
+    /// Answers what is left at the end of the input, writes what waits, and tells the count of
+    /// answers.
     fn finish<W: Write, H: Handler>(
         &mut self,
         state: &mut H::State,
@@ -165,28 +169,33 @@ impl Progress {
     }
 }
 
-/// Answers each line of what is read, until the end, and tells how many answers it wrote (4294967295 for more).
+/// Answers each line of what is read, until the end, and tells how many answers it wrote
+/// (4294967295 for more).
 ///
-/// A line ends at a line feed or at the end of the input; a last line without a line feed counts if it has a byte. The
-/// handler answers each line in order, and each answer is written as one line. A line of more than `LONGEST_LINE` bytes
-/// is skipped to its end, and answered by `Handler::too_long`; in place of an answer that found no memory
-/// `Handler::no_memory` is written, and the next line is served. Whatever is answered is written and flushed before
-/// the reader is asked for more.
+/// A line ends at a line feed or at the end of the input; a last line without a line feed counts if
+/// it has a byte. The handler answers each line in order, and each answer is written as one line. A
+/// line of more than `LONGEST_LINE` bytes is skipped to its end, and answered by
+/// `Handler::too_long`; in place of an answer that found no memory `Handler::no_memory` is written,
+/// and the next line is served. Whatever is answered is written and flushed before the reader is
+/// asked for more.
 ///
-/// `ReadFailed` comes where a read failed, with the answers so far written and flushed. `WriteFailed` comes where a
-/// write or a flush failed or a write took no byte, with a beginning of the answers written. `NoMemory` comes before the
-/// first read. The reader and the writer count these faults themselves: the reader has one more exactly at `ReadFailed`,
-/// and the writer exactly at `WriteFailed`. A read, write or flush that is interrupted is tried again.
+/// `ReadFailed` comes where a read failed, with the answers so far written and flushed.
+/// `WriteFailed` comes where a write or a flush failed or a write took no byte, with a beginning of
+/// the answers written. `NoMemory` comes before the first read. The reader and the writer count
+/// these faults themselves: the reader has one more exactly at `ReadFailed`, and the writer exactly
+/// at `WriteFailed`. A read, write or flush that is interrupted is tried again.
 pub fn serve_lines<R: Read, W: Write, H: Handler>(
     alloc: Global,
     reader: &mut CountedReader<R>,
     writer: &mut CountedWriter<W>,
     state: &mut H::State,
 ) -> Result<u32, StreamFault>
-    ensures served { IfOk result (LinesServed (InTurn (Answered H.answers H.loses H.no_memory H.too_long))
+    ensures served { IfOk result (LinesServed (InTurn (Answered H.answers H.loses H.no_memory
+        H.too_long))
         (R.remaining (reader_of reader.old)) (W.contents (writer_of writer.old)) (W.contents (writer_of writer.new)) state.old state.new) }
     ensures at_end { OnOk result (IsAtEnd (R.remaining (reader_of reader.new))) }
-    ensures stopped { IfErr result (LinesStopped (InTurn (Answered H.answers H.loses H.no_memory H.too_long))
+    ensures stopped { IfErr result
+        (LinesStopped (InTurn (Answered H.answers H.loses H.no_memory H.too_long))
         (R.remaining (reader_of reader.old)) (R.remaining (reader_of reader.new)) (W.contents (writer_of writer.old)) (W.contents (writer_of writer.new))
         state.old state.new
         ((reader.new ≡ reader.old) × (writer.new ≡ writer.old) × (state.new ≡ state.old))) }

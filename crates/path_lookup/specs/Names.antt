@@ -1,5 +1,6 @@
 -- The names that make a path.
-use Rattle.std.specs.Prelude.{ℕ, ◌==◌, ◌&&◌, Bool, not, nat_lt, nat_le, List, [], ◌∷◌, ◌++◌, length, Option, Some, None, true, false}
+use Rattle.std.specs.Prelude.{ℕ, ◌==◌, ◌&&◌, Bool, not, nat_lt, nat_le, List, [], ◌∷◌, ◌++◌, length}
+use Rattle.std.specs.Prelude.{Option, Some, None, true, false}
 use Rattle.std.specs.List.{list_all}
 
 -- The names of a path: an account, and perhaps a container and an object in it.
@@ -42,4 +43,9 @@ path_text names = 47 ∷ names.account ++ behind_slash names.container ++ behind
 
 -- the names that make a path
 abbrev pub names_of : List ℕ → Option (List ℕ) → Option (List ℕ) → PathNames
-names_of account container object = record { account = account; container = container; object = object }
+names_of account container object = record {
+  account = account;
+  container = container;
+  object =
+      object;
+}

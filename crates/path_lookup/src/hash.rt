@@ -11,7 +11,8 @@ use ring_words::Power;
 
 /// Adds a `/` and a name to what is hashed, if there is a name.
 fn add_name(hasher: &mut Md5, name: Option<&[u8]>)
-    ensures { (m : List ℕ) → Holds hasher.old m → Holds hasher.new (m ++ behind_slash (option_copied name.entry)) }
+    ensures { (m : List ℕ) → Holds hasher.old m →
+        Holds hasher.new (m ++ behind_slash (option_copied name.entry)) }
 {
     if let Some(name) = name {
         hasher.update(b"/");
@@ -19,8 +20,8 @@ fn add_name(hasher: &mut Md5, name: Option<&[u8]>)
     }
 }
 
-/// The hash of a path: the MD5 digest (RFC 1321) of the prefix, of each of the path's names behind a `/`, and of the
-/// suffix. Prefix and suffix are a cluster's own, and may be empty.
+/// The hash of a path: the MD5 digest (RFC 1321) of the prefix, of each of the path's names behind
+/// a `/`, and of the suffix. Prefix and suffix are a cluster's own, and may be empty.
 pub fn hash_path(prefix: &[u8], path: &Path, suffix: &[u8]) -> [u8; 16]
     ensures { result ≡ path_hash prefix.now path.now suffix.now }
 {
@@ -33,8 +34,8 @@ pub fn hash_path(prefix: &[u8], path: &Path, suffix: &[u8]) -> [u8; 16]
     hasher.finalize()
 }
 
-/// The partition of a hash in a ring of this power: its first four bytes as one number, the first byte the greatest
-/// part, shifted right until as many bits are left as the power says.
+/// The partition of a hash in a ring of this power: its first four bytes as one number, the first
+/// byte the greatest part, shifted right until as many bits are left as the power says.
 pub fn partition_of(hash: [u8; 16], power: Power) -> u32
     ensures value { result ≡ partition_of hash power }
     ensures within { result < 2 ^ power }

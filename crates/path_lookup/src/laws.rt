@@ -7,6 +7,7 @@ ghost use Rattle.path_lookup.specs.Nodes.{AreNodes};
 
 /// Raising the power of a ring leaves every path on its nodes.
 pub fn raised_nodes()
-    ensures { (old new : RingRecord) (prefix suffix ids : List ℕ) (names : PathNames) → IsRaised old new → old.power < 32
+    ensures { (old new : RingRecord) (prefix suffix ids : List ℕ) (names : PathNames) →
+        IsRaised old new → old.power < 32
         → (AreNodes new prefix names suffix ids ↔ AreNodes old prefix names suffix ids) }
 {}

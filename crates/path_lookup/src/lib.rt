@@ -1,7 +1,8 @@
 //! Where an object lives: the partition of its path, and the devices of the partition.
 //!
-//! A path names an account, a container in it, or an object in that. Its hash says which partition of a ring it
-//! belongs to, as in OpenStack Swift's 'The Rings'. The definitions that contracts cite stand in `specs/`.
+//! A path names an account, a container in it, or an object in that. Its hash says which partition
+//! of a ring it belongs to, as in OpenStack Swift's 'The Rings'. The definitions that contracts
+//! cite stand in `specs/`.
 #![tactic(auto)]
 
 mod fault;

@@ -8,8 +8,8 @@ use ring_model::Ring;
 use ring_words::DeviceId;
 use std::alloc::Global;
 
-/// The devices that hold a partition, in order of replica. The partition is one of the ring's. NotAssigned exactly
-/// where the ring's seats are empty.
+/// The devices that hold a partition, in order of replica. The partition is one of the ring's.
+/// NotAssigned exactly where the ring's seats are empty.
 pub fn nodes(alloc: Global, ring: &Ring, partition: u32) -> Result<Vec<DeviceId>, NodesFault>
     requires { partition < partition_count ring.now }
     ensures nodes { IfOk result (λ ids. AreSeated ring.now partition ids.items) }

@@ -8,8 +8,9 @@ use crate::fault::PathFault;
 use std::alloc::{AllocError, Global};
 use std::marker::Model;
 
-/// The path of an account, of a container in an account, or of an object in a container. An account and a container
-/// are named by 1 to 256 bytes without `/`, an object by 1 to 1024 bytes of any kind. Contracts see the names.
+/// The path of an account, of a container in an account, or of an object in a container. An account
+/// and a container are named by 1 to 256 bytes without `/`, an object by 1 to 1024 bytes of any
+/// kind. Contracts see the names.
 #[derive(Drop)]
 pub struct Path {
     account: Vec<u8>,
@@ -24,9 +25,11 @@ impl Model for Path {
 
     ghost Value = { PathNames };
 
-    ghost view = { λ p. names_of p.account.items (option_map (λ v. v.items) p.container) (option_map (λ v. v.items) p.object) };
+    ghost view = { λ p. names_of p.account.items (option_map (λ v. v.items) p.container)
+        (option_map (λ v. v.items) p.object) };
 
-    ghost invariant = { λ p. is_path (names_of p.account.items (option_map (λ v. v.items) p.container) (option_map (λ v. v.items) p.object)) ≡ true };
+    ghost invariant = { λ p. is_path (names_of p.account.items (option_map (λ v. v.items)
+        p.container) (option_map (λ v. v.items) p.object)) ≡ true };
 }
 
 fn are_segment_bytes(name: &[u8]) -> bool
@@ -76,16 +79,20 @@ impl Path {
     ghost use Rattle.std.specs.Option.{option_copied};
     ghost use Rattle.path_lookup.specs.Names.{is_path, names_of};
 
-    /// The path of these names. BadPath exactly where they aren't of their forms, or where an object has no container.
+    /// The path of these names. BadPath exactly where they aren't of their forms, or where an
+    /// object has no container.
     pub fn new(
         alloc: Global,
         account: &[u8],
         container: Option<&[u8]>,
         object: Option<&[u8]>,
     ) -> Result<Path, PathFault>
-        ensures path { IfOk result (λ path. path ≡ names_of account.now (option_copied container.entry) (option_copied object.entry)) }
+        ensures path { IfOk result (λ path. path ≡ names_of account.now
+            (option_copied container.entry) (option_copied object.entry)) }
         ensures good { IfOk result (λ path. is_path path ≡ true) }
-        ensures bad { IsErrOf result PathFault.BadPath ↔ (is_path (names_of account.now (option_copied container.entry) (option_copied object.entry)) ≢ true) }
+        ensures bad { IsErrOf result PathFault.BadPath ↔
+            (is_path (names_of account.now (option_copied container.entry)
+            (option_copied object.entry)) ≢ true) }
     {
         if !is_segment(account) || !is_inside(container, object) {
             return Err(PathFault::BadPath);

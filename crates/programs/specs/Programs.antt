@@ -9,14 +9,15 @@ use Rattle.programs.specs.declared.words.Task.TheVariants.{Run}
 
 -- what the words may name
 abbrev pub programs : App
-programs = with_subcommand (on_top (λ s. record s { subcommand_required = true }) (new_app (codes "ringd"))) (new_shape (codes "run"))
+programs = with_subcommand (on_top (λ s. record s { subcommand_required = true })
+    (new_app (codes "ringd"))) (new_shape (codes "run"))
 
 -- the name of a task's program
 abbrev pub program_of : Task → List ℕ
 program_of Run = codes "run"
 
--- The words, of which the first is the program's own name, ask for this task: nothing is wrong with them, and they name
--- its program.
+-- The words, of which the first is the program's own name, ask for this task: nothing is wrong with
+-- them, and they name its program.
 pub record AskFor (words : List (List ℕ)) (task : Task) : Type 0 where
   pub right : fault_of programs words ≡ []
   pub named : option_map (λ named. named.0) (subcommand_of programs words) ≡ Some (program_of task)

@@ -1,6 +1,7 @@
 //! What the program does over three streams.
 ghost use Rattle.std.specs.Prelude.{◌≡◌, ◌≤◌, ◌⊎◌, ℕ, IfErr, IfOk, map, string_bytes};
-ghost use Rattle.byte_streams.specs.Counted.{FailsWithCause, IsCaused, IsFlushed, LeavesFlushed, NoneFailed, reader_of, writer_of};
+ghost use Rattle.byte_streams.specs.Counted.{FailsWithCause, IsCaused, IsFlushed, LeavesFlushed};
+ghost use Rattle.byte_streams.specs.Counted.{NoneFailed, reader_of, writer_of};
 ghost use Rattle.byte_streams.specs.declared.fault.StreamFault.{StreamFault};
 ghost use Rattle.byte_streams.specs.declared.fault.StreamFault.TheVariants.{NoMemory, ReadFailed};
 ghost use Rattle.programs.specs.Performed.{GetsText, RanOverMemory, StoppedOverMemory, fault_line};
@@ -57,12 +58,14 @@ fn run_over_memory<R: Read, W: Write>(
     run_lines(alloc, reader, writer, &mut book)
 }
 
-/// Does what the words ask for over three streams, and answers the exit status: 0 when it is done, 1 after a fault, and
-/// 2 where the words ask for nothing, or for help. The first word is the program's own name.
+/// Does what the words ask for over three streams, and answers the exit status: 0 when it is done,
+/// 1 after a fault, and 2 where the words ask for nothing, or for help. The first word is the
+/// program's own name.
 ///
-/// Done means that every line of the reader was answered on the writer, and that nothing failed. Status 1 means that the
-/// words asked for the program and a fault came of it, or that there was no memory to read the words; the fault is told
-/// on `errors`, as one line with its name and its number. With status 2 `clap` tells there what may be written.
+/// Done means that every line of the reader was answered on the writer, and that nothing failed.
+/// Status 1 means that the words asked for the program and a fault came of it, or that there was no
+/// memory to read the words; the fault is told on `errors`, as one line with its name and its
+/// number. With status 2 `clap` tells there what may be written.
 pub fn perform<X: AllocGlobal, R: Read, W: Write, E: Write>(
     rt: &X,
     words: &[String],

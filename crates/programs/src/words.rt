@@ -118,10 +118,12 @@ fn fault_of(alloc: Global, error: &Error) -> ArgsFault
     bad(alloc, error)
 }
 
-/// What the words ask for. The first word is the program's own name. Bad exactly where they ask for nothing.
+/// What the words ask for. The first word is the program's own name. Bad exactly where they ask for
+/// nothing.
 pub fn task_of(alloc: Global, words: &[String]) -> Result<Task, ArgsFault>
     ensures task { IfOk result (AskFor (map string_bytes words.now)) }
-    ensures nothing { IfErr result (λ fault. IfBad fault (AskForNothing (map string_bytes words.now))) }
+    ensures nothing { IfErr result
+        (λ fault. IfBad fault (AskForNothing (map string_bytes words.now))) }
 {
     let command = command(alloc)?;
     let matches = match command.try_get_matches_from(words) {

@@ -1,5 +1,6 @@
 -- One key has one command and one reply.
-use Rattle.std.proofs.Common.{◌++◌, ◌<◌, ◌≡◌, ◌∙◌, ◌∷◌, List, None, Option, Some, [], ap, append_assoc, length, max, refl, subst, sym, ℕ}
+use Rattle.std.proofs.Common.{◌++◌, ◌<◌, ◌≡◌, ◌∙◌, ◌∷◌, List, None, Option, Some, [], ap}
+use Rattle.std.proofs.Common.{append_assoc, length, max, refl, subst, sym, ℕ}
 use Rattle.std.specs.Prelude.{Bool, MatchOption, Ok, cond, false, is_some, true}
 use Rattle.std.specs.Cmp.Lexicographic.{nat_list_eq_equiv}
 use Rattle.std.specs.List.{flat_map}
@@ -21,33 +22,74 @@ same_refl k = rw (nat_list_eq_equiv.refl k.caller, nat_eq_equiv.refl k.number) r
 
 module _ {C R : Type 0} where
   -- an entry stays the key's entry
-  stays : (book : List (Entry C R)) (hour : ℕ) (calls more : List (Call C R)) (key : Key) (e : Entry C R) → entry_of key (book ++ kept hour (once book calls)) ≡ Some e → entry_of key (book ++ kept hour (once book (calls ++ more))) ≡ Some e
+  stays : (book : List (Entry C R)) (hour : ℕ) (calls more : List (Call C R)) (key : Key)
+      (e : Entry C R) → entry_of key (book ++ kept hour (once book calls)) ≡ Some e →
+      entry_of key (book ++ kept hour (once book (calls ++ more))) ≡ Some e
   stays book hour calls more key e h =
       let es = flat_map decision calls in
       let fs = flat_map decision more in
-      let o : once book (calls ++ more) ≡ once book calls ++ firsts (book ++ once book calls) fs = ap (firsts book) (flat_map-append decision calls more) ∙ firsts-append book es fs in
-      let k : book ++ kept hour (once book (calls ++ more)) ≡ (book ++ kept hour (once book calls)) ++ kept (last_hour hour (kept hour (once book calls))) (firsts (book ++ once book calls) fs) = ap (λ xs. book ++ kept hour xs) o ∙ ap (λ xs. book ++ xs) (kept-append hour (once book calls) _) ∙ sym (append_assoc book (kept hour (once book calls)) _) in
-      ap (entry_of key) k ∙ find-append (λ e. same_key e.key key) (book ++ kept hour (once book calls)) _ ∙ ap (λ o. option_or o (entry_of key (kept (last_hour hour (kept hour (once book calls))) (firsts (book ++ once book calls) fs)))) h
+      let o : once book (calls ++ more) ≡ once book calls ++ firsts (book ++ once book calls) fs =
+      ap (firsts book) (flat_map-append decision calls more) ∙ firsts-append book es fs in
+      let k : book ++ kept hour (once book (calls ++ more)) ≡ (book ++ kept hour (once book calls))
+      ++ kept (last_hour hour (kept hour (once book calls))) (firsts (book ++ once book calls)
+      fs) = ap (λ xs. book ++ kept hour xs) o ∙ ap (λ xs. book ++
+      xs) (kept-append hour (once book calls) _) ∙ sym
+      (append_assoc book (kept hour (once book calls)) _) in
+      ap (entry_of key) k ∙ find-append (λ e. same_key e.key key) (book ++
+      kept hour (once book calls)) _ ∙ ap
+      (λ o. option_or o (entry_of key (kept (last_hour hour (kept hour (once book calls)))
+      (firsts (book ++ once book calls) fs)))) h
 
   -- after a reply the key's entry has that command and that reply
-  after_reply : (limit : ℕ) (book : List (Entry C R)) (hour : ℕ) (calls : List (Call C R)) (d : Delivery C) (p : R) (o : Option (Entry C R)) → entry_of d.key (book ++ kept hour (once book calls)) ≡ o → MatchOption o (length (book ++ kept hour (once book calls)) < limit) (λ e. (e.command ≡ d.command) × (p ≡ e.reply))
-      → (e : Entry C R) × (entry_of d.key (book ++ kept hour (once book (calls ++ Deliver d (Ok p) ∷ []))) ≡ Some e) × (e.command ≡ d.command) × (p ≡ e.reply)
-  after_reply limit book hour calls d p (Some e) i m = (e, stays book hour calls (Deliver d (Ok p) ∷ []) d.key e i, m.0, m.1)
+  after_reply : (limit : ℕ) (book : List (Entry C R)) (hour : ℕ) (calls : List (Call C R))
+      (d : Delivery C) (p : R) (o : Option (Entry C R)) → entry_of d.key (book ++
+      kept hour (once book calls)) ≡ o → MatchOption o (length (book ++ kept hour (once book calls))
+      < limit) (λ e. (e.command ≡ d.command) × (p ≡ e.reply))
+      → (e : Entry C R) × (entry_of d.key (book ++ kept hour (once book (calls ++ Deliver d (Ok p) ∷
+      []))) ≡ Some e) × (e.command ≡ d.command) × (p ≡ e.reply)
+  after_reply limit book hour calls d p (Some e) i m =
+      (e, stays book hour calls (Deliver d (Ok p) ∷ []) d.key e i, m.0, m.1)
   after_reply limit book hour calls d p None i m =
-      let n : is_known d.key (book ++ once book calls) ≡ false = sym (known_kept d.key book hour (once book calls)) ∙ ap is_some i in
+      let n : is_known d.key (book ++ once book calls) ≡ false =
+      sym (known_kept d.key book hour (once book calls)) ∙ ap is_some i in
       let x : Entry C R = record { key = d.key; hour = d.hour; command = d.command; reply = p } in
-      let y : Entry C R = record x { hour = max (last_hour hour (kept hour (once book calls))) d.hour } in
-      let k : book ++ kept hour (once book (calls ++ Deliver d (Ok p) ∷ [])) ≡ (book ++ kept hour (once book calls)) ++ y ∷ [] = ap (λ xs. book ++ kept hour xs) (once-new book calls d p n) ∙ ap (λ xs. book ++ xs) (kept-snoc hour (once book calls) x) ∙ sym (append_assoc book (kept hour (once book calls)) (y ∷ [])) in
-      (y, ap (entry_of d.key) k ∙ find-append (λ e. same_key e.key d.key) (book ++ kept hour (once book calls)) (y ∷ []) ∙ ap (λ o. option_or o (entry_of d.key (y ∷ []))) i ∙ ap (λ v. cond v (Some y) None) (same_refl d.key), refl, refl)
+      let y : Entry C R = record x {
+        hour = max (last_hour hour (kept hour (once book calls)))
+            d.hour;
+      } in
+      let k : book ++ kept hour (once book (calls ++ Deliver d (Ok p) ∷ [])) ≡ (book ++
+      kept hour (once book calls)) ++ y ∷ [] = ap (λ xs. book ++ kept hour xs)
+      (once-new book calls d p n) ∙ ap (λ xs. book ++ xs) (kept-snoc hour (once book calls) x) ∙
+      sym (append_assoc book (kept hour (once book calls)) (y ∷ [])) in (
+        y,
+        ap (entry_of d.key) k ∙ find-append (λ e. same_key e.key d.key) (book ++
+            kept hour (once book calls)) (y ∷ []) ∙ ap (λ o. option_or o (entry_of d.key (y ∷ [])))
+            i
+            ∙ ap (λ v. cond v (Some y) None) (same_refl d.key),
+        refl,
+        refl,
+      )
 
-  -- where two deliveries of a run have one key and a reply each, they have one command and one reply
-  pub alike : {S : Type 0} (step : S → ℕ → C → R → S → Type 0) (limit : ℕ) (closed : Bool) (old : Content S C R) (calls : List (Call C R)) (new : Content S C R) → Run step limit closed old calls new → AnswersAlike calls
+  -- where two deliveries of a run have one key and a reply each, they have one command and one
+  -- reply
+  pub alike : {S : Type 0} (step : S → ℕ → C → R → S → Type 0) (limit : ℕ) (closed : Bool)
+      (old : Content S C R) (calls : List (Call C R)) (new : Content S C R) →
+      Run step limit closed old calls new → AnswersAlike calls
   alike step limit closed old calls new r before d p between b q after e k =
       let one = r.answers before (Deliver d (Ok p)) (between ++ Deliver b (Ok q) ∷ after) e in
-      let had = after_reply limit old.book old.hour before d p (entry_of d.key (old.book ++ kept old.hour (once old.book before))) refl one.1 in
-      let two = r.answers (before ++ Deliver d (Ok p) ∷ between) (Deliver b (Ok q)) after (e ∙ sym (append_assoc before (Deliver d (Ok p) ∷ between) (Deliver b (Ok q) ∷ after))) in
-      let same : before ++ Deliver d (Ok p) ∷ between ≡ (before ++ Deliver d (Ok p) ∷ []) ++ between = sym (append_assoc before (Deliver d (Ok p) ∷ []) between) in
-      let still : entry_of b.key (old.book ++ kept old.hour (once old.book (before ++ Deliver d (Ok p) ∷ between))) ≡ Some had.0 =
-      ap (λ key. entry_of key (old.book ++ kept old.hour (once old.book (before ++ Deliver d (Ok p) ∷ between)))) (sym k) ∙ ap (λ xs. entry_of d.key (old.book ++ kept old.hour (once old.book xs))) same ∙ stays old.book old.hour (before ++ Deliver d (Ok p) ∷ []) between d.key had.0 had.1 in
-      let m = subst (λ o. MatchOption o (length (old.book ++ kept old.hour (once old.book (before ++ Deliver d (Ok p) ∷ between))) < limit) (λ x. (x.command ≡ b.command) × (q ≡ x.reply))) still two.1 in
+      let had = after_reply limit old.book old.hour before d p (entry_of d.key (old.book ++
+      kept old.hour (once old.book before))) refl one.1 in
+      let two = r.answers (before ++ Deliver d (Ok p) ∷ between) (Deliver b (Ok q)) after
+      (e ∙ sym (append_assoc before (Deliver d (Ok p) ∷ between) (Deliver b (Ok q) ∷ after))) in
+      let same : before ++ Deliver d (Ok p) ∷ between ≡ (before ++ Deliver d (Ok p) ∷ []) ++
+      between = sym (append_assoc before (Deliver d (Ok p) ∷ []) between) in
+      let still : entry_of b.key (old.book ++
+      kept old.hour (once old.book (before ++ Deliver d (Ok p) ∷ between))) ≡ Some had.0 =
+      ap (λ key. entry_of key (old.book ++
+      kept old.hour (once old.book (before ++ Deliver d (Ok p) ∷ between)))) (sym k) ∙ ap
+      (λ xs. entry_of d.key (old.book ++ kept old.hour (once old.book xs))) same ∙ stays
+      old.book old.hour (before ++ Deliver d (Ok p) ∷ []) between d.key had.0 had.1 in
+      let m = subst (λ o. MatchOption o (length (old.book ++
+      kept old.hour (once old.book (before ++ Deliver d (Ok p) ∷ between))) < limit)
+      (λ x. (x.command ≡ b.command) × (q ≡ x.reply))) still two.1 in
       (sym had.2 ∙ m.0, had.3 ∙ sym m.1)

@@ -1,9 +1,11 @@
 -- What a book is asked, and answers.
 use Rattle.std.specs.List.{zip}
-use Rattle.std.specs.Prelude.{◌++◌, ◌<◌, ◌≡◌, ◌∷◌, ◌||◌, Bool, Err, List, MatchOption, Ok, Option, Result, false, find, is_some, map, true, ℕ}
+use Rattle.std.specs.Prelude.{◌++◌, ◌<◌, ◌≡◌, ◌∷◌, ◌||◌, Bool, Err, List, MatchOption, Ok, Option}
+use Rattle.std.specs.Prelude.{Result, false, find, is_some, map, true, ℕ}
 use Rattle.ring_words.specs.declared.request.Delivery.{Delivery}
 use Rattle.request_book.specs.declared.book.Fault.{Fault}
-use Rattle.request_book.specs.declared.book.Fault.TheVariants.{BookFull, Closed, NoMemory, NumberReused, StoreFault}
+use Rattle.request_book.specs.declared.book.Fault.TheVariants.{BookFull, Closed, NoMemory}
+use Rattle.request_book.specs.declared.book.Fault.TheVariants.{NumberReused, StoreFault}
 
 -- A call with its answer: of a delivery, or of the state to be read between deliveries.
 pub data Call (C R : Type 0) : Type 0 where
@@ -46,10 +48,11 @@ abbrev pub finds_closed : {C R : Type 0} → Call C R → Bool
 finds_closed (Deliver delivery answer) = is_closed_fault answer
 finds_closed (Load answer) = is_closed_fault answer
 
--- Exactly the calls after one in which the store failed, which may be one before these, are answered that the book is
--- closed.
+-- Exactly the calls after one in which the store failed, which may be one before these, are
+-- answered that the book is closed.
 abbrev pub ClosesAfterFault : {C R : Type 0} → Bool → List (Call C R) → Type 0
-ClosesAfterFault {C} {R} closed calls = (before : List (Call C R)) (call : Call C R) (after : List (Call C R)) → calls ≡ before ++ call ∷ after →
+ClosesAfterFault {C} {R} closed calls = (before : List (Call C R)) (call : Call C R)
+    (after : List (Call C R)) → calls ≡ before ++ call ∷ after →
     finds_closed call ≡ (closed || is_some (failed before))
 
 -- The count of faults rises exactly where the store failed in one of the calls.

@@ -16,8 +16,8 @@ entry_of key book = find (λ e. same_key e.key key) book
 abbrev pub is_known : {C R : Type 0} → Key → List (Entry C R) → Bool
 is_known key book = is_some (entry_of key book)
 
--- The content: the state, the book, which has an entry for each decided request in the order of the decisions, and
--- the greatest hour.
+-- The content: the state, the book, which has an entry for each decided request in the order of the
+-- decisions, and the greatest hour.
 pub record Content (S C R : Type 0) : Type 0 where
   pub state : S
   pub book : List (Entry C R)

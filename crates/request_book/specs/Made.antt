@@ -9,9 +9,9 @@ use Rattle.request_book.specs.Keeper.{CrashLeaves}
 module _ {M S C R K : Type 0} (step : M → S → ℕ → C → R → S → Type 0) (content : K → Content S C R)
     (sound : K → Type 0) (limit : K → ℕ) (faults : K → ℕ)
     (may_leave : K → Option (Content S C R) → Type 0) where
-  -- From the one book to the other this call was made: what it was answered and left, and what a crash
-  -- after it may leave. It is answered that the book is closed exactly where the store had failed, and
-  -- then nothing is touched.
+  -- From the one book to the other this call was made: what it was answered and left, and what a
+  -- crash after it may leave. It is answered that the book is closed exactly where the store had
+  -- failed, and then nothing is touched.
   pub record Makes (old new : Parts M K) (call : Call C R) : Type 0 where
     pub called : sound new.keeper → Called (step old.machine) (limit old.keeper)
         (nat_lt 0 (faults old.keeper)) (content old.keeper) call (content new.keeper)

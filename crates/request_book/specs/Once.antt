@@ -7,7 +7,13 @@ use Rattle.request_book.specs.Content.{is_known}
 
 -- A delivery is decided if its answer is a reply: its own key, hour and command, with that reply.
 abbrev pub decision : {C R : Type 0} → Call C R → List (Entry C R)
-decision (Deliver d (Ok reply)) = record { key = d.key; hour = d.hour; command = d.command; reply = reply } ∷ []
+decision (Deliver d (Ok reply)) = record {
+  key = d.key;
+  hour = d.hour;
+  command = d.command;
+  reply =
+      reply;
+} ∷ []
 decision (Deliver d (Err fault)) = []
 decision (Load answer) = []
 

@@ -1,5 +1,6 @@
 //! The book: each request decided once, whatever comes again.
-ghost use Rattle.std.specs.Prelude.{◌≡◌, ◌<◌, ◌↔◌, ◌∷◌, [], false, IfOk, IsErrOf, IsTrue, OnErr, OnOk, length, nat_lt};
+ghost use Rattle.std.specs.Prelude.{◌≡◌, ◌<◌, ◌↔◌, ◌∷◌, [], false, IfOk, IsErrOf, IsTrue, OnErr};
+ghost use Rattle.std.specs.Prelude.{OnOk, length, nat_lt};
 ghost use Rattle.request_book.specs.Book.{Parts};
 ghost use Rattle.request_book.specs.Call.{ClosesAfterFault, Deliver, FaultsTold, Load, calls_of};
 ghost use Rattle.request_book.specs.Called.{Called};
@@ -53,7 +54,8 @@ impl From<AllocError> for Fault {
     }
 }
 
-/// A machine beside a keeper of its state and of the requests that it decided. Contracts see the two.
+/// A machine beside a keeper of its state and of the requests that it decided. Contracts see the
+/// two.
 ///
 /// Once its store has failed the book is closed: it answers `Closed` and touches nothing.
 #[derive(Drop)]
@@ -117,17 +119,20 @@ impl<M: Machine, K: Keeper<M>> Book<M, K> {
 
     /// Answers a delivery.
     ///
-    /// In this order: `Closed` after an earlier `StoreFault`; where the key is known, the kept reply of an equal command
-    /// and `NumberReused` for another one; `BookFull` where the key is new and there is no room. Else the command is
-    /// decided at the greatest hour among this delivery's and those of all decided before, and its reply, a refusal too,
-    /// is kept for good. `NoMemory` changes nothing, and `StoreFault` leaves the content as before or with the delivery.
+    /// In this order: `Closed` after an earlier `StoreFault`; where the key is known, the kept
+    /// reply of an equal command and `NumberReused` for another one; `BookFull` where the key is
+    /// new and there is no room. Else the command is decided at the greatest hour among this
+    /// delivery's and those of all decided before, and its reply, a refusal too, is kept for good.
+    /// `NoMemory` changes nothing, and `StoreFault` leaves the content as before or with the
+    /// delivery.
     #[tactic(auto, using(crate::proofs::Runs::run_one))]
     pub fn deliver(&mut self, hour: Hour, key: Key, command: M::Command) -> Answer<M::Reply>
         ensures run { K.sound self.new.keeper →
             Run (M.step self.old.machine) (K.limit self.old.keeper) (nat_lt 0 (K.fault_count self.old.keeper))
             (K.content self.old.keeper) (Deliver (record { hour = hour; key = key; command = command }) result ∷ [])
             (K.content self.new.keeper) }
-        ensures made { Makes M.step K.content K.sound K.limit K.fault_count K.may_leave self.old self.new
+        ensures made { Makes M.step K.content K.sound K.limit K.fault_count K.may_leave self.old
+            self.new
             (Deliver (record { hour = hour; key = key; command = command }) result) }
         // Where the store didn't fail, a crash leaves what the call left.
         ensures settled { K.sound self.new.keeper → K.fault_count self.new.keeper ≡ 0 →
@@ -136,8 +141,8 @@ impl<M: Machine, K: Keeper<M>> Book<M, K> {
         self.answer(Delivery { hour, key, command })
     }
 
-    /// Answers deliveries in their order, each as `deliver` does. An error says that there was no memory for the
-    /// answers: then no delivery was looked at.
+    /// Answers deliveries in their order, each as `deliver` does. An error says that there was no
+    /// memory for the answers: then no delivery was looked at.
     pub fn run(
         &mut self,
         deliveries: Vec<Delivery<M::Command>>,
@@ -145,7 +150,8 @@ impl<M: Machine, K: Keeper<M>> Book<M, K> {
         ensures run { K.sound self.new.keeper → IfOk result (λ answers.
             Run (M.step self.old.machine) (K.limit self.old.keeper) (nat_lt 0 (K.fault_count self.old.keeper))
             (K.content self.old.keeper) (calls_of deliveries.items answers.items) (K.content self.new.keeper)) }
-        // What a key is answered by a reply it is answered by each later one, and they have its command.
+        // What a key is answered by a reply it is answered by each later one, and they have its
+        // command.
         ensures alike { K.sound self.new.keeper →
             IfOk result (λ answers. AnswersAlike (calls_of deliveries.items answers.items)) }
         ensures count { IfOk result (λ answers. length answers.items ≡ length deliveries.items) }
@@ -160,8 +166,10 @@ impl<M: Machine, K: Keeper<M>> Book<M, K> {
         ensures nothing { 0 < K.fault_count self.old.keeper → self.new ≡ self.old }
         ensures err { OnErr result (self.new ≡ self.old) }
 
-        // A crash after the call leaves what the deliveries may leave, and where the store didn't fail what they left.
-        ensures left { K.sound self.new.keeper → K.fault_count self.old.keeper ≡ 0 → IfOk result (λ answers.
+        // A crash after the call leaves what the deliveries may leave, and where the store didn't
+        // fail what they left.
+        ensures left { K.sound self.new.keeper → K.fault_count self.old.keeper ≡ 0 →
+            IfOk result (λ answers.
             CrashLeaves (K.may_leave self.new.keeper) (Run (M.step self.old.machine) (K.limit self.old.keeper) false
             (K.content self.old.keeper) (calls_of deliveries.items answers.items))) }
         ensures settled { K.sound self.new.keeper → K.fault_count self.new.keeper ≡ 0 →
@@ -175,17 +183,20 @@ impl<M: Machine, K: Keeper<M>> Book<M, K> {
         Ok(answers)
     }
 
-    /// Makes the state ready for `state`. The content stays. `Closed` after an earlier `StoreFault`; a `StoreFault` of
-    /// this call closes the book; `NoMemory` leaves it open.
+    /// Makes the state ready for `state`. The content stays. `Closed` after an earlier
+    /// `StoreFault`; a `StoreFault` of this call closes the book; `NoMemory` leaves it open.
     #[tactic(auto, using(crate::proofs::Runs::run_one))]
     pub fn load(&mut self) -> Result<(), Fault>
-        ensures loaded { OnOk result (K.is_loaded self.new.keeper × (K.fault_count self.new.keeper ≡ 0)) }
+        ensures loaded { OnOk result (K.is_loaded self.new.keeper ×
+            (K.fault_count self.new.keeper ≡ 0)) }
         ensures run { K.sound self.new.keeper →
             Run (M.step self.old.machine) (K.limit self.old.keeper) (nat_lt 0 (K.fault_count self.old.keeper))
             (K.content self.old.keeper) (Load result ∷ []) (K.content self.new.keeper) }
-        ensures made { Makes M.step K.content K.sound K.limit K.fault_count K.may_leave self.old self.new
+        ensures made { Makes M.step K.content K.sound K.limit K.fault_count K.may_leave self.old
+            self.new
             (Load result) }
-        ensures content { K.sound self.new.keeper → K.content self.new.keeper ≡ K.content self.old.keeper }
+        ensures content { K.sound self.new.keeper → K.content self.new.keeper ≡ K.content
+            self.old.keeper }
         ensures left { K.sound self.new.keeper → K.fault_count self.old.keeper ≡ 0 →
             LeavesOnly (K.may_leave self.new.keeper) (K.content self.old.keeper) }
     {

@@ -1,5 +1,6 @@
 //! What keeps the state, the decided requests and the greatest hour.
-ghost use Rattle.std.specs.Prelude.{◌≡◌, ◌≤◌, ◌<◌, ◌↔◌, None, IfOk, IsTrue, OnOk, Option, length, ℕ};
+ghost use Rattle.std.specs.Prelude.{◌≡◌, ◌≤◌, ◌<◌, ◌↔◌, None, IfOk, IsTrue, OnOk, Option, length};
+ghost use Rattle.std.specs.Prelude.{ℕ};
 ghost use Rattle.request_book.specs.Content.{Content, entry_of};
 ghost use Rattle.request_book.specs.Keeper.{Commits, CrashLeaves, HasCause, IsFound, LeavesOnly};
 
@@ -28,8 +29,9 @@ pub enum KeepFault {
 
 /// Keeps a machine's state beside the requests that were decided.
 ///
-/// While it is sound a keeper tells what it was given. A keeper whose store answers otherwise than it was written
-/// stops being sound in that call, for good, and promises only its limit and its faults from then on.
+/// While it is sound a keeper tells what it was given. A keeper whose store answers otherwise than
+/// it was written stops being sound in that call, for good, and promises only its limit and its
+/// faults from then on.
 pub trait Keeper<M: Machine> {
     /// What it holds.
     ghost content: { Self → Content M.State M.Command M.Reply };
@@ -53,10 +55,13 @@ pub trait Keeper<M: Machine> {
     fn faults(&self) -> u64
         ensures { result ≡ fault_count self.now };
 
-    /// What the book has of a key: nothing, the reply of this command, or another command. The content stays.
+    /// What the book has of a key: nothing, the reply of this command, or another command. The
+    /// content stays.
     fn look(&mut self, key: &Key, command: &M::Command) -> Result<Found<M::Reply>, KeepFault>
         requires { fault_count self.old ≡ 0 }
-        ensures found { sound self.new → IfOk result (λ found. IsFound (entry_of key.now (content self.old).book) command.now found) }
+        ensures found { sound self.new →
+            IfOk result (λ found. IsFound (entry_of key.now (content self.old).book) command.now
+            found) }
         ensures content { sound self.new → content self.new ≡ content self.old }
         ensures left { sound self.new → LeavesOnly (may_leave self.new) (content self.old) }
         ensures sound { sound self.new → sound self.old }
@@ -66,7 +71,8 @@ pub trait Keeper<M: Machine> {
     /// Whether the book has as many entries as it may, or more. The content stays.
     fn is_full(&mut self) -> Result<bool, KeepFault>
         requires { fault_count self.old ≡ 0 }
-        ensures full { sound self.new → IfOk result (λ full. IsTrue full ↔ (limit self.old ≤ length (content self.old).book)) }
+        ensures full { sound self.new → IfOk result (λ full. IsTrue full ↔
+            (limit self.old ≤ length (content self.old).book)) }
         ensures content { sound self.new → content self.new ≡ content self.old }
         ensures left { sound self.new → LeavesOnly (may_leave self.new) (content self.old) }
         ensures sound { sound self.new → sound self.old }
@@ -99,8 +105,9 @@ pub trait Keeper<M: Machine> {
         requires faults { fault_count self.now ≡ 0 }
         ensures { sound self.now → result.now ≡ (content self.now).state };
 
-    /// Puts a decided request at the end of the book, with the state that it led to and its hour. NoMemory leaves the
-    /// content as before; Store leaves it as before or with the request, its state and its hour.
+    /// Puts a decided request at the end of the book, with the state that it led to and its hour.
+    /// NoMemory leaves the content as before; Store leaves it as before or with the request, its
+    /// state and its hour.
     fn commit(
         &mut self,
         key: Key,
@@ -113,14 +120,23 @@ pub trait Keeper<M: Machine> {
         requires unknown { sound self.old → entry_of key (content self.old).book ≡ None }
         requires room { sound self.old → length (content self.old).book < limit self.old }
         requires hour { sound self.old → (content self.old).hour ≤ hour }
-        requires step { sound self.old → (machine : M) × M.step machine (content self.old).state hour command reply state }
-        ensures commits { sound self.new → Commits (content self.old) (record { key = key; hour = hour; command = command; reply = reply }) state result (content self.new) }
+        requires step { sound self.old → (machine : M) × M.step machine (content self.old).state
+            hour command reply state }
+        ensures commits { sound self.new → Commits (content self.old) (record {
+          key = key;
+          hour =
+              hour;
+          command = command;
+          reply = reply;
+        }) state result (content self.new) }
         // What a crash may leave is what a commit of this answer may leave.
-        ensures left { sound self.new → CrashLeaves (may_leave self.new) (Commits (content self.old) (record { key = key; hour = hour; command = command; reply = reply }) state result) }
+        ensures left { sound self.new → CrashLeaves (may_leave self.new) (Commits (content self.old)
+            (record { key = key; hour = hour; command = command; reply = reply }) state result) }
         ensures sound { sound self.new → sound self.old }
         ensures limit { limit self.new ≡ limit self.old }
         ensures cause { HasCause (fault_count self.old) (fault_count self.new) result };
 
     /// While it is sound and its store has not failed, a crash leaves its content and nothing else.
-    ghost settled: { (keeper : Self) → sound keeper → fault_count keeper ≡ 0 → LeavesOnly (may_leave keeper) (content keeper) };
+    ghost settled: { (keeper : Self) → sound keeper → fault_count keeper ≡ 0 →
+        LeavesOnly (may_leave keeper) (content keeper) };
 }

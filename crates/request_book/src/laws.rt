@@ -7,14 +7,20 @@ ghost use Rattle.request_book.specs.Run.{AnswersAlike, Run};
 
 use crate::machine::Machine;
 
-/// A run goes on by one call, of a delivery or of a read: so whatever is called between, the deliveries of a book are
-/// one run.
+/// A run goes on by one call, of a delivery or of a read: so whatever is called between, the
+/// deliveries of a book are one run.
 #[tactic(auto, using(crate::proofs::Runs::run_snoc))]
 pub fn run_goes_on<M: Machine>()
-    ensures { (machine : M) (limit : ℕ) (closed : Bool) (old mid new : Content M.State M.Command M.Reply) (calls : List (Call M.Command M.Reply)) (call : Call M.Command M.Reply) → Run (M.step machine) limit closed old calls mid → Called (M.step machine) limit (closed || is_some (failed calls)) mid call new → Run (M.step machine) limit closed old (calls ++ call ∷ []) new }
+    ensures { (machine : M) (limit : ℕ) (closed : Bool) (old mid new : Content M.State M.Command
+        M.Reply) (calls : List (Call M.Command M.Reply)) (call : Call M.Command M.Reply) →
+        Run (M.step machine) limit closed old calls mid → Called (M.step machine) limit (closed ||
+        is_some (failed calls)) mid call new → Run (M.step machine) limit closed old (calls ++
+        call ∷ []) new }
 {}
 
 /// In every run two replies to one key are one reply, to one command.
 pub fn replies_are_alike<M: Machine>()
-    ensures { (machine : M) (limit : ℕ) (closed : Bool) (old new : Content M.State M.Command M.Reply) (calls : List (Call M.Command M.Reply)) → Run (M.step machine) limit closed old calls new → AnswersAlike calls }
+    ensures { (machine : M) (limit : ℕ) (closed : Bool) (old new : Content M.State M.Command
+        M.Reply) (calls : List (Call M.Command M.Reply)) → Run (M.step machine) limit closed old
+        calls new → AnswersAlike calls }
 {}

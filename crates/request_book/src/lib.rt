@@ -1,8 +1,10 @@
-//! Numbered requests that may come again, each decided once, for every machine and every keeper of replies.
+//! Numbered requests that may come again, each decided once, for every machine and every keeper of
+//! replies.
 //!
-//! A caller numbers its requests and sends each as often as it likes. The book keeps the reply of every request that
-//! it decides, a refusal too, and answers a repeat by the kept reply. What decides is a [`Machine`], what keeps the
-//! state and the replies is a [`Keeper`]. `specs/Run.antt` says what a list of deliveries is answered and leaves.
+//! A caller numbers its requests and sends each as often as it likes. The book keeps the reply of
+//! every request that it decides, a refusal too, and answers a repeat by the kept reply. What
+//! decides is a [`Machine`], what keeps the state and the replies is a [`Keeper`]. `specs/Run.antt`
+//! says what a list of deliveries is answered and leaves.
 #![tactic(auto)]
 
 mod book;

@@ -24,12 +24,13 @@ pub trait Machine {
     /// A run may begin with this state.
     ghost begins: { Self → Self.State → Type 0 };
 
-    /// The state that a run begins with. It takes no memory: the allocator is for the collections that it makes, all
-    /// of them empty.
+    /// The state that a run begins with. It takes no memory: the allocator is for the collections
+    /// that it makes, all of them empty.
     fn start(&self, alloc: Global) -> Self::State
         ensures { begins self.now result };
 
-    /// Decides a command. The state that is given stays as it is; an error says that memory was refused.
+    /// Decides a command. The state that is given stays as it is; an error says that memory was
+    /// refused.
     fn decide(
         &self,
         alloc: Global,
@@ -37,7 +38,8 @@ pub trait Machine {
         hour: Hour,
         command: &Self::Command,
     ) -> Result<(Self::State, Self::Reply), AllocError>
-        ensures { IfOk result (λ decided. step self.now state.now hour command.now decided.1 decided.0) };
+        ensures { IfOk result (λ decided. step self.now state.now hour command.now decided.1
+            decided.0) };
 
     /// Whether two commands are one, exactly as contracts compare them.
     fn same(a: &Self::Command, b: &Self::Command) -> bool
@@ -48,5 +50,7 @@ pub trait Machine {
         ensures { result ≡ refuses reply.now };
 
     /// A refusal keeps the state.
-    ghost refusal_keeps: { (machine : Self) (old new : Self.State) (hour : ℕ) (command : Self.Command) (reply : Self.Reply) → step machine old hour command reply new → refuses reply ≡ true → new ≡ old };
+    ghost refusal_keeps: { (machine : Self) (old new : Self.State) (hour : ℕ)
+        (command : Self.Command) (reply : Self.Reply) → step machine old hour command reply new →
+        refuses reply ≡ true → new ≡ old };
 }

@@ -12,7 +12,8 @@ use ring_words::{Hour, Key, Limits};
 use std::alloc::Global;
 use std::marker::Model;
 
-/// A state beside its book, in memory. Contracts see its content, and the number of entries that it may have.
+/// A state beside its book, in memory. Contracts see its content, and the number of entries that it
+/// may have.
 #[derive(Drop)]
 pub struct MemKeeper<S, C, R> {
     state: S,
@@ -28,7 +29,8 @@ impl<S, C, R> Model for MemKeeper<S, C, R> {
 }
 
 impl<S, C, R> MemKeeper<S, C, R> {
-    /// Begins with this state, an empty book and hour 0, and keeps at most `limits.numbers` requests.
+    /// Begins with this state, an empty book and hour 0, and keeps at most `limits.numbers`
+    /// requests.
     pub fn new(alloc: Global, state: S, limits: Limits) -> Self
         ensures { result ≡ (record { state = state; book = []; hour = 0 }, limits.numbers) }
     {

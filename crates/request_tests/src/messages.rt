@@ -89,7 +89,8 @@ fn a_number_has_one_spelling(rt: HostRuntime) -> Result<(), Fail> {
     Ok(())
 }
 
-/// Whether a message is read whose caller is written twice, first as a list within lists, so many in all.
+/// Whether a message is read whose caller is written twice, first as a list within lists, so many
+/// in all.
 fn is_read_with_lists(alloc: Global, count: usize) -> Result<bool, MessageFault> {
     let mut number = String::from_str(alloc, "1,\"caller\":")?;
     for _ in 0..count {

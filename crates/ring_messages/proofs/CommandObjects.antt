@@ -1,5 +1,6 @@
 -- A command's object says the command, and no other; it is read back from its text.
-use Rattle.std.proofs.Common.{◌≡◌, ℕ, ◌+◌, ◌≤◌, List, [], ◌∷◌, ◌++◌, length, true, false, Some, codes, refl, ap, ◌∙◌, arith}
+use Rattle.std.proofs.Common.{◌≡◌, ℕ, ◌+◌, ◌≤◌, List, [], ◌∷◌, ◌++◌, length, true, false, Some}
+use Rattle.std.proofs.Common.{codes, refl, ap, ◌∙◌, arith}
 use Rattle.std.proofs.lemmas.Bool.{and_parts, not-true}
 use Rattle.serde_json.specs.Data.{Data, string, no_members, put, depth}
 use Rattle.serde_json.specs.Find.{get}
@@ -10,12 +11,16 @@ use Rattle.ring_words.specs.declared.command.Command.{Command}
 use Rattle.ring_words.specs.declared.command.Act.{Act}
 use Rattle.ring_words.specs.declared.command.Act.TheVariants.{Create}
 use Rattle.ring_messages.specs.Fields.{members}
-use Rattle.ring_messages.specs.Commands.{act_word, act_fields, act_data, command_data, canonical, IsProperCommand}
+use Rattle.ring_messages.specs.Commands.{act_word, act_fields, act_data, command_data, canonical}
+use Rattle.ring_messages.specs.Commands.{IsProperCommand}
 use Rattle.ring_messages.specs.Message.{members_count}
 use Rattle.ring_messages.specs.Inner.Says.{SaysCommand}
 use Rattle.ring_messages.proofs.Acts.{same_act}
-use Rattle.ring_messages.proofs.FieldLists.{AreApart, HasMembers, IsNoKey, all_there, are_proper, fields_low, fields_plain, fields_whole, are_short, has_members, still_there}
-use Rattle.ring_messages.proofs.Keys.{are_apart, behind, differ, keys, members_of, names, names_apart, no_name}
+use Rattle.ring_messages.proofs.FieldLists.{AreApart, HasMembers, IsNoKey, all_there, are_proper}
+use Rattle.ring_messages.proofs.FieldLists.{fields_low, fields_plain, fields_whole, are_short}
+use Rattle.ring_messages.proofs.FieldLists.{has_members, still_there}
+use Rattle.ring_messages.proofs.Keys.{are_apart, behind, differ, keys, members_of, names}
+use Rattle.ring_messages.proofs.Keys.{names_apart, no_name}
 use Rattle.ring_messages.proofs.OneValue.{same_name}
 use Rattle.ring_messages.proofs.OneText.{IsReadable}
 use Rattle.ring_messages.proofs.Plain.{IsPlain, members_plain, put_each, reads_compact}

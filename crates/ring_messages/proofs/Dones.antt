@@ -1,5 +1,6 @@
 -- One word and one list of fields tell one thing that was done; it is read back from its text.
-use Rattle.std.proofs.Common.{◌≡◌, ◌≤◌, ◌∷◌, bytes_eq, true, Some, None, codes, refl, sym, ap, ◌∙◌, arith}
+use Rattle.std.proofs.Common.{◌≡◌, ◌≤◌, ◌∷◌, bytes_eq, true, Some, None, codes, refl, sym, ap, ◌∙◌}
+use Rattle.std.proofs.Common.{arith}
 use Rattle.std.proofs.lemmas.Bool.{and_parts, not-true}
 use Rattle.std.proofs.lemmas.Slice.Eq.{bytes_eq-Decides}
 use Rattle.serde_json.specs.Data.{Data, string, no_members, depth}
@@ -13,7 +14,8 @@ use Rattle.ring_messages.specs.Fields.{members, AreProper}
 use Rattle.ring_messages.specs.Replies.{done_word, done_fields, done_data}
 use Rattle.ring_messages.specs.Inner.Says.{SaysDone}
 use Rattle.ring_messages.proofs.FieldKinds.{kinds, same_fields, values}
-use Rattle.ring_messages.proofs.FieldLists.{all_there, are_proper, are_short, fields_low, fields_plain, still_there}
+use Rattle.ring_messages.proofs.FieldLists.{all_there, are_proper, are_short, fields_low}
+use Rattle.ring_messages.proofs.FieldLists.{fields_plain, still_there}
 use Rattle.ring_messages.proofs.Keys.{are_apart, members_of, names, names_apart, no_name}
 use Rattle.ring_messages.proofs.OneValue.{same_text_at}
 use Rattle.ring_messages.proofs.Plain.{IsPlain, members_plain, put_each, reads_compact}

@@ -1,5 +1,6 @@
 -- Fields and the members that they are.
-use Rattle.std.proofs.Common.{◌≡◌, ℕ, ◌^◌, ◌<◌, ◌≤◌, List, [], ◌∷◌, map, Bool, true, false, Option, Some, refl, sym, subst, arith}
+use Rattle.std.proofs.Common.{◌≡◌, ℕ, ◌^◌, ◌<◌, ◌≤◌, List, [], ◌∷◌, map, Bool, true, false, Option}
+use Rattle.std.proofs.Common.{Some, refl, sym, subst, arith}
 use Rattle.std.specs.Prelude.{◌&&◌, ⊤, nat_lt}
 use Rattle.std.specs.List.{AllByRecursion}
 use Rattle.std.proofs.lemmas.Bool.{and_parts, ltb-true}
@@ -9,7 +10,9 @@ use Rattle.serde_json.specs.View.{items_of}
 use Rattle.serde_json.specs.Written.{has_float, items_have_float}
 use Rattle.serde_json.proofs.Views.{get_member-put, get_member-put_other}
 use Rattle.ring_words.specs.declared.device.Row.{Row}
-use Rattle.ring_messages.specs.Fields.{Field, Fields, within, device_name, address, weight, rows, row_data, field_data, members, IsProperRow, IsProperField, AreProper}
+use Rattle.ring_messages.specs.Fields.{Field, Fields, within, device_name, address, weight, rows}
+use Rattle.ring_messages.specs.Fields.{row_data, field_data, members, IsProperRow, IsProperField}
+use Rattle.ring_messages.specs.Fields.{AreProper}
 use Rattle.ring_messages.specs.Inner.Says.{HasFields, Stands}
 use Rattle.ring_messages.proofs.Plain.{IsPlain, ArePlain}
 use Rattle.ring_messages.proofs.Puts.{EachMember, each_put}

@@ -11,9 +11,12 @@ use Rattle.ring_messages.specs.Fields.{Fields}
 use Rattle.ring_messages.specs.Commands.{act_fields, command_data}
 use Rattle.ring_messages.specs.Message.{IsDelivery, IsMessage}
 use Rattle.ring_messages.specs.Inner.Says.{SaysDelivery}
-use Rattle.ring_messages.proofs.CommandObjects.{apart, command_proper, count_is, has_command, is_command, keys_apart, keys_count, own_keys, same_command}
+use Rattle.ring_messages.proofs.CommandObjects.{apart, command_proper, count_is, has_command}
+use Rattle.ring_messages.proofs.CommandObjects.{is_command, keys_apart, keys_count, own_keys}
+use Rattle.ring_messages.proofs.CommandObjects.{same_command}
 use Rattle.ring_messages.proofs.FieldLists.{IsNoKey, there_too}
-use Rattle.ring_messages.proofs.Keys.{AreFound, differ, distinct, further, members_of, not_key, same_key}
+use Rattle.ring_messages.proofs.Keys.{AreFound, differ, distinct, further, members_of, not_key}
+use Rattle.ring_messages.proofs.Keys.{same_key}
 use Rattle.ring_messages.proofs.OneValue.{same_name, same_number_read}
 
 pub is_delivery : (d : Data) (k : Key) (c : Command) → SaysDelivery d k c → IsDelivery d k c

@@ -1,5 +1,6 @@
 -- What is written of a value is read back as it, so one text is of one value.
-use Rattle.std.proofs.Common.{◌≡◌, List, ℕ, Some, Err, bytes_eq, false, true≢false, sym, ap, subst, ◌∙◌}
+use Rattle.std.proofs.Common.{◌≡◌, List, ℕ, Some, Err, bytes_eq, false, true≢false, sym, ap, subst}
+use Rattle.std.proofs.Common.{◌∙◌}
 use Rattle.std.specs.Prelude.{IsUtf8}
 use Rattle.std.proofs.lemmas.Option.{same_Some}
 use Rattle.std.proofs.lemmas.Slice.Eq.{bytes_eq-Decides}
@@ -8,7 +9,7 @@ use Rattle.serde_json.specs.Read.{read}
 use Rattle.serde_json.specs.View.{view}
 use Rattle.serde_json.specs.Written.{compact_text}
 use Rattle.ring_words.specs.Spelling.{Reads}
-use Rattle.ring_words.specs.Spelling.{ReadsAs}
+use Rattle.ring_words.specs.Inner.ReadsAs.{ReadsAs}
 use Rattle.ring_words.specs.declared.spelling.SpellingFault.{SpellingFault}
 use Rattle.ring_words.proofs.Spelled.{reads_err, as_reads_err}
 

@@ -1,5 +1,6 @@
 -- One text is of one address and of one weight, and one value under a key is one part.
-use Rattle.std.proofs.Common.{◌≡◌, ℕ, List, Bool, false, true≢false, Option, Some, bytes_eq, sym, ◌∙◌}
+use Rattle.std.proofs.Common.{◌≡◌, ℕ, List, Bool, false, true≢false, Option, Some, bytes_eq, sym}
+use Rattle.std.proofs.Common.{◌∙◌}
 use Rattle.std.proofs.lemmas.Slice.Eq.{bytes_eq-Decides}
 use Rattle.serde_json.specs.Data.{Data, number, unsigned, string}
 use Rattle.ring_words.specs.Texts.{hundredths_text, address_text}

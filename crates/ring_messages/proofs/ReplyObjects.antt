@@ -1,5 +1,6 @@
 -- A reply's object says the reply, and no other; it is read back from its text.
-use Rattle.std.proofs.Common.{nat_eq, true, eq-eqb, ◌≡◌, ℕ, ◌^◌, ◌<◌, ◌≤◌, Option, Some, None, refl, sym, ap, ap₂, ◌∙◌, arith}
+use Rattle.std.proofs.Common.{nat_eq, true, eq-eqb, ◌≡◌, ℕ, ◌^◌, ◌<◌, ◌≤◌, Option, Some, None, refl}
+use Rattle.std.proofs.Common.{sym, ap, ap₂, ◌∙◌, arith}
 use Rattle.serde_json.specs.Data.{Data, number, unsigned, depth}
 use Rattle.serde_json.specs.Read.{read, max_depth}
 use Rattle.ring_words.specs.declared.command.Refusal.{Refusal}
@@ -8,7 +9,8 @@ use Rattle.ring_words.specs.declared.command.RowCause.{RowCause}
 use Rattle.ring_words.specs.declared.command.RowCause.TheVariants as cause
 use Rattle.ring_words.specs.declared.command.Reply.{Reply}
 use Rattle.ring_words.specs.declared.command.Reply.TheVariants as reply
-use Rattle.ring_messages.specs.Replies.{cause_rule, refusal_data, refusal_rule, reply_data, reply_text, IsProperRefusal, IsProperReply}
+use Rattle.ring_messages.specs.Replies.{cause_rule, refusal_data, refusal_rule, reply_data}
+use Rattle.ring_messages.specs.Replies.{reply_text, IsProperRefusal, IsProperReply}
 use Rattle.ring_messages.specs.Inner.Says.{SaysRefusal, SaysReply, SaysWhy}
 use Rattle.ring_messages.proofs.Dones.{done_proper, done_reads, done_says, no_rule, same_done}
 use Rattle.ring_messages.proofs.OneValue.{same_number_read}

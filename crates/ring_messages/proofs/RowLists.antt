@@ -1,9 +1,12 @@
 -- Lists of rows, and the JSON that they are.
-use Rattle.std.proofs.Common.{◌≡◌, ℕ, zero, suc, ◌<◌, ◌+◌, List, [], ◌∷◌, ◌++◌, map, length, take, get_or, Option, Some, None, Err, Vec, Global, refl, sym, ap, ap₂, ◌∙◌, subst, arith}
+use Rattle.std.proofs.Common.{◌≡◌, ℕ, zero, suc, ◌<◌, ◌+◌, List, [], ◌∷◌, ◌++◌, map, length, take}
+use Rattle.std.proofs.Common.{get_or, Option, Some, None, Err, Vec, Global, refl, sym, ap, ap₂, ◌∙◌}
+use Rattle.std.proofs.Common.{subst, arith}
 use Rattle.std.specs.List.{All, AllByRecursion, AllZip}
 use Rattle.std.proofs.lemmas.List.{map-append, take_more}
 use Rattle.std.proofs.lemmas.List.Elements.{recursion_from_All}
-use Rattle.serde_json.specs.Data.{Data, null, boolean, number, unsigned, string, array, object, Items, no_items, item}
+use Rattle.serde_json.specs.Data.{Data, null, boolean, number, unsigned, string, array, object}
+use Rattle.serde_json.specs.Data.{Items, no_items, item}
 use Rattle.serde_json.specs.Find.{as_array, at}
 use Rattle.serde_json.specs.View.{items_of, view}
 use Rattle.serde_json.specs.declared.value.Value.{Value}
@@ -11,7 +14,7 @@ use Rattle.ring_words.specs.declared.device.Row.{Row}
 use Rattle.ring_messages.specs.Fields.{row_data, IsProperRow}
 use Rattle.ring_words.specs.Spelling.{Reads}
 use Rattle.ring_messages.specs.Inner.Says.{IsRow, IsRows, ListsRow, ListsRows}
-use Rattle.ring_words.specs.Spelling.{ReadsAs}
+use Rattle.ring_words.specs.Inner.ReadsAs.{ReadsAs}
 use Rattle.ring_words.specs.declared.spelling.SpellingFault.{SpellingFault}
 use Rattle.ring_words.specs.declared.spelling.SpellingFault.TheVariants.{Bad, NoMemory}
 use Rattle.ring_messages.proofs.OneValue.{same_number_read, same_name, same_weight, same_address}

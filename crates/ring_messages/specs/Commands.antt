@@ -5,8 +5,11 @@ use Rattle.serde_json.specs.Written.{compact_text}
 use Rattle.ring_words.specs.Texts.{is_label}
 use Rattle.ring_words.specs.declared.command.Command.{Command}
 use Rattle.ring_words.specs.declared.command.Act.{Act}
-use Rattle.ring_words.specs.declared.command.Act.TheVariants.{Create, Add, SetWeight, Remove, SetHours, PretendPassed, RaisePower, Import, Publish, Rebalance}
-use Rattle.ring_messages.specs.Fields.{Fields, within, device_name, address, weight, rows, members, AreProper}
+use Rattle.ring_words.specs.declared.command.Act.TheVariants.{Create, Add, SetWeight, Remove}
+use Rattle.ring_words.specs.declared.command.Act.TheVariants.{SetHours, PretendPassed, RaisePower}
+use Rattle.ring_words.specs.declared.command.Act.TheVariants.{Import, Publish, Rebalance}
+use Rattle.ring_messages.specs.Fields.{Fields, within, device_name, address, weight, rows, members}
+use Rattle.ring_messages.specs.Fields.{AreProper}
 
 -- The word of a command, which stands under the key `do`.
 abbrev pub act_word : Act → List ℕ

@@ -1,9 +1,11 @@
 -- What stands under the keys of a command or a reply: its kind, its bounds, what is written of it.
 use Rattle.std.specs.Prelude.{ℕ, ◌<◌, ◌≤◌, ◌^◌, List, [], ◌∷◌, IsTrue, map}
 use Rattle.std.specs.List.{AllByRecursion}
-use Rattle.serde_json.specs.Data.{Data, number, unsigned, string, array, item, no_items, Members, no_members, put}
+use Rattle.serde_json.specs.Data.{Data, number, unsigned, string, array, item, no_items, Members}
+use Rattle.serde_json.specs.Data.{no_members, put}
 use Rattle.serde_json.specs.View.{items_of}
-use Rattle.ring_words.specs.Texts.{is_device_name, address_text, address_limit, hundredths_text, greatest_weight}
+use Rattle.ring_words.specs.Texts.{is_device_name, address_text, address_limit, hundredths_text}
+use Rattle.ring_words.specs.Texts.{greatest_weight}
 use Rattle.ring_words.specs.declared.device.Row.{Row}
 
 -- A whole number from a least to a greatest one, a device's name, an address, a weight in

@@ -3,9 +3,16 @@ use Rattle.std.specs.Prelude.{ℕ, ◌<◌, ◌^◌, List, [], ◌∷◌, codes,
 use Rattle.serde_json.specs.Data.{Data, string, object, no_members, member, put}
 use Rattle.serde_json.specs.Written.{compact_text}
 use Rattle.ring_words.specs.declared.command.Done.{Done}
-use Rattle.ring_words.specs.declared.command.Done.TheVariants.{Create, Add, SetWeight, Remove, SetHours, PretendPassed, RaisePower, Import, Publish, Rebalance}
+use Rattle.ring_words.specs.declared.command.Done.TheVariants.{Create, Add, SetWeight, Remove}
+use Rattle.ring_words.specs.declared.command.Done.TheVariants.{SetHours, PretendPassed, RaisePower}
+use Rattle.ring_words.specs.declared.command.Done.TheVariants.{Import, Publish, Rebalance}
 use Rattle.ring_words.specs.declared.command.Refusal.{Refusal}
-use Rattle.ring_words.specs.declared.command.Refusal.TheVariants.{NoRing, RingExists, TooManyRings, NoDevice, DeviceExists, DeviceRemoved, TooManyDevices, IdsUsedUp, TooFewDevices, NotAssigned, TooManyVersions, RowRefused, PowerLimit}
+use Rattle.ring_words.specs.declared.command.Refusal.TheVariants.{NoRing, RingExists, TooManyRings}
+use Rattle.ring_words.specs.declared.command.Refusal.TheVariants.{NoDevice, DeviceExists}
+use Rattle.ring_words.specs.declared.command.Refusal.TheVariants.{DeviceRemoved, TooManyDevices}
+use Rattle.ring_words.specs.declared.command.Refusal.TheVariants.{IdsUsedUp, TooFewDevices}
+use Rattle.ring_words.specs.declared.command.Refusal.TheVariants.{NotAssigned, TooManyVersions}
+use Rattle.ring_words.specs.declared.command.Refusal.TheVariants.{RowRefused, PowerLimit}
 use Rattle.ring_words.specs.declared.command.RowCause.{RowCause}
 use Rattle.ring_words.specs.declared.command.RowCause.TheVariants as cause
 use Rattle.ring_words.specs.declared.command.Reply.{Reply}

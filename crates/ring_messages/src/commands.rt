@@ -3,7 +3,9 @@ ghost use Rattle.std.specs.Prelude.{◌≡◌, [], IfOk, length, string_bytes};
 ghost use Rattle.serde_json.specs.View.{view};
 ghost use Rattle.ring_words.specs.declared.command.Act.{Act};
 ghost use Rattle.ring_words.specs.declared.command.Act.TheVariants as act;
-ghost use Rattle.ring_messages.specs.Commands.{command_object, act_data, act_fields, act_word, canonical, command_data, IsProperAct, IsProperCommand};
+ghost use Rattle.ring_messages.specs.Commands.{command_object, act_data, act_fields, act_word};
+ghost use Rattle.ring_messages.specs.Commands.{canonical, command_data, IsProperAct};
+ghost use Rattle.ring_messages.specs.Commands.{IsProperCommand};
 ghost use Rattle.ring_words.specs.Spelling.{Reads};
 ghost use Rattle.ring_messages.specs.Inner.Says.{HasFields, SaysAct};
 

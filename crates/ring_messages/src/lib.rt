@@ -20,5 +20,6 @@ pub use replies::{read_reply, reply_is_proper, reply_text};
 use ring_words::SpellingFault;
 pub use told::{NO_MEMORY_TEXT, Told, no_memory, status_of, told_text};
 
-/// Why bytes aren't read as a message, a command or a reply: Bad where they are none, or want of memory.
+/// Why bytes aren't read as a message, a command or a reply: Bad where they are none, or want of
+/// memory.
 pub type MessageFault = SpellingFault;

@@ -5,7 +5,8 @@ ghost use Rattle.serde_json.specs.Data.{string};
 ghost use Rattle.serde_json.specs.View.{view};
 ghost use Rattle.serde_json.specs.Read.{read};
 ghost use Rattle.ring_messages.specs.Reads.{IsNumber, IsName};
-ghost use Rattle.ring_words.specs.Spelling.{Reads, ReadsAs};
+ghost use Rattle.ring_words.specs.Spelling.{Reads};
+ghost use Rattle.ring_words.specs.Inner.ReadsAs.{ReadsAs};
 ghost use Rattle.ring_messages.specs.Inner.Says.{IsAddress, IsWeight};
 ghost use Rattle.ring_messages.specs.Message.{members_count};
 

@@ -1,5 +1,6 @@
 //! The one text of a reply, and back.
-ghost use Rattle.std.specs.Prelude.{◌∷◌, [], ◌≡◌, ◌≢◌, IfOk, IfSome, IfNone, Some, codes, string_bytes};
+ghost use Rattle.std.specs.Prelude.{◌∷◌, [], ◌≡◌, ◌≢◌, IfOk, IfSome, IfNone, Some, codes};
+ghost use Rattle.std.specs.Prelude.{string_bytes};
 ghost use Rattle.serde_json.specs.Data.{string};
 ghost use Rattle.serde_json.specs.Find.{get};
 ghost use Rattle.serde_json.specs.View.{view};
@@ -8,7 +9,10 @@ ghost use Rattle.ring_words.specs.declared.command.RowCause.{RowCause};
 ghost use Rattle.ring_messages.specs.Reads.{IsNumber};
 ghost use Rattle.ring_words.specs.Spelling.{Reads};
 ghost use Rattle.ring_messages.specs.Fields.{AreProper};
-ghost use Rattle.ring_messages.specs.Replies.{done_data, done_object, done_fields, version_field, IsProperRefusal, IsProperReply, cause_rule, refusal_rule, refused_data, refusal_data, row_refused_data, reply_data, reply_text};
+ghost use Rattle.ring_messages.specs.Replies.{done_data, done_object, done_fields, version_field};
+ghost use Rattle.ring_messages.specs.Replies.{IsProperRefusal, IsProperReply, cause_rule};
+ghost use Rattle.ring_messages.specs.Replies.{refusal_rule, refused_data, refusal_data};
+ghost use Rattle.ring_messages.specs.Replies.{row_refused_data, reply_data, reply_text};
 ghost use Rattle.ring_messages.specs.Inner.Says.{SaysDone, SaysRefusal, SaysReply, SaysWhy};
 
 use crate::MessageFault;

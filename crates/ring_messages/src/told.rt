@@ -1,7 +1,8 @@
 //! What a caller is told, as text and as a status.
 ghost use Rattle.std.specs.Prelude.{◌≡◌, IfOk, string_bytes};
 ghost use Rattle.serde_json.specs.View.{view};
-ghost use Rattle.ring_messages.specs.Replies.{fault_data, bad_row_data, bad_field_data, told_data, answer_text, answer_status};
+ghost use Rattle.ring_messages.specs.Replies.{fault_data, bad_row_data, bad_field_data, told_data};
+ghost use Rattle.ring_messages.specs.Replies.{answer_text, answer_status};
 
 use crate::replies::{refused_value, reply_value};
 use ring_words::Reply;

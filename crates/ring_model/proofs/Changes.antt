@@ -1,13 +1,17 @@
 -- A changed ring is valid.
-use Rattle.std.proofs.Common.{◌≡◌, ℕ, ◌+◌, ◌<◌, ◌≤◌, Bool, true, false, ◌||◌, cond, List, [], ◌∷◌, ◌++◌, length, get_or, take, drop, map, refl, sym, ap, ap₂, ◌∙◌, ⊎_elim, lit≤, arith}
+use Rattle.std.proofs.Common.{◌≡◌, ℕ, ◌+◌, ◌<◌, ◌≤◌, Bool, true, false, ◌||◌, cond, List, [], ◌∷◌}
+use Rattle.std.proofs.Common.{◌++◌, length, get_or, take, drop, map, refl, sym, ap, ap₂, ◌∙◌}
+use Rattle.std.proofs.Common.{⊎_elim, lit≤, arith}
 use Rattle.std.specs.Prelude.{All, ◌==◌, slice_index}
 use Rattle.std.specs.List.Sorted.{IsStrictlyIncreasing}
 use Rattle.std.proofs.lemmas.Bool.{cases_lt, cases_eq, eq-eqb, ne_eqb}
-use Rattle.std.proofs.lemmas.List.{length-append, length-map, take_at, get_or_append_left, get_or_at, map-append, get_or-map}
+use Rattle.std.proofs.lemmas.List.{length-append, length-map, take_at, get_or_append_left}
+use Rattle.std.proofs.lemmas.List.{get_or_at, map-append, get_or-map}
 use Rattle.std.proofs.lemmas.List.Folds.{list_any-append}
 use Rattle.std.proofs.lemmas.List.Elements.{All-push, All-weaker, All-map}
 use Rattle.std.proofs.lemmas.List.Quantifiers.{all_pairs_push}
-use Rattle.ring_model.specs.Ring.{RingRecord, has_device, risen, reweighed, marked, added, changed, with_device, partition_count}
+use Rattle.ring_model.specs.Ring.{RingRecord, has_device, risen, reweighed, marked, added, changed}
+use Rattle.ring_model.specs.Ring.{with_device, partition_count}
 use Rattle.ring_words.specs.Rows.{has_place, same_place}
 use Rattle.ring_model.specs.Import.{reweighed_by}
 use Rattle.ring_model.specs.Valid.{AreApart, AreDevices, AreSeats, IsValid}
@@ -25,35 +29,47 @@ risen_fits version fits = ⊎_elim
 
 -- ---- one more device
 
-rising_push : (xs : List ℕ) (y : ℕ) → IsStrictlyIncreasing xs → All (λ x. x < y) xs → IsStrictlyIncreasing (xs ++ y ∷ [])
+rising_push : (xs : List ℕ) (y : ℕ) → IsStrictlyIncreasing xs → All (λ x. x < y) xs →
+    IsStrictlyIncreasing (xs ++ y ∷ [])
 rising_push xs y rise below k lt =
     let long : k + 1 < length xs + 1 = omega (arith, length-append xs (y ∷ [])) in
-    let first : slice_index (xs ++ y ∷ []) k ≡ slice_index xs k = get_or_append_left xs (y ∷ []) 0 k (omega arith) in
+    let first : slice_index (xs ++ y ∷ []) k ≡ slice_index xs k = get_or_append_left xs (y ∷ []) 0 k
+    (omega arith) in
     ⊎_elim
     (λ inner. rw (first, get_or_append_left xs (y ∷ []) 0 (k + 1) inner) (rise k inner))
     (λ last. rw (first, get_or_at xs y [] 0 (k + 1) (omega arith)) (below k 0 (omega arith)))
     (cases_lt (k + 1) (length xs))
 
-pub devices_added : (next_id : ℕ) (devices : List Device) (row : Row) → AreDevices next_id devices → length devices < 256 → has_place row devices ≡ false →
+pub devices_added : (next_id : ℕ) (devices : List Device) (row : Row) → AreDevices next_id devices →
+    length devices < 256 → has_place row devices ≡ false →
     AreDevices (next_id + 1) (devices ++ record { id = next_id; row = row; removed = false } ∷ [])
 devices_added next_id devices row valid room none =
     let device : Device = record { id = next_id; row = row; removed = false } in
     record {
       count = omega (arith, length-append devices (device ∷ []));
-      below = All-push (λ (d : Device). d.id < next_id + 1) devices device (All-weaker (λ (d : Device). d.id < next_id) (λ (d : Device). d.id < next_id + 1) (λ d lt. omega arith) devices valid.below) (omega arith);
+      below = All-push (λ (d : Device). d.id < next_id + 1) devices device
+          (All-weaker (λ (d : Device). d.id < next_id) (λ (d : Device). d.id < next_id + 1)
+          (λ d lt. omega arith) devices valid.below) (omega arith);
       rise = rw (map-append (λ (d : Device). d.id) devices (device ∷ []))
-          (rising_push (map (λ (d : Device). d.id) devices) next_id valid.rise (All-map (λ n. n < next_id) (λ (d : Device). d.id) devices valid.below));
-      apart = all_pairs_push (λ a b. same_place a.row b.row ≡ false) devices device valid.apart (λ k d lt. any_fails_at (λ (x : Device). same_place x.row row) devices k d none lt);
+          (rising_push (map (λ (d : Device). d.id) devices) next_id valid.rise
+          (All-map (λ n. n < next_id) (λ (d : Device). d.id) devices valid.below));
+      apart = all_pairs_push (λ a b. same_place a.row b.row ≡ false) devices device valid.apart
+          (λ k d lt. any_fails_at (λ (x : Device). same_place x.row row) devices k d none lt);
     }
 
-seats_added : (partitions replicas : ℕ) (devices more : List Device) (seats : List ℕ) → AreSeats partitions replicas devices seats → AreSeats partitions replicas (devices ++ more) seats
+seats_added : (partitions replicas : ℕ) (devices more : List Device) (seats : List ℕ) →
+    AreSeats partitions replicas devices seats → AreSeats partitions replicas (devices ++
+    more) seats
 seats_added partitions replicas devices more seats valid = record {
   whole = valid.whole;
-  known = All-weaker (λ id. has_device id devices ≡ true) (λ id. has_device id (devices ++ more) ≡ true) (λ id known. rw (list_any-append (λ (d : Device). d.id == id) devices more, known) refl) seats valid.known;
+  known = All-weaker (λ id. has_device id devices ≡ true) (λ id. has_device id (devices ++ more) ≡
+      true) (λ id known. rw (list_any-append (λ (d : Device). d.id == id) devices more, known) refl)
+      seats valid.known;
   distinct = valid.distinct;
 }
 
-pub added_valid : (ring : RingRecord) (row : Row) → IsValid ring → length ring.devices < 256 → ring.next_id < 65536 → has_place row ring.devices ≡ false → IsValid (added ring row)
+pub added_valid : (ring : RingRecord) (row : Row) → IsValid ring → length ring.devices < 256 →
+    ring.next_id < 65536 → has_place row ring.devices ≡ false → IsValid (added ring row)
 added_valid ring row valid room numbers none = record {
   power = valid.power;
   replicas = valid.replicas;
@@ -84,24 +100,32 @@ changed_valid ring valid = record {
 -- ---- devices that keep their numbers and places
 
 abbrev pub Keeps : (Device → Device) → Type 0
-Keeps f = ((d : Device) → (f d).id ≡ d.id) × ((a b : Device) → same_place (f a).row (f b).row ≡ same_place a.row b.row)
+Keeps f = ((d : Device) → (f d).id ≡ d.id) ×
+    ((a b : Device) → same_place (f a).row (f b).row ≡ same_place a.row b.row)
 
-ids_kept : (f : Device → Device) → Keeps f → (devices : List Device) → map (λ (d : Device). d.id) (map f devices) ≡ map (λ (d : Device). d.id) devices
+ids_kept : (f : Device → Device) → Keeps f → (devices : List Device) →
+    map (λ (d : Device). d.id) (map f devices) ≡ map (λ (d : Device). d.id) devices
 ids_kept f keeps [] = refl
 ids_kept f keeps (d ∷ ds) = ap₂ (λ (n : ℕ) (ns : List ℕ). n ∷ ns) (keeps.0 d) (ids_kept f keeps ds)
 
-devices_kept : (f : Device → Device) → Keeps f → (id : ℕ) (devices : List Device) → has_device id (map f devices) ≡ has_device id devices
+devices_kept : (f : Device → Device) → Keeps f → (id : ℕ) (devices : List Device) →
+    has_device id (map f devices) ≡ has_device id devices
 devices_kept f keeps id [] = refl
-devices_kept f keeps id (d ∷ ds) = ap₂ (λ (n : ℕ) (b : Bool). (n == id) || b) (keeps.0 d) (devices_kept f keeps id ds)
+devices_kept f keeps id (d ∷ ds) = ap₂ (λ (n : ℕ) (b : Bool). (n == id) || b) (keeps.0 d)
+    (devices_kept f keeps id ds)
 
-apart_kept : (f : Device → Device) → Keeps f → (devices : List Device) → AreApart devices → AreApart (map f devices)
+apart_kept : (f : Device → Device) → Keeps f → (devices : List Device) → AreApart devices →
+    AreApart (map f devices)
 apart_kept f keeps devices apart i j d less lt =
     let within : j < length devices = omega (arith, length-map {A = Device} {B = Device}) in
-    let one : get_or (map f devices) i d ≡ f (get_or devices i d) = get_or-map f devices i d d (omega arith) in
-    let two : get_or (map f devices) j d ≡ f (get_or devices j d) = get_or-map f devices j d d within in
+    let one : get_or (map f devices) i d ≡ f (get_or devices i d) =
+    get_or-map f devices i d d (omega arith) in
+    let two : get_or (map f devices) j d ≡ f (get_or devices j d) =
+    get_or-map f devices j d d within in
     rw (one, two) (keeps.1 (get_or devices i d) (get_or devices j d) ∙ apart i j d less within)
 
-pub altered_valid : (f : Device → Device) → Keeps f → (ring : RingRecord) → IsValid ring → IsValid (record ring { devices = map f ring.devices })
+pub altered_valid : (f : Device → Device) → Keeps f → (ring : RingRecord) → IsValid ring →
+    IsValid (record ring { devices = map f ring.devices })
 altered_valid f keeps ring valid = record {
   power = valid.power;
   replicas = valid.replicas;
@@ -111,13 +135,16 @@ altered_valid f keeps ring valid = record {
   devices = record {
     count = omega (arith, length-map {A = Device} {B = Device}, valid.devices.count);
     below = All-map (λ (d : Device). d.id < ring.next_id) f ring.devices
-        (All-weaker (λ (d : Device). d.id < ring.next_id) (λ (d : Device). (f d).id < ring.next_id) (λ d lt. rw (keeps.0 d) lt) ring.devices valid.devices.below);
+        (All-weaker (λ (d : Device). d.id < ring.next_id) (λ (d : Device). (f d).id < ring.next_id)
+        (λ d lt. rw (keeps.0 d) lt) ring.devices valid.devices.below);
     rise = rw (ids_kept f keeps ring.devices) valid.devices.rise;
     apart = apart_kept f keeps ring.devices valid.devices.apart;
   };
   seats = record {
     whole = valid.seats.whole;
-    known = All-weaker (λ n. has_device n ring.devices ≡ true) (λ n. has_device n (map f ring.devices) ≡ true) (λ n known. devices_kept f keeps n ring.devices ∙ known) ring.seats valid.seats.known;
+    known = All-weaker (λ n. has_device n ring.devices ≡ true)
+        (λ n. has_device n (map f ring.devices) ≡ true) (λ n known. devices_kept f keeps n
+        ring.devices ∙ known) ring.seats valid.seats.known;
     distinct = valid.seats.distinct;
   };
   moved = valid.moved;
@@ -128,7 +155,8 @@ altered_valid f keeps ring valid = record {
 abbrev weighed_if : Bool → ℕ → Device → Device
 weighed_if b weight d = cond b (record d { row = record d.row { weight = weight } }) d
 
-weighed_if-place : (v w : Bool) (one two : ℕ) (a b : Device) → same_place (weighed_if v one a).row (weighed_if w two b).row ≡ same_place a.row b.row
+weighed_if-place : (v w : Bool) (one two : ℕ) (a b : Device) → same_place (weighed_if v one a).row
+    (weighed_if w two b).row ≡ same_place a.row b.row
 weighed_if-place true true one two a b = refl
 weighed_if-place true false one two a b = refl
 weighed_if-place false true one two a b = refl
@@ -139,10 +167,16 @@ weighed_if-id true weight d = refl
 weighed_if-id false weight d = refl
 
 pub reweighed_keeps : (id weight : ℕ) → Keeps (reweighed id weight)
-reweighed_keeps id weight = (λ d. weighed_if-id (d.id == id) weight d, λ a b. weighed_if-place (a.id == id) (b.id == id) weight weight a b)
+reweighed_keeps id weight = (
+  λ d. weighed_if-id (d.id == id) weight d,
+  λ a b. weighed_if-place (a.id == id) (b.id == id) weight weight a b,
+)
 
 pub reweighed_by_keeps : (row : Row) → Keeps (reweighed_by row)
-reweighed_by_keeps row = (λ d. weighed_if-id (same_place d.row row) row.weight d, λ a b. weighed_if-place (same_place a.row row) (same_place b.row row) row.weight row.weight a b)
+reweighed_by_keeps row = (
+  λ d. weighed_if-id (same_place d.row row) row.weight d,
+  λ a b. weighed_if-place (same_place a.row row) (same_place b.row row) row.weight row.weight a b,
+)
 
 -- a marked device where a test says so
 abbrev marked_if : Bool → Device → Device
@@ -157,16 +191,37 @@ marked_if-id true d = refl
 marked_if-id false d = refl
 
 pub marked_keeps : (id : ℕ) → Keeps (marked id)
-marked_keeps id = (λ d. marked_if-id (d.id == id) d, λ a b. ap₂ same_place (marked_if-row (a.id == id) a) (marked_if-row (b.id == id) b))
+marked_keeps id = (
+  λ d. marked_if-id (d.id == id) d,
+  λ a b. ap₂ same_place (marked_if-row (a.id == id) a) (marked_if-row (b.id == id) b),
+)
 
 -- what a vector holds after each of its elements was written
-pub written_all : {X : Type 0} (xs ys : List X) (n : ℕ) → n ≡ length xs → length ys ≡ length xs → take n (ys ++ drop (length ys) xs) ≡ ys
+pub written_all : {X : Type 0} (xs ys : List X) (n : ℕ) → n ≡ length xs → length ys ≡ length xs →
+    take n (ys ++ drop (length ys) xs) ≡ ys
 written_all xs ys n e f = take_at ys (drop (length ys) xs) n (f ∙ sym e)
 
 -- ---- the record of changed parts
 
-pub added_record : (parts : RingParts) (old : RingRecord) (row : Row) (id : ℕ) → record_of parts ≡ old → id ≡ old.next_id →
-    record (record_of parts) { next_id = parts.next_id + 1; version = risen parts.version; devices = parts.devices.items ++ record { id = id; row = row; removed = false } ∷ [] } ≡ with_device old row
+pub added_record : (parts : RingParts) (old : RingRecord) (row : Row) (id : ℕ) →
+    record_of parts ≡ old → id ≡ old.next_id →
+    record (record_of parts) {
+      next_id = parts.next_id + 1;
+      version = risen parts.version;
+      devices =
+          parts.devices.items ++ record { id = id; row = row; removed = false } ∷ [];
+    } ≡ with_device
+    old row
 added_record parts old row id same number =
-    ap (λ (n : ℕ). record (record_of parts) { next_id = parts.next_id + 1; version = risen parts.version; devices = parts.devices.items ++ record { id = n; row = row; removed = false } ∷ [] }) (number ∙ ap (λ (r : RingRecord). r.next_id) (sym same))
+    ap (λ (n : ℕ). record (record_of parts) {
+      next_id = parts.next_id + 1;
+      version =
+          risen parts.version;
+      devices = parts.devices.items ++ record {
+        id = n;
+        row = row;
+        removed =
+            false;
+      } ∷ [];
+    }) (number ∙ ap (λ (r : RingRecord). r.next_id) (sym same))
     ∙ ap (λ (r : RingRecord). with_device r row) same

@@ -8,12 +8,16 @@ use Rattle.ring_words.specs.declared.device.Device.{Device}
 
 -- the device, with the row's weight if it has the row's address, port and name
 abbrev pub reweighed_by : Row → Device → Device
-reweighed_by row device = if same_place device.row row then record device { row = record device.row { weight = row.weight } } else device
+reweighed_by row device = if same_place device.row row then
+    record device { row = record device.row { weight = row.weight } } else device
 
--- The ring after a row: the device of the row's address, port and name has the row's weight; where there was none, there is
--- one more device.
+-- The ring after a row: the device of the row's address, port and name has the row's weight; where
+-- there was none, there is one more device.
 abbrev pub after_row : RingRecord → Row → RingRecord
-after_row ring row = if has_place row ring.devices then record ring { devices = map (reweighed_by row) ring.devices } else added ring row
+after_row ring row = if has_place row ring.devices then record ring {
+  devices =
+      map (reweighed_by row) ring.devices;
+} else added ring row
 
 -- the ring after rows, each of which found what those before it had left
 abbrev pub after_rows : RingRecord → List Row → RingRecord

@@ -5,3 +5,4 @@ pub mod Raise
 pub mod Rings
 pub mod Import
 pub mod Publish
+pub mod Inner

@@ -1,5 +1,7 @@
 -- A ring: its devices, and which of them holds each replica of each partition.
-use Rattle.std.specs.Prelude.{ℕ, ◌+◌, ◌*◌, ◌^◌, ◌==◌, ◌&&◌, Bool, not, nat_lt, List, [], ◌∷◌, ◌++◌, length, map, replicate, slice_get, slice_index_or, find, Option, None, false, true, if◌then◌else◌}
+use Rattle.std.specs.Prelude.{ℕ, ◌+◌, ◌*◌, ◌^◌, ◌==◌, ◌&&◌, Bool, not, nat_lt, List, [], ◌∷◌, ◌++◌}
+use Rattle.std.specs.Prelude.{length, map, replicate, slice_get, slice_index_or, find, Option, None}
+use Rattle.std.specs.Prelude.{false, true, if◌then◌else◌}
 use Rattle.std.specs.List.{list_any}
 use Rattle.std.specs.Option.{option_map}
 use Rattle.ring_words.specs.declared.device.Row.{Row}
@@ -18,7 +20,8 @@ pub record RingRecord : Type 0 where
   pub version : ℕ
   -- by rising number
   pub devices : List Device
-  -- which device is on each seat, by partition and then by replica; nothing where the seats are empty
+  -- which device is on each seat, by partition and then by replica; nothing where the seats are
+  -- empty
   pub seats : List ℕ
   -- for each partition the hour of its last move, or never
   pub moved : List (Option ℕ)
@@ -88,11 +91,14 @@ with_device ring row = changed (added ring row)
 
 -- the device, with this weight if it has this number
 abbrev pub reweighed : ℕ → ℕ → Device → Device
-reweighed id weight device = if device.id == id then record device { row = record device.row { weight = weight } } else device
+reweighed id weight device = if device.id == id then
+    record device { row = record device.row { weight = weight } } else device
 
 -- the ring with this weight at the device of this number
 abbrev pub with_weight : RingRecord → ℕ → ℕ → RingRecord
-with_weight ring id weight = changed (record ring { devices = map (reweighed id weight) ring.devices })
+with_weight ring id weight = changed (record ring {
+  devices = map (reweighed id weight) ring.devices;
+})
 
 -- the device, marked to be removed if it has this number
 abbrev pub marked : ℕ → Device → Device

@@ -1,5 +1,6 @@
 -- Rings by their names.
-use Rattle.std.specs.Prelude.{◌≡◌, ℕ, Bool, true, List, ◌∷◌, ◌++◌, map, filter, find, nat_eq, Option, AllPairs}
+use Rattle.std.specs.Prelude.{◌≡◌, ℕ, Bool, true, List, ◌∷◌, ◌++◌, map, filter, find, nat_eq}
+use Rattle.std.specs.Prelude.{Option, AllPairs}
 use Rattle.std.specs.Option.{option_map}
 use Rattle.std.specs.Ordering.{nat_cmp, is_lt}
 use Rattle.std.specs.Cmp.Lexicographic.{pointwise, slice_cmp}
@@ -22,7 +23,8 @@ ring_at name rings = option_map (λ e. e.1) (find (λ e. pointwise nat_eq e.0 na
 
 -- the rings with this one under this name, in place of the one that was there
 abbrev pub with_ring : List (List ℕ × RingRecord) → List ℕ → RingRecord → List (List ℕ × RingRecord)
-with_ring rings name ring = filter (λ e. is_before e.0 name) rings ++ (name, ring) ∷ filter (λ e. is_before name e.0) rings
+with_ring rings name ring = filter (λ e. is_before e.0 name) rings ++ (name, ring) ∷
+    filter (λ e. is_before name e.0) rings
 
 -- what is seen of shared rings
 abbrev pub seen : List (List ℕ × Rc Ring Global) → List (List ℕ × RingRecord)

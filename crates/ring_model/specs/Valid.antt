@@ -1,5 +1,6 @@
 -- When a ring's record is that of a ring.
-use Rattle.std.specs.Prelude.{◌≡◌, ℕ, ◌+◌, ◌*◌, ◌<◌, ◌≤◌, List, length, map, slice_get, Some, All, AllPairs, true, false}
+use Rattle.std.specs.Prelude.{◌≡◌, ℕ, ◌+◌, ◌*◌, ◌<◌, ◌≤◌, List, length, map, slice_get, Some, All}
+use Rattle.std.specs.Prelude.{AllPairs, true, false}
 use Rattle.std.specs.List.Sorted.{IsStrictlyIncreasing}
 use Rattle.ring_model.specs.Ring.{RingRecord, partition_count, has_device}
 use Rattle.ring_words.specs.Rows.{same_place}
@@ -12,7 +13,8 @@ AreApart devices = AllPairs (λ a b. same_place a.row b.row ≡ false) devices
 -- With so many seats a partition, the seats of each partition are on different devices.
 abbrev pub AreDistinct : ℕ → List ℕ → Type 0
 AreDistinct replicas seats = (partition one other id : ℕ) → one < replicas → other < replicas →
-    slice_get seats (partition * replicas + one) ≡ Some id → slice_get seats (partition * replicas + other) ≡ Some id → one ≡ other
+    slice_get seats (partition * replicas + one) ≡ Some id →
+    slice_get seats (partition * replicas + other) ≡ Some id → one ≡ other
 
 -- These are devices of a ring that gives the number next_id next.
 pub record AreDevices (next_id : ℕ) (devices : List Device) : Type 0 where
@@ -23,18 +25,20 @@ pub record AreDevices (next_id : ℕ) (devices : List Device) : Type 0 where
   pub apart : AreApart devices
 
 -- These are the seats of so many partitions and replicas on these devices.
-pub record AreSeats (partitions replicas : ℕ) (devices : List Device) (seats : List ℕ) : Type 0 where
-  -- either all are empty or none is
-  pub whole : 0 < length seats → length seats ≡ partitions * replicas
-  pub known : All (λ id. has_device id devices ≡ true) seats
-  pub distinct : AreDistinct replicas seats
+pub record AreSeats (partitions replicas : ℕ) (devices : List Device) (seats : List ℕ) : Type 0
+  where
+    -- either all are empty or none is
+    pub whole : 0 < length seats → length seats ≡ partitions * replicas
+    pub known : All (λ id. has_device id devices ≡ true) seats
+    pub distinct : AreDistinct replicas seats
 
 -- These are texts under rising versions.
 pub record ArePublished (published : List (ℕ × List ℕ)) : Type 0 where
   pub count : length published ≤ 1000
   pub rise : IsStrictlyIncreasing (map (λ entry. entry.0) published)
 
--- The ring is valid: its numbers are within their limits, its devices are apart, and its seats are on devices of its own.
+-- The ring is valid: its numbers are within their limits, its devices are apart, and its seats are
+-- on devices of its own.
 pub record IsValid (ring : RingRecord) : Type 0 where
   pub power : (1 ≤ ring.power) × (ring.power ≤ 14)
   pub replicas : (1 ≤ ring.replicas) × (ring.replicas ≤ 5)

@@ -13,8 +13,8 @@ use ring_words::{Device, Row};
 use std::alloc::AllocError;
 use std::marker::Model;
 
-/// A copy of a ring that rows are put into, one after another, until it is made the ring after them. Contracts see the
-/// ring's record.
+/// A copy of a ring that rows are put into, one after another, until it is made the ring after
+/// them. Contracts see the ring's record.
 #[derive(Drop)]
 pub struct Draft {
     parts: RingParts,
@@ -43,7 +43,8 @@ impl Draft {
 
     /// The device of a row's address, port and name, marked to be removed or not.
     pub fn device_at(&self, row: &Row) -> Option<&Device>
-        ensures { option_copied result ≡ find (λ device. same_place device.row row.now) self.now.devices }
+        ensures { option_copied result ≡ find (λ device. same_place device.row row.now)
+            self.now.devices }
     {
         self.parts
             .devices
@@ -65,8 +66,8 @@ impl Draft {
         self.parts.next_id
     }
 
-    /// Puts a row in: the device of its address, port and name gets its weight, or there is one more device. Where there
-    /// is no memory for one more, nothing is changed.
+    /// Puts a row in: the device of its address, port and name gets its weight, or there is one
+    /// more device. Where there is no memory for one more, nothing is changed.
     pub fn put(&mut self, row: &Row) -> Result<(), AllocError>
         requires room { has_place row.now self.old.devices ≡ false → length self.old.devices < 256 }
         requires numbers { has_place row.now self.old.devices ≡ false → self.old.next_id < 65536 }

@@ -1,7 +1,8 @@
 //! Rings that are valid by their type, and lists of rings by name.
 //!
-//! A ring maps each of `2^power` partitions to the devices that hold its replicas, as in OpenStack Swift's 'The
-//! Rings'. The definitions that contracts cite stand in `specs/`, and `docs/definitions.md` lists them.
+//! A ring maps each of `2^power` partitions to the devices that hold its replicas, as in OpenStack
+//! Swift's 'The Rings'. The definitions that contracts cite stand in `specs/`, and
+//! `docs/definitions.md` lists them.
 #![tactic(auto)]
 
 mod altering;

@@ -1,5 +1,6 @@
 //! The parts that a ring is made of.
-ghost use Rattle.std.specs.Prelude.{◌≡◌, ◌==◌, ◌+◌, ◌*◌, ◌<◌, ◌≤◌, ◌^◌, ◌↔◌, ℕ, slice_index_or, false, IfOk, IsTrue, All, length, map, find, true};
+ghost use Rattle.std.specs.Prelude.{◌≡◌, ◌==◌, ◌+◌, ◌*◌, ◌<◌, ◌≤◌, ◌^◌, ◌↔◌, ℕ, slice_index_or};
+ghost use Rattle.std.specs.Prelude.{false, IfOk, IsTrue, All, length, map, find, true};
 ghost use Rattle.std.specs.List.{list_any};
 ghost use Rattle.std.specs.List.Sorted.{IsStrictlyIncreasing};
 ghost use Rattle.std.specs.Option.{option_map};
@@ -7,10 +8,11 @@ ghost use Rattle.std.specs.Rc.{rc_str_bytes};
 ghost use Rattle.ring_model.specs.Ring.{has_device, has_present, risen};
 ghost use Rattle.ring_words.specs.Rows.{has_place, same_place};
 ghost use Rattle.ring_model.specs.Parts.{record_of, texts_of};
-ghost use Rattle.ring_model.specs.Raise.{IsTwice};
-ghost use Rattle.ring_model.specs.Valid.{AreApart, AreDevices, AreDistinct, ArePublished, AreSeats, IsValid};
+ghost use Rattle.ring_model.specs.Inner.Twice.{IsTwice};
+ghost use Rattle.ring_model.specs.Valid.{AreApart, AreDevices, AreDistinct, ArePublished, AreSeats};
+ghost use Rattle.ring_model.specs.Valid.{IsValid};
 
-use ring_words::{Device, DeviceId, Hour, Power, Replicas, Row};
+use ring_words::{Device, DeviceId, Hour, Power, Replicas, Row, partition_count};
 use std::alloc::{AllocError, Global};
 use std::rc::RcStr;
 
@@ -29,21 +31,13 @@ pub struct RingParts {
     pub version: u32,
     /// The devices by rising number, at most 256.
     pub devices: Vec<Device>,
-    /// The devices of the seats, by partition and then by replica. None at all where the seats are empty.
+    /// The devices of the seats, by partition and then by replica. None at all where the seats are
+    /// empty.
     pub seats: Vec<DeviceId>,
     /// For each partition the hour at which it was moved last, or `None` for never.
     pub moved: Vec<Option<Hour>>,
     /// Versions and their published texts, by rising version, at most 1000.
     pub published: Vec<(u32, RcStr)>,
-}
-
-/// How many partitions a ring of a power has.
-pub(crate) fn partition_count(power: Power) -> usize
-    ensures value { result ≡ 2 ^ power }
-    ensures small { result ≤ 16384 }
-    ensures power { (1 ≤ power) × (power ≤ 14) }
-{
-    1usize << power.get()
 }
 
 /// The version after a change: one more, and the greatest, 4294967295, stays.
@@ -79,7 +73,8 @@ pub(crate) fn doubled<T: Copy>(
 
 /// The text that is published under a version.
 pub(crate) fn text_at(published: &[(u32, RcStr)], version: u32) -> Option<&str>
-    ensures { option_map (λ text. text.now) result ≡ option_map (λ e. rc_str_bytes e.1) (find (λ e. e.0 == version) published.now) }
+    ensures { option_map (λ text. text.now) result ≡ option_map (λ e. rc_str_bytes e.1)
+        (find (λ e. e.0 == version) published.now) }
 {
     let entry = published.iter().find(|entry| entry.0 == version)?;
     Some(entry.1.as_str())
@@ -224,7 +219,8 @@ impl RingParts {
     pub(crate) fn doubled_seats(&self) -> Result<Vec<DeviceId>, AllocError>
         requires { IsValid (record_of self.now) }
         ensures count { IfOk result (λ seats. length seats.items ≡ 2 * length self.now.seats.items) }
-        ensures halves { IfOk result (λ seats. IsTwice self.now.replicas self.now.seats.items seats.items) }
+        ensures halves { IfOk result (λ seats. IsTwice self.now.replicas self.now.seats.items
+            seats.items) }
     {
         let rows = if self.seats.is_empty() {
             0

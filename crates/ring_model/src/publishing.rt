@@ -25,7 +25,8 @@ fn keep_later(published: &mut Vec<(u32, RcStr)>, version: u32)
 
 /// Puts a text in its place among those of other versions.
 fn put_among(published: &mut Vec<(u32, RcStr)>, version: u32, text: RcStr) -> Result<(), AllocError>
-    ensures { OnOk result (texts_of published.new.items ≡ among version (rc_str_bytes text) (texts_of published.old.items)) }
+    ensures { OnOk result (texts_of published.new.items ≡ among version (rc_str_bytes text)
+        (texts_of published.old.items)) }
 {
     let mut later = published.clone()?;
     keep_later(&mut later, version);
@@ -43,8 +44,8 @@ impl Ring {
         self.published(self.version()).is_some()
     }
 
-    /// The ring with a text published under its version of now, and the ring as it is where one is already: what was
-    /// published once never changes. The version stays.
+    /// The ring with a text published under its version of now, and the ring as it is where one is
+    /// already: what was published once never changes. The version stays.
     pub fn with_published(&self, alloc: Global, text: &str) -> Result<Ring, AllocError>
         requires { is_published self.now ≡ false → length self.now.published < 1000 }
         ensures { IfOk result (λ ring. ring ≡ with_published self.now text.now) }

@@ -1,11 +1,14 @@
 //! Rings.
-ghost use Rattle.std.specs.Prelude.{◌≡◌, ℕ, ◌<◌, ◌≤◌, ◌^◌, ◌↔◌, Bool, IfOk, IsTrue, IsFalse, length, map, Some, None};
+ghost use Rattle.std.specs.Prelude.{◌≡◌, ℕ, ◌<◌, ◌≤◌, ◌^◌, ◌↔◌, Bool, IfOk, IsTrue, IsFalse};
+ghost use Rattle.std.specs.Prelude.{length, map, Some, None};
 ghost use Rattle.std.specs.Option.{option_map, option_copied};
 
 use crate::altering::{Mark, alter_all};
 use crate::draft::Draft;
-use crate::parts::{RingParts, has_device, has_present, partition_count, risen, text_at};
-use ring_words::{Device, DeviceId, Hour, NewWeight, Power, Replicas, Row, Weight};
+use crate::parts::{RingParts, has_device, has_present, risen, text_at};
+use ring_words::{
+    Device, DeviceId, Hour, NewWeight, Power, Replicas, Row, Weight, partition_count,
+};
 use std::alloc::{AllocError, Global};
 use std::marker::Model;
 use std::rc::RcStr;
@@ -50,9 +53,9 @@ impl From<AllocError> for RaiseFault {
     }
 }
 
-/// Which device holds each replica of each of `2^power` partitions. Each value is valid: its seats are on devices of
-/// the ring, those of one partition on different ones, and no two devices have the same address, port and name.
-/// Contracts see the ring's record.
+/// Which device holds each replica of each of `2^power` partitions. Each value is valid: its seats
+/// are on devices of the ring, those of one partition on different ones, and no two devices have
+/// the same address, port and name. Contracts see the ring's record.
 ///
 /// No call changes a ring: what makes a new one leaves the old as it was.
 #[derive(Drop)]
@@ -73,9 +76,13 @@ impl Model for Ring {
 }
 
 impl Ring {
-    ghost use Rattle.std.specs.Prelude.{◌≡◌, ℕ, ◌<◌, ◌≤◌, ◌^◌, ◌↔◌, Bool, IfOk, IsOk, IsErrOf, IsTrue, length, map, Some, None, true, false};
+    ghost use Rattle.std.specs.Prelude.{◌≡◌, ℕ, ◌<◌, ◌≤◌, ◌^◌, ◌↔◌, Bool, IfOk, IsOk, IsErrOf};
+    ghost use Rattle.std.specs.Prelude.{IsTrue, length, map, Some, None, true, false};
     ghost use Rattle.std.specs.Option.{option_map, option_copied};
-    ghost use Rattle.ring_model.specs.Ring.{RingRecord, new_ring, seat, moved_at, is_assigned, published_at, partition_count, has_device, has_present, with_device, with_weight, with_mark, with_min_hours, with_hours_passed};
+    ghost use Rattle.ring_model.specs.Ring.{RingRecord, new_ring, seat, moved_at, is_assigned};
+    ghost use Rattle.ring_model.specs.Ring.{published_at, partition_count, has_device, has_present};
+    ghost use Rattle.ring_model.specs.Ring.{with_device, with_weight, with_mark, with_min_hours};
+    ghost use Rattle.ring_model.specs.Ring.{with_hours_passed};
     ghost use Rattle.ring_words.specs.Rows.{has_place};
     ghost use Rattle.ring_model.specs.Parts.{record_of, texts_of};
     ghost use Rattle.ring_model.specs.Raise.{IsRaised};
@@ -105,8 +112,8 @@ impl Ring {
         Ok(Ring { parts })
     }
 
-    /// The ring of these parts, exactly where they make a valid one, and Invalid exactly where they make none. No memory is
-    /// asked for: the parts become the ring as they are.
+    /// The ring of these parts, exactly where they make a valid one, and Invalid exactly where they
+    /// make none. No memory is asked for: the parts become the ring as they are.
     pub fn build(_alloc: Global, parts: RingParts) -> Result<Ring, BuildFault>
         ensures built { IfOk result (λ ring. ring ≡ record_of parts) }
         ensures valid { IsOk result ↔ IsValid (record_of parts) }
@@ -191,8 +198,9 @@ impl Ring {
         Ok(Ring { parts })
     }
 
-    /// The ring with each partition split into two halves, which are on the partition's devices and were moved when
-    /// it was. PowerLimit exactly where the power is the greatest already. The version rises.
+    /// The ring with each partition split into two halves, which are on the partition's devices and
+    /// were moved when it was. PowerLimit exactly where the power is the greatest already. The
+    /// version rises.
     pub fn raised(&self) -> Result<Ring, RaiseFault>
         ensures raised { IfOk result (λ ring. IsRaised self.now ring) }
         ensures limit { IsErrOf result RaiseFault.PowerLimit ↔ (self.now.power ≡ 14) }
@@ -285,7 +293,8 @@ impl Ring {
         self.parts.seats.get(place).copied()
     }
 
-    /// The devices of the seats, by partition and then by replica. None at all where the seats are empty.
+    /// The devices of the seats, by partition and then by replica. None at all where the seats are
+    /// empty.
     pub fn seats(&self) -> &[DeviceId]
         ensures value { result.now ≡ self.now.seats }
         ensures valid { IsValid self.now }
@@ -293,7 +302,8 @@ impl Ring {
         self.parts.seats.as_slice()
     }
 
-    /// The hours at which the partitions were moved last, by partition. `None` for one that never was.
+    /// The hours at which the partitions were moved last, by partition. `None` for one that never
+    /// was.
     pub fn moves(&self) -> &[Option<Hour>]
         ensures value { result.now ≡ self.now.moved }
         ensures valid { IsValid self.now }

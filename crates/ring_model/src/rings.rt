@@ -1,5 +1,6 @@
 //! Rings by their names.
-ghost use Rattle.std.specs.Prelude.{◌≡◌, ◌<◌, ◌≤◌, ◌++◌, ◌∷◌, [], if◌then◌else◌, IfOk, OnOk, false, filter, find, is_some, length, nat_eq};
+ghost use Rattle.std.specs.Prelude.{◌≡◌, ◌<◌, ◌≤◌, ◌++◌, ◌∷◌, [], if◌then◌else◌, IfOk, OnOk, false};
+ghost use Rattle.std.specs.Prelude.{filter, find, is_some, length, nat_eq};
 ghost use Rattle.std.specs.Cmp.Lexicographic.{pointwise};
 ghost use Rattle.std.specs.Option.{option_copied, option_map};
 ghost use Rattle.ring_model.specs.Rings.{AreByName, is_before, ring_at, seen, with_ring};
@@ -10,9 +11,11 @@ use std::alloc::{AllocError, Global};
 use std::marker::Model;
 use std::rc::Rc;
 
-/// At most 16 rings, each under a name of its own. Contracts see the list of names and rings by rising name.
+/// At most 16 rings, each under a name of its own. Contracts see the list of names and rings by
+/// rising name.
 ///
-/// No call changes a value: what makes a new one leaves the old as it was, and shares the rings that stay.
+/// No call changes a value: what makes a new one leaves the old as it was, and shares the rings
+/// that stay.
 #[derive(Drop)]
 pub struct Rings {
     rings: Vec<(RingName, Rc<Ring>)>,
@@ -61,7 +64,8 @@ fn push_if(
     entry: &(RingName, Rc<Ring>),
     is_kept: bool,
 ) -> Result<(), AllocError>
-    ensures { OnOk result (seen into.new.items ≡ seen into.old.items ++ (if is_kept then (entry.now.0, entry.now.1.value) ∷ [] else [])) }
+    ensures { OnOk result (seen into.new.items ≡ seen into.old.items ++
+        (if is_kept then (entry.now.0, entry.now.1.value) ∷ [] else [])) }
 {
     if is_kept {
         into.push(shared(entry)?)?;
@@ -75,7 +79,8 @@ fn push_before(
     rings: &[(RingName, Rc<Ring>)],
     name: &RingName,
 ) -> Result<(), AllocError>
-    ensures { OnOk result (seen into.new.items ≡ seen into.old.items ++ filter (λ e. is_before e.0 name.now) (seen rings.now)) }
+    ensures { OnOk result (seen into.new.items ≡ seen into.old.items ++
+        filter (λ e. is_before e.0 name.now) (seen rings.now)) }
 {
     for entry in rings {
         push_if(into, entry, is_before(&entry.0, name))?;
@@ -89,7 +94,8 @@ fn push_after(
     rings: &[(RingName, Rc<Ring>)],
     name: &RingName,
 ) -> Result<(), AllocError>
-    ensures { OnOk result (seen into.new.items ≡ seen into.old.items ++ filter (λ e. is_before name.now e.0) (seen rings.now)) }
+    ensures { OnOk result (seen into.new.items ≡ seen into.old.items ++
+        filter (λ e. is_before name.now e.0) (seen rings.now)) }
 {
     for entry in rings {
         push_if(into, entry, is_before(name, &entry.0))?;
@@ -133,7 +139,8 @@ impl Rings {
         self.rings.as_slice()
     }
 
-    /// The rings with one more, or with another under its name. Asks that there are fewer than 16 where the name is new.
+    /// The rings with one more, or with another under its name. Asks that there are fewer than 16
+    /// where the name is new.
     pub fn with(&self, name: RingName, ring: Ring) -> Result<Rings, AllocError>
         requires { is_some (ring_at name self.now) ≡ false → length self.now < 16 }
         ensures { IfOk result (λ rings. rings ≡ with_ring self.now name ring) }

@@ -4,3 +4,4 @@ pub mod Gathering
 pub mod Lists
 pub mod Places
 pub mod Placing
+pub mod SeatRows

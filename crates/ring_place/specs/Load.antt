@@ -1,5 +1,6 @@
 -- How many seats the devices of a ring want and have, while seats are put on them and taken off.
-use Rattle.std.specs.Prelude.{◌≡◌, ℕ, ◌+◌, ◌-◌, ◌&&◌, ◌≤◌, Bool, true, false, nat_lt, if◌then◌else◌, List, length, map, Option, Some, slice_index, slice_set}
+use Rattle.std.specs.Prelude.{◌≡◌, ℕ, ◌+◌, ◌-◌, ◌&&◌, ◌≤◌, Bool, true, false, nat_lt, if◌then◌else◌}
+use Rattle.std.specs.Prelude.{List, length, map, Option, Some, slice_index, slice_set}
 use Rattle.std.specs.List.Sorted.{IsStrictlyIncreasing}
 use Rattle.ring_words.specs.declared.device.Device.{Device}
 use Rattle.ring_share.specs.Crowd.{crowd, is_less, is_outside, tiers_of}
@@ -32,11 +33,15 @@ has_room_in load id = has_open id load.devices && nat_lt (have_in load id) (want
 
 -- with so many seats on it
 abbrev pub with_count : Load → ℕ → ℕ → Load
-with_count load id count = record load { counts = slice_set load.counts (place_of id load.devices) count }
+with_count load id count = record load {
+  counts = slice_set load.counts (place_of id load.devices)
+      count;
+}
 
 -- with one seat more on it; a count of 4294967295 stays
 abbrev pub load_put : Load → ℕ → Load
-load_put load id = with_count load id (if nat_lt (have_in load id) 4294967295 then have_in load id + 1 else have_in load id)
+load_put load id = with_count load id (if nat_lt (have_in load id) 4294967295 then
+    have_in load id + 1 else have_in load id)
 
 -- with one seat less on it; a count of 0 stays
 abbrev pub load_take : Load → ℕ → Load
@@ -54,7 +59,9 @@ is_free_in load row id = has_room_in load id && is_outside row id
 abbrev pub crowd_in : Load → List (Option ℕ) → ℕ → ℕ × ℕ × ℕ
 crowd_in load row id = crowd (tiers_of load.devices) row id
 
--- The device of a number has room and is outside the partition, and no other such device is less crowded for its next seat.
+-- The device of a number has room and is outside the partition, and no other such device is less
+-- crowded for its next seat.
 pub record IsLeast (load : Load) (row : List (Option ℕ)) (id : ℕ) : Type 0 where
   pub free : is_free_in load row id ≡ true
-  pub least : (other : ℕ) → is_free_in load row other ≡ true → is_less (crowd_in load row other) (crowd_in load row id) ≡ false
+  pub least : (other : ℕ) → is_free_in load row other ≡ true → is_less (crowd_in load row other)
+      (crowd_in load row id) ≡ false

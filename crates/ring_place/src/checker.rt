@@ -1,4 +1,5 @@
-//! The facts of a rebalance, each tested by plain scans over the old ring, the gathered seats and the new ring.
+//! The facts of a rebalance, each tested by plain scans over the old ring, the gathered seats and
+//! the new ring.
 use ring_model::Ring;
 use ring_share::wanted;
 use ring_words::{Device, DeviceId, Hour};
@@ -74,7 +75,8 @@ fn has_free(ring: &Ring, wanted: &[u32], partition: usize) -> bool {
         .any(|device| is_free(ring, wanted, partition, device.id))
 }
 
-/// 1 for each tier that two devices share, as one number: regions count ten thousands, zones hundreds.
+/// 1 for each tier that two devices share, as one number: regions count ten thousands, zones
+/// hundreds.
 fn near(one: &Device, other: &Device) -> usize {
     if one.row.region != other.row.region {
         0
@@ -100,7 +102,8 @@ pub(crate) fn crowd_among(ring: &Ring, others: &[DeviceId], id: DeviceId) -> usi
     crowd
 }
 
-/// How many other seats of the partition are in the device's region, in its zone, on its server, as one number.
+/// How many other seats of the partition are in the device's region, in its zone, on its server, as
+/// one number.
 fn crowd(ring: &Ring, partition: usize, replica: usize, id: DeviceId) -> usize {
     let mut crowd = 0usize;
     for other in 0..width(ring) {

@@ -7,8 +7,12 @@ ghost use Rattle.ring_model.specs.Ring.{has_device, partition_count};
 ghost use Rattle.ring_share.specs.Crowd.{seats_on};
 ghost use Rattle.ring_place.specs.Load.{IsLoad, have_in, want_in};
 ghost use Rattle.ring_place.specs.Rebalance.{is_recent};
-ghost use Rattle.ring_place.specs.Rows.{is_empty, AreKnown};
-ghost use Rattle.ring_place.specs.Inner.Gathering.{is_lost_in, present_only, has_free_in, has_less_in, is_crowded_in, Lifts, Takes, AreUncrowded, HaveNoSurplus, Falls, IsFirst, IsSecond, IsFilled, AreRows, IsGathered, IsLifting, IsPass};
+ghost use Rattle.ring_place.specs.Inner.SeatRows.{is_empty, AreKnown};
+ghost use Rattle.ring_place.specs.Inner.Gathering.{is_lost_in, present_only, has_free_in};
+ghost use Rattle.ring_place.specs.Inner.Gathering.{has_less_in, is_crowded_in, Lifts, Takes};
+ghost use Rattle.ring_place.specs.Inner.Gathering.{AreUncrowded, HaveNoSurplus, Falls, IsFirst};
+ghost use Rattle.ring_place.specs.Inner.Gathering.{IsSecond, IsFilled, AreRows, IsGathered};
+ghost use Rattle.ring_place.specs.Inner.Gathering.{IsLifting, IsPass};
 
 use crate::rooms::Room;
 use crate::seats::{Seats, devices_on, has_empty, row_copy};
@@ -52,7 +56,8 @@ fn has_free(room: &Room, row: &[Option<DeviceId>]) -> bool
     room.has_room_outside(&ids[..count])
 }
 
-/// Whether a device outside with room is less crowded than this one. The partition is without the seat on it.
+/// Whether a device outside with room is less crowded than this one. The partition is without the
+/// seat on it.
 fn has_less_crowded(room: &Room, row: &[Option<DeviceId>], device: DeviceId) -> bool
     requires row { AreKnown room.now.devices row.now }
     requires few { length row.now ≤ 5 }
@@ -71,7 +76,8 @@ fn has_less_crowded(room: &Room, row: &[Option<DeviceId>], device: DeviceId) -> 
 fn lift_lost(kept: &mut Room, row: &mut [Option<DeviceId>])
     requires load { IsLoad kept.old }
     requires row { AreKnown kept.old.devices row.old }
-    requires has { (id : ℕ) → has_device id kept.old.devices ≡ true → seats_on id row.old ≤ have_in kept.old id }
+    requires has { (id : ℕ) → has_device id kept.old.devices ≡ true →
+        seats_on id row.old ≤ have_in kept.old id }
     ensures row { row.new ≡ map (present_only kept.old.devices) row.old }
     ensures takes { Takes kept.old kept.new row.old row.new }
 {
@@ -85,11 +91,13 @@ fn lift_lost(kept: &mut Room, row: &mut [Option<DeviceId>])
     }
 }
 
-/// Lifts a seat for which a device outside with room is less crowded, if there is one, and says what device it was on.
+/// Lifts a seat for which a device outside with room is less crowded, if there is one, and says
+/// what device it was on.
 fn lift_crowded(was: &Room, row: &mut [Option<DeviceId>]) -> Option<DeviceId>
     requires row { AreKnown was.now.devices row.old }
     requires few { length row.old ≤ 5 }
-    ensures some { IfSome result (λ id. (replica : ℕ) × Lifts row.old row.new replica id × (is_crowded_in was.now row.old replica id ≡ true)) }
+    ensures some { IfSome result (λ id. (replica : ℕ) × Lifts row.old row.new replica id ×
+        (is_crowded_in was.now row.old replica id ≡ true)) }
     ensures none { IfNone result ((row.new ≡ row.old) × AreUncrowded was.now row.old) }
 {
     for replica in 0..row.len() {
@@ -104,10 +112,12 @@ fn lift_crowded(was: &Room, row: &mut [Option<DeviceId>]) -> Option<DeviceId>
     None
 }
 
-/// Lifts a seat on a device that keeps more than it wants, if there is one, and says what device that was.
+/// Lifts a seat on a device that keeps more than it wants, if there is one, and says what device
+/// that was.
 fn lift_surplus(kept: &Room, row: &mut [Option<DeviceId>]) -> Option<DeviceId>
     requires { AreKnown kept.now.devices row.old }
-    ensures some { IfSome result (λ id. (replica : ℕ) × Lifts row.old row.new replica id × (want_in kept.now id < have_in kept.now id)) }
+    ensures some { IfSome result (λ id. (replica : ℕ) × Lifts row.old row.new replica id ×
+        (want_in kept.now id < have_in kept.now id)) }
     ensures none { IfNone result ((row.new ≡ row.old) × HaveNoSurplus kept.now row.old) }
 {
     for replica in 0..row.len() {
@@ -121,14 +131,15 @@ fn lift_surplus(kept: &Room, row: &mut [Option<DeviceId>]) -> Option<DeviceId>
     None
 }
 
-/// The first pass at a partition: lifts its lost seats or, if it has none and isn't locked, one for which a device outside
-/// with room is less crowded.
+/// The first pass at a partition: lifts its lost seats or, if it has none and isn't locked, one for
+/// which a device outside with room is less crowded.
 fn gather_first(was: &Room, kept: &mut Room, locked: bool, row: &mut [Option<DeviceId>])
     requires load { IsLoad kept.old }
     requires same { kept.old.devices ≡ was.now.devices }
     requires row { AreKnown was.now.devices row.old }
     requires few { length row.old ≤ 5 }
-    requires has { (id : ℕ) → has_device id kept.old.devices ≡ true → seats_on id row.old ≤ have_in kept.old id }
+    requires has { (id : ℕ) → has_device id kept.old.devices ≡ true →
+        seats_on id row.old ≤ have_in kept.old id }
     ensures first { IsFirst was.now locked row.old row.new }
     ensures takes { Takes kept.old kept.new row.old row.new }
 {
@@ -141,8 +152,8 @@ fn gather_first(was: &Room, kept: &mut Room, locked: bool, row: &mut [Option<Dev
     }
 }
 
-/// The second pass at a partition: if nothing was lifted from it, it isn't locked and a device outside has room, lifts one
-/// seat of a device that keeps more than it wants.
+/// The second pass at a partition: if nothing was lifted from it, it isn't locked and a device
+/// outside has room, lifts one seat of a device that keeps more than it wants.
 fn gather_second(was: &Room, kept: &mut Room, locked: bool, row: &mut [Option<DeviceId>])
     requires load { IsLoad kept.old }
     requires same { kept.old.devices ≡ was.now.devices }
@@ -175,7 +186,8 @@ fn gather_row(pass: Pass, was: &Room, kept: &mut Room, locked: bool, row: &mut [
     requires same { kept.old.devices ≡ was.now.devices }
     requires row { AreKnown was.now.devices row.old }
     requires few { length row.old ≤ 5 }
-    requires has { (id : ℕ) → has_device id kept.old.devices ≡ true → seats_on id row.old ≤ have_in kept.old id }
+    requires has { (id : ℕ) → has_device id kept.old.devices ≡ true →
+        seats_on id row.old ≤ have_in kept.old id }
     ensures lifted { IsLifting pass was.now kept.new locked row.old row.new }
     ensures takes { Takes kept.old kept.new row.old row.new }
     ensures falls { pass ≡ Pass.Second → Falls kept.old kept.new }
@@ -221,7 +233,8 @@ fn is_recent(min_hours: u16, hour: Hour, moved: Option<Hour>) -> bool
 
 /// For each partition whether it is locked at an hour.
 fn locks(alloc: Global, ring: &Ring, hour: Hour) -> Result<Vec<bool>, AllocError>
-    ensures { IfOk result (λ locked. locked.items ≡ map (is_recent ring.now.min_hours hour) ring.now.moved) }
+    ensures { IfOk result (λ locked. locked.items ≡ map (is_recent ring.now.min_hours hour)
+        ring.now.moved) }
 {
     let mut locked = Vec::new(alloc);
     for moved in ring.moves() {
@@ -230,8 +243,8 @@ fn locks(alloc: Global, ring: &Ring, hour: Hour) -> Result<Vec<bool>, AllocError
     Ok(locked)
 }
 
-/// The devices and the seats of a ring without what a rebalance at an hour gathers. The partitions are gone through in an
-/// order that has each once.
+/// The devices and the seats of a ring without what a rebalance at an hour gathers. The partitions
+/// are gone through in an order that has each once.
 pub(crate) fn gathering(
     alloc: Global,
     ring: &Ring,

@@ -3,32 +3,38 @@ ghost use Rattle.std.specs.Prelude.{◌≡◌, ℕ, List, Some, false};
 ghost use Rattle.ring_model.specs.Ring.{RingRecord, seat};
 ghost use Rattle.ring_model.specs.Valid.{IsValid};
 ghost use Rattle.ring_share.specs.Want.{AreWanted};
-ghost use Rattle.ring_place.specs.Rebalance.{IsAtRest, IsLawfulRebalance, IsRebalance, IsSeat, Leaves, changed_seats, is_locked};
+ghost use Rattle.ring_place.specs.Rebalance.{IsAtRest, IsLawfulRebalance, IsRebalance, IsSeat};
+ghost use Rattle.ring_place.specs.Rebalance.{Leaves, changed_seats, is_locked};
 
 /// A rebalance moves seats of no more than a lawful gathering.
 pub fn a_rebalance_is_lawful()
-    ensures { (old new : RingRecord) (hour : ℕ) → IsRebalance old hour new → IsLawfulRebalance old hour new }
+    ensures { (old new : RingRecord) (hour : ℕ) → IsRebalance old hour new →
+        IsLawfulRebalance old hour new }
 {}
 
 /// A lawful rebalance of a valid ring leaves a valid ring.
 pub fn valid_rings_stay_valid()
-    ensures { (old new : RingRecord) (hour : ℕ) → IsValid old → IsLawfulRebalance old hour new → IsValid new }
+    ensures { (old new : RingRecord) (hour : ℕ) → IsValid old → IsLawfulRebalance old hour new →
+        IsValid new }
 {}
 
 /// No replica of a locked partition leaves a device that remains.
 pub fn locked_replicas_stay()
-    ensures { (old new : RingRecord) (hour partition replica : ℕ) → IsLawfulRebalance old hour new → Leaves old new partition replica → is_locked old hour partition ≡ false }
+    ensures { (old new : RingRecord) (hour partition replica : ℕ) → IsLawfulRebalance old hour new →
+        Leaves old new partition replica → is_locked old hour partition ≡ false }
 {}
 
 /// Of each partition at most one replica leaves a device that remains.
 pub fn one_replica_leaves()
-    ensures { (old new : RingRecord) (hour partition replica other : ℕ) → IsLawfulRebalance old hour new
+    ensures { (old new : RingRecord) (hour partition replica other : ℕ) →
+        IsLawfulRebalance old hour new
         → Leaves old new partition replica → Leaves old new partition other → replica ≡ other }
 {}
 
 /// Where a rebalance changes no seat, each seat of an unlocked partition is where it should be.
 pub fn unchanged_is_settled()
-    ensures { (old new : RingRecord) (hour : ℕ) (wanted : List ℕ) → IsValid old → IsRebalance old hour new → AreWanted new wanted
+    ensures { (old new : RingRecord) (hour : ℕ) (wanted : List ℕ) → IsValid old →
+        IsRebalance old hour new → AreWanted new wanted
         → changed_seats old new ≡ 0 → (partition replica id : ℕ) → IsSeat new partition replica → is_locked new hour partition ≡ false
         → seat new partition replica ≡ Some id → IsAtRest new wanted partition replica id }
 {}

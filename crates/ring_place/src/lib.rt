@@ -1,7 +1,8 @@
 //! What one rebalance of a ring is, and how full its devices are while seats are moved.
 //!
-//! Rings, their replicas and the hours between moves are OpenStack Swift's; which seats are gathered and where they go is
-//! this project's own rule. The definitions that contracts cite stand in `specs/`, and `docs/definitions.md` lists them.
+//! Rings, their replicas and the hours between moves are OpenStack Swift's; which seats are
+//! gathered and where they go is this project's own rule. The definitions that contracts cite stand
+//! in `specs/`, and `docs/definitions.md` lists them.
 #![tactic(auto)]
 
 mod gather;

@@ -1,13 +1,15 @@
 //! Where lifted seats are put.
-ghost use Rattle.std.specs.Prelude.{◌≡◌, ◌<◌, ◌≤◌, ◌+◌, ℕ, true, All, count_by, length, sum_by, IfSome};
+ghost use Rattle.std.specs.Prelude.{◌≡◌, ◌<◌, ◌≤◌, ◌+◌, ℕ, true, All, count_by, length, sum_by};
+ghost use Rattle.std.specs.Prelude.{IfSome};
 ghost use Rattle.std.specs.List.{range_with_len};
 ghost use Rattle.std.specs.List.Sorted.{IsPermutation};
 ghost use Rattle.ring_model.specs.Ring.{has_device, has_present};
 ghost use Rattle.ring_share.specs.Crowd.{seats_on};
 ghost use Rattle.ring_share.specs.Want.{is_open as is_open_device};
-ghost use Rattle.ring_place.specs.Rows.{AreKnown, is_empty, row_at};
+ghost use Rattle.ring_place.specs.Inner.SeatRows.{AreKnown, is_empty, row_at};
 ghost use Rattle.ring_place.specs.Load.{IsLeast, IsLoad, have_in, is_free_in, seats_of};
-ghost use Rattle.ring_place.specs.Inner.Placing.{AllPlaced, CanPlace, IsChosen, OpenWant, OwnWins, RowPlaced, have_on};
+ghost use Rattle.ring_place.specs.Inner.Placing.{AllPlaced, CanPlace, IsChosen, OpenWant, OwnWins};
+ghost use Rattle.ring_place.specs.Inner.Placing.{RowPlaced, have_on};
 
 use crate::rooms::Room;
 use crate::seats::{Seats, devices_on, has_empty, row_copy};
@@ -45,13 +47,15 @@ fn own_or(room: &Room, others: &[DeviceId], own: Option<DeviceId>, best: DeviceI
     own
 }
 
-/// Where a lifted seat goes: to a least crowded device outside its partition with room, its own first. Where there is none,
-/// back to its own if that isn't marked to be removed, and else to an open device outside.
+/// Where a lifted seat goes: to a least crowded device outside its partition with room, its own
+/// first. Where there is none, back to its own if that isn't marked to be removed, and else to an
+/// open device outside.
 fn choose(room: &Room, row: &[Option<DeviceId>], own: Option<DeviceId>, draw: u32) -> DeviceId
     requires known { AreKnown room.now.devices row.now }
     requires few { length row.now ≤ 5 }
     requires own { IfSome own (λ id. has_device id room.now.devices ≡ true) }
-    requires apart { IfSome own (λ id. has_present id room.now.devices ≡ true → seats_on id row.now ≡ 0) }
+    requires apart { IfSome own (λ id. has_present id room.now.devices ≡ true →
+        seats_on id row.now ≡ 0) }
     requires seat { 0 < count_by is_empty row.now }
     requires enough { length row.now ≤ count_by is_open_device room.now.devices }
     ensures { IsChosen room.now row.now own result }
@@ -79,7 +83,8 @@ fn place_row(
     requires rows { CanPlace room.old.devices old.now row.old }
     requires load { IsLoad room.old }
     requires closed { OpenWant room.old }
-    requires fits { (id : ℕ) → has_device id room.old.devices ≡ true → have_in room.old id + length row.old < 4294967295 }
+    requires fits { (id : ℕ) → has_device id room.old.devices ≡ true →
+        have_in room.old id + length row.old < 4294967295 }
     ensures { RowPlaced room.old room.new old.now row.old row.new }
 {
     for replica in 0..row.len() {
@@ -101,10 +106,12 @@ pub(crate) fn place_all(
 )
     requires order { IsPermutation (range_with_len 0 (length seats.old)) order.now }
     requires as_many { length old.now ≡ length seats.old }
-    requires rows { (partition : ℕ) → partition < length seats.old → CanPlace room.old.devices (row_at old.now partition) (row_at seats.old partition) }
+    requires rows { (partition : ℕ) → partition < length seats.old →
+        CanPlace room.old.devices (row_at old.now partition) (row_at seats.old partition) }
     requires load { IsLoad room.old }
     requires closed { OpenWant room.old }
-    requires counts { (id : ℕ) → has_device id room.old.devices ≡ true → have_in room.old id ≡ have_on id seats.old }
+    requires counts { (id : ℕ) → has_device id room.old.devices ≡ true →
+        have_in room.old id ≡ have_on id seats.old }
     requires few { sum_by (λ row. length row) seats.old ≤ 81920 }
     ensures { AllPlaced room.old room.new old.now seats.old seats.new }
 {

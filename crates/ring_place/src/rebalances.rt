@@ -1,18 +1,20 @@
 //! One rebalance.
-ghost use Rattle.std.specs.Prelude.{◌≡◌, ◌<◌, ◌≤◌, ◌↔◌, count_by, length, IfOk, IsErrOf, filter, not};
+ghost use Rattle.std.specs.Prelude.{◌≡◌, ◌<◌, ◌≤◌, ◌↔◌, count_by, length, IfOk, IsErrOf, filter};
+ghost use Rattle.std.specs.Prelude.{not};
 ghost use Rattle.ring_model.specs.Valid.{IsValid};
 ghost use Rattle.ring_share.specs.Crowd.{rows_of};
 ghost use Rattle.ring_share.specs.Want.{is_open as is_open_device};
-ghost use Rattle.ring_place.specs.Inner.Finishing.{AreAlike, AreWhole, changed_in, changed_over, stamped, stamps};
+ghost use Rattle.ring_place.specs.Inner.Finishing.{AreAlike, AreWhole, changed_in, changed_over};
+ghost use Rattle.ring_place.specs.Inner.Finishing.{stamped, stamps};
 ghost use Rattle.ring_place.specs.Rebalance.{IsAfter, IsRebalance, changed_seats};
 
 use crate::gather::gathering;
 use crate::order::{draws_of, shuffled_order};
 use crate::place::place_all;
-use crate::seats::{Seats, partition_count};
+use crate::seats::Seats;
 use ring_model::{BuildFault, Ring, risen};
 use ring_share::is_open;
-use ring_words::{Device, DeviceId, Hour};
+use ring_words::{Device, DeviceId, Hour, partition_count};
 use std::alloc::{AllocError, Global};
 
 /// Why a ring isn't rebalanced.
@@ -98,7 +100,8 @@ fn moves(
 
 /// The devices that aren't marked to be removed.
 fn remaining(alloc: Global, devices: &[Device]) -> Result<Vec<Device>, AllocError>
-    ensures { IfOk result (λ remaining. remaining.items ≡ filter (λ device. not device.removed) devices.now) }
+    ensures { IfOk result (λ remaining. remaining.items ≡ filter (λ device. not device.removed)
+        devices.now) }
 {
     let mut remaining = Vec::new(alloc);
     for device in devices {
@@ -142,17 +145,19 @@ fn finish(
     }
 }
 
-/// Rebalances a ring at an hour. Seats that are empty or on devices that are marked to be removed are put on open devices.
-/// Of any other partition that isn't locked at most one seat moves, to where it is less crowded or off a device with more
-/// seats than it wants. TooFewDevices exactly where fewer devices are open than the ring has replicas. The seed varies
-/// which of several such rings it is.
+/// Rebalances a ring at an hour. Seats that are empty or on devices that are marked to be removed
+/// are put on open devices. Of any other partition that isn't locked at most one seat moves, to
+/// where it is less crowded or off a device with more seats than it wants. TooFewDevices exactly
+/// where fewer devices are open than the ring has replicas. The seed varies which of several such
+/// rings it is.
 pub fn rebalance(
     alloc: Global,
     ring: &Ring,
     hour: Hour,
     seed: u32,
 ) -> Result<Rebalanced, PlaceError>
-    ensures few { IsErrOf result PlaceError.TooFewDevices ↔ (count_by is_open_device ring.now.devices < ring.now.replicas) }
+    ensures few { IsErrOf result PlaceError.TooFewDevices ↔
+        (count_by is_open_device ring.now.devices < ring.now.replicas) }
     ensures rebalance { IfOk result (λ done. IsRebalance ring.now hour done.ring) }
     ensures changed { IfOk result (λ done. done.changed ≡ changed_seats ring.now done.ring) }
 {
@@ -160,7 +165,7 @@ pub fn rebalance(
         return Err(PlaceError::TooFewDevices);
     }
     let mut draws = draws_of(seed);
-    let order = shuffled_order(alloc, partition_count(ring), &mut draws)?;
+    let order = shuffled_order(alloc, partition_count(ring.power()), &mut draws)?;
     let old = Seats::of(alloc, ring)?;
     let (mut room, mut seats) = gathering(alloc, ring, hour, order.as_slice())?;
     place_all(&mut room, order.as_slice(), &old, &mut seats, &mut draws);

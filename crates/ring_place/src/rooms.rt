@@ -1,10 +1,12 @@
 //! How many seats devices want and have, and where there is room for more.
-ghost use Rattle.std.specs.Prelude.{◌≡◌, ◌<◌, ◌≤◌, ◌&&◌, ℕ, true, false, All, List, length, nat_lt, take, count_by, slice_set, IfOk, IfSome, IfNone};
+ghost use Rattle.std.specs.Prelude.{◌≡◌, ◌<◌, ◌≤◌, ◌&&◌, ℕ, true, false, All, List, length, nat_lt};
+ghost use Rattle.std.specs.Prelude.{take, count_by, slice_set, IfOk, IfSome, IfNone};
 ghost use Rattle.ring_model.specs.Ring.{has_device, has_present};
 ghost use Rattle.ring_share.specs.Crowd.{is_outside};
 ghost use Rattle.ring_share.specs.Room.{has_open, have, place_of as place_of_device};
 ghost use Rattle.ring_share.specs.Want.{is_open as is_open_device, AreWanted};
-ghost use Rattle.ring_place.specs.Load.{Load, IsLoad, have_in, want_in, has_room_in, load_put, load_take, seats_of, is_free_in, crowd_in, IsLeast};
+ghost use Rattle.ring_place.specs.Load.{Load, IsLoad, have_in, want_in, has_room_in, load_put};
+ghost use Rattle.ring_place.specs.Load.{load_take, seats_of, is_free_in, crowd_in, IsLeast};
 ghost use Rattle.ring_place.specs.Inner.Places.{id_at};
 ghost use Rattle.ring_place.specs.Inner.Lists.{AreRoomy};
 ghost use Rattle.ring_share.specs.Tiers.{AreTier};
@@ -15,14 +17,15 @@ use ring_words::{Device, DeviceId};
 use std::alloc::{AllocError, Global};
 use std::marker::Model;
 
-/// The devices of a ring, with how many seats each of them wants and has. It keeps a list of those that have room, so that
-/// they are found without a look at the others.
+/// The devices of a ring, with how many seats each of them wants and has. It keeps a list of those
+/// that have room, so that they are found without a look at the others.
 #[derive(Drop)]
 pub struct Room {
     pub(crate) devices: Vec<Device>,
     wanted: Vec<u32>,
     counts: Vec<u32>,
-    /// As many places as there are devices; those that have room, and no others, stand at the first.
+    /// As many places as there are devices; those that have room, and no others, stand at the
+    /// first.
     pub(crate) roomy: Vec<usize>,
     /// How many places of `roomy` are these first.
     pub(crate) count: usize,
@@ -38,9 +41,18 @@ impl Model for Room {
 
     ghost Value = { Load };
 
-    ghost view = { λ r. record { devices = r.devices.items; wanted = r.wanted.items; counts = r.counts.items } };
+    ghost view = { λ r. record {
+      devices = r.devices.items;
+      wanted = r.wanted.items;
+      counts =
+          r.counts.items;
+    } };
 
-    ghost invariant = { λ r. IsRoom (record { devices = r.devices.items; wanted = r.wanted.items; counts = r.counts.items })
+    ghost invariant = { λ r. IsRoom (record {
+      devices = r.devices.items;
+      wanted = r.wanted.items;
+      counts = r.counts.items;
+    })
         r.roomy.items r.count r.regions.items r.zones.items r.servers.items };
 }
 
@@ -53,21 +65,41 @@ fn wants_more(device: &Device, wanted: u32, count: u32) -> bool
 
 /// Whether the device at a place is open and has fewer seats than it wants.
 fn has_room_at(devices: &[Device], wanted: &[u32], counts: &[u32], place: usize) -> bool
-    requires load { IsLoad (record { devices = devices.now; wanted = wanted.now; counts = counts.now }) }
+    requires load { IsLoad (record {
+      devices = devices.now;
+      wanted = wanted.now;
+      counts =
+          counts.now;
+    }) }
     requires place { place < length devices.now }
-    ensures { result ≡ has_room_in (record { devices = devices.now; wanted = wanted.now; counts = counts.now }) (id_at devices.now place) }
+    ensures { result ≡ has_room_in (record {
+      devices = devices.now;
+      wanted = wanted.now;
+      counts =
+          counts.now;
+    }) (id_at devices.now place) }
 {
     wants_more(&devices[place], wanted[place], counts[place])
 }
 
-/// Lists the places of the devices that have room, in their order, and answers how many they are. What stands behind them
-/// is left over.
+/// Lists the places of the devices that have room, in their order, and answers how many they are.
+/// What stands behind them is left over.
 fn list_roomy(devices: &[Device], wanted: &[u32], counts: &[u32], places: &mut [usize]) -> usize
-    requires load { IsLoad (record { devices = devices.now; wanted = wanted.now; counts = counts.now }) }
+    requires load { IsLoad (record {
+      devices = devices.now;
+      wanted = wanted.now;
+      counts =
+          counts.now;
+    }) }
     requires long { length places.old ≡ length devices.now }
     ensures long { length places.new ≡ length places.old }
     ensures few { result ≤ length places.new }
-    ensures roomy { AreRoomy (record { devices = devices.now; wanted = wanted.now; counts = counts.now }) (take result places.new) }
+    ensures roomy { AreRoomy (record {
+      devices = devices.now;
+      wanted = wanted.now;
+      counts =
+          counts.now;
+    }) (take result places.new) }
 {
     let mut count = 0;
     for place in 0..devices.len() {
@@ -89,12 +121,14 @@ fn tier_places(alloc: Global, devices: &[Device], tier: Tier) -> Result<Vec<usiz
 }
 
 impl Room {
-    /// The devices of a ring with the seats that they have. The wants are those of `ring_share::wanted`.
+    /// The devices of a ring with the seats that they have. The wants are those of
+    /// `ring_share::wanted`.
     pub fn of(alloc: Global, ring: &Ring, wanted: &[u32]) -> Result<Room, AllocError>
         requires wanted { AreWanted ring.now wanted.now }
         ensures devices { IfOk result (λ room. room.devices ≡ ring.now.devices) }
         ensures wants { IfOk result (λ room. room.wanted ≡ wanted.now) }
-        ensures counts { IfOk result (λ room. (id : ℕ) → has_device id ring.now.devices ≡ true → have_in room id ≡ have ring.now id) }
+        ensures counts { IfOk result (λ room. (id : ℕ) → has_device id ring.now.devices ≡ true →
+            have_in room id ≡ have ring.now id) }
         ensures load { IfOk result (λ room. IsLoad room) }
     {
         let devices = ring.devices();
@@ -150,7 +184,9 @@ impl Room {
     /// The device at a place has so many seats.
     fn set_count(&mut self, place: usize, count: u32)
         requires { place < length self.old.devices }
-        ensures count { self.new ≡ record self.old { counts = slice_set self.old.counts place count } }
+        ensures count { self.new ≡ record self.old {
+          counts = slice_set self.old.counts place count;
+        } }
         ensures load { IsLoad self.new }
     {
         let had_room = self.has_room_at(place);

@@ -1,11 +1,13 @@
 //! The search of a room for a device that is least crowded for a seat.
-ghost use Rattle.std.specs.Prelude.{◌≡◌, ◌<◌, ◌≤◌, ◌+◌, ℕ, true, false, All, length, slice_index, IfSome, IfNone};
+ghost use Rattle.std.specs.Prelude.{◌≡◌, ◌<◌, ◌≤◌, ◌+◌, ℕ, true, false, All, length, slice_index};
+ghost use Rattle.std.specs.Prelude.{IfSome, IfNone};
 ghost use Rattle.std.specs.List.{list_any};
 ghost use Rattle.ring_model.specs.Ring.{has_device};
 ghost use Rattle.ring_place.specs.Inner.Gathering.{AreUncrowded, has_free_in};
-ghost use Rattle.ring_place.specs.Rows.{AreKnown, is_empty};
+ghost use Rattle.ring_place.specs.Inner.SeatRows.{AreKnown, is_empty};
 ghost use Rattle.ring_place.specs.Load.{IsLoad, IsLeast, crowd_in, is_free_in, seats_of};
-ghost use Rattle.ring_place.specs.Inner.Places.{IsBestSoFar, id_at, is_within, place_after, seats_at};
+ghost use Rattle.ring_place.specs.Inner.Places.{IsBestSoFar, id_at, is_within, place_after};
+ghost use Rattle.ring_place.specs.Inner.Places.{seats_at};
 ghost use Rattle.ring_place.specs.Inner.Lists.{IsFloor};
 ghost use Rattle.ring_share.specs.Tiers.{AreTier};
 
@@ -45,17 +47,20 @@ impl Room {
     fn is_free_at(&self, others: &[usize], place: usize) -> bool
         requires others { All (λ other. other < length self.now.devices) others.now }
         requires place { place < length self.now.devices }
-        ensures { result ≡ is_free_in self.now (seats_at self.now.devices others.now) (id_at self.now.devices place) }
+        ensures { result ≡ is_free_in self.now (seats_at self.now.devices others.now)
+            (id_at self.now.devices place) }
     {
         self.has_room_at(place) && !others.contains(&place)
     }
 
-    /// How crowded the device at a place is for a seat whose other seats are on the devices at these places.
+    /// How crowded the device at a place is for a seat whose other seats are on the devices at
+    /// these places.
     fn crowd_at(&self, others: &[usize], place: usize) -> Crowd
         requires others { All (λ other. other < length self.now.devices) others.now }
         requires few { length others.now ≤ 5 }
         requires place { place < length self.now.devices }
-        ensures { result ≡ crowd_in self.now (seats_at self.now.devices others.now) (id_at self.now.devices place) }
+        ensures { result ≡ crowd_in self.now (seats_at self.now.devices others.now)
+            (id_at self.now.devices place) }
     {
         let mut crowd = (0, 0, 0);
         for other in others {
@@ -70,7 +75,9 @@ impl Room {
         requires known { All (λ id. has_device id self.now.devices ≡ true) ids.now }
         requires few { length ids.now ≤ 5 }
         ensures long { length result ≡ 5 }
-        ensures stand { (index : ℕ) → index < length ids.now → (slice_index result index < length self.now.devices) × (id_at self.now.devices (slice_index result index) ≡ slice_index ids.now index) }
+        ensures stand { (index : ℕ) → index < length ids.now →
+            (slice_index result index < length self.now.devices) ×
+            (id_at self.now.devices (slice_index result index) ≡ slice_index ids.now index) }
     {
         let mut places = [0; 5];
         for (index, id) in ids.iter().enumerate() {
@@ -90,8 +97,8 @@ impl Room {
         self.crowd_at(&places[..others.len()], self.place_of(device))
     }
 
-    /// Whether it shows at a glance that no device outside a partition with room is less crowded for any of its seats, none of
-    /// which is empty.
+    /// Whether it shows at a glance that no device outside a partition with room is less crowded
+    /// for any of its seats, none of which is empty.
     pub(crate) fn is_calm(&self, row: &[Option<DeviceId>]) -> bool
         requires row { AreKnown self.now.devices row.now }
         requires few { length row.now ≤ 5 }
@@ -117,14 +124,16 @@ impl Room {
         false
     }
 
-    /// A device with room that isn't among `others`, at most five distinct devices of the ring, and than which no other
-    /// such device is less crowded for a seat whose other seats are on `others`. `None` exactly where no device outside has
-    /// room. Of several such devices the draw takes one.
+    /// A device with room that isn't among `others`, at most five distinct devices of the ring, and
+    /// than which no other such device is less crowded for a seat whose other seats are on
+    /// `others`. `None` exactly where no device outside has room. Of several such devices the draw
+    /// takes one.
     pub fn least(&self, others: &[DeviceId], draw: u32) -> Option<DeviceId>
         requires others { All (λ id. has_device id self.now.devices ≡ true) others.now }
         requires few { length others.now ≤ 5 }
         ensures found { IfSome result (λ id. IsLeast self.now (seats_of others.now) id) }
-        ensures none { IfNone result ((id : ℕ) → is_free_in self.now (seats_of others.now) id ≡ false) }
+        ensures none { IfNone result ((id : ℕ) → is_free_in self.now (seats_of others.now) id ≡
+            false) }
     {
         if self.count == 0 {
             return None;
@@ -137,7 +146,8 @@ impl Room {
         Some(self.devices[best.0].id)
     }
 
-    /// How crowded open devices are at the least for a seat whose other seats are on the devices at these places.
+    /// How crowded open devices are at the least for a seat whose other seats are on the devices at
+    /// these places.
     fn floor_for(&self, others: &[usize]) -> Crowd
         requires others { All (λ other. other < length self.now.devices) others.now }
         requires few { length others.now ≤ 5 }
@@ -148,8 +158,9 @@ impl Room {
         self.floor_by(Tier::Server, &self.servers, others, floor)
     }
 
-    /// How crowded open devices are at the least, down to a tier, for a seat whose other seats are on the devices at these
-    /// places. `places` has one in each tier of that kind. The search ends at the floor of a wider tier.
+    /// How crowded open devices are at the least, down to a tier, for a seat whose other seats are
+    /// on the devices at these places. `places` has one in each tier of that kind. The search ends
+    /// at the floor of a wider tier.
     fn floor_by(&self, tier: Tier, places: &[usize], others: &[usize], floor: Crowd) -> Crowd
         requires load { IsLoad self.now }
         requires tier { AreTier tier self.now.devices places.now }
@@ -170,8 +181,9 @@ impl Room {
         cut(tier, least)
     }
 
-    /// Of the devices at some places, the place of a free one than which no other is less crowded, and how crowded it is. The
-    /// search begins at one of the places, and ends at a device than which no open device is less crowded by this floor.
+    /// Of the devices at some places, the place of a free one than which no other is less crowded,
+    /// and how crowded it is. The search begins at one of the places, and ends at a device than
+    /// which no open device is less crowded by this floor.
     fn least_of(
         &self,
         places: &[usize],
@@ -184,7 +196,8 @@ impl Room {
         requires others { All (λ other. other < length self.now.devices) others.now }
         requires few { length others.now ≤ 5 }
         requires floor { IsFloor self.now (seats_at self.now.devices others.now) floor }
-        ensures best { IsBestSoFar places.now start (length places.now) self.now (seats_at self.now.devices others.now) result }
+        ensures best { IsBestSoFar places.now start (length places.now) self.now
+            (seats_at self.now.devices others.now) result }
         ensures start { start < length places.now }
     {
         let mut best = None;
@@ -197,8 +210,8 @@ impl Room {
         best
     }
 
-    /// The place at a step if the device there is free and less crowded than the best before it, else that one, with how
-    /// crowded it is.
+    /// The place at a step if the device there is free and less crowded than the best before it,
+    /// else that one, with how crowded it is.
     fn better(
         &self,
         places: &[usize],
@@ -212,8 +225,10 @@ impl Room {
         requires step { step < length places.now }
         requires others { All (λ other. other < length self.now.devices) others.now }
         requires few { length others.now ≤ 5 }
-        requires best { IsBestSoFar places.now start step self.now (seats_at self.now.devices others.now) best }
-        ensures { IsBestSoFar places.now start (step + 1) self.now (seats_at self.now.devices others.now) result }
+        requires best { IsBestSoFar places.now start step self.now (seats_at self.now.devices
+            others.now) best }
+        ensures { IsBestSoFar places.now start (step + 1) self.now (seats_at self.now.devices
+            others.now) result }
     {
         let place = places[place_after(places.len(), start, step)];
         if !self.is_free_at(others, place) {

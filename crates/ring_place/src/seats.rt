@@ -1,13 +1,12 @@
 //! Seats of partitions while some of them are empty.
 ghost use Rattle.std.specs.Prelude.{◌≡◌, ◌<◌, ◌≤◌, length, slice_get, slice_set, take, IfOk};
 ghost use Rattle.std.specs.List.{flat_map, list_any};
-ghost use Rattle.ring_model.specs.Ring.{partition_count as partition_count_of};
 ghost use Rattle.ring_model.specs.Valid.{IsValid};
 ghost use Rattle.ring_share.specs.Crowd.{rows_of};
-ghost use Rattle.ring_place.specs.Rows.{row_at, devices_on, is_empty};
+ghost use Rattle.ring_place.specs.Inner.SeatRows.{row_at, devices_on, is_empty};
 
 use ring_model::Ring;
-use ring_words::DeviceId;
+use ring_words::{DeviceId, partition_count};
 use std::alloc::{AllocError, Global};
 use std::marker::Model;
 
@@ -34,7 +33,8 @@ pub(crate) fn has_empty(row: &[Option<DeviceId>]) -> bool
     false
 }
 
-/// Which device is on each seat of each partition, or none. Contracts see a row for each partition, by replica.
+/// Which device is on each seat of each partition, or none. Contracts see a row for each partition,
+/// by replica.
 #[derive(Drop)]
 pub(crate) struct Seats {
     // by partition and then by replica
@@ -45,21 +45,14 @@ pub(crate) struct Seats {
 
 impl Model for Seats {
     ghost use Rattle.std.specs.Prelude.{ℕ, List, Option};
-    ghost use Rattle.ring_place.specs.Rows.{AreSeatRows, rows_in};
+    ghost use Rattle.ring_place.specs.Rows.{rows_in};
+    ghost use Rattle.ring_place.specs.Inner.SeatRows.{AreSeatRows};
 
     ghost Value = { List (List (Option ℕ)) };
 
     ghost view = { λ s. rows_in s.seats.items s.partitions s.replicas };
 
     ghost invariant = { λ s. AreSeatRows s.seats.items s.partitions s.replicas };
-}
-
-/// How many partitions a ring has.
-pub(crate) fn partition_count(ring: &Ring) -> usize
-    ensures value { result ≡ partition_count_of ring.now }
-    ensures small { result ≤ 16384 }
-{
-    1usize << ring.power().get()
 }
 
 /// The device at a place of a ring's seats, none where they are empty.
@@ -75,7 +68,7 @@ impl Seats {
         ensures rows { IfOk result (λ seats. seats ≡ rows_of ring.now) }
         ensures valid { IsValid ring.now }
     {
-        let partitions = partition_count(ring);
+        let partitions = partition_count(ring.power());
         let replicas = usize::from(ring.replicas().get());
         let mut seats = Vec::new(alloc);
         for place in 0..partitions * replicas {
@@ -121,8 +114,8 @@ impl Seats {
     }
 }
 
-/// The devices of a partition's seats that aren't empty, by replica, and how many they are. What stands behind them is left
-/// over.
+/// The devices of a partition's seats that aren't empty, by replica, and how many they are. What
+/// stands behind them is left over.
 pub(crate) fn devices_on(row: &[Option<DeviceId>]) -> ([DeviceId; 5], usize)
     requires { length row.now ≤ 5 }
     ensures devices { take result.1 result.0 ≡ devices_on row.now }

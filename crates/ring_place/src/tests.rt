@@ -1,16 +1,18 @@
-//! What no contract says: worked examples, that calls succeed where there is memory, and random rings against plain scans.
+//! What no contract says: worked examples, that calls succeed where there is memory, and random
+//! rings against plain scans.
 ghost use Rattle.std.specs.Prelude.{◌≡◌, ◌<◌};
 
 use crate::checker::{check, crowd_among, has_room};
 use crate::gather::gathering;
 use crate::order::{draws_of, shuffled_order};
-use crate::seats::partition_count;
 use crate::{PlaceError, Rebalanced, Room, rebalance};
 use rand_core::Rng;
 use rand_pcg::Pcg32;
 use ring_model::{Ring, RingParts};
 use ring_share::wanted;
-use ring_words::{Address, Device, DeviceName, Hour, Port, Power, Replicas, Row, Weight};
+use ring_words::{
+    Address, Device, DeviceName, Hour, Port, Power, Replicas, Row, Weight, partition_count,
+};
 use std::alloc::Global;
 use std::test::Fail;
 
@@ -109,7 +111,7 @@ fn checked_rebalance(
     seed: u32,
 ) -> Result<(Ring, u32), Fail> {
     let mut draws = draws_of(seed);
-    let order = shuffled_order(alloc, partition_count(ring), &mut draws)?;
+    let order = shuffled_order(alloc, partition_count(ring.power()), &mut draws)?;
     let (_, lifted) = gathering(alloc, ring, hour, order.as_slice())?;
     let done = ample_rebalance(alloc, ring, hour, seed)?;
     check(
@@ -310,7 +312,8 @@ fn random_rings_meet_the_definitions(rt: HostRuntime) -> Result<(), Fail> {
     Ok(())
 }
 
-/// A ring of 5 replicas without seats, of 256 devices in three regions of seven zones, two on a server.
+/// A ring of 5 replicas without seats, of 256 devices in three regions of seven zones, two on a
+/// server.
 fn wide_ring(alloc: Global, power: u16) -> Result<Ring, Fail> {
     let mut ring = ring(alloc, power, 5, 0, [].as_slice())?;
     for number in 0..=255u8 {
@@ -336,7 +339,8 @@ fn a_ring_of_full_size_is_assigned(rt: HostRuntime) -> Result<(), Fail> {
     Ok(())
 }
 
-/// For a seat with up to four others anywhere: the crowd of the device that is found is the least of a scan of all devices.
+/// For a seat with up to four others anywhere: the crowd of the device that is found is the least
+/// of a scan of all devices.
 fn least_is_scanned(
     room: &Room,
     ring: &Ring,

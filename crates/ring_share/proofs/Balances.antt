@@ -1,5 +1,6 @@
 -- Balances.
-use Rattle.std.proofs.Common.{◌≡◌, ℕ, ◌+◌, ◌*◌, ◌/◌, ◌^◌, ◌<◌, ◌≤◌, List, [], ◌∷◌, ◌++◌, length, map, min, max, fold, take, get_or, ◌==◌, sym, ap, ◌∙◌, ⊎_elim, arith}
+use Rattle.std.proofs.Common.{◌≡◌, ℕ, ◌+◌, ◌*◌, ◌/◌, ◌^◌, ◌<◌, ◌≤◌, List, [], ◌∷◌, ◌++◌, length}
+use Rattle.std.proofs.Common.{map, min, max, fold, take, get_or, ◌==◌, sym, ap, ◌∙◌, ⊎_elim, arith}
 use Rattle.std.proofs.Math.Nat.{div-mul-le_self, mul-le-mul_right}
 use Rattle.std.proofs.Math.Pow.{pow_mono}
 use Rattle.std.proofs.lemmas.Nat.{le-div, mul-le}
@@ -14,17 +15,20 @@ use Rattle.ring_share.specs.Room.{have}
 use Rattle.ring_share.specs.Figures.{greatest_balance}
 
 -- ten shares off or more is off the scale
-pub beyond : (distance share : ℕ) → 0 < share → 10 ≤ distance / share → 99999 ≡ min greatest_balance (10000 * distance / share)
+pub beyond : (distance share : ℕ) → 0 < share → 10 ≤ distance / share →
+    99999 ≡ min greatest_balance (10000 * distance / share)
 beyond distance share some far =
     let le : 10 * share ≤ distance / share * share = mul-le-mul_right share far in
     let below = div-mul-le_self distance share in
-    let many : 100000 ≤ 10000 * distance / share = le-div 100000 (10000 * distance) share some (omega (arith, le, below)) in
+    let many : 100000 ≤ 10000 * distance / share = le-div 100000 (10000 * distance) share some
+    (omega (arith, le, below)) in
     omega (arith, many)
 
 pub few_seats : (ring : RingRecord) → IsValid ring → seat_count ring ≤ 81920
 few_seats ring valid =
     let low : partition_count ring ≤ 2 ^ 14 = pow_mono valid.power.1 in
-    let le = mul-le (partition_count ring) ring.replicas 16384 5 (omega (arith, low)) valid.replicas.1 in
+    let le = mul-le (partition_count ring) ring.replicas 16384 5 (omega (arith, low))
+    valid.replicas.1 in
     omega (arith, le)
 
 pub have_few : (ring : RingRecord) (id : ℕ) → IsValid ring → have ring id ≤ 81920
@@ -40,8 +44,12 @@ pub product_some : (a b : ℕ) → 0 < a → 0 < b → 0 < a * b
 product_some a b h k = let le = mul-le 1 1 a b h k in omega (arith, le)
 
 -- the greatest so far
-pub greatest_more : (f : Device → ℕ) (devices : List Device) (i : ℕ) (x : Device) (n : ℕ) → i < length devices → x ≡ get_or devices i x → n ≡ fold max 0 (map f (take i devices))
+pub greatest_more : (f : Device → ℕ) (devices : List Device) (i : ℕ) (x : Device) (n : ℕ) →
+    i < length devices → x ≡ get_or devices i x → n ≡ fold max 0 (map f (take i devices))
     → max n (f x) ≡ fold max 0 (map f (take (i + 1) devices))
 greatest_more f devices i x n lt at is =
-    let more : map f (take (i + 1) devices) ≡ map f (take i devices) ++ f x ∷ [] = ap (map f) (take_more devices i x lt) ∙ map-append f (take i devices) (get_or devices i x ∷ []) ∙ ap (λ (d : Device). map f (take i devices) ++ f d ∷ []) (sym at) in
-    ap (λ (m : ℕ). max m (f x)) is ∙ sym (ap (fold max 0) more ∙ fold_push max 0 (map f (take i devices)) (f x))
+    let more : map f (take (i + 1) devices) ≡ map f (take i devices) ++ f x ∷ [] =
+    ap (map f) (take_more devices i x lt) ∙ map-append f (take i devices) (get_or devices i x ∷
+    []) ∙ ap (λ (d : Device). map f (take i devices) ++ f d ∷ []) (sym at) in
+    ap (λ (m : ℕ). max m (f x)) is ∙ sym (ap (fold max 0) more ∙ fold_push max 0
+    (map f (take i devices)) (f x))

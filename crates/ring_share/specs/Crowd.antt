@@ -1,6 +1,8 @@
--- Where devices stand, and how crowded a device is for a seat of a partition.
--- A partition is the list of its seats by replica, each the number of the device that it is on, or `None` if it is empty.
-use Rattle.std.specs.Prelude.{ℕ, ◌==◌, ◌&&◌, ◌||◌, Bool, false, nat_lt, List, map, find, count_by, slice_set, Option, Some, None}
+-- Where devices stand, and how crowded a device is for a seat of a partition. A partition is the
+-- list of its seats by replica, each the number of the device that it is on, or `None` if it is
+-- empty.
+use Rattle.std.specs.Prelude.{ℕ, ◌==◌, ◌&&◌, ◌||◌, Bool, false, nat_lt, List, map, find, count_by}
+use Rattle.std.specs.Prelude.{slice_set, Option, Some, None}
 use Rattle.std.specs.List.{range_with_len}
 use Rattle.ring_model.specs.Ring.{RingRecord, partition_count, seat}
 use Rattle.ring_words.specs.declared.device.Device.{Device}
@@ -13,7 +15,8 @@ in_region a b = a.row.region == b.row.region
 abbrev pub in_zone : Device → Device → Bool
 in_zone a b = in_region a b && (a.row.zone == b.row.zone)
 
--- whether they stand on one server: its address counts within its zone, and the port is no part of it
+-- whether they stand on one server: its address counts within its zone, and the port is no part of
+-- it
 abbrev pub on_server : Device → Device → Bool
 on_server a b = in_zone a b && (a.row.address == b.row.address)
 
@@ -43,7 +46,8 @@ tiers_of devices = record {
 
 -- the seats of a partition
 abbrev pub row_of : RingRecord → ℕ → List (Option ℕ)
-row_of ring partition = map (λ replica. seat ring partition replica) (range_with_len 0 ring.replicas)
+row_of ring partition = map (λ replica. seat ring partition replica)
+    (range_with_len 0 ring.replicas)
 
 -- the seats of all partitions
 abbrev pub rows_of : RingRecord → List (List (Option ℕ))
@@ -68,12 +72,19 @@ others row replica = slice_set row replica None
 
 -- how many seats are in the region of the device of this number, in its zone, and on its server
 abbrev pub crowd : Tiers → List (Option ℕ) → ℕ → ℕ × ℕ × ℕ
-crowd tiers row id = (count_by (is_on (tiers.region id)) row, count_by (is_on (tiers.zone id)) row, count_by (is_on (tiers.server id)) row)
+crowd tiers row id = (
+  count_by (is_on (tiers.region id)) row,
+  count_by (is_on (tiers.zone id)) row,
+  count_by (is_on (tiers.server id)) row,
+)
 
--- how crowded the device of a number is for a seat of a ring: how many other seats of the partition are near it
+-- how crowded the device of a number is for a seat of a ring: how many other seats of the partition
+-- are near it
 abbrev pub crowd_for : RingRecord → ℕ → ℕ → ℕ → ℕ × ℕ × ℕ
-crowd_for ring partition replica id = crowd (tiers_of ring.devices) (others (row_of ring partition) replica) id
+crowd_for ring partition replica id = crowd (tiers_of ring.devices) (others (row_of ring partition)
+    replica) id
 
 -- whether the one is less crowded than the other: compared by region, then by zone, then by server
 abbrev pub is_less : ℕ × ℕ × ℕ → ℕ × ℕ × ℕ → Bool
-is_less a b = nat_lt a.0 b.0 || ((a.0 == b.0) && (nat_lt a.1 b.1 || ((a.1 == b.1) && nat_lt a.2 b.2)))
+is_less a b = nat_lt a.0 b.0 ||
+    ((a.0 == b.0) && (nat_lt a.1 b.1 || ((a.1 == b.1) && nat_lt a.2 b.2)))

@@ -18,4 +18,6 @@ shares Server one other = on_server one other
 pub record AreTier (tier : Tier) (devices : List Device) (places : List ℕ) : Type 0 where
   pub within : All (λ place. place < length devices) places
   pub opens : All (λ place. is_open_at devices place ≡ true) places
-  pub covered : All (λ (device : Device). is_open device ≡ true → list_any (λ place. pass_both (shares tier) (slice_get devices place) (Some device)) places ≡ true) devices
+  pub covered : All (λ (device : Device). is_open device ≡ true →
+      list_any (λ place. pass_both (shares tier) (slice_get devices place) (Some device)) places ≡
+      true) devices

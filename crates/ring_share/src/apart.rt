@@ -1,5 +1,7 @@
-//! Whether the seats of a partition stand apart, which shows at a glance that none of them is crowded.
-ghost use Rattle.std.specs.Prelude.{◌≡◌, ◌<◌, ◌≤◌, ℕ, true, false, All, length, map, slice_get, slice_index, Some};
+//! Whether the seats of a partition stand apart, which shows at a glance that none of them is
+//! crowded.
+ghost use Rattle.std.specs.Prelude.{◌≡◌, ◌<◌, ◌≤◌, ℕ, true, false, All, length, map, slice_get};
+ghost use Rattle.std.specs.Prelude.{slice_index, Some};
 ghost use Rattle.std.specs.List.Sorted.{IsStrictlyIncreasing};
 ghost use Rattle.ring_model.specs.Ring.{has_device};
 ghost use Rattle.ring_words.specs.declared.device.Device.{Device as DeviceModel};
@@ -31,13 +33,14 @@ fn sharing(devices: &[Device], places: &[usize], device: &Device) -> (u32, u32)
     (region, zone)
 }
 
-/// How many of the devices at at most five places are in the region of any device at some other places, at the least. 6 where
-/// there is none.
+/// How many of the devices at at most five places are in the region of any device at some other
+/// places, at the least. 6 where there is none.
 fn fewest_sharing(devices: &[Device], regions: &[usize], places: &[usize]) -> u32
     requires regions { All (λ place. place < length devices.now) regions.now }
     requires places { All (λ place. place < length devices.now) places.now }
     requires few { length places.now ≤ 5 }
-    ensures least { (index : ℕ) (device : DeviceModel) → index < length regions.now → slice_get devices.now (slice_index regions.now index) ≡ Some device
+    ensures least { (index : ℕ) (device : DeviceModel) → index < length regions.now →
+        slice_get devices.now (slice_index regions.now index) ≡ Some device
         → result ≤ sharing in_region devices.now places.now device }
     ensures few { result ≤ 6 }
 {
@@ -49,9 +52,9 @@ fn fewest_sharing(devices: &[Device], regions: &[usize], places: &[usize]) -> u3
     fewest
 }
 
-/// Whether each seat of a partition is alone in its zone, and in no region are two more of them than in any region that has an
-/// open device. `regions` has the place of a device in each of these. Where it answers true no open device is less crowded
-/// for any of the seats.
+/// Whether each seat of a partition is alone in its zone, and in no region are two more of them
+/// than in any region that has an open device. `regions` has the place of a device in each of
+/// these. Where it answers true no open device is less crowded for any of the seats.
 pub fn stand_apart(devices: &[Device], regions: &[usize], row: &[DeviceId]) -> bool
     requires rise { IsStrictlyIncreasing (map (λ device. device.id) devices.now) }
     requires regions { AreTier Region devices.now regions.now }

@@ -1,8 +1,10 @@
 //! Where devices stand, and how crowded they are.
-ghost use Rattle.std.specs.Prelude.{◌≡◌, ◌<◌, ◌+◌, ◌≤◌, ℕ, true, [], ◌∷◌, length, slice_index_or, Option, Some, None, if◌then◌else◌};
+ghost use Rattle.std.specs.Prelude.{◌≡◌, ◌<◌, ◌+◌, ◌≤◌, ℕ, true, [], ◌∷◌, length, slice_index_or};
+ghost use Rattle.std.specs.Prelude.{Option, Some, None, if◌then◌else◌};
 ghost use Rattle.std.specs.Option.{option_map};
 ghost use Rattle.ring_model.specs.Ring.{partition_count, has_device};
-ghost use Rattle.ring_share.specs.Crowd.{in_region, in_zone, on_server, device_of, tiers_of, row_of, others, crowd, crowd_for};
+ghost use Rattle.ring_share.specs.Crowd.{in_region, in_zone, on_server, device_of, tiers_of};
+ghost use Rattle.ring_share.specs.Crowd.{row_of, others, crowd, crowd_for};
 
 use ring_model::Ring;
 use ring_words::{Device, DeviceId};
@@ -84,8 +86,9 @@ fn seat_seen_from(ring: &Ring, partition: u32, replica: u16, other: u16) -> Opti
     }
 }
 
-/// How crowded a device of the ring is for the seat of a replica of a partition: how many other seats of the partition,
-/// those of the other replicas, are in the device's region, in its zone and on its server.
+/// How crowded a device of the ring is for the seat of a replica of a partition: how many other
+/// seats of the partition, those of the other replicas, are in the device's region, in its zone and
+/// on its server.
 pub fn crowd(ring: &Ring, partition: u32, replica: u16, device: DeviceId) -> (u32, u32, u32)
     requires partition { partition < partition_count ring.now }
     requires replica { replica < ring.now.replicas }

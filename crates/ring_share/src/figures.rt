@@ -1,17 +1,20 @@
 //! Balance and dispersion.
-ghost use Rattle.std.specs.Prelude.{◌≡◌, ◌==◌, ◌<◌, ◌≤◌, ◌+◌, ◌*◌, ◌/◌, ◌^◌, ℕ, true, All, length, map, min, max, slice_get, slice_index, slice_index_or, count_by, Some, None};
+ghost use Rattle.std.specs.Prelude.{◌≡◌, ◌==◌, ◌<◌, ◌≤◌, ◌+◌, ◌*◌, ◌/◌, ◌^◌, ℕ, true, All, length};
+ghost use Rattle.std.specs.Prelude.{map, min, max, slice_get, slice_index, slice_index_or};
+ghost use Rattle.std.specs.Prelude.{count_by, Some, None};
 ghost use Rattle.std.specs.Option.{option_map};
 ghost use Rattle.std.specs.List.Sorted.{IsStrictlyIncreasing};
-ghost use Rattle.ring_model.specs.Ring.{partition_count, has_device, is_assigned};
+ghost use Rattle.ring_model.specs.Ring.{partition_count as partitions_of, has_device, is_assigned};
 ghost use Rattle.ring_model.specs.Valid.{AreDevices};
 ghost use Rattle.ring_words.specs.declared.device.Device.{Device as DeviceModel};
 ghost use Rattle.ring_share.specs.Want.{total_weight};
 ghost use Rattle.ring_share.specs.Room.{have};
-ghost use Rattle.ring_share.specs.Near.{IsTable};
+ghost use Rattle.ring_share.specs.Inner.Nearness.{IsTable};
 ghost use Rattle.ring_share.specs.Tiers.{AreTier};
 ghost use Rattle.ring_share.specs.declared.tiers.Tier.TheVariants.{Region};
 ghost use Rattle.ring_share.specs.Crowd.{device_of, rows_of};
-ghost use Rattle.ring_share.specs.Figures.{distance, greatest_balance, device_balance, ring_balance, has_crowded, ring_dispersion};
+ghost use Rattle.ring_share.specs.Figures.{distance, greatest_balance, device_balance};
+ghost use Rattle.ring_share.specs.Figures.{ring_balance, has_crowded, ring_dispersion};
 
 use crate::apart::stand_apart;
 use crate::crowds::device_of;
@@ -19,9 +22,9 @@ use crate::nearness::{Table, has_better_at, table_of};
 use crate::places::{place_in, places_of};
 use crate::rooms::have;
 use crate::tiers::{Tier, one_each};
-use crate::wants::{is_open, partition_count, seat_count, total_weight};
+use crate::wants::{is_open, seat_count, total_weight};
 use ring_model::Ring;
-use ring_words::{Device, DeviceId};
+use ring_words::{Device, DeviceId, partition_count};
 
 const GREATEST_BALANCE: u64 = 99_999;
 
@@ -37,7 +40,8 @@ fn greater(a: u32, b: u32) -> u32
     a.max(b)
 }
 
-/// So many hundredths of a percent of a share are a distance from it, or the greatest balance if they are more.
+/// So many hundredths of a percent of a share are a distance from it, or the greatest balance if
+/// they are more.
 fn balance_from(distance: u64, share: u64) -> u32
     requires some { 0 < share }
     requires small { share < 2 ^ 44 }
@@ -68,8 +72,9 @@ fn device_balance(ring: &Ring, total: u64, device: &Device, seats: u32) -> u32
     }
 }
 
-/// How far the seats of a device are from its share, in hundredths of a percent of that share, at most 99999. For a
-/// device that isn't open, 99999 if it has a seat, and else 0. `None` exactly where the ring has no such device.
+/// How far the seats of a device are from its share, in hundredths of a percent of that share, at
+/// most 99999. For a device that isn't open, 99999 if it has a seat, and else 0. `None` exactly
+/// where the ring has no such device.
 pub fn balance_of(ring: &Ring, device: DeviceId) -> Option<u32>
     ensures { result ≡ option_map (device_balance ring.now) (device_of device ring.now.devices) }
 {
@@ -80,7 +85,8 @@ pub fn balance_of(ring: &Ring, device: DeviceId) -> Option<u32>
 
 /// How many seats the device at each place has. Behind the last device it is left open what stands.
 pub fn counts_of(ring: &Ring) -> [u32; 256]
-    ensures { (place : ℕ) (device : DeviceModel) → slice_get ring.now.devices place ≡ Some device → slice_index result place ≡ have ring.now device.id }
+    ensures { (place : ℕ) (device : DeviceModel) → slice_get ring.now.devices place ≡ Some device →
+        slice_index result place ≡ have ring.now device.id }
 {
     let devices = ring.devices();
     let seats = ring.seats();
@@ -112,7 +118,8 @@ pub fn balance(ring: &Ring) -> u32
     greatest
 }
 
-/// Whether a partition with these seats has one for which an open device outside it is less crowded than the seat's own.
+/// Whether a partition with these seats has one for which an open device outside it is less crowded
+/// than the seat's own.
 fn has_crowded(devices: &[Device], regions: &[usize], table: &Table, row: &[DeviceId]) -> bool
     requires devices { AreDevices 65536 devices.now }
     requires regions { AreTier Region devices.now regions.now }
@@ -132,7 +139,7 @@ fn has_crowded(devices: &[Device], regions: &[usize], table: &Table, row: &[Devi
 fn crowded_count(ring: &Ring) -> u32
     requires { is_assigned ring.now ≡ true }
     ensures value { result ≡ count_by (has_crowded ring.now.devices) (rows_of ring.now) }
-    ensures small { result ≤ partition_count ring.now }
+    ensures small { result ≤ partitions_of ring.now }
 {
     let devices = ring.devices();
     let (regions, count) = one_each(devices, Tier::Region);
@@ -140,7 +147,7 @@ fn crowded_count(ring: &Ring) -> u32
     let replicas = usize::from(ring.replicas().get());
     let seats = ring.seats();
     let mut crowded = 0;
-    for partition in 0..partition_count(ring) {
+    for partition in 0..partition_count(ring.power()) {
         let first = partition * replicas;
         let row = &seats[first..first + replicas];
         if has_crowded(devices, &regions[..count], &table, row) {
@@ -150,13 +157,14 @@ fn crowded_count(ring: &Ring) -> u32
     crowded
 }
 
-/// Which part of the partitions, in hundredths of a percent, has a seat for which an open device outside the partition,
-/// with room or without, is less crowded than the seat's own. 0 where the seats are empty.
+/// Which part of the partitions, in hundredths of a percent, has a seat for which an open device
+/// outside the partition, with room or without, is less crowded than the seat's own. 0 where the
+/// seats are empty.
 pub fn dispersion(ring: &Ring) -> u32
     ensures { result ≡ ring_dispersion ring.now }
 {
     if !ring.is_assigned() {
         return 0;
     }
-    10_000 * crowded_count(ring) / partition_count(ring) as u32
+    10_000 * crowded_count(ring) / partition_count(ring.power()) as u32
 }

@@ -15,10 +15,12 @@ pub fn wants_add_up()
 
 /// A ring's devices want one number of seats each: there is no second list of wants.
 pub fn wants_are_determined()
-    ensures { (ring : RingRecord) (one other : List ℕ) → AreWanted ring one → AreWanted ring other → one ≡ other }
+    ensures { (ring : RingRecord) (one other : List ℕ) → AreWanted ring one → AreWanted ring other →
+        one ≡ other }
 {}
 
 /// In an assigned ring a device has the seats that it has in each partition, together.
 pub fn seats_add_up_by_partition()
-    ensures { (ring : RingRecord) (id : ℕ) → IsValid ring → is_assigned ring ≡ true → have ring id ≡ sum_by (seats_on id) (rows_of ring) }
+    ensures { (ring : RingRecord) (id : ℕ) → IsValid ring → is_assigned ring ≡ true →
+        have ring id ≡ sum_by (seats_on id) (rows_of ring) }
 {}

@@ -1,8 +1,10 @@
-//! The shares of a ring's devices: how many seats each wants and has, whether it has room, how crowded it is for a seat
-//! of a partition, and how far the ring is from these shares and from standing apart.
+//! The shares of a ring's devices: how many seats each wants and has, whether it has room, how
+//! crowded it is for a seat of a partition, and how far the ring is from these shares and from
+//! standing apart.
 //!
-//! The words are those of OpenStack Swift's 'The Rings'; the figures and the order of ties are this project's own. The
-//! definitions that contracts cite stand in `specs/`, and `docs/definitions.md` lists them.
+//! The words are those of OpenStack Swift's 'The Rings'; the figures and the order of ties are this
+//! project's own. The definitions that contracts cite stand in `specs/`, and `docs/definitions.md`
+//! lists them.
 #![tactic(auto)]
 
 mod apart;

@@ -1,8 +1,11 @@
 //! How near devices stand, as a table of numbers that add up.
-ghost use Rattle.std.specs.Prelude.{◌≡◌, ◌<◌, ◌≤◌, ◌+◌, ◌*◌, ℕ, [], false, All, Bool, length, if◌then◌else◌, slice_get, slice_index, slice_index_or, sum_by, Some};
+ghost use Rattle.std.specs.Prelude.{◌≡◌, ◌<◌, ◌≤◌, ◌+◌, ◌*◌, ℕ, [], false, All, Bool, length};
+ghost use Rattle.std.specs.Prelude.{if◌then◌else◌, slice_get, slice_index, slice_index_or, sum_by};
+ghost use Rattle.std.specs.Prelude.{Some};
 ghost use Rattle.std.specs.List.{list_any, range_with_len};
 ghost use Rattle.ring_words.specs.declared.device.Device.{Device as DeviceModel};
-ghost use Rattle.ring_share.specs.Near.{near, near_at, nearness, IsTable, is_free_at, is_better_at, has_better_at};
+ghost use Rattle.ring_share.specs.Inner.Nearness.{near, near_at, nearness, IsTable, is_free_at};
+ghost use Rattle.ring_share.specs.Inner.Nearness.{is_better_at, has_better_at};
 
 use crate::crowds::{in_region, in_zone, on_server};
 use crate::wants::is_open;
@@ -45,7 +48,8 @@ fn zero_rows<const N: usize>() -> [[u8; N]; N]
 /// How near a device is to each, by their places.
 fn row_of(device: &Device, devices: &[Device]) -> [u8; 256]
     requires { length devices.now ≤ 256 }
-    ensures filled { (place : ℕ) (other : DeviceModel) → slice_get devices.now place ≡ Some other → slice_index result place ≡ near device.now other }
+    ensures filled { (place : ℕ) (other : DeviceModel) → slice_get devices.now place ≡ Some other →
+        slice_index result place ≡ near device.now other }
     ensures rest { (place : ℕ) → length devices.now ≤ place → slice_index result place ≡ 0 }
 {
     let mut row: [u8; 256] = zeroes();
@@ -82,7 +86,8 @@ fn sums_of(table: &Table, places: &[usize]) -> [u16; 256]
     requires places { All (λ place. place < 256) places.now }
     requires few { length places.now ≤ 5 }
     requires entries { (one other : ℕ) → slice_index (slice_index_or table.now one []) other ≤ 43 }
-    ensures sums { (k : ℕ) → slice_index result k ≡ sum_by (λ place. slice_index (slice_index_or table.now place []) k) places.now }
+    ensures sums { (k : ℕ) → slice_index result k ≡ sum_by
+        (λ place. slice_index (slice_index_or table.now place []) k) places.now }
     ensures small { (k : ℕ) → slice_index result k ≤ 215 }
 {
     let mut sums: [u16; 256] = zero_sums();
@@ -100,16 +105,18 @@ fn row_at(table: &Table, place: usize) -> &[u8; 256]
     &table[place]
 }
 
-/// Whether a device may be less crowded than the one at a place, by the sums, the row of that place, how near that device
-/// is to itself, and its sum. No device is where it answers false.
+/// Whether a device may be less crowded than the one at a place, by the sums, the row of that
+/// place, how near that device is to itself, and its sum. No device is where it answers false.
 ///
-/// This goes through the places of so many devices without a branch, which compilers do many at a time.
+/// This goes through the places of so many devices without a branch, which compilers do many at a
+/// time.
 fn may_be_less(count: usize, sums: &[u16; 256], row: &[u8; 256], same: u16, least: u16) -> bool
     requires count { count ≤ 256 }
     requires sums { (k : ℕ) → slice_index sums.now k ≤ 215 }
     requires same { same < 256 }
     requires least { least ≤ 215 }
-    ensures { result ≡ false → (k : ℕ) → k < count → least + slice_index row.now k ≤ slice_index sums.now k + same }
+    ensures { result ≡ false → (k : ℕ) → k < count → least + slice_index row.now k ≤ slice_index
+        sums.now k + same }
 {
     let mut some = false;
     for place in 0..count {
@@ -139,7 +146,8 @@ fn has_less(
     requires own { own < 256 }
     requires sums { (k : ℕ) → slice_index sums.now k ≡ nearness devices.now places.now k }
     requires small { (k : ℕ) → slice_index sums.now k ≤ 215 }
-    ensures { result ≡ list_any (λ other. is_better_at devices.now places.now own other) (range_with_len 0 (length devices.now)) }
+    ensures { result ≡ list_any (λ other. is_better_at devices.now places.now own other)
+        (range_with_len 0 (length devices.now)) }
 {
     let row = row_at(table, own);
     let least = sums[own];
@@ -156,7 +164,8 @@ fn has_less(
     false
 }
 
-/// Whether an open device, at none of the places, is less crowded for the seat at one of them than that seat's device.
+/// Whether an open device, at none of the places, is less crowded for the seat at one of them than
+/// that seat's device.
 pub(crate) fn has_better_at(devices: &[Device], table: &Table, places: &[usize]) -> bool
     requires count { length devices.now ≤ 256 }
     requires table { IsTable devices.now table.now }

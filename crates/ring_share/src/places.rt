@@ -6,8 +6,8 @@ ghost use Rattle.ring_share.specs.Near.{StandsAt};
 
 use ring_words::{Device, DeviceId};
 
-/// The place of the device of a number among the devices of a ring, which stand by rising number. It is looked for at the
-/// place that it has while no device was dropped, and then by halving.
+/// The place of the device of a number among the devices of a ring, which stand by rising number.
+/// It is looked for at the place that it has while no device was dropped, and then by halving.
 pub fn place_in(devices: &[Device], id: DeviceId) -> usize
     requires rise { IsStrictlyIncreasing (map (λ device. device.id) devices.now) }
     requires known { has_device id devices.now ≡ true }
@@ -36,7 +36,8 @@ pub(crate) fn places_of(devices: &[Device], ids: &[DeviceId]) -> [usize; 5]
     requires rise { IsStrictlyIncreasing (map (λ device. device.id) devices.now) }
     requires known { All (λ id. has_device id devices.now ≡ true) ids.now }
     requires few { length ids.now ≤ 5 }
-    ensures { (replica : ℕ) → replica < length ids.now → StandsAt devices.now (slice_index ids.now replica) (slice_index result replica) }
+    ensures { (replica : ℕ) → replica < length ids.now →
+        StandsAt devices.now (slice_index ids.now replica) (slice_index result replica) }
 {
     let mut places = [0; 5];
     for (replica, id) in ids.iter().enumerate() {

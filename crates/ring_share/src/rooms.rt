@@ -44,7 +44,8 @@ fn place_of(devices: &[Device], id: DeviceId) -> usize
     devices.len()
 }
 
-/// Whether a device of the ring is open and has fewer seats than it wants. The wants are those of `wanted`.
+/// Whether a device of the ring is open and has fewer seats than it wants. The wants are those of
+/// `wanted`.
 pub fn has_room(ring: &Ring, wanted: &[u32], device: DeviceId) -> bool
     requires wanted { AreWanted ring.now wanted.now }
     requires device { has_device device ring.now.devices ≡ true }

@@ -33,7 +33,8 @@ fn shares(tier: Tier, one: &Device, other: &Device) -> bool
 /// Whether a device at one of these places shares a tier of a kind with another device.
 fn has_shared(devices: &[Device], places: &[usize], tier: Tier, device: &Device) -> bool
     requires { All (λ place. place < length devices.now) places.now }
-    ensures { result ≡ list_any (λ place. pass_both (shares tier) (slice_get devices.now place) (Some device.now)) places.now }
+    ensures { result ≡ list_any (λ place. pass_both (shares tier) (slice_get devices.now place)
+        (Some device.now)) places.now }
 {
     for place in places {
         if shares(tier, &devices[*place], device) {
@@ -49,8 +50,8 @@ fn no_places<const N: usize>() -> [usize; N]
     [0; N]
 }
 
-/// The place of one open device in each tier of a kind that has any, and how many they are. What stands behind them is left
-/// over.
+/// The place of one open device in each tier of a kind that has any, and how many they are. What
+/// stands behind them is left over.
 pub fn one_each(devices: &[Device], tier: Tier) -> ([usize; 256], usize)
     requires { length devices.now ≤ 256 }
     ensures tier { AreTier tier devices.now (take result.1 result.0) }

@@ -1,14 +1,16 @@
 //! Seats that devices want.
-ghost use Rattle.std.specs.Prelude.{◌≡◌, ◌<◌, ◌≤◌, ◌+◌, ◌*◌, ◌^◌, ℕ, true, false, length, map, replicate, sum, slice_get, slice_index, IfOk, IfSome, IfNone, Some, if◌then◌else◌};
+ghost use Rattle.std.specs.Prelude.{◌≡◌, ◌<◌, ◌≤◌, ◌+◌, ◌*◌, ◌^◌, ℕ, true, false, length, map};
+ghost use Rattle.std.specs.Prelude.{replicate, sum, slice_get, slice_index, IfOk, IfSome, IfNone};
+ghost use Rattle.std.specs.Prelude.{Some, if◌then◌else◌};
 ghost use Rattle.std.specs.List.{list_any};
-ghost use Rattle.ring_model.specs.Ring.{partition_count};
 ghost use Rattle.ring_model.specs.Valid.{IsValid};
 ghost use Rattle.ring_words.specs.declared.device.Device.{Device as DeviceModel};
 ghost use Rattle.ring_share.specs.Inner.Turns.{is_waiting, IsFirstWaiting};
-ghost use Rattle.ring_share.specs.Want.{is_open, open_weight, total_weight, seat_count, whole_share, share_rest, IsBefore, AreShares, AreWanted};
+ghost use Rattle.ring_share.specs.Want.{is_open, open_weight, total_weight, seat_count};
+ghost use Rattle.ring_share.specs.Want.{whole_share, share_rest, IsBefore, AreShares, AreWanted};
 
 use ring_model::Ring;
-use ring_words::Device;
+use ring_words::{Device, partition_count};
 use std::alloc::{AllocError, Global};
 
 /// Whether seats may go to a device: it isn't marked to be removed, and it weighs something.
@@ -43,22 +45,13 @@ pub(crate) fn total_weight(devices: &[Device]) -> u64
     total
 }
 
-/// How many partitions a ring has.
-pub(crate) fn partition_count(ring: &Ring) -> usize
-    ensures value { result ≡ partition_count ring.now }
-    ensures some { 0 < result }
-    ensures small { result ≤ 16384 }
-{
-    1usize << ring.power().get()
-}
-
 /// How many seats a ring has, one for each replica of each partition.
 pub(crate) fn seat_count(ring: &Ring) -> u64
     ensures value { result ≡ seat_count ring.now }
     ensures some { 0 < result }
     ensures small { result ≤ 81920 }
 {
-    partition_count(ring) as u64 * u64::from(ring.replicas().get())
+    partition_count(ring.power()) as u64 * u64::from(ring.replicas().get())
 }
 
 /// The whole seats of a device's share.
@@ -96,8 +89,9 @@ fn open_share(ring: &Ring, total: u64, device: &Device) -> u32
 
 /// How many seats each device of a ring wants, in the order of the devices.
 ///
-/// An open device wants its share of all seats by weight, in whole seats. The seats that are left over go, one each, to
-/// the devices whose shares have most beyond whole seats, those of lower numbers first. Any other device wants none.
+/// An open device wants its share of all seats by weight, in whole seats. The seats that are left
+/// over go, one each, to the devices whose shares have most beyond whole seats, those of lower
+/// numbers first. Any other device wants none.
 pub fn wanted(alloc: Global, ring: &Ring) -> Result<Vec<u32>, AllocError>
     ensures { IfOk result (λ wanted. AreWanted ring.now wanted.items) }
 {
@@ -124,7 +118,8 @@ fn no_shares(alloc: Global, count: usize) -> Result<Vec<u32>, AllocError>
 fn whole_shares(alloc: Global, ring: &Ring, total: u64) -> Result<Vec<u32>, AllocError>
     requires total { total ≡ total_weight ring.now.devices }
     requires some { 0 < total }
-    ensures { IfOk result (λ shares. shares.items ≡ map (λ device. if is_open device then whole_share ring.now device else 0) ring.now.devices) }
+    ensures { IfOk result (λ shares. shares.items ≡ map (λ device. if is_open device then
+        whole_share ring.now device else 0) ring.now.devices) }
 {
     let devices = ring.devices();
     let mut shares = Vec::new(alloc);
@@ -145,7 +140,8 @@ fn sum_of(shares: &[u32]) -> u64
     sum
 }
 
-/// Gives one more seat to the device that comes first of those that have none more than their whole seats.
+/// Gives one more seat to the device that comes first of those that have none more than their whole
+/// seats.
 fn give_one(ring: &Ring, total: u64, shares: &mut [u32])
     requires total { total ≡ total_weight ring.now.devices }
     requires some { 0 < total }

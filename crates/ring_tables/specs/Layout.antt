@@ -2,7 +2,8 @@
 use Rattle.std.specs.Prelude.{ℕ, ◌-◌, ◌++◌, List, [], ◌∷◌, length, map, replicate}
 use Rattle.std.specs.List.{zip, concat, join_with_byte}
 
--- a text at the left of its column, and spaces up to the column's width; a longer text stands as it is
+-- a text at the left of its column, and spaces up to the column's width; a longer text stands as it
+-- is
 abbrev pub at_left : ℕ → List ℕ → List ℕ
 at_left width text = text ++ replicate (width - length text) 32
 

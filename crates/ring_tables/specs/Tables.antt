@@ -8,9 +8,11 @@ use Rattle.ring_share.specs.Room.{have}
 use Rattle.ring_share.specs.Figures.{device_balance, ring_balance, ring_dispersion}
 use Rattle.ring_tables.specs.Layout.{Columns, at_left, at_right, as_it_is, table}
 
--- whether seats may go to a device, in a word: it is marked to be removed, it weighs nothing, or they may
+-- whether seats may go to a device, in a word: it is marked to be removed, it weighs nothing, or
+-- they may
 abbrev pub state_text : Device → List ℕ
-state_text device = if device.removed then codes "removed" else (if device.row.weight == 0 then codes "drained" else codes "open")
+state_text device = if device.removed then codes "removed" else (if device.row.weight == 0 then
+    codes "drained" else codes "open")
 
 -- the columns of region, zone, address and port
 abbrev pub place_columns : Columns
@@ -22,15 +24,18 @@ device_columns = at_right 5 ∷ place_columns ++ (at_right 10 ∷ at_left 7 ∷ 
 
 -- what its columns are called
 abbrev pub device_titles : List (List ℕ)
-device_titles = codes "id" ∷ codes "region" ∷ codes "zone" ∷ codes "address" ∷ codes "port" ∷ codes "weight" ∷ codes "state" ∷ codes "name" ∷ []
+device_titles = codes "id" ∷ codes "region" ∷ codes "zone" ∷ codes "address" ∷ codes "port" ∷
+    codes "weight" ∷ codes "state" ∷ codes "name" ∷ []
 
 -- where a device stands
 abbrev pub place_texts : Device → List (List ℕ)
-place_texts device = decimal device.row.region ∷ decimal device.row.zone ∷ address_text device.row.address ∷ decimal device.row.port ∷ []
+place_texts device = decimal device.row.region ∷ decimal device.row.zone ∷
+    address_text device.row.address ∷ decimal device.row.port ∷ []
 
 -- what the device table has of a device
 abbrev pub device_texts : Device → List (List ℕ)
-device_texts device = decimal device.id ∷ place_texts device ++ (hundredths_text device.row.weight ∷ state_text device ∷ device.row.name ∷ [])
+device_texts device = decimal device.id ∷ place_texts device ++ (hundredths_text device.row.weight ∷
+    state_text device ∷ device.row.name ∷ [])
 
 -- where each device of a ring stands, what it weighs, and its state, by rising number
 abbrev pub device_table : RingRecord → List ℕ
@@ -47,13 +52,17 @@ balance_titles = codes "id" ∷ codes "weight" ∷ codes "wanted" ∷ codes "has
 -- what the balance table has of a device that wants so many seats
 abbrev pub balance_texts : RingRecord → Device → ℕ → List (List ℕ)
 balance_texts ring device want =
-    decimal device.id ∷ hundredths_text device.row.weight ∷ decimal want ∷ decimal (have ring device.id) ∷ hundredths_text (device_balance ring device) ∷ []
+    decimal device.id ∷ hundredths_text device.row.weight ∷ decimal want ∷
+    decimal (have ring device.id) ∷ hundredths_text (device_balance ring device) ∷ []
 
 -- the figures of the whole ring, as the last line
 abbrev pub figures_line : RingRecord → List ℕ
-figures_line ring = codes "balance " ++ hundredths_text (ring_balance ring) ++ codes " dispersion " ++ hundredths_text (ring_dispersion ring) ++ codes " version " ++ decimal ring.version ++ 10 ∷ []
+figures_line ring = codes "balance " ++ hundredths_text (ring_balance ring) ++
+    codes " dispersion " ++ hundredths_text (ring_dispersion ring) ++ codes " version " ++
+    decimal ring.version ++ 10 ∷ []
 
--- how many seats each device of a ring wants and has, and how far that is from its share, by rising number; the wants
--- are in the order of the devices
+-- how many seats each device of a ring wants and has, and how far that is from its share, by rising
+-- number; the wants are in the order of the devices
 abbrev pub balance_table : RingRecord → List ℕ → List ℕ
-balance_table ring wants = table balance_columns balance_titles (map (λ e. balance_texts ring e.0 e.1) (zip ring.devices wants)) ++ figures_line ring
+balance_table ring wants = table balance_columns balance_titles
+    (map (λ e. balance_texts ring e.0 e.1) (zip ring.devices wants)) ++ figures_line ring

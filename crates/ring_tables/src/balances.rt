@@ -4,7 +4,8 @@ ghost use Rattle.ring_share.specs.Want.{AreWanted};
 ghost use Rattle.ring_share.specs.Crowd.{device_of};
 ghost use Rattle.ring_share.specs.Figures.{device_balance};
 ghost use Rattle.ring_tables.specs.Layout.{row};
-ghost use Rattle.ring_tables.specs.Tables.{balance_columns, balance_titles, balance_texts, figures_line, balance_table};
+ghost use Rattle.ring_tables.specs.Tables.{balance_columns, balance_titles, balance_texts};
+ghost use Rattle.ring_tables.specs.Tables.{figures_line, balance_table};
 
 use crate::cells::{hundredths_cell, hundredths_text, number_cell};
 use ring_model::Ring;
@@ -30,7 +31,8 @@ fn titles(alloc: Global) -> Result<String, AllocError>
 /// A device as a row.
 fn balance_row(alloc: Global, ring: &Ring, device: &Device, want: u32) -> Result<String, AllocError>
     requires { device_of device.now.id ring.now.devices ≡ Some device.now }
-    ensures { IfOk result (λ text. string_bytes text ≡ row balance_columns (balance_texts ring.now device.now want)) }
+    ensures { IfOk result (λ text. string_bytes text ≡ row balance_columns (balance_texts ring.now
+        device.now want)) }
 {
     let id = number_cell(alloc, 5, u32::from(device.id))?;
     let weight = hundredths_cell(alloc, 10, device.row.weight.hundredths())?;
@@ -50,11 +52,13 @@ fn figures_line(alloc: Global, ring: &Ring) -> Result<String, AllocError>
     format!(in alloc; "balance {balance} dispersion {dispersion} version {version}\n")
 }
 
-/// How many seats each device of a ring wants and has, and its balance: a row of titles, a row for each device, by
-/// rising number, and last a line with the balance and the dispersion of the whole ring and its version. Balances and
-/// the dispersion are in percent with two digits behind the point.
+/// How many seats each device of a ring wants and has, and its balance: a row of titles, a row for
+/// each device, by rising number, and last a line with the balance and the dispersion of the whole
+/// ring and its version. Balances and the dispersion are in percent with two digits behind the
+/// point.
 pub fn balance_table(alloc: Global, ring: &Ring) -> Result<String, AllocError>
-    ensures text { IfOk result (λ text. (wants : List ℕ) → AreWanted ring.now wants → string_bytes text ≡ balance_table ring.now wants) }
+    ensures text { IfOk result (λ text. (wants : List ℕ) → AreWanted ring.now wants →
+        string_bytes text ≡ balance_table ring.now wants) }
     ensures wanted { IfOk result (λ _. (wants : List ℕ) × AreWanted ring.now wants) }
 {
     let wants = wanted(alloc, ring)?;

@@ -1,7 +1,8 @@
 //! The table of devices.
 ghost use Rattle.std.specs.Prelude.{◌≡◌, ℕ, IfOk, string_bytes};
 ghost use Rattle.ring_tables.specs.Layout.{cells, row};
-ghost use Rattle.ring_tables.specs.Tables.{state_text, place_columns, place_texts, device_columns, device_titles, device_texts, device_table};
+ghost use Rattle.ring_tables.specs.Tables.{state_text, place_columns, place_texts, device_columns};
+ghost use Rattle.ring_tables.specs.Tables.{device_titles, device_texts, device_table};
 
 use crate::cells::{at_left, hundredths_cell, number_cell};
 use ring_model::Ring;
@@ -56,8 +57,9 @@ fn device_row(alloc: Global, device: &Device) -> Result<String, AllocError>
     format!(in alloc; "{id} {place} {weight} {state} {name}\n")
 }
 
-/// Where each device of a ring stands, what it weighs, and its state, which is `open`, `drained` (it weighs nothing)
-/// or `removed` (it is marked to be removed): a row of titles, and then a row for each device, by rising number.
+/// Where each device of a ring stands, what it weighs, and its state, which is `open`, `drained`
+/// (it weighs nothing) or `removed` (it is marked to be removed): a row of titles, and then a row
+/// for each device, by rising number.
 pub fn device_table(alloc: Global, ring: &Ring) -> Result<String, AllocError>
     ensures { IfOk result (λ text. string_bytes text ≡ device_table ring.now) }
 {

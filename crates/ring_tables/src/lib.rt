@@ -1,7 +1,8 @@
-//! The tables of a ring that operators read: its devices, and how far they are from their shares of the seats.
+//! The tables of a ring that operators read: its devices, and how far they are from their shares of
+//! the seats.
 //!
-//! Their layout is this project's own. The definitions that contracts cite stand in `specs/`, and `docs/definitions.md`
-//! lists them.
+//! Their layout is this project's own. The definitions that contracts cite stand in `specs/`, and
+//! `docs/definitions.md` lists them.
 #![tactic(auto)]
 
 mod balances;

@@ -1,4 +1,5 @@
-//! What no contract says: worked examples, what a failing reader leads to, and that calls succeed where there is memory.
+//! What no contract says: worked examples, what a failing reader leads to, and that calls succeed
+//! where there is memory.
 use byte_streams::CountedReader;
 use csv_import::{CsvFault, read_rows};
 use ring_words::Row;

@@ -1,6 +1,6 @@
-//! Tests of the crates of words and rings: what no contract says. Worked examples with their bytes, each public call on
-//! its happy path, and the fast forms against plain ones. They stand in a crate of their own so that those below are
-//! proved once, and not once more with their tests.
+//! Tests of the crates of words and rings: what no contract says. Worked examples with their bytes,
+//! each public call on its happy path, and the fast forms against plain ones. They stand in a crate
+//! of their own so that those below are proved once, and not once more with their tests.
 #![tactic(auto)]
 
 #[cfg(test)]

@@ -1,5 +1,5 @@
-//! What no contract says: worked examples, the digests of MD5, and that calls succeed where there is memory. Expected
-//! digests are those of Python's hashlib.
+//! What no contract says: worked examples, the digests of MD5, and that calls succeed where there
+//! is memory. Expected digests are those of Python's hashlib.
 use md5::{Digest, Md5};
 use path_lookup::{NodesFault, Path, PathFault, hash_path, nodes, partition_of};
 use ring_model::{Ring, RingParts};
@@ -134,7 +134,8 @@ fn each_name_is_hashed_behind_a_slash(rt: HostRuntime) -> Result<(), Fail> {
     Ok(())
 }
 
-/// Powers, and the partitions in rings of these powers of the digests of `abc`, of `a` and of the empty text.
+/// Powers, and the partitions in rings of these powers of the digests of `abc`, of `a` and of the
+/// empty text.
 const PARTITIONS: [(u16, [u32; 3]); 6] = [
     (1, [1, 0, 1]),
     (4, [9, 0, 13]),

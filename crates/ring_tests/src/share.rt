@@ -1,5 +1,5 @@
-//! What no contract says: worked examples, that calls succeed where there is memory, and the fast figures against plain
-//! scans.
+//! What no contract says: worked examples, that calls succeed where there is memory, and the fast
+//! figures against plain scans.
 ghost use Rattle.std.specs.Prelude.{◌<◌};
 
 use crate::fixtures::{device, devices, ring, two_regions};
@@ -202,7 +202,8 @@ fn scanned_crowd(
     crowd
 }
 
-/// Whether an open device outside a row is less crowded for one of its seats, by looking at each device for each seat.
+/// Whether an open device outside a row is less crowded for one of its seats, by looking at each
+/// device for each seat.
 fn is_scanned_crowded(devices: &[Device], row: &[u16]) -> bool {
     for (replica, id) in row.iter().enumerate() {
         let Some(own) = devices.iter().find(|device| device.id == *id) else {

@@ -1,4 +1,5 @@
-//! What no contract says: worked tables, byte for byte, and that calls succeed where there is memory.
+//! What no contract says: worked tables, byte for byte, and that calls succeed where there is
+//! memory.
 use crate::fixtures::{device, devices, ring, two_regions};
 use ring_tables::{balance_table, device_table};
 use ring_words::{Address, DeviceName, Port};

@@ -10,15 +10,19 @@ use Rattle.ring_words.specs.declared.device.Device.{Device}
 use Rattle.ring_text.specs.Snapshot.{IsValidSnapshot, IsWithinLimits, snapshot_of}
 
 -- devices whose next number is at most a greater one
-pub devices_below : (next greater : ℕ) (devices : List Device) → next ≤ greater → AreDevices next devices → AreDevices greater devices
+pub devices_below : (next greater : ℕ) (devices : List Device) → next ≤ greater →
+    AreDevices next devices → AreDevices greater devices
 devices_below next greater devices le are = record {
   count = are.count;
-  below = All-weaker (λ (device : Device). device.id < next) (λ (device : Device). device.id < greater) (λ device h. omega arith) devices are.below;
+  below = All-weaker (λ (device : Device). device.id < next) (λ (device : Device). device.id <
+      greater) (λ device h. omega arith) devices are.below;
   rise = are.rise;
   apart = are.apart;
 }
 
-pub valid_of_ring : (name : List ℕ) (ring : RingRecord) → IsValid ring → is_assigned ring ≡ true → IsTrue (is_label name) → All IsWithinLimits ring.devices → IsValidSnapshot (snapshot_of name ring)
+pub valid_of_ring : (name : List ℕ) (ring : RingRecord) → IsValid ring → is_assigned ring ≡ true →
+    IsTrue (is_label name) → All IsWithinLimits ring.devices →
+    IsValidSnapshot (snapshot_of name ring)
 valid_of_ring name ring valid assigned label limits = record {
   name = label;
   version = omega (arith, valid.version);

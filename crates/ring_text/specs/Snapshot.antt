@@ -27,7 +27,8 @@ pub record IsWithinLimits (device : Device) : Type 0 where
   pub name : IsTrue (is_device_name device.row.name)
   pub weight : device.row.weight ≤ greatest_weight
 
--- Such a snapshot there is: each word is of its form, and all seats are taken by devices that the rules of a ring allow.
+-- Such a snapshot there is: each word is of its form, and all seats are taken by devices that the
+-- rules of a ring allow.
 pub record IsValidSnapshot (snapshot : SnapshotRecord) : Type 0 where
   pub name : IsTrue (is_label snapshot.name)
   pub version : snapshot.version < 2 ^ 32

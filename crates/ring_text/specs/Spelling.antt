@@ -1,5 +1,6 @@
 -- The one text of a snapshot.
-use Rattle.std.specs.Prelude.{◌≡◌, ℕ, ◌+◌, ◌*◌, ◌^◌, Bool, true, false, List, [], ◌∷◌, ◌++◌, length, map, codes, decimal}
+use Rattle.std.specs.Prelude.{◌≡◌, ℕ, ◌+◌, ◌*◌, ◌^◌, Bool, true, false, List, [], ◌∷◌, ◌++◌, length}
+use Rattle.std.specs.Prelude.{map, codes, decimal}
 use Rattle.std.specs.List.{flat_map, join_with_byte, range_with_len, slice_range}
 use Rattle.ring_words.specs.Texts.{address_text, hundredths_text}
 use Rattle.ring_words.specs.declared.device.Device.{Device}
@@ -38,11 +39,13 @@ device_line device = decimal device.id
 
 -- the line of a partition: the devices of its seats, by replica
 abbrev pub partition_line : ℕ → List ℕ → ℕ → List (List ℕ)
-partition_line replicas seats partition = map decimal (slice_range seats (partition * replicas) (partition * replicas + replicas))
+partition_line replicas seats partition = map decimal (slice_range seats (partition * replicas)
+    (partition * replicas + replicas))
 
 -- the lines of so many partitions
 abbrev pub partition_lines : ℕ → ℕ → List ℕ → List (List (List ℕ))
-partition_lines partitions replicas seats = map (partition_line replicas seats) (range_with_len 0 partitions)
+partition_lines partitions replicas seats = map (partition_line replicas seats)
+    (range_with_len 0 partitions)
 
 -- all lines, each as its words
 abbrev pub lines_of : SnapshotRecord → List (List (List ℕ))

@@ -1,7 +1,9 @@
-//! A ring as text: a snapshot of an assigned ring, its one spelling, and the snapshot that bytes spell.
+//! A ring as text: a snapshot of an assigned ring, its one spelling, and the snapshot that bytes
+//! spell.
 //!
-//! The text has a line for the form, five for the ring's name and numbers, one for each device, and one for each
-//! partition with the devices of its seats. Lines end with a line feed and words are parted by one space.
+//! The text has a line for the form, five for the ring's name and numbers, one for each device, and
+//! one for each partition with the devices of its seats. Lines end with a line feed and words are
+//! parted by one space.
 #![tactic(auto)]
 
 mod head;
@@ -19,5 +21,6 @@ pub use state::Snapshot;
 pub use taking::snapshot;
 pub use write::write_ring;
 
-/// Why bytes aren't read as the text of a ring: Bad where they are the text of none, or want of memory.
+/// Why bytes aren't read as the text of a ring: Bad where they are the text of none, or want of
+/// memory.
 pub type TextFault = SpellingFault;

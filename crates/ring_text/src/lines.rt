@@ -1,7 +1,9 @@
 //! The lines of devices and of partitions.
 ghost use Rattle.std.specs.Prelude.{◌≡◌, length, map};
-ghost use Rattle.ring_words.specs.Spelling.{Reads, ReadsAs};
-ghost use Rattle.ring_text.specs.Inner.Reading.{IsDevice, IsDeviceLine, AreDeviceLines, AreNumbers, IsPartitionLine, ArePartitionLines};
+ghost use Rattle.ring_words.specs.Spelling.{Reads};
+ghost use Rattle.ring_words.specs.Inner.ReadsAs.{ReadsAs};
+ghost use Rattle.ring_text.specs.Inner.Reading.{IsDevice, IsDeviceLine, AreDeviceLines, AreNumbers};
+ghost use Rattle.ring_text.specs.Inner.Reading.{IsPartitionLine, ArePartitionLines};
 
 use crate::TextFault;
 use crate::words::{parts_of, state, text_at};
@@ -47,7 +49,8 @@ fn device_at(alloc: Global, line: &str) -> Result<Device, TextFault>
 
 /// The devices of lines.
 pub(crate) fn devices_of(alloc: Global, lines: &[&str]) -> Result<Vec<Device>, TextFault>
-    ensures { ReadsAs (λ devices. devices.items) (AreDeviceLines (map (λ line. line.now) lines.now)) result }
+    ensures { ReadsAs (λ devices. devices.items) (AreDeviceLines (map (λ line. line.now) lines.now))
+        result }
 {
     let mut devices = Vec::with_capacity(alloc, lines.len())?;
     for line in lines {
@@ -59,7 +62,8 @@ pub(crate) fn devices_of(alloc: Global, lines: &[&str]) -> Result<Vec<Device>, T
 
 /// The numbers that words are.
 fn numbers_of(alloc: Global, words: &[&str]) -> Result<Vec<DeviceId>, TextFault>
-    ensures { ReadsAs (λ numbers. numbers.items) (AreNumbers (map (λ word. word.now) words.now)) result }
+    ensures { ReadsAs (λ numbers. numbers.items) (AreNumbers (map (λ word. word.now) words.now))
+        result }
 {
     let mut numbers = Vec::with_capacity(alloc, words.len())?;
     for word in words {
@@ -86,7 +90,8 @@ pub(crate) fn seats_of(
     lines: &[&str],
     replicas: Replicas,
 ) -> Result<Vec<DeviceId>, TextFault>
-    ensures { ReadsAs (λ seats. seats.items) (ArePartitionLines replicas (map (λ line. line.now) lines.now)) result }
+    ensures { ReadsAs (λ seats. seats.items) (ArePartitionLines replicas (map (λ line. line.now)
+        lines.now)) result }
 {
     let mut seats = Vec::new(alloc);
     for line in lines {

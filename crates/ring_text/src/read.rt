@@ -1,28 +1,34 @@
 //! From bytes to the snapshot that they spell.
-ghost use Rattle.std.specs.Prelude.{◌^◌, map};
+ghost use Rattle.std.specs.Prelude.{◌^◌, ◌≤◌, map};
 ghost use Rattle.ring_text.specs.Spelling.{Spells};
 ghost use Rattle.ring_text.specs.Inner.Reading.{AreLines, IsCut, IsMade};
-ghost use Rattle.ring_words.specs.Spelling.{Reads, ReadsAs};
+ghost use Rattle.ring_words.specs.Spelling.{Reads};
+ghost use Rattle.ring_words.specs.Inner.ReadsAs.{ReadsAs};
 
 use crate::TextFault;
 use crate::head::{Head, read_head};
 use crate::lines::{devices_of, seats_of};
-use crate::state::{Snapshot, partition_count};
+use crate::state::Snapshot;
 use crate::taking::snapshot;
 use crate::words::{parts_of, text_at};
 use ring_model::{BuildFault, Ring, RingParts};
-use ring_words::{Device, DeviceId};
+use ring_words::{Device, DeviceId, partition_count};
 use std::alloc::Global;
 
 /// The lines of the devices and those of the partitions, among the lines that follow the first.
 fn cut<'a>(
     lines: &'a [&'a str],
     devices: u16,
-    partitions: u32,
+    partitions: usize,
 ) -> Result<(&'a [&'a str], &'a [&'a str]), TextFault>
-    ensures { ReadsAs (λ parts. (map (λ line. line.now) parts.0.now, map (λ line. line.now) parts.1.now)) (IsCut devices partitions (map (λ line. line.now) lines.now)) result }
+    requires { partitions ≤ 16384 }
+    ensures { ReadsAs (λ parts. (
+      map (λ line. line.now) parts.0.now,
+      map (λ line. line.now) parts.1.now,
+    )) (IsCut devices partitions (map (λ line. line.now)
+        lines.now)) result }
 {
-    let (devices, partitions) = (usize::from(devices), partitions as usize);
+    let devices = usize::from(devices);
     if lines.len() != devices + partitions + 3 {
         return Err(TextFault::Bad);
     }
@@ -57,7 +63,7 @@ fn checked(
         version: head.version,
         devices,
         seats,
-        moved: vec![in alloc; None; partition_count(head.power) as usize]?,
+        moved: vec![in alloc; None; partition_count(head.power)]?,
         published: Vec::new(alloc),
     };
     let ring = match Ring::build(alloc, parts) {

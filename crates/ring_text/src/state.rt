@@ -4,9 +4,9 @@ ghost use Rattle.std.specs.Prelude.{◌≡◌, ◌^◌};
 use ring_words::{Device, DeviceId, Power, Replicas, RingName};
 use std::marker::Model;
 
-/// What the text of a ring tells: its name, and the ring without its hours and its published texts. Each value is
-/// valid: all seats are taken, by devices of the snapshot, those of one partition by different ones, and no two
-/// devices have the same address, port and name.
+/// What the text of a ring tells: its name, and the ring without its hours and its published texts.
+/// Each value is valid: all seats are taken, by devices of the snapshot, those of one partition by
+/// different ones, and no two devices have the same address, port and name.
 #[derive(Debug, Drop)]
 pub struct Snapshot {
     pub(crate) name: RingName,
@@ -17,21 +17,30 @@ pub struct Snapshot {
     pub(crate) seats: Vec<DeviceId>,
 }
 
-/// How many partitions there are at a power.
-pub(crate) fn partition_count(power: Power) -> u32
-    ensures { result ≡ 2 ^ power }
-{
-    1u32 << power.get()
-}
-
 impl Model for Snapshot {
     ghost use Rattle.ring_text.specs.Snapshot.{SnapshotRecord, IsValidSnapshot};
 
     ghost Value = { SnapshotRecord };
 
-    ghost view = { λ s. record { name = s.name; version = s.version; power = s.power; replicas = s.replicas; devices = s.devices.items; seats = s.seats.items } };
+    ghost view = { λ s. record {
+      name = s.name;
+      version = s.version;
+      power = s.power;
+      replicas =
+          s.replicas;
+      devices = s.devices.items;
+      seats = s.seats.items;
+    } };
 
-    ghost invariant = { λ s. IsValidSnapshot (record { name = s.name; version = s.version; power = s.power; replicas = s.replicas; devices = s.devices.items; seats = s.seats.items }) };
+    ghost invariant = { λ s. IsValidSnapshot (record {
+      name = s.name;
+      version = s.version;
+      power =
+          s.power;
+      replicas = s.replicas;
+      devices = s.devices.items;
+      seats = s.seats.items;
+    }) };
 }
 
 impl Snapshot {

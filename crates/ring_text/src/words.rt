@@ -2,7 +2,8 @@
 ghost use Rattle.std.specs.Prelude.{◌≡◌, ◌<◌, ◌++◌, ◌==◌, [], IfOk, length, map};
 ghost use Rattle.std.specs.List.{slice_split};
 ghost use Rattle.ring_text.specs.Inner.Reading.{IsNumberAfter, IsNameAfter, text_at};
-ghost use Rattle.ring_words.specs.Spelling.{Reads, ReadsAs};
+ghost use Rattle.ring_words.specs.Spelling.{Reads};
+ghost use Rattle.ring_words.specs.Inner.ReadsAs.{ReadsAs};
 ghost use Rattle.ring_text.specs.Spelling.{state_word};
 
 use crate::TextFault;
@@ -12,7 +13,8 @@ use std::alloc::{AllocError, Global};
 /// The parts of a text, each between two separators or an end.
 pub(crate) fn parts_of(alloc: Global, text: &str, separator: char) -> Result<Vec<&str>, AllocError>
     requires { separator < 128 }
-    ensures { IfOk result (λ parts. map (λ part. part.now) parts.items ≡ slice_split (λ b. b == separator) text.now) }
+    ensures { IfOk result (λ parts. map (λ part. part.now) parts.items ≡ slice_split
+        (λ b. b == separator) text.now) }
 {
     text.split(separator).collect(alloc)
 }

@@ -1,30 +1,35 @@
 //! The text of a snapshot.
-ghost use Rattle.std.specs.Prelude.{◌≡◌, ◌∷◌, [], ◌++◌, ◌<◌, ◌≤◌, ◌+◌, ◌*◌, ◌^◌, IfOk, OnOk, decimal, length, map, string_bytes};
+ghost use Rattle.std.specs.Prelude.{◌≡◌, ◌∷◌, [], ◌++◌, ◌<◌, ◌≤◌, ◌+◌, ◌*◌, ◌^◌, IfOk, OnOk};
+ghost use Rattle.std.specs.Prelude.{decimal, length, map, string_bytes};
 ghost use Rattle.std.specs.List.{flat_map};
-ghost use Rattle.ring_text.specs.Spelling.{line, head_lines, device_line, partition_lines, spelling};
+ghost use Rattle.ring_text.specs.Spelling.{line, head_lines, device_line, partition_lines};
+ghost use Rattle.ring_text.specs.Spelling.{spelling};
 
-use crate::state::{Snapshot, partition_count};
-use ring_words::{Device, DeviceId};
+use crate::state::Snapshot;
+use ring_words::{Device, DeviceId, partition_count};
 use std::alloc::{AllocError, Global};
 use std::fmt::Write;
 
 /// Appends a line of a key and a word.
 fn push_word(text: &mut String, key: &str, word: &str) -> Result<(), AllocError>
-    ensures { OnOk result (string_bytes text.new ≡ string_bytes text.old ++ line (key.now ∷ word.now ∷ [])) }
+    ensures { OnOk result (string_bytes text.new ≡ string_bytes text.old ++
+        line (key.now ∷ word.now ∷ [])) }
 {
     write!(text, "{key} {word}\n")
 }
 
 /// Appends a line of a key and a number.
 fn push_number(text: &mut String, key: &str, number: u32) -> Result<(), AllocError>
-    ensures { OnOk result (string_bytes text.new ≡ string_bytes text.old ++ line (key.now ∷ decimal number ∷ [])) }
+    ensures { OnOk result (string_bytes text.new ≡ string_bytes text.old ++
+        line (key.now ∷ decimal number ∷ [])) }
 {
     write!(text, "{key} {number}\n")
 }
 
 /// Appends the first lines.
 fn push_head(text: &mut String, snapshot: &Snapshot) -> Result<(), AllocError>
-    ensures { OnOk result (string_bytes text.new ≡ string_bytes text.old ++ flat_map line (head_lines snapshot.now)) }
+    ensures { OnOk result (string_bytes text.new ≡ string_bytes text.old ++
+        flat_map line (head_lines snapshot.now)) }
 {
     push_word(text, "swift-ring-text", "1")?;
     push_word(text, "ring", snapshot.name().as_str())?;
@@ -37,7 +42,8 @@ fn push_head(text: &mut String, snapshot: &Snapshot) -> Result<(), AllocError>
 
 /// Appends the line of a device.
 fn push_device(text: &mut String, device: &Device) -> Result<(), AllocError>
-    ensures { OnOk result (string_bytes text.new ≡ string_bytes text.old ++ line (device_line device.now)) }
+    ensures { OnOk result (string_bytes text.new ≡ string_bytes text.old ++
+        line (device_line device.now)) }
 {
     let row = &device.row;
     let state = if device.removed { "removed" } else { "present" };
@@ -50,7 +56,8 @@ fn push_device(text: &mut String, device: &Device) -> Result<(), AllocError>
 
 /// Appends the lines of devices.
 fn push_devices(text: &mut String, devices: &[Device]) -> Result<(), AllocError>
-    ensures { OnOk result (string_bytes text.new ≡ string_bytes text.old ++ flat_map line (map device_line devices.now)) }
+    ensures { OnOk result (string_bytes text.new ≡ string_bytes text.old ++
+        flat_map line (map device_line devices.now)) }
 {
     for device in devices {
         push_device(text, device)?;
@@ -61,7 +68,8 @@ fn push_devices(text: &mut String, devices: &[Device]) -> Result<(), AllocError>
 /// Appends the line of a partition's devices.
 fn push_partition(text: &mut String, ids: &[DeviceId]) -> Result<(), AllocError>
     requires { 0 < length ids.now }
-    ensures { OnOk result (string_bytes text.new ≡ string_bytes text.old ++ line (map decimal ids.now)) }
+    ensures { OnOk result (string_bytes text.new ≡ string_bytes text.old ++
+        line (map decimal ids.now)) }
 {
     let (first, others) = ids.split_at(1);
     write!(text, "{}", first[0])?;
@@ -81,7 +89,8 @@ fn push_partitions(
 ) -> Result<(), AllocError>
     requires replicas { 0 < replicas }
     requires whole { length seats.now ≡ partitions * replicas }
-    ensures { OnOk result (string_bytes text.new ≡ string_bytes text.old ++ flat_map line (partition_lines partitions replicas seats.now)) }
+    ensures { OnOk result (string_bytes text.new ≡ string_bytes text.old ++
+        flat_map line (partition_lines partitions replicas seats.now)) }
 {
     for partition in 0..partitions {
         let first = partition * replicas;
@@ -98,7 +107,7 @@ pub fn write_ring(alloc: Global, snapshot: &Snapshot) -> Result<String, AllocErr
     push_head(&mut text, snapshot)?;
     push_devices(&mut text, snapshot.devices())?;
     text.push_str("seats\n")?;
-    let partitions = partition_count(snapshot.power()) as usize;
+    let partitions = partition_count(snapshot.power());
     let replicas = usize::from(snapshot.replicas().get());
     push_partitions(&mut text, partitions, replicas, snapshot.seats())?;
     text.push_str("end\n")?;

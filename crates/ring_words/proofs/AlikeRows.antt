@@ -9,9 +9,18 @@ use Rattle.ring_words.specs.Rows.{row_equiv}
 use Rattle.ring_words.specs.declared.device.Row.{Row}
 
 abbrev row_of : ℕ → ℕ → ℕ → ℕ → List ℕ → ℕ → Row
-row_of region zone address port name weight = record { region = region; zone = zone; address = address; port = port; name = name; weight = weight }
+row_of region zone address port name weight = record {
+  region = region;
+  zone = zone;
+  address =
+      address;
+  port = port;
+  name = name;
+  weight = weight;
+}
 
-pub same_row : (a b : Row) → (a.region ≡ b.region) × ((a.zone ≡ b.zone) × ((a.address ≡ b.address) × ((a.port ≡ b.port) × ((a.name ≡ b.name) × (a.weight ≡ b.weight))))) → a ≡ b
+pub same_row : (a b : Row) → (a.region ≡ b.region) × ((a.zone ≡ b.zone) × ((a.address ≡ b.address) ×
+    ((a.port ≡ b.port) × ((a.name ≡ b.name) × (a.weight ≡ b.weight))))) → a ≡ b
 same_row a b h =
     ap (λ (x : ℕ). row_of x a.zone a.address a.port a.name a.weight) h.0
     ∙ ap (λ (x : ℕ). row_of b.region x a.address a.port a.name a.weight) h.1.0
@@ -34,7 +43,13 @@ one_row a b = (
           (unsigned_Decides a.zone b.zone).0 zone.0,
           (
             (unsigned_Decides a.address b.address).0 address.0,
-            ((unsigned_Decides a.port b.port).0 port.0, (same_text a.name b.name (sym name.0), (unsigned_Decides a.weight b.weight).0 name.1)),
+            (
+              (unsigned_Decides a.port b.port).0 port.0,
+              (
+                same_text a.name b.name (sym name.0),
+                (unsigned_Decides a.weight b.weight).0 name.1,
+              ),
+            ),
           ),
         ),
       ),

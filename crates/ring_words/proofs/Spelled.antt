@@ -1,11 +1,15 @@
 -- A word spells one value, and what a part that is read, or isn't, says of the whole.
-use Rattle.std.proofs.Common.{◌≡◌, ℕ, ◌/◌, ◌%◌, ◌^◌, ◌<◌, ◌≤◌, List, Result, Ok, Err, Vec, decimal, refl, sym, ◌∙◌, arith}
+use Rattle.std.proofs.Common.{◌≡◌, ℕ, ◌/◌, ◌%◌, ◌^◌, ◌<◌, ◌≤◌, List, Result, Ok, Err, Vec, decimal}
+use Rattle.std.proofs.Common.{refl, sym, ◌∙◌, arith}
 use Rattle.std.specs.declared.alloc.Global.{Global}
-use Rattle.ring_words.specs.Texts.{hundredths_text, greatest_weight, two_digits, address_text, address_limit}
-use Rattle.ring_words.specs.Spelling.{Reads, ReadsAs, SpellsNumber}
+use Rattle.ring_words.specs.Texts.{hundredths_text, greatest_weight, two_digits, address_text}
+use Rattle.ring_words.specs.Texts.{address_limit}
+use Rattle.ring_words.specs.Spelling.{Reads, SpellsNumber}
+use Rattle.ring_words.specs.Inner.ReadsAs.{ReadsAs}
 use Rattle.ring_words.specs.declared.spelling.SpellingFault.{SpellingFault}
 use Rattle.ring_words.specs.declared.spelling.SpellingFault.TheVariants.{Bad, NoMemory}
-use Rattle.ring_words.proofs.Decimals.{same_parts, same_number, weight_of_parts, after_first_point, after_second_point}
+use Rattle.ring_words.proofs.Decimals.{same_parts, same_number, weight_of_parts, after_first_point}
+use Rattle.ring_words.proofs.Decimals.{after_second_point}
 
 -- ---- one value
 
@@ -44,11 +48,14 @@ one_address a b la lb e =
     let rest_b = after_first_point b in
     let end_a = after_second_point a in
     let end_b = after_second_point b in
-    let first = same_parts (address_text a) (a / 16777216) (b / 16777216) rest_a rest_b fa fb refl e in
-    let second = same_parts rest_a (a / 65536 % 256) (b / 65536 % 256) end_a end_b sa sb refl first.1 in
+    let first = same_parts (address_text a) (a / 16777216) (b / 16777216) rest_a rest_b fa fb refl e
+    in
+    let second = same_parts rest_a (a / 65536 % 256) (b / 65536 % 256) end_a end_b sa sb refl
+    first.1 in
     let last_a = decimal (a % 256) in
     let last_b = decimal (b % 256) in
-    let third = same_parts end_a (a / 256 % 256) (b / 256 % 256) last_a last_b ta tb refl second.1 in
+    let third = same_parts end_a (a / 256 % 256) (b / 256 % 256) last_a last_b ta tb refl second.1
+    in
     let fourth = same_number (a % 256) (b % 256) la4 lb4 third.1 in
     omega (arith, first.0, second.0, third.0, fourth)
 
@@ -61,13 +68,15 @@ reads_err P Q Bad h part = λ y q. let p = part y q in h p.0 p.1
 reads_err P Q NoMemory h part = tt
 
 -- the same, where the part is seen as something
-pub as_reads_err : {X Y Z : Type 0} (f : X → Y) (P : Y → Type 0) (Q : Z → Type 0) (e : SpellingFault)
+pub as_reads_err : {X Y Z : Type 0} (f : X → Y) (P : Y → Type 0) (Q : Z → Type 0)
+    (e : SpellingFault)
     → ReadsAs f P (Err e) → ((z : Z) → Q z → (y : Y) × P y) → Reads Q (Err e)
 as_reads_err f P Q Bad h part = λ z q. let p = part z q in h p.0 p.1
 as_reads_err f P Q NoMemory h part = tt
 
 -- the same, where the whole is too
-pub reads_as_err : {X Y Z : Type 0} (P : X → Type 0) (g : Y → Z) (Q : Z → Type 0) (e : SpellingFault)
+pub reads_as_err : {X Y Z : Type 0} (P : X → Type 0) (g : Y → Z) (Q : Z → Type 0)
+    (e : SpellingFault)
     → Reads P (Err e) → ((z : Z) → Q z → (x : X) × P x) → ReadsAs g Q (Err e)
 reads_as_err P g Q Bad h part = λ z q. let p = part z q in h p.0 p.1
 reads_as_err P g Q NoMemory h part = tt

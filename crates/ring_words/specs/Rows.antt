@@ -16,7 +16,8 @@ has_place row devices = list_any (λ device. same_place device.row row) devices
 
 -- whether two rows are one
 abbrev pub is_same_row : Row → Row → Bool
-is_same_row a b = (a.region == b.region) && ((a.zone == b.zone) && ((a.address == b.address) && ((a.port == b.port) && (pointwise nat_eq a.name b.name && (a.weight == b.weight)))))
+is_same_row a b = (a.region == b.region) && ((a.zone == b.zone) && ((a.address == b.address) &&
+    ((a.port == b.port) && (pointwise nat_eq a.name b.name && (a.weight == b.weight)))))
 
 -- To be one row is an equivalence.
 pub row_equiv : IsEquivalence is_same_row

@@ -11,12 +11,6 @@ Reads Spells (Ok x) = Spells x
 Reads {X = X} Spells (Err Bad) = (x : X) → Spells x → ⊥
 Reads Spells (Err NoMemory) = ⊤
 
--- The same, of what a value is seen as.
-abbrev pub ReadsAs : {X Y : Type 0} → (X → Y) → (Y → Type 0) → Result X SpellingFault → Type 0
-ReadsAs view Spells (Ok x) = Spells (view x)
-ReadsAs {Y = Y} view Spells (Err Bad) = (y : Y) → Spells y → ⊥
-ReadsAs view Spells (Err NoMemory) = ⊤
-
 -- The word spells this number, which is within these bounds.
 pub record SpellsNumber (word : List ℕ) (least most n : ℕ) : Type 0 where
   pub is : word ≡ decimal n

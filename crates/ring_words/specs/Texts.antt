@@ -1,14 +1,11 @@
 -- The one spelling of each word.
 use Rattle.std.specs.List.{list_all}
-use Rattle.std.specs.Prelude.{ℕ, ◌/◌, ◌%◌, ◌^◌, ◌+◌, ◌++◌, ◌&&◌, ◌||◌, ◌==◌, List, [], ◌∷◌, length, slice_index, Bool, not, nat_lt, nat_le, decimal}
+use Rattle.std.specs.Prelude.{ℕ, ◌/◌, ◌%◌, ◌^◌, ◌+◌, ◌++◌, ◌&&◌, ◌||◌, ◌==◌, List, [], ◌∷◌, length}
+use Rattle.std.specs.Prelude.{slice_index, Bool, nat_lt, nat_le, decimal}
 
 -- a byte of `0` to `9`
 abbrev pub is_digit : ℕ → Bool
 is_digit b = nat_le 48 b && nat_le b 57
-
--- a digit first, and no 0 before another digit
-abbrev pub is_decimal : List ℕ → Bool
-is_decimal t = nat_lt 0 (length t) && is_digit (slice_index t 0) && (nat_le (length t) 1 || not (slice_index t 0 == 48))
 
 -- a number below 100 in two digits
 abbrev pub two_digits : ℕ → List ℕ
@@ -28,7 +25,8 @@ address_limit = 2 ^ 32
 
 -- the four octets in decimal, joined by points
 abbrev pub address_text : ℕ → List ℕ
-address_text a = decimal (a / 16777216) ++ 46 ∷ (decimal (a / 65536 % 256) ++ 46 ∷ (decimal (a / 256 % 256) ++ 46 ∷ decimal (a % 256)))
+address_text a = decimal (a / 16777216) ++ 46 ∷ (decimal (a / 65536 % 256) ++ 46 ∷
+    (decimal (a / 256 % 256) ++ 46 ∷ decimal (a % 256)))
 
 -- a byte of `a` to `z`
 abbrev pub is_lower : ℕ → Bool
@@ -44,7 +42,8 @@ is_label_byte b = is_lower b || is_digit b || (b == 45)
 
 -- the name of a ring or of a caller: 1 to 32 such bytes, the first a letter
 abbrev pub is_label : List ℕ → Bool
-is_label t = nat_lt 0 (length t) && nat_le (length t) 32 && is_lower (slice_index t 0) && list_all is_label_byte t
+is_label t = nat_lt 0 (length t) && nat_le (length t) 32 && is_lower (slice_index t 0) &&
+    list_all is_label_byte t
 
 -- A to Z, a to z, 0 to 9, _ and -
 abbrev pub is_device_name_byte : ℕ → Bool

@@ -1,12 +1,14 @@
 //! IPv4 addresses.
-ghost use Rattle.std.specs.Prelude.{◌≡◌, ◌∷◌, ◌++◌, ◌<◌, ◌^◌, ℕ, List, IfSome, IfNone, Some, decimal};
+ghost use Rattle.std.specs.Prelude.{◌≡◌, ◌∷◌, ◌++◌, ◌<◌, ◌^◌, ℕ, List, IfSome, IfNone, Some};
+ghost use Rattle.std.specs.Prelude.{decimal};
 ghost use Rattle.ring_words.specs.Texts.{address_text, address_limit};
 
 use crate::decimal::{parse_decimal, parse_decimal_up_to};
 use std::fmt;
 use std::marker::Model;
 
-/// An IPv4 address, four octets. Contracts see them as one number, the first octet the greatest part.
+/// An IPv4 address, four octets. Contracts see them as one number, the first octet the greatest
+/// part.
 #[derive(Clone, Copy, Debug, PartialEq, Eq)]
 pub struct Address {
     bits: u32,
@@ -25,7 +27,8 @@ impl Model for Address {
 /// The octet in decimal at the front of a text, up to its first point, and what follows the point.
 fn octet_up_to_point(text: &str) -> Option<(u8, &str)>
     ensures found { IfSome result (λ x. (x.0 < 256) × (text.now ≡ decimal x.0 ++ 46 ∷ x.1.now)) }
-    ensures none { IfNone result ((n : ℕ) (rest : List ℕ) → n < 256 → text.now ≡ decimal n ++ 46 ∷ rest → ⊥) }
+    ensures none { IfNone result ((n : ℕ) (rest : List ℕ) → n < 256 → text.now ≡ decimal n ++ 46 ∷
+        rest → ⊥) }
 {
     let (octet, rest) = parse_decimal_up_to(text, '.')?;
     if octet < 256 {
@@ -36,8 +39,8 @@ fn octet_up_to_point(text: &str) -> Option<(u8, &str)>
 }
 
 impl Address {
-    /// The address that a text spells: four decimal numbers below 256, joined by points. `None` exactly where it
-    /// spells none.
+    /// The address that a text spells: four decimal numbers below 256, joined by points. `None`
+    /// exactly where it spells none.
     pub fn parse(text: &str) -> Option<Self>
         ensures found { IfSome result (λ a. (a < address_limit) × (text.now ≡ address_text a)) }
         ensures none { IfNone result ((a : ℕ) → a < address_limit → text.now ≡ address_text a → ⊥) }

@@ -1,5 +1,5 @@
 //! Whole numbers within bounds.
-ghost use Rattle.std.specs.Prelude.{◌≡◌, ◌≤◌, ℕ, Some, SomeIff, decimal};
+ghost use Rattle.std.specs.Prelude.{◌≡◌, ◌≤◌, ◌^◌, ℕ, Some, SomeIff, decimal};
 
 use std::fmt;
 use std::marker::Model;
@@ -48,6 +48,16 @@ impl<const LEAST: u16, const MOST: u16> Bounded<LEAST, MOST> {
     {
         self.number
     }
+}
+
+/// How many partitions a ring of a power has, from 2 to 16384.
+pub fn partition_count(power: Power) -> usize
+    ensures value { result ≡ 2 ^ power }
+    ensures some { 2 ≤ result }
+    ensures small { result ≤ 16384 }
+    ensures power { (1 ≤ power) × (power ≤ 14) }
+{
+    1usize << power.get()
 }
 
 impl<const LEAST: u16, const MOST: u16> fmt::Display for Bounded<LEAST, MOST> {

@@ -48,7 +48,8 @@ pub enum Act {
     Import(Rows),
     /// Keeps the ring's text under its version.
     Publish,
-    /// Moves seats to where they should be. The seed varies which of several equally good rings it gives.
+    /// Moves seats to where they should be. The seed varies which of several equally good rings it
+    /// gives.
     Rebalance(u32),
 }
 
@@ -132,8 +133,8 @@ pub enum Done {
     Publish {
         version: u32,
     },
-    /// Seats are where they should be: so many of them changed. Balance and dispersion are the new ring's, in
-    /// hundredths of a percent.
+    /// Seats are where they should be: so many of them changed. Balance and dispersion are the new
+    /// ring's, in hundredths of a percent.
     Rebalance {
         balance: u32,
         changed: u32,

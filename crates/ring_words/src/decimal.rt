@@ -1,6 +1,7 @@
 //! Numbers as text, each with one spelling.
 ghost use Rattle.std.specs.Prelude.{◌≡◌, ◌∷◌, ◌++◌, ◌<◌, ◌^◌, ℕ, List, IfSome, IfNone, decimal};
-ghost use Rattle.ring_words.specs.Texts.{is_decimal, two_digits};
+ghost use Rattle.ring_words.specs.Texts.{two_digits};
+ghost use Rattle.ring_words.specs.Inner.Digits.{is_decimal};
 
 fn is_decimal(text: &str) -> bool
     ensures { result ≡ is_decimal text.now }
@@ -9,8 +10,8 @@ fn is_decimal(text: &str) -> bool
     !bytes.is_empty() && bytes[0].is_ascii_digit() && (bytes.len() <= 1 || bytes[0] != b'0')
 }
 
-/// The number that a text spells in decimal: digits alone, with no leading zero unless it is `0`. `None` exactly
-/// where the text spells no number below 2^32.
+/// The number that a text spells in decimal: digits alone, with no leading zero unless it is `0`.
+/// `None` exactly where the text spells no number below 2^32.
 pub fn parse_decimal(text: &str) -> Option<u32>
     ensures found { IfSome result (λ n. (n < 2 ^ 32) × (text.now ≡ decimal n)) }
     ensures none { IfNone result ((n : ℕ) → n < 2 ^ 32 → text.now ≡ decimal n → ⊥) }
@@ -21,12 +22,14 @@ pub fn parse_decimal(text: &str) -> Option<u32>
     text.parse().ok()
 }
 
-/// The number in decimal at the front of a text, up to the first separator, and what follows the separator. `None`
-/// exactly where the text has no such front.
+/// The number in decimal at the front of a text, up to the first separator, and what follows the
+/// separator. `None` exactly where the text has no such front.
 pub fn parse_decimal_up_to(text: &str, separator: char) -> Option<(u32, &str)>
     requires { separator < 48 }
-    ensures found { IfSome result (λ x. (x.0 < 2 ^ 32) × (text.now ≡ decimal x.0 ++ separator ∷ x.1.now)) }
-    ensures none { IfNone result ((n : ℕ) (rest : List ℕ) → n < 2 ^ 32 → text.now ≡ decimal n ++ separator ∷ rest → ⊥) }
+    ensures found { IfSome result (λ x. (x.0 < 2 ^ 32) × (text.now ≡ decimal x.0 ++ separator ∷
+        x.1.now)) }
+    ensures none { IfNone result ((n : ℕ) (rest : List ℕ) → n < 2 ^ 32 → text.now ≡ decimal n ++
+        separator ∷ rest → ⊥) }
 {
     let (number, rest) = text.split_once(separator)?;
     Some((parse_decimal(number)?, rest))

@@ -1,5 +1,5 @@
-//! The words of a ring: devices, weights, addresses and names, and numbered requests and replies as types. Each value is
-//! valid by its type, and a word that has a text has one spelling.
+//! The words of a ring: devices, weights, addresses and names, and numbered requests and replies as
+//! types. Each value is valid by its type, and a word that has a text has one spelling.
 //!
 //! The definitions that contracts cite stand in `specs/`, and `docs/definitions.md` lists them.
 #![tactic(auto)]
@@ -16,7 +16,7 @@ mod spelling;
 mod weight;
 
 pub use address::Address;
-pub use bounded::{Bounded, Port, Power, Replicas};
+pub use bounded::{Bounded, Port, Power, Replicas, partition_count};
 pub use command::{Act, Command, Done, NewRing, NewWeight, Refusal, Reply, RowCause};
 pub use decimal::{parse_decimal, parse_decimal_up_to};
 pub use device::{Device, DeviceId, Row};

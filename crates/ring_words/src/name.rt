@@ -1,9 +1,11 @@
 //! Names of rings, callers and devices.
-ghost use Rattle.std.specs.Prelude.{◌≡◌, refl, ◌↔◌, ◌≢◌, Bool, ℕ, List, IfOk, IsErrOf, IsTrue, Some, nat_eq, true};
+ghost use Rattle.std.specs.Prelude.{◌≡◌, refl, ◌↔◌, ◌≢◌, Bool, ℕ, List, IfOk, IsErrOf, IsTrue};
+ghost use Rattle.std.specs.Prelude.{Some, nat_eq, true};
 ghost use Rattle.std.specs.List.{list_all};
 ghost use Rattle.std.specs.Cmp.Lexicographic.{pointwise, nat_list_eq_equiv};
 ghost use Rattle.std.specs.Cmp;
-ghost use Rattle.ring_words.specs.Texts.{is_label, is_label_byte, is_device_name, is_device_name_byte};
+ghost use Rattle.ring_words.specs.Texts.{is_label, is_label_byte, is_device_name};
+ghost use Rattle.ring_words.specs.Texts.{is_device_name_byte};
 ghost use Rattle.std.specs.Cmp.Lexicographic.{slice_cmp, nat_list_cmp_total, texts_po, texts_ties};
 ghost use Rattle.std.specs.Ordering.{nat_cmp};
 

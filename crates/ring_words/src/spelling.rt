@@ -1,9 +1,10 @@
 //! Words read as values: each is read exactly where it spells one of its kind and range.
 //!
-//! Ring texts, tables, messages and routes read their words here, so a value has the same one spelling everywhere. What takes
-//! no memory never answers that memory was refused.
+//! Ring texts, tables, messages and routes read their words here, so a value has the same one
+//! spelling everywhere. What takes no memory never answers that memory was refused.
 ghost use Rattle.std.specs.Prelude.{◌≡◌, IsErrOf};
-ghost use Rattle.ring_words.specs.Spelling.{Reads, SpellsAddress, SpellsName, SpellsNumber, SpellsWeight};
+ghost use Rattle.ring_words.specs.Spelling.{Reads, SpellsAddress, SpellsName, SpellsNumber};
+ghost use Rattle.ring_words.specs.Spelling.{SpellsWeight};
 ghost use Rattle.ring_words.specs.declared.spelling.SpellingFault.TheVariants.{NoMemory};
 
 use crate::address::Address;
@@ -61,7 +62,8 @@ pub fn read_number16(word: &str) -> Result<u16, SpellingFault>
     Ok(number as u16)
 }
 
-/// The number of a word in decimal, within the bounds of its type: a power, a count of replicas, a port.
+/// The number of a word in decimal, within the bounds of its type: a power, a count of replicas, a
+/// port.
 pub fn read_bounded<const LEAST: u16, const MOST: u16>(
     word: &str,
 ) -> Result<Bounded<LEAST, MOST>, SpellingFault>

@@ -6,8 +6,8 @@ use crate::decimal::{parse_decimal_up_to, parse_two_digits};
 use std::fmt;
 use std::marker::Model;
 
-/// The weight of a device: its share of a ring's seats, relative to the other devices' weights. From 0.00 to
-/// 1000000.00. Contracts see it in hundredths.
+/// The weight of a device: its share of a ring's seats, relative to the other devices' weights.
+/// From 0.00 to 1000000.00. Contracts see it in hundredths.
 #[derive(Clone, Copy, Debug, PartialEq, Eq)]
 pub struct Weight {
     hundredths: u32,
@@ -38,10 +38,12 @@ impl Weight {
         }
     }
 
-    /// The weight that a text spells: a decimal number, a point and two digits. `None` exactly where it spells none.
+    /// The weight that a text spells: a decimal number, a point and two digits. `None` exactly
+    /// where it spells none.
     pub fn parse(text: &str) -> Option<Self>
         ensures found { IfSome result (λ w. (w ≤ greatest_weight) × (text.now ≡ hundredths_text w)) }
-        ensures none { IfNone result ((w : ℕ) → w ≤ greatest_weight → text.now ≡ hundredths_text w → ⊥) }
+        ensures none { IfNone result ((w : ℕ) → w ≤ greatest_weight → text.now ≡ hundredths_text w →
+            ⊥) }
     {
         let (whole, rest) = parse_decimal_up_to(text, '.')?;
         let part = parse_two_digits(rest)?;

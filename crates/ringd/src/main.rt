@@ -1,4 +1,5 @@
-//! The program `ringd`: it keeps the rings of an object store, and carries out each numbered request once.
+//! The program `ringd`: it keeps the rings of an object store, and carries out each numbered
+//! request once.
 #![tactic(auto)]
 
 #[cfg(test)]

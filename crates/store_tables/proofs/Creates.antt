@@ -9,10 +9,15 @@ use Rattle.sqlite.specs.Change.{created}
 use Rattle.sqlite.specs.State.{State, Executes}
 use Rattle.sqlite.proofs.Callers.{IsPlain, command_of, statement_of}
 use Rattle.store_tables.specs.Plain.{table_of}
-use Rattle.store_tables.specs.Tables.{meta, ring, device, seat, moved, published, request, part, no_tables, with_meta, with_rings, with_devices, with_seats, with_moved, with_published, with_requests, store_schema}
-use Rattle.store_tables.specs.Entries.{map_of, meta_rows, ring_rows, device_rows, seat_rows, moved_rows, published_rows, request_rows, part_rows}
+use Rattle.store_tables.specs.Tables.{meta, ring, device, seat, moved, published, request, part}
+use Rattle.store_tables.specs.Tables.{no_tables, with_meta, with_rings, with_devices, with_seats}
+use Rattle.store_tables.specs.Tables.{with_moved, with_published, with_requests, store_schema}
+use Rattle.store_tables.specs.Entries.{map_of, meta_rows, ring_rows, device_rows, seat_rows}
+use Rattle.store_tables.specs.Entries.{moved_rows, published_rows, request_rows, part_rows}
 use Rattle.store_tables.specs.Store.{IsBegun, begun_contents}
-use Rattle.store_tables.specs.Texts.{create_meta, create_ring, create_device, create_seat, create_moved, create_published, create_request, create_part, create_text}
+use Rattle.store_tables.specs.Inner.Texts.{create_meta, create_ring, create_device, create_seat}
+use Rattle.store_tables.specs.Inner.Texts.{create_moved, create_published, create_request}
+use Rattle.store_tables.specs.Inner.Texts.{create_part, create_text}
 use Rattle.store_tables.proofs.Plain.Creates.{CreateText, creates_table, made_ordered}
 use Rattle.store_tables.proofs.Living.{no_entries}
 use Rattle.store_tables.proofs.Tables.Meta.{meta_facts}
@@ -38,8 +43,18 @@ meta_created : created no_tables (record (table_of meta) { tree = 0 }) ≡ with_
 unfolding understood everything
 meta_created = refl
 
-meta_text : CreateText no_tables with_meta create_meta (record (table_of meta) { tree = 0 }) meta.tree
-meta_text = record { is = meta_means.0; whole = meta_means.1; defined = meta_means.2; plain = meta_plain; made = meta_created; unlacking = refl; next = refl }
+meta_text : CreateText no_tables with_meta create_meta (record (table_of meta) { tree = 0 })
+    meta.tree
+meta_text = record {
+  is = meta_means.0;
+  whole = meta_means.1;
+  defined = meta_means.2;
+  plain =
+      meta_plain;
+  made = meta_created;
+  unlacking = refl;
+  next = refl;
+}
 
 ring_means : (command_of (understood with_meta create_ring) ≡ CreateTable)
     × (statement_of create_ring (understood with_meta create_ring) ≡ create_ring)
@@ -55,8 +70,18 @@ ring_created : created with_meta (record (table_of ring) { tree = 0 }) ≡ with_
 unfolding understood everything
 ring_created = refl
 
-ring_text : CreateText with_meta with_rings create_ring (record (table_of ring) { tree = 0 }) ring.tree
-ring_text = record { is = ring_means.0; whole = ring_means.1; defined = ring_means.2; plain = ring_plain; made = ring_created; unlacking = refl; next = refl }
+ring_text : CreateText with_meta with_rings create_ring (record (table_of ring) { tree = 0 })
+    ring.tree
+ring_text = record {
+  is = ring_means.0;
+  whole = ring_means.1;
+  defined = ring_means.2;
+  plain =
+      ring_plain;
+  made = ring_created;
+  unlacking = refl;
+  next = refl;
+}
 
 device_means : (command_of (understood with_rings create_device) ≡ CreateTable)
     × (statement_of create_device (understood with_rings create_device) ≡ create_device)
@@ -72,8 +97,19 @@ device_created : created with_rings (record (table_of device) { tree = 0 }) ≡ 
 unfolding understood everything
 device_created = refl
 
-device_text : CreateText with_rings with_devices create_device (record (table_of device) { tree = 0 }) device.tree
-device_text = record { is = device_means.0; whole = device_means.1; defined = device_means.2; plain = device_plain; made = device_created; unlacking = refl; next = refl }
+device_text : CreateText with_rings with_devices create_device (record (table_of device) {
+  tree =
+      0;
+}) device.tree
+device_text = record {
+  is = device_means.0;
+  whole = device_means.1;
+  defined = device_means.2;
+  plain = device_plain;
+  made = device_created;
+  unlacking = refl;
+  next = refl;
+}
 
 seat_means : (command_of (understood with_devices create_seat) ≡ CreateTable)
     × (statement_of create_seat (understood with_devices create_seat) ≡ create_seat)
@@ -89,8 +125,18 @@ seat_created : created with_devices (record (table_of seat) { tree = 0 }) ≡ wi
 unfolding understood everything
 seat_created = refl
 
-seat_text : CreateText with_devices with_seats create_seat (record (table_of seat) { tree = 0 }) seat.tree
-seat_text = record { is = seat_means.0; whole = seat_means.1; defined = seat_means.2; plain = seat_plain; made = seat_created; unlacking = refl; next = refl }
+seat_text : CreateText with_devices with_seats create_seat (record (table_of seat) { tree = 0 })
+    seat.tree
+seat_text = record {
+  is = seat_means.0;
+  whole = seat_means.1;
+  defined = seat_means.2;
+  plain =
+      seat_plain;
+  made = seat_created;
+  unlacking = refl;
+  next = refl;
+}
 
 moved_means : (command_of (understood with_seats create_moved) ≡ CreateTable)
     × (statement_of create_moved (understood with_seats create_moved) ≡ create_moved)
@@ -106,8 +152,18 @@ moved_created : created with_seats (record (table_of moved) { tree = 0 }) ≡ wi
 unfolding understood everything
 moved_created = refl
 
-moved_text : CreateText with_seats with_moved create_moved (record (table_of moved) { tree = 0 }) moved.tree
-moved_text = record { is = moved_means.0; whole = moved_means.1; defined = moved_means.2; plain = moved_plain; made = moved_created; unlacking = refl; next = refl }
+moved_text : CreateText with_seats with_moved create_moved (record (table_of moved) { tree = 0 })
+    moved.tree
+moved_text = record {
+  is = moved_means.0;
+  whole = moved_means.1;
+  defined = moved_means.2;
+  plain =
+      moved_plain;
+  made = moved_created;
+  unlacking = refl;
+  next = refl;
+}
 
 published_means : (command_of (understood with_moved create_published) ≡ CreateTable)
     × (statement_of create_published (understood with_moved create_published)
@@ -124,8 +180,19 @@ published_created : created with_moved (record (table_of published) { tree = 0 }
 unfolding understood everything
 published_created = refl
 
-published_text : CreateText with_moved with_published create_published (record (table_of published) { tree = 0 }) published.tree
-published_text = record { is = published_means.0; whole = published_means.1; defined = published_means.2; plain = published_plain; made = published_created; unlacking = refl; next = refl }
+published_text : CreateText with_moved with_published create_published (record (table_of published)
+    { tree = 0 }) published.tree
+published_text = record {
+  is = published_means.0;
+  whole = published_means.1;
+  defined =
+      published_means.2;
+  plain = published_plain;
+  made = published_created;
+  unlacking = refl;
+  next =
+      refl;
+}
 
 request_means : (command_of (understood with_published create_request) ≡ CreateTable)
     × (statement_of create_request (understood with_published create_request) ≡ create_request)
@@ -141,8 +208,17 @@ request_created : created with_published (record (table_of request) { tree = 0 }
 unfolding understood everything
 request_created = refl
 
-request_text : CreateText with_published with_requests create_request (record (table_of request) { tree = 0 }) request.tree
-request_text = record { is = request_means.0; whole = request_means.1; defined = request_means.2; plain = request_plain; made = request_created; unlacking = refl; next = refl }
+request_text : CreateText with_published with_requests create_request (record (table_of request)
+    { tree = 0 }) request.tree
+request_text = record {
+  is = request_means.0;
+  whole = request_means.1;
+  defined = request_means.2;
+  plain = request_plain;
+  made = request_created;
+  unlacking = refl;
+  next = refl;
+}
 
 part_means : (command_of (understood with_requests create_part) ≡ CreateTable)
     × (statement_of create_part (understood with_requests create_part) ≡ create_part)
@@ -158,8 +234,18 @@ part_created : created with_requests (record (table_of part) { tree = 0 }) ≡ s
 unfolding understood everything
 part_created = refl
 
-part_text : CreateText with_requests store_schema create_part (record (table_of part) { tree = 0 }) part.tree
-part_text = record { is = part_means.0; whole = part_means.1; defined = part_means.2; plain = part_plain; made = part_created; unlacking = refl; next = refl }
+part_text : CreateText with_requests store_schema create_part (record (table_of part) { tree = 0 })
+    part.tree
+part_text = record {
+  is = part_means.0;
+  whole = part_means.1;
+  defined = part_means.2;
+  plain =
+      part_plain;
+  made = part_created;
+  unlacking = refl;
+  next = refl;
+}
 
 -- a text that makes a table keeps what the tables before it contain, and the new one is empty
 pub creates_next : (made : ℕ) → made < 8 → (old new : State) (count : ℕ) → IsBegun made old.now
@@ -167,8 +253,14 @@ pub creates_next : (made : ℕ) → made < 8 → (old new : State) (count : ℕ)
     → IsBegun (made + 1) new.now × (begun_contents (made + 1) new.now.trees
     ≡ begun_contents made old.now.trees)
 creates_next zero low old new count is h =
-    let it = creates_table no_tables with_meta create_meta (record (table_of meta) { tree = 0 }) meta.tree meta_text old new count is.schema h in (
-      record { schema = it.schema_is; sound = it.sound; ordered = made_ordered old.now new.now no_tables with_meta (table_of meta) is.ordered refl it },
+    let it = creates_table no_tables with_meta create_meta (record (table_of meta) { tree = 0 })
+    meta.tree meta_text old new count is.schema h in (
+      record {
+        schema = it.schema_is;
+        sound = it.sound;
+        ordered =
+            made_ordered old.now new.now no_tables with_meta (table_of meta) is.ordered refl it;
+      },
       λ j. record {
         meta = (ap (map_of meta_rows) it.empty ∙ no_entries meta_facts.total meta_facts.exact) j;
         rings = empty;
@@ -181,8 +273,14 @@ creates_next zero low old new count is h =
       },
     )
 creates_next (suc zero) low old new count is h =
-    let it = creates_table with_meta with_rings create_ring (record (table_of ring) { tree = 0 }) ring.tree ring_text old new count is.schema h in (
-      record { schema = it.schema_is; sound = it.sound; ordered = made_ordered old.now new.now with_meta with_rings (table_of ring) is.ordered refl it },
+    let it = creates_table with_meta with_rings create_ring (record (table_of ring) { tree = 0 })
+    ring.tree ring_text old new count is.schema h in (
+      record {
+        schema = it.schema_is;
+        sound = it.sound;
+        ordered =
+            made_ordered old.now new.now with_meta with_rings (table_of ring) is.ordered refl it;
+      },
       λ j. record {
         meta = map_of meta_rows (it.others.0 j);
         rings = (ap (map_of ring_rows) it.empty ∙ no_entries ring_facts.total ring_facts.exact) j;
@@ -195,12 +293,22 @@ creates_next (suc zero) low old new count is h =
       },
     )
 creates_next (suc (suc zero)) low old new count is h =
-    let it = creates_table with_rings with_devices create_device (record (table_of device) { tree = 0 }) device.tree device_text old new count is.schema h in (
-      record { schema = it.schema_is; sound = it.sound; ordered = made_ordered old.now new.now with_rings with_devices (table_of device) is.ordered refl it },
+    let it = creates_table with_rings with_devices create_device (record (table_of device) {
+      tree =
+          0;
+    }) device.tree device_text old new count is.schema h in (
+      record {
+        schema = it.schema_is;
+        sound = it.sound;
+        ordered =
+            made_ordered old.now new.now with_rings with_devices (table_of device) is.ordered refl
+            it;
+      },
       λ j. record {
         meta = map_of meta_rows (it.others.0 j);
         rings = map_of ring_rows (it.others.1.0 j);
-        devices = (ap (map_of device_rows) it.empty ∙ no_entries device_facts.total device_facts.exact) j;
+        devices = (ap (map_of device_rows) it.empty ∙ no_entries device_facts.total
+            device_facts.exact) j;
         seats = empty;
         moved = empty;
         published = empty;
@@ -209,8 +317,14 @@ creates_next (suc (suc zero)) low old new count is h =
       },
     )
 creates_next (suc (suc (suc zero))) low old new count is h =
-    let it = creates_table with_devices with_seats create_seat (record (table_of seat) { tree = 0 }) seat.tree seat_text old new count is.schema h in (
-      record { schema = it.schema_is; sound = it.sound; ordered = made_ordered old.now new.now with_devices with_seats (table_of seat) is.ordered refl it },
+    let it = creates_table with_devices with_seats create_seat (record (table_of seat) { tree = 0 })
+    seat.tree seat_text old new count is.schema h in (
+      record {
+        schema = it.schema_is;
+        sound = it.sound;
+        ordered =
+            made_ordered old.now new.now with_devices with_seats (table_of seat) is.ordered refl it;
+      },
       λ j. record {
         meta = map_of meta_rows (it.others.0 j);
         rings = map_of ring_rows (it.others.1.0 j);
@@ -223,36 +337,58 @@ creates_next (suc (suc (suc zero))) low old new count is h =
       },
     )
 creates_next (suc (suc (suc (suc zero)))) low old new count is h =
-    let it = creates_table with_seats with_moved create_moved (record (table_of moved) { tree = 0 }) moved.tree moved_text old new count is.schema h in (
-      record { schema = it.schema_is; sound = it.sound; ordered = made_ordered old.now new.now with_seats with_moved (table_of moved) is.ordered refl it },
+    let it = creates_table with_seats with_moved create_moved (record (table_of moved) { tree = 0 })
+    moved.tree moved_text old new count is.schema h in (
+      record {
+        schema = it.schema_is;
+        sound = it.sound;
+        ordered =
+            made_ordered old.now new.now with_seats with_moved (table_of moved) is.ordered refl it;
+      },
       λ j. record {
         meta = map_of meta_rows (it.others.0 j);
         rings = map_of ring_rows (it.others.1.0 j);
         devices = map_of device_rows (it.others.1.1.0 j);
         seats = map_of seat_rows (it.others.1.1.1.0 j);
-        moved = (ap (map_of moved_rows) it.empty ∙ no_entries moved_facts.total moved_facts.exact) j;
+        moved = (ap (map_of moved_rows) it.empty ∙ no_entries moved_facts.total moved_facts.exact)
+            j;
         published = empty;
         requests = empty;
         parts = empty;
       },
     )
 creates_next (suc (suc (suc (suc (suc zero))))) low old new count is h =
-    let it = creates_table with_moved with_published create_published (record (table_of published) { tree = 0 }) published.tree published_text old new count is.schema h in (
-      record { schema = it.schema_is; sound = it.sound; ordered = made_ordered old.now new.now with_moved with_published (table_of published) is.ordered refl it },
+    let it = creates_table with_moved with_published create_published (record (table_of published)
+    { tree = 0 }) published.tree published_text old new count is.schema h in (
+      record {
+        schema = it.schema_is;
+        sound = it.sound;
+        ordered =
+            made_ordered old.now new.now with_moved with_published (table_of published) is.ordered
+            refl it;
+      },
       λ j. record {
         meta = map_of meta_rows (it.others.0 j);
         rings = map_of ring_rows (it.others.1.0 j);
         devices = map_of device_rows (it.others.1.1.0 j);
         seats = map_of seat_rows (it.others.1.1.1.0 j);
         moved = map_of moved_rows (it.others.1.1.1.1.0 j);
-        published = (ap (map_of published_rows) it.empty ∙ no_entries published_facts.total published_facts.exact) j;
+        published = (ap (map_of published_rows) it.empty ∙ no_entries published_facts.total
+            published_facts.exact) j;
         requests = empty;
         parts = empty;
       },
     )
 creates_next (suc (suc (suc (suc (suc (suc zero)))))) low old new count is h =
-    let it = creates_table with_published with_requests create_request (record (table_of request) { tree = 0 }) request.tree request_text old new count is.schema h in (
-      record { schema = it.schema_is; sound = it.sound; ordered = made_ordered old.now new.now with_published with_requests (table_of request) is.ordered refl it },
+    let it = creates_table with_published with_requests create_request (record (table_of request)
+    { tree = 0 }) request.tree request_text old new count is.schema h in (
+      record {
+        schema = it.schema_is;
+        sound = it.sound;
+        ordered =
+            made_ordered old.now new.now with_published with_requests (table_of request) is.ordered
+            refl it;
+      },
       λ j. record {
         meta = map_of meta_rows (it.others.0 j);
         rings = map_of ring_rows (it.others.1.0 j);
@@ -260,13 +396,23 @@ creates_next (suc (suc (suc (suc (suc (suc zero)))))) low old new count is h =
         seats = map_of seat_rows (it.others.1.1.1.0 j);
         moved = map_of moved_rows (it.others.1.1.1.1.0 j);
         published = map_of published_rows (it.others.1.1.1.1.1.0 j);
-        requests = (ap (map_of request_rows) it.empty ∙ no_entries request_facts.total request_facts.exact) j;
+        requests = (ap (map_of request_rows) it.empty ∙ no_entries request_facts.total
+            request_facts.exact) j;
         parts = empty;
       },
     )
 creates_next (suc (suc (suc (suc (suc (suc (suc zero))))))) low old new count is h =
-    let it = creates_table with_requests store_schema create_part (record (table_of part) { tree = 0 }) part.tree part_text old new count is.schema h in (
-      record { schema = it.schema_is; sound = it.sound; ordered = made_ordered old.now new.now with_requests store_schema (table_of part) is.ordered refl it },
+    let it = creates_table with_requests store_schema create_part (record (table_of part) {
+      tree =
+          0;
+    }) part.tree part_text old new count is.schema h in (
+      record {
+        schema = it.schema_is;
+        sound = it.sound;
+        ordered =
+            made_ordered old.now new.now with_requests store_schema (table_of part) is.ordered refl
+            it;
+      },
       λ j. record {
         meta = map_of meta_rows (it.others.0 j);
         rings = map_of ring_rows (it.others.1.0 j);
@@ -278,4 +424,5 @@ creates_next (suc (suc (suc (suc (suc (suc (suc zero))))))) low old new count is
         parts = (ap (map_of part_rows) it.empty ∙ no_entries part_facts.total part_facts.exact) j;
       },
     )
-creates_next (suc (suc (suc (suc (suc (suc (suc (suc more)))))))) low old new count is h = absurd (omega (arith, low))
+creates_next (suc (suc (suc (suc (suc (suc (suc (suc more)))))))) low old new count is h =
+    absurd (omega (arith, low))

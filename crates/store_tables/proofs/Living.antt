@@ -1,7 +1,8 @@
 -- A store is a database that lives by the schema of the store.
 use Rattle.std.proofs.Common.{◌≡◌, ◌∙◌, ℕ, [], Ordering, sym, subst}
 use Rattle.std.specs.Cmp.{IsTotalOrder}
-use Rattle.std.specs.FinMap.{FinMap, empty, from_entries, same_map, IsAntisymmetric, get-from_entries, get-empty}
+use Rattle.std.specs.FinMap.{FinMap, empty, from_entries, same_map, IsAntisymmetric}
+use Rattle.std.specs.FinMap.{get-from_entries, get-empty}
 use Rattle.sqlite_rules.specs.Lists.{Has}
 use Rattle.sqlite.specs.Effect.{Database, IsDatabase}
 use Rattle.sqlite.specs.State.{State}
@@ -25,7 +26,8 @@ store_of db it = it
 -- the map of no rows is empty
 pub no_entries : {K V : Type 0} {R : K → K → Ordering} → IsTotalOrder R → IsAntisymmetric R
     → ◌≡◌ {A = FinMap R V} (from_entries []) empty
-no_entries {R = R} o exact = same_map o exact _ _ (λ q. get-from_entries o [] q ∙ sym (get-empty R q))
+no_entries {R = R} o exact = same_map o exact _ _ (λ q. get-from_entries o [] q ∙ sym
+    (get-empty R q))
 
 -- once all tables are made, it is a store
 pub store_begun : (db : Database) → IsBegun 8 db → IsStore db
@@ -34,9 +36,19 @@ store_begun db it = record { schema = it.schema; sound = it.sound; ordered = it.
 
 -- nothing is the beginning of a store
 pub begun_empty : (s : State) → IsEmpty s → IsBegun 0 s.now
-begun_empty s e = record { schema = e.2; sound = (e.1 e.0.is_open).0; ordered = λ t none. elim none [ ] }
+begun_empty s e = record {
+  schema = e.2;
+  sound = (e.1 e.0.is_open).0;
+  ordered =
+      λ t none. elim none [ ];
+}
 
 -- what is declared so, and whose rowids rise, has begun
 pub begun_of : (db : Database) (made : ℕ) → db.schema ≡ schema_of_first made → IsDatabase db
     → AreOrdered db → IsBegun made db
-begun_of db made is sound ordered = record { schema = is; sound = sound; ordered = λ t h. ordered t (subst (λ s. Has s.tables t) (sym is) h) }
+begun_of db made is sound ordered = record {
+  schema = is;
+  sound = sound;
+  ordered =
+      λ t h. ordered t (subst (λ s. Has s.tables t) (sym is) h);
+}

@@ -15,7 +15,8 @@ pub tables_ordered : (v : View) (schema : Schema) → IsSound schema v.trees
     → (t : Table) → Has schema.tables t → IsShaped shape.Table (v.trees t.tree)
 tables_ordered v schema sound listed ordered t h =
     let laid = laid_out listed (objects_rise v listed ordered) sound.lists.listed in
-    subst (λ s. IsShaped s (v.trees t.tree)) (all_has _ schema.tables t laid.tables h) (ordered t.tree)
+    subst (λ s. IsShaped s (v.trees t.tree)) (all_has _ schema.tables t laid.tables h)
+    (ordered t.tree)
 
 pub if_ok_three : {X E : Type 0} (r : Result X E) (P Q R S : X → Type 0) → ((x : X) → P x → Q x
     → R x → S x) → IfOk r P → IfOk r Q → IfOk r R → IfOk r S

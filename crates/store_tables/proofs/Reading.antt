@@ -16,9 +16,12 @@ always : {A E P : Type 0} (r : Result A E) → P → OnOk r P
 always (Ok x) p = p
 always (Err e) p = tt
 
-module _ (sql : List ℕ) (plain : IsPlain (understood store_schema sql)) (params : Row) (old new : State) (sees : SeesStore old) (survives : Survives old new (CommitsShowing sql params old)) where
+module _ (sql : List ℕ) (plain : IsPlain (understood store_schema sql)) (params : Row)
+    (old new : State) (sees : SeesStore old) (survives : Survives old new (CommitsShowing sql params
+    old)) where
   kept : Survives old new (λ _. ⊥)
-  kept = commits_nothing store_schema sql params old new (λ clean. (lives_in old.now (sees clean)).schema_is) plain survives
+  kept = commits_nothing store_schema sql params old new
+      (λ clean. (lives_in old.now (sees clean)).schema_is) plain survives
 
   -- the query was answered, and `shown` are its rows
   pub reads_shown : {A : Type 0} (result : Result A Error) (IsSo : Contents → A
@@ -27,11 +30,17 @@ module _ (sql : List ℕ) (plain : IsPlain (understood store_schema sql)) (param
       → ReadsTables old new result IsSo
   reads_shown result IsSo shown ok answer = record {
     answer = answer;
-    same = λ clean. always result (shown_unchanged store_schema sql params old new shown (lives_in old.now (sees (omega (arith, survives.clean, clean)))).schema_is plain (ok clean));
+    same = λ clean. always result (shown_unchanged store_schema sql params old new shown
+        (lives_in old.now (sees (omega (arith, survives.clean, clean)))).schema_is plain
+        (ok clean));
     survives = kept;
   }
 
   -- the query failed
   pub reads_nothing : {A : Type 0} (result : Result A Error) (IsSo : Contents → A
       → Type 0) (e : Error) → result ≡ Err e → ReadsTables old new result IsSo
-  reads_nothing result IsSo e failed = rw failed (record { answer = λ clean. tt; same = λ clean. tt; survives = kept })
+  reads_nothing result IsSo e failed = rw failed (record {
+    answer = λ clean. tt;
+    same = λ clean. tt;
+    survives = kept;
+  })

@@ -1,10 +1,15 @@
 -- What a list of changes, and what a decided request, makes of the contents.
 use Rattle.std.specs.Prelude.{List, [], ◌∷◌}
 use Rattle.store_tables.specs.declared.changes.RowChange.{RowChange}
-use Rattle.store_tables.specs.declared.changes.RowChange.TheVariants.{DropDevice, PutRing, AddDevice, PutPart, PutPublished}
+use Rattle.store_tables.specs.declared.changes.RowChange.TheVariants.{DropDevice, PutRing}
+use Rattle.store_tables.specs.declared.changes.RowChange.TheVariants.{AddDevice, PutPart}
+use Rattle.store_tables.specs.declared.changes.RowChange.TheVariants.{PutPublished}
 use Rattle.store_tables.specs.declared.rows.MetaRow.{MetaRow}
 use Rattle.store_tables.specs.declared.rows.RequestRow.{RequestRow}
-use Rattle.store_tables.specs.Contents.{Contents, device_key, ring_of, device_of, part_of, published_of, request_of, meta_of, without_device, with_ring, with_device, with_part, with_published, with_request, with_meta, without_seats, without_moved}
+use Rattle.store_tables.specs.Contents.{Contents, device_key, ring_of, device_of, part_of}
+use Rattle.store_tables.specs.Contents.{published_of, request_of, meta_of, without_device}
+use Rattle.store_tables.specs.Contents.{with_ring, with_device, with_part, with_published}
+use Rattle.store_tables.specs.Contents.{with_request, with_meta, without_seats, without_moved}
 
 -- What one change makes of the contents.
 abbrev pub changed : Contents → RowChange → Contents

@@ -2,10 +2,11 @@
 use Rattle.std.specs.Prelude.{ℕ, ℤ, List, string_bytes}
 use Rattle.std.specs.Ordering.{int_cmp}
 use Rattle.std.specs.FinMap.{FinMap, empty, insert, remove}
-use Rattle.sqlite_value.specs.Order.{Row, column, bytes}
 use Rattle.sqlite_trees.specs.Tree.{Trees}
-use Rattle.sqlite_rules.specs.Edit.{id_in}
-use Rattle.store_tables.specs.Entries.{map_of, name_cmp, NameNumber, name_number_cmp, SeatKey, seat_cmp, Meta, Ring, Device, Request, Part, meta_rows, ring_rows, device_rows, seat_rows, moved_rows, published_rows, request_rows, part_rows}
+use Rattle.store_tables.specs.Entries.{map_of, name_cmp, NameNumber, name_number_cmp, SeatKey}
+use Rattle.store_tables.specs.Entries.{seat_cmp, Meta, Ring, Device, Request, Part, meta_rows}
+use Rattle.store_tables.specs.Entries.{ring_rows, device_rows, seat_rows, moved_rows}
+use Rattle.store_tables.specs.Entries.{published_rows, request_rows, part_rows}
 use Rattle.store_tables.specs.declared.rows.MetaRow.{MetaRow}
 use Rattle.store_tables.specs.declared.rows.RingRow.{RingRow}
 use Rattle.store_tables.specs.declared.rows.DeviceRow.{DeviceRow}
@@ -109,15 +110,6 @@ kept_of row = record {
   hour = row.hour;
   command = string_bytes row.command;
   reply = string_bytes row.reply;
-}
-
--- What a row of the columns `place`, `hour`, `command` and `reply` tells.
-abbrev pub told : Row → Request
-told r = record {
-  place = id_in (column r 0);
-  hour = id_in (column r 1);
-  command = bytes (column r 2);
-  reply = bytes (column r 3);
 }
 
 -- The key and the value that a row of `part` stands for.

@@ -4,7 +4,7 @@ use Rattle.std.specs.declared.cmp.Ordering.{Ordering}
 use Rattle.std.specs.Ordering.{nat_cmp, int_cmp, ordering_then}
 use Rattle.std.specs.Cmp.Lexicographic.{slice_cmp}
 use Rattle.std.specs.FinMap.{FinMap, from_entries}
-use Rattle.sqlite_value.specs.declared.value.Value.TheVariants.{Null, Int, Text, Blob}
+use Rattle.sqlite_value.specs.declared.value.Value.TheVariants.{Int, Text, Blob}
 use Rattle.sqlite_value.specs.Order.{Row, column, bytes}
 use Rattle.sqlite_rules.specs.Edit.{id_in}
 use Rattle.store_tables.specs.Plain.{Plain}
@@ -22,10 +22,6 @@ pub record Layout (K V : Type 0) : Type 0 where
 -- The map that rows stand for.
 abbrev pub map_of : {K V : Type 0} (l : Layout K V) → List Row → FinMap l.cmp V
 map_of l rows = from_entries {R = l.cmp} (map l.entry rows)
-
--- The entry of a row as a query shows it: all its columns, and no rowid.
-abbrev pub shown_as : {K V : Type 0} → Layout K V → Row → K × V
-shown_as l r = l.entry (Null ∷ r)
 
 -- ---- keys and their orders
 

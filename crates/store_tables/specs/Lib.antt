@@ -1,7 +1,7 @@
 pub mod Plain
 pub mod Tables
-pub mod Texts
 pub mod Entries
 pub mod Contents
 pub mod Changes
 pub mod Store
+pub mod Inner

@@ -39,7 +39,8 @@ pub record Becomes (new : Database) (after : Contents) : Type 0 where
 -- A call within a transaction: where it answers Ok, the database is a store that contains
 -- `after`, and the transaction goes on. Whatever it answers, nothing is committed, and a crash
 -- leaves what it could leave before.
-pub record Reaches (old new : State) {A : Type 0} (result : Result A Error) (after : Contents) : Type 0 where
+pub record Reaches (old new : State) {A : Type 0} (result : Result A Error) (after : Contents) :
+    Type 0 where
   pub done : HasCleanDisk new → OnOk result (Becomes new.now after)
   pub inside : HasCleanDisk new → OnOk result (new.in_transaction ≡ old.in_transaction)
   pub kept : HasCleanDisk new → KeepsCommit old new
@@ -51,7 +52,8 @@ Writes old new result change = Reaches old new result (change (contents_of old.n
 
 -- A call that reads: where it answers Ok, the answer is so of the contents, and nothing changed.
 -- Whatever it answers, nothing is committed.
-pub record ReadsTables (old new : State) {A : Type 0} (result : Result A Error) (IsSo : Contents → A → Type 0) : Type 0 where
+pub record ReadsTables (old new : State) {A : Type 0} (result : Result A Error) (IsSo : Contents →
+    A → Type 0) : Type 0 where
   pub answer : HasCleanDisk new → IfOk result (IsSo (contents_of old.now.trees))
   pub same : HasCleanDisk new → OnOk result (IsUnchanged old new)
   pub survives : Survives old new (λ _. ⊥)
@@ -59,7 +61,8 @@ pub record ReadsTables (old new : State) {A : Type 0} (result : Result A Error) 
 -- A transaction of its own: where it answers Ok, the database is a store that contains `after`,
 -- and that is committed. Where it answers Err and the store is still open, nothing was done. A
 -- crash leaves what it could leave before, or trees that contain `after`.
-pub record CommitsTables (old new : State) {A : Type 0} (result : Result A Error) (after : Contents) : Type 0 where
+pub record CommitsTables (old new : State) {A : Type 0} (result : Result A Error) (after : Contents)
+    : Type 0 where
   pub done : HasCleanDisk new → OnOk result (IsTrue new.is_open × (new.now ≡ new.committed)
       × Becomes new.now after)
   pub none : HasCleanDisk new → IsTrue new.is_open → OnErr result ((new.now ≡ new.committed)
@@ -92,13 +95,3 @@ begun_contents made trees = let c = contents_of trees in record {
   requests = so_far (nat_lt 6 made) c.requests;
   parts = so_far (nat_lt 7 made) c.parts;
 }
-
--- A call within a transaction that makes the tables from the first number to the second: where it
--- answers Ok, they are there and empty, and the others contain what they did. Whatever it
--- answers, nothing is committed, and a crash leaves what it could leave before.
-pub record MakesTables (made all : ℕ) (old new : State) {A : Type 0} (result : Result A Error) : Type 0 where
-  pub done : HasCleanDisk new → OnOk result (IsBegun all new.now
-      × (begun_contents all new.now.trees ≡ begun_contents made old.now.trees))
-  pub inside : HasCleanDisk new → OnOk result (new.in_transaction ≡ old.in_transaction)
-  pub kept : HasCleanDisk new → KeepsCommit old new
-  pub survives : Survives old new (λ _. ⊥)

@@ -88,7 +88,8 @@ device = record {
 abbrev pub device_key : Index
 device_key = unique (codes "sqlite_autoindex_device_1") 5 4 (1 ∷ 2 ∷ [])
 
--- The index on the ring, address, port and name of `device`: no two devices of a ring have one place.
+-- The index on the ring, address, port and name of `device`: no two devices of a ring have one
+-- place.
 abbrev pub device_place : Index
 device_place = unique (codes "sqlite_autoindex_device_2") 6 4 (1 ∷ 5 ∷ 6 ∷ 7 ∷ [])
 

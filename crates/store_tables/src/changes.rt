@@ -5,7 +5,8 @@ ghost use Rattle.sqlite.specs.Held.{state};
 ghost use Rattle.store_tables.specs.Changes.{changed, changed_all, prepared, with_decided};
 ghost use Rattle.sqlite.specs.State.{HasCleanDisk};
 ghost use Rattle.store_tables.specs.Contents.{contents_of};
-ghost use Rattle.store_tables.specs.Store.{CommitsTables, IsBegun, Reaches, SeesStore, Writes, begun_contents};
+ghost use Rattle.store_tables.specs.Store.{CommitsTables, IsBegun, Reaches, SeesStore, Writes};
+ghost use Rattle.store_tables.specs.Store.{begun_contents};
 
 use crate::creating::create_missing;
 use crate::rows::{DeviceKey, DeviceRow, MetaRow, PartRow, PublishedRow, RequestRow, RingRow};

@@ -3,8 +3,9 @@
 ghost use Rattle.std.specs.Prelude.{◌≡◌, ◌<◌, ◌≤◌, ◌+◌};
 ghost use Rattle.sqlite.specs.Held.{state};
 ghost use Rattle.sqlite.specs.State.{HasCleanDisk};
-ghost use Rattle.store_tables.specs.Store.{IsBegun, MakesTables, Reaches, begun_contents};
-ghost use Rattle.store_tables.specs.Texts.{create_text as text_of};
+ghost use Rattle.store_tables.specs.Store.{IsBegun, Reaches, begun_contents};
+ghost use Rattle.store_tables.specs.Inner.Making.{MakesTables};
+ghost use Rattle.store_tables.specs.Inner.Texts.{create_text as text_of};
 
 use crate::writes::run;
 use sqlite::{Alter, Error, Transaction};

@@ -3,8 +3,12 @@
 ghost use Rattle.std.specs.Prelude.{◌≡◌, false, pos, map, option_map, slice_get, IfOk};
 ghost use Rattle.std.specs.FinMap.{entries, get};
 ghost use Rattle.sqlite.specs.Held.{state};
-ghost use Rattle.store_tables.specs.Contents.{device_of, kept_of, meta_of, moved_of, part_of, published_of, request_of, ring_of, seat_of, told};
-ghost use Rattle.store_tables.specs.Entries.{device_rows, meta_rows, moved_rows, part_rows, published_rows, request_rows, ring_rows, seat_rows, shown_as};
+ghost use Rattle.store_tables.specs.Contents.{device_of, kept_of, meta_of, moved_of, part_of};
+ghost use Rattle.store_tables.specs.Contents.{published_of, request_of, ring_of, seat_of};
+ghost use Rattle.store_tables.specs.Inner.Told.{told};
+ghost use Rattle.store_tables.specs.Entries.{device_rows, meta_rows, moved_rows, part_rows};
+ghost use Rattle.store_tables.specs.Entries.{published_rows, request_rows, ring_rows, seat_rows};
+ghost use Rattle.store_tables.specs.Inner.Shown.{shown_as};
 ghost use Rattle.store_tables.specs.Store.{ReadsTables, SeesStore};
 
 use crate::rows::{

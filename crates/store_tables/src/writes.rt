@@ -4,7 +4,11 @@ ghost use Rattle.std.specs.Prelude.{◌≡◌, OnOk, ℕ, Ok};
 ghost use Rattle.sqlite.specs.Held.{state};
 ghost use Rattle.sqlite.specs.State.{Executes, HasCleanDisk, KeepsCommit, Survives};
 ghost use Rattle.sqlite.specs.Values.{bound};
-ghost use Rattle.store_tables.specs.Contents.{device_key, device_of, meta_of, moved_of, part_of, published_of, request_of, ring_of, seat_of, with_device, with_meta, with_moved, with_part, with_published, with_request, with_ring, with_seat, without_device, without_moved, without_seats};
+ghost use Rattle.store_tables.specs.Contents.{device_key, device_of, meta_of, moved_of, part_of};
+ghost use Rattle.store_tables.specs.Contents.{published_of, request_of, ring_of, seat_of};
+ghost use Rattle.store_tables.specs.Contents.{with_device, with_meta, with_moved, with_part};
+ghost use Rattle.store_tables.specs.Contents.{with_published, with_request, with_ring, with_seat};
+ghost use Rattle.store_tables.specs.Contents.{without_device, without_moved, without_seats};
 ghost use Rattle.store_tables.specs.Store.{SeesStore, Writes};
 
 use crate::rows::{

@@ -4,7 +4,8 @@
 use std::alloc::Global;
 use std::io::{self, ErrorKind, Read, Write};
 
-/// Gives so many bytes a read, is interrupted before each, and fails at one of the reads, counted from 1.
+/// Gives so many bytes a read, is interrupted before each, and fails at one of the reads, counted
+/// from 1.
 #[derive(Drop)]
 pub struct Giver<'a> {
     rest: &'a [u8],
@@ -42,8 +43,8 @@ impl Read for Giver<'_> {
     }
 }
 
-/// Takes so many bytes a write, is interrupted before each call, and fails at one of the calls, counted from 1. A flush
-/// is a call too.
+/// Takes so many bytes a write, is interrupted before each call, and fails at one of the calls,
+/// counted from 1. A flush is a call too.
 #[derive(Drop)]
 pub struct Taker {
     /// What was taken.

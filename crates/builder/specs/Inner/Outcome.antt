@@ -17,4 +17,5 @@ IsFirstOr causes effect (outcome.Done answer new) = (first_cause causes ≡ None
 -- what a command comes to
 abbrev pub IsOutcome : Limits → State → ℕ → Command → Outcome → Type 0
 IsOutcome limits rings hour command =
-    IsFirstOr (causes limits rings (ring_at command.ring rings) command.act) (Effect command.ring hour (ring_at command.ring rings) command.act)
+    IsFirstOr (causes limits rings (ring_at command.ring rings) command.act)
+    (Effect command.ring hour (ring_at command.ring rings) command.act)

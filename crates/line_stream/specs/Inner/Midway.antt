@@ -1,5 +1,6 @@
 -- What the parts of the server know in mid-stream.
-use Rattle.std.specs.Prelude.{◌≡◌, ℕ, ◌-◌, ◌^◌, min, List, ◌++◌, length, All, nat_le, if◌then◌else◌, Option, Some, None}
+use Rattle.std.specs.Prelude.{◌≡◌, ℕ, ◌-◌, ◌^◌, min, List, ◌++◌, length, All, nat_le, if◌then◌else◌}
+use Rattle.std.specs.Prelude.{Option, Some, None}
 use Rattle.line_stream.specs.Lines.{IsLine, Divides, AreLines, ended}
 use Rattle.byte_streams.specs.InTurn.{InTurn}
 use Rattle.byte_streams.specs.Writing.{Forwards, WritesBeginning}
@@ -8,8 +9,8 @@ use Rattle.byte_streams.specs.Writing.{Forwards, WritesBeginning}
 abbrev pub kept_of : List ℕ → Option (List ℕ)
 kept_of line = if nat_le (length line) 65536 then Some line else None
 
--- Each line that had its line feed in the bytes is answered. The answers are written or wait, and what is kept of the
--- next line is known.
+-- Each line that had its line feed in the bytes is answered. The answers are written or wait, and
+-- what is kept of the next line is known.
 pub record IsMidway {S : Type 0} (gives : S → List ℕ → List ℕ → S → Type 0)
     (bytes : List ℕ) (before now : Option (List ℕ)) (old new : S)
     (kept : Option (List ℕ)) (waiting : List ℕ) (count : ℕ) : Type 0 where
@@ -22,7 +23,8 @@ pub record IsMidway {S : Type 0} (gives : S → List ℕ → List ℕ → S → 
   pub forwards : Forwards before now (ended texts) waiting
   pub count_is : count ≡ min (length lines) (2 ^ 32 - 1)
 
--- Some lines that had their line feed in the bytes were answered, and a beginning of the answers was written.
+-- Some lines that had their line feed in the bytes were answered, and a beginning of the answers
+-- was written.
 pub record IsCutOff {S : Type 0} (gives : S → List ℕ → List ℕ → S → Type 0)
     (bytes : List ℕ) (before now : Option (List ℕ)) (old new : S) : Type 0 where
   pub answered : List (List ℕ)
@@ -35,7 +37,8 @@ pub record IsCutOff {S : Type 0} (gives : S → List ℕ → List ℕ → S → 
 
 -- Each line of the bytes is answered, and the answers are written or wait.
 pub record IsEnded {S : Type 0} (gives : S → List ℕ → List ℕ → S → Type 0)
-    (bytes : List ℕ) (before now : Option (List ℕ)) (old new : S) (waiting : List ℕ) (count : ℕ) : Type 0 where
+    (bytes : List ℕ) (before now : Option (List ℕ)) (old new : S) (waiting : List ℕ) (count : ℕ) :
+    Type 0 where
   pub lines : List (List ℕ)
   pub are_lines : AreLines bytes lines
   pub texts : List (List ℕ)

@@ -12,7 +12,8 @@ pub enum Change {
     Reset,
 }
 
-/// What a change is answered: the hour that it was decided at, and the count after it if it was made.
+/// What a change is answered: the hour that it was decided at, and the count after it if it was
+/// made.
 #[derive(Clone, Copy, Debug, PartialEq, Eq)]
 pub enum Counted {
     Done { hour: Hour, count: u32 },
@@ -31,7 +32,8 @@ impl Machine for Counter {
     ghost use Rattle.request_tests.specs.declared.book.counter.Change.{Change};
     ghost use Rattle.request_tests.specs.declared.book.counter.Change.TheVariants.{Add, Reset};
     ghost use Rattle.request_tests.specs.declared.book.counter.Counted.{Counted};
-    ghost use Rattle.request_tests.specs.declared.book.counter.Counted.TheVariants.{Done, PastBound};
+    ghost use Rattle.request_tests.specs.declared.book.counter.Counted.TheVariants.{Done};
+    ghost use Rattle.request_tests.specs.declared.book.counter.Counted.TheVariants.{PastBound};
 
     type State = u32;
 
@@ -39,7 +41,11 @@ impl Machine for Counter {
 
     type Reply = Counted;
 
-    ghost step = { λ counter old hour change reply new. elim reply [ Done at count ↦ (at ≡ hour) × (count ≡ new) × elim change [ Add amount ↦ new ≡ old + amount | Reset ↦ new ≡ 0 ] | PastBound at ↦ (at ≡ hour) × (new ≡ old) ] };
+    ghost step = { λ counter old hour change reply new. elim reply [
+      | Done at count ↦ (at ≡ hour) ×
+          (count ≡ new) × elim change [ Add amount ↦ new ≡ old + amount | Reset ↦ new ≡ 0 ]
+      | PastBound at ↦ (at ≡ hour) × (new ≡ old)
+    ] };
 
     ghost refuses = { λ reply. elim reply [ Done at count ↦ false | PastBound at ↦ true ] };
 
@@ -74,5 +80,17 @@ impl Machine for Counter {
         matches!(reply, Counted::PastBound { .. })
     }
 
-    ghost refusal_keeps = { λ counter old new hour change reply. elim reply as (λ (r : Counted). elim r [ Done at count ↦ (at ≡ hour) × (count ≡ new) × elim change [ Add amount ↦ new ≡ old + amount | Reset ↦ new ≡ 0 ] | PastBound at ↦ (at ≡ hour) × (new ≡ old) ] → elim r [ Done at count ↦ false | PastBound at ↦ true ] ≡ true → new ≡ old) [ Done at count ↦ λ stepped refused. absurd (false≢true refused) | PastBound at ↦ λ stepped refused. stepped.1 ] };
+    ghost refusal_keeps = { λ counter old new hour change reply. elim reply as
+        (λ (r : Counted). elim r [
+          | Done at count ↦ (at ≡ hour) × (count ≡ new) ×
+              elim change [ Add amount ↦ new ≡ old + amount | Reset ↦ new ≡ 0 ]
+          | PastBound at ↦ (at ≡ hour) × (new ≡ old)
+        ] → elim r [
+          | Done at count ↦ false
+          | PastBound at ↦ true
+        ] ≡ true → new ≡ old) [
+          | Done at count ↦ λ stepped refused. absurd
+              (false≢true refused)
+          | PastBound at ↦ λ stepped refused. stepped.1
+        ] };
 }

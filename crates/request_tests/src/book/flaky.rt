@@ -15,7 +15,8 @@ pub struct Flaky<K> {
 }
 
 impl<K> Flaky<K> {
-    /// Lets `left` calls go well. If the call that fails is a commit, `keeps_last` says whether it is kept.
+    /// Lets `left` calls go well. If the call that fails is a commit, `keeps_last` says whether it
+    /// is kept.
     pub fn new(kept: K, left: u64, keeps_last: bool) -> Self
         ensures kept { result.kept ≡ kept }
         ensures whole { result.has_failed ≡ false }
@@ -62,7 +63,8 @@ impl<M: Machine, K: Keeper<M>> Keeper<M> for Flaky<K> {
 
     ghost may_leave = { λ k left. left ≡ Some (K.content k.kept) };
 
-    ghost settled = { λ k _ _. is_only (λ left. left ≡ Some (K.content k.kept)) (K.content k.kept) refl (λ left same. same) };
+    ghost settled = { λ k _ _. is_only (λ left. left ≡ Some (K.content k.kept)) (K.content k.kept)
+        refl (λ left same. same) };
 
     fn faults(&self) -> u64 {
         if self.has_failed {

@@ -1,13 +1,15 @@
 -- Words that only carry proofs: what an object says of a command or a reply, whatever else stands
 -- in it.
-use Rattle.std.specs.Prelude.{◌≡◌, ℕ, ◌+◌, ◌<◌, ◌≤◌, List, [], ◌∷◌, length, Option, Some, None, codes, ⊤, option_map}
+use Rattle.std.specs.Prelude.{◌≡◌, ℕ, ◌+◌, ◌<◌, ◌≤◌, List, [], ◌∷◌, length, Option, Some, None}
+use Rattle.std.specs.Prelude.{codes, ⊤, option_map}
 use Rattle.std.specs.Borrow.{Bor}
 use Rattle.std.specs.List.{AllByRecursion, AllZip}
 use Rattle.serde_json.specs.Data.{Data, number, unsigned, string, array}
 use Rattle.serde_json.specs.Find.{at, get}
 use Rattle.serde_json.specs.View.{items_of, view}
 use Rattle.serde_json.specs.declared.value.Value.{Value}
-use Rattle.ring_words.specs.Texts.{is_label, is_device_name, address_text, address_limit, hundredths_text, greatest_weight}
+use Rattle.ring_words.specs.Texts.{is_label, is_device_name, address_text, address_limit}
+use Rattle.ring_words.specs.Texts.{hundredths_text, greatest_weight}
 use Rattle.ring_words.specs.declared.request.Key.{Key}
 use Rattle.ring_words.specs.declared.device.Row.{Row}
 use Rattle.ring_words.specs.declared.command.Command.{Command}
@@ -17,7 +19,8 @@ use Rattle.ring_words.specs.declared.command.Refusal.{Refusal}
 use Rattle.ring_words.specs.declared.command.Refusal.TheVariants.{RowRefused}
 use Rattle.ring_words.specs.declared.command.Reply.{Reply}
 use Rattle.ring_words.specs.declared.command.Reply.TheVariants as reply
-use Rattle.ring_messages.specs.Fields.{Field, Fields, within, device_name, address, weight, rows, field_data, IsProperRow}
+use Rattle.ring_messages.specs.Fields.{Field, Fields, within, device_name, address, weight, rows}
+use Rattle.ring_messages.specs.Fields.{field_data, IsProperRow}
 use Rattle.ring_messages.specs.Commands.{act_word, act_fields}
 use Rattle.ring_messages.specs.Message.{members_count}
 use Rattle.ring_messages.specs.Reads.{IsNumber, IsName}

@@ -1,39 +1,47 @@
--- Words that carry proofs and contracts within the crate alone; no public contract has them.
 -- What a rebalance writes of the rows of a ring once their seats are put.
-use Rattle.std.specs.Prelude.{◌≡◌, ℕ, ◌<◌, ◌≤◌, nat_lt, if◌then◌else◌, List, length, map, count_by, sum_by, true, Option, Some, None, slice_get, slice_index_or}
+use Rattle.std.specs.Prelude.{◌≡◌, ℕ, ◌<◌, ◌≤◌, nat_lt, if◌then◌else◌, List, length, map, count_by}
+use Rattle.std.specs.Prelude.{sum_by, true, Option, Some, None, slice_get, slice_index_or}
 use Rattle.std.specs.List.{range_with_len}
 use Rattle.ring_model.specs.Ring.{RingRecord, has_present, partition_count}
 use Rattle.ring_share.specs.Crowd.{seats_on}
 use Rattle.ring_place.specs.Rebalance.{IsSeat, differs}
-use Rattle.ring_place.specs.Rows.{row_at}
+use Rattle.ring_place.specs.Inner.SeatRows.{row_at}
 
 -- how many seats of a partition differ
 abbrev pub changed_in : List (Option ℕ) → List (Option ℕ) → ℕ
-changed_in old new = count_by (λ replica. differs (slice_index_or old replica None) (slice_index_or new replica None)) (range_with_len 0 (length old))
+changed_in old new = count_by (λ replica. differs (slice_index_or old replica None)
+    (slice_index_or new replica None)) (range_with_len 0 (length old))
 
 -- the hour of a partition's last move: this one if seats of it differ
 abbrev pub stamped : ℕ → ℕ → Option ℕ → Option ℕ
 stamped hour count before = if nat_lt 0 count then Some hour else before
 
 -- the hours of the last moves of all partitions
-abbrev pub stamps : ℕ → List (Option ℕ) → List (List (Option ℕ)) → List (List (Option ℕ)) → List (Option ℕ)
-stamps hour moved old new = map (λ partition. stamped hour (changed_in (row_at old partition) (row_at new partition)) (slice_index_or moved partition None)) (range_with_len 0 (length old))
+abbrev pub stamps : ℕ → List (Option ℕ) → List (List (Option ℕ)) → List (List (Option ℕ)) →
+    List (Option ℕ)
+stamps hour moved old new = map (λ partition. stamped hour (changed_in (row_at old partition)
+    (row_at new partition)) (slice_index_or moved partition None)) (range_with_len 0 (length old))
 
 -- how many seats of all partitions differ
 abbrev pub changed_over : List (List (Option ℕ)) → List (List (Option ℕ)) → ℕ
-changed_over old new = sum_by (λ partition. changed_in (row_at old partition) (row_at new partition)) (range_with_len 0 (length old))
+changed_over old new = sum_by (λ partition. changed_in (row_at old partition)
+    (row_at new partition)) (range_with_len 0 (length old))
 
 -- Partition by partition two lists of rows have as many seats, at most five.
 pub record AreAlike (old new : List (List (Option ℕ))) : Type 0 where
   pub as_many : length new ≡ length old
-  pub long : (partition : ℕ) → partition < length old → length (row_at new partition) ≡ length (row_at old partition)
+  pub long : (partition : ℕ) → partition < length old → length (row_at new partition) ≡ length
+      (row_at old partition)
   pub few : (partition : ℕ) → partition < length old → length (row_at old partition) ≤ 5
 
--- These are seats for all partitions and replicas of a ring: each is on a device that remains, those of a partition on
--- different ones.
+-- These are seats for all partitions and replicas of a ring: each is on a device that remains,
+-- those of a partition on different ones.
 pub record AreWhole (ring : RingRecord) (rows : List (List (Option ℕ))) : Type 0 where
   pub as_many : length rows ≡ partition_count ring
-  pub long : (partition : ℕ) → partition < partition_count ring → length (row_at rows partition) ≡ ring.replicas
+  pub long : (partition : ℕ) → partition < partition_count ring → length (row_at rows partition) ≡
+      ring.replicas
   pub taken : (partition replica : ℕ) → IsSeat ring partition replica →
-      (id : ℕ) × (slice_get (row_at rows partition) replica ≡ Some (Some id)) × (has_present id ring.devices ≡ true)
-  pub distinct : (partition id : ℕ) → partition < partition_count ring → seats_on id (row_at rows partition) ≤ 1
+      (id : ℕ) × (slice_get (row_at rows partition) replica ≡ Some (Some id)) ×
+      (has_present id ring.devices ≡ true)
+  pub distinct : (partition id : ℕ) → partition < partition_count ring →
+      seats_on id (row_at rows partition) ≤ 1

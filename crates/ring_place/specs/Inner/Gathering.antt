@@ -1,8 +1,9 @@
--- Words that carry proofs and contracts within the crate alone; no public contract has them.
--- Which seats are gathered: each is lifted, which leaves it empty.
--- Of a partition `old` are the seats before and `row` or `lifted` those after; `was` is how full the devices are with all
--- seats, and `kept` how full they are without the lifted ones.
-use Rattle.std.specs.Prelude.{◌≡◌, ℕ, ◌+◌, ◌<◌, ◌≤◌, ◌==◌, ◌&&◌, Bool, not, true, false, if◌then◌else◌, List, length, map, Option, Some, None, slice_get, slice_index_or, slice_set, sum_by}
+-- Which seats are gathered: each is lifted, which leaves it empty. Of a partition `old` are the seats
+-- before and `row` or `lifted` those after; `was` is how full the devices are with all seats, and
+-- `kept` how full they are without the lifted ones.
+use Rattle.std.specs.Prelude.{◌≡◌, ℕ, ◌+◌, ◌<◌, ◌≤◌, ◌==◌, ◌&&◌, Bool, not, true, false}
+use Rattle.std.specs.Prelude.{if◌then◌else◌, List, length, map, Option, Some, None, slice_get}
+use Rattle.std.specs.Prelude.{slice_index_or, slice_set, sum_by}
 use Rattle.std.specs.List.{list_any, range_with_len}
 use Rattle.ring_model.specs.Ring.{RingRecord, has_device, has_present, partition_count}
 use Rattle.ring_words.specs.declared.device.Device.{Device}
@@ -11,8 +12,9 @@ use Rattle.ring_share.specs.Want.{AreWanted}
 use Rattle.ring_place.specs.declared.gather.Pass.{Pass}
 use Rattle.ring_place.specs.declared.gather.Pass.TheVariants.{First, Second}
 use Rattle.ring_place.specs.Load.{Load, IsLoad, crowd_in, have_in, is_free_in, want_in}
-use Rattle.ring_place.specs.Rebalance.{Gathered, AreReasons, IsLawfulGathering, IsWhole, kept as kept_by, kept_row}
-use Rattle.ring_place.specs.Rows.{AreKnown, is_empty, row_at}
+use Rattle.ring_place.specs.Rebalance.{Gathered, AreReasons, IsLawfulGathering, IsWhole}
+use Rattle.ring_place.specs.Rebalance.{kept as kept_by, kept_row}
+use Rattle.ring_place.specs.Inner.SeatRows.{AreKnown, is_empty, row_at}
 
 -- ---- words
 
@@ -30,11 +32,14 @@ present_only devices (Some id) = if has_present id devices then Some id else Non
 abbrev pub has_free_in : Load → List (Option ℕ) → Bool
 has_free_in load row = list_any (λ device. is_free_in load row device.id) load.devices
 
--- whether some such device is less crowded than the device of a number, where `rest` is the partition without the seat
+-- whether some such device is less crowded than the device of a number, where `rest` is the
+-- partition without the seat
 abbrev pub has_less_in : Load → List (Option ℕ) → List (Option ℕ) → ℕ → Bool
-has_less_in load row rest id = list_any (λ device. is_free_in load row device.id && is_less (crowd_in load rest device.id) (crowd_in load rest id)) load.devices
+has_less_in load row rest id = list_any (λ device. is_free_in load row device.id &&
+    is_less (crowd_in load rest device.id) (crowd_in load rest id)) load.devices
 
--- whether some device outside a partition with room is less crowded than the device of a number for the seat of a replica
+-- whether some device outside a partition with room is less crowded than the device of a number for
+-- the seat of a replica
 abbrev pub is_crowded_in : Load → List (Option ℕ) → ℕ → ℕ → Bool
 is_crowded_in load row replica id = has_less_in load row (others row replica) id
 
@@ -50,47 +55,59 @@ pub record Takes (before after : Load) (old row : List (Option ℕ)) : Type 0 wh
   pub devices : after.devices ≡ before.devices
   pub wanted : after.wanted ≡ before.wanted
   pub load : IsLoad after
-  pub counts : (id : ℕ) → has_device id before.devices ≡ true → have_in after id + seats_on id old ≡ have_in before id + seats_on id row
+  pub counts : (id : ℕ) → has_device id before.devices ≡ true → have_in after id + seats_on id old ≡
+      have_in before id + seats_on id row
 
 -- No device outside with room is less crowded for any seat.
 abbrev pub AreUncrowded : Load → List (Option ℕ) → Type 0
-AreUncrowded was row = (replica id : ℕ) → slice_get row replica ≡ Some (Some id) → is_crowded_in was row replica id ≡ false
+AreUncrowded was row = (replica id : ℕ) → slice_get row replica ≡ Some (Some id) →
+    is_crowded_in was row replica id ≡ false
 
 -- No seat is on a device that keeps more than it wants.
 abbrev pub HaveNoSurplus : Load → List (Option ℕ) → Type 0
-HaveNoSurplus kept row = (replica id : ℕ) → slice_get row replica ≡ Some (Some id) → have_in kept id ≤ want_in kept id
+HaveNoSurplus kept row = (replica id : ℕ) → slice_get row replica ≡ Some (Some id) →
+    have_in kept id ≤ want_in kept id
 
 -- No device has more seats than before, and none that had all that it wants has fewer than that.
 pub record Falls (before after : Load) : Type 0 where
   pub down : (id : ℕ) → has_device id before.devices ≡ true → have_in after id ≤ have_in before id
-  pub floor : (id : ℕ) → has_device id before.devices ≡ true → want_in before id ≤ have_in before id → want_in before id ≤ have_in after id
+  pub floor : (id : ℕ) → has_device id before.devices ≡ true → want_in before id ≤ have_in before id
+      → want_in before id ≤ have_in after id
 
 -- What the first pass lifts of a partition.
 pub data IsFirst (was : Load) (locked : Bool) (old row : List (Option ℕ)) : Type 0 where
   -- its lost seats, if it has any, and no other
-  LostFirst : list_any (is_lost_in was.devices) old ≡ true → row ≡ map (present_only was.devices) old → IsFirst was locked old row
+  LostFirst : list_any (is_lost_in was.devices) old ≡ true → row ≡ map (present_only was.devices)
+      old → IsFirst was locked old row
   -- else, if it isn't locked, one seat for which a device outside with room is less crowded
-  Crowded : list_any (is_lost_in was.devices) old ≡ false → locked ≡ false → (replica id : ℕ) → Lifts old row replica id →
+  Crowded : list_any (is_lost_in was.devices) old ≡ false → locked ≡ false → (replica id : ℕ) →
+      Lifts old row replica id →
       is_crowded_in was old replica id ≡ true → IsFirst was locked old row
   -- or none, if it is locked or there is no such seat
-  Calm : list_any (is_lost_in was.devices) old ≡ false → row ≡ old → (locked ≡ false → AreUncrowded was old) → IsFirst was locked old row
+  Calm : list_any (is_lost_in was.devices) old ≡ false → row ≡ old →
+      (locked ≡ false → AreUncrowded was old) → IsFirst was locked old row
 
 -- What the second pass lifts of a partition, `kept` being how full the devices are then.
 pub data IsSecond (was kept : Load) (locked : Bool) (old row : List (Option ℕ)) : Type 0 where
-  -- one seat of a device that keeps all that it wants, if none was lifted, it isn't locked and a device outside has room
-  Surplus : list_any is_empty old ≡ false → locked ≡ false → (replica id : ℕ) → Lifts old row replica id → has_free_in was old ≡ true →
+  -- one seat of a device that keeps all that it wants, if none was lifted, it isn't locked and a
+  -- device outside has room
+  Surplus : list_any is_empty old ≡ false → locked ≡ false → (replica id : ℕ) →
+      Lifts old row replica id → has_free_in was old ≡ true →
       want_in kept id ≤ have_in kept id → IsSecond was kept locked old row
   -- or none, if no seat is on a device that keeps more than it wants
-  Same : row ≡ old → (list_any is_empty old ≡ false → locked ≡ false → has_free_in was old ≡ true → HaveNoSurplus kept old) → IsSecond was kept locked old row
+  Same : row ≡ old → (list_any is_empty old ≡ false → locked ≡ false → has_free_in was old ≡ true →
+      HaveNoSurplus kept old) → IsSecond was kept locked old row
 
 -- ---- all partitions
 
 -- The devices have the seats of these rows.
-pub record IsFilled (filled : Load) (devices : List Device) (wanted : List ℕ) (rows : List (List (Option ℕ))) : Type 0 where
+pub record IsFilled (filled : Load) (devices : List Device) (wanted : List ℕ)
+    (rows : List (List (Option ℕ))) : Type 0 where
   pub devices_are : filled.devices ≡ devices
   pub wanted_are : filled.wanted ≡ wanted
   pub load : IsLoad filled
-  pub counts : (id : ℕ) → has_device id devices ≡ true → have_in filled id ≡ sum_by (seats_on id) rows
+  pub counts : (id : ℕ) → has_device id devices ≡ true → have_in filled id ≡ sum_by (seats_on id)
+      rows
 
 -- Each row has at most five seats, each empty or on a device of these.
 pub record AreRows (devices : List Device) (rows : List (List (Option ℕ))) : Type 0 where
@@ -107,10 +124,14 @@ IsLifting First was kept locked old row = IsFirst was locked old row
 IsLifting Second was kept locked old row = IsSecond was kept locked old row
 
 -- A pass has gone through these partitions.
-pub record IsPass (pass : Pass) (done : List ℕ) (was kept : Load) (locked : List Bool) (old rows : List (List (Option ℕ))) : Type 0 where
+pub record IsPass (pass : Pass) (done : List ℕ) (was kept : Load) (locked : List Bool)
+    (old rows : List (List (Option ℕ))) : Type 0 where
   pub as_many : length rows ≡ length old
-  pub rest : (partition : ℕ) → is_among done partition ≡ false → row_at rows partition ≡ row_at old partition
-  pub lifted : (partition : ℕ) → is_among done partition ≡ true → IsLifting pass was kept (slice_index_or locked partition false) (row_at old partition) (row_at rows partition)
+  pub rest : (partition : ℕ) → is_among done partition ≡ false → row_at rows partition ≡ row_at old
+      partition
+  pub lifted : (partition : ℕ) → is_among done partition ≡ true →
+      IsLifting pass was kept (slice_index_or locked partition false) (row_at old partition)
+      (row_at rows partition)
   pub filled : IsFilled kept was.devices was.wanted rows
 
 -- ---- what both passes gather of a ring
@@ -119,14 +140,17 @@ pub record IsPass (pass : Pass) (done : List ℕ) (was kept : Load) (locked : Li
 abbrev pub gathered_in : List (List (Option ℕ)) → Gathered
 gathered_in rows partition replica = is_empty (slice_index_or (row_at rows partition) replica None)
 
--- The rows are those of the ring without the gathered seats, `left` is how full the devices are with them, and what is
--- gathered is what a rebalance at the hour gathers.
-pub record IsGathered (ring : RingRecord) (hour : ℕ) (left : Load) (rows : List (List (Option ℕ))) : Type 0 where
+-- The rows are those of the ring without the gathered seats, `left` is how full the devices are
+-- with them, and what is gathered is what a rebalance at the hour gathers.
+pub record IsGathered (ring : RingRecord) (hour : ℕ) (left : Load) (rows : List (List (Option ℕ))) :
+    Type 0 where
   pub wanted : AreWanted ring left.wanted
   pub devices : left.devices ≡ ring.devices
   pub load : IsLoad left
-  pub counts : (id : ℕ) → has_device id ring.devices ≡ true → have_in left id ≡ kept_by ring (gathered_in rows) id
-  pub rows_are : rows ≡ map (λ partition. kept_row ring (gathered_in rows) partition) (range_with_len 0 (partition_count ring))
+  pub counts : (id : ℕ) → has_device id ring.devices ≡ true → have_in left id ≡ kept_by ring
+      (gathered_in rows) id
+  pub rows_are : rows ≡ map (λ partition. kept_row ring (gathered_in rows) partition)
+      (range_with_len 0 (partition_count ring))
   pub lawful : IsLawfulGathering ring hour (gathered_in rows)
   pub reasons : AreReasons ring left.wanted (gathered_in rows)
   pub whole : IsWhole ring hour left.wanted (gathered_in rows)

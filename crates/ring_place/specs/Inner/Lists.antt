@@ -1,6 +1,6 @@
--- Words that carry proofs and contracts within the crate alone; no public contract has them.
 -- The lists that a room keeps of devices, and how few seats may be near any of them at the least.
-use Rattle.std.specs.Prelude.{◌≡◌, ℕ, ◌<◌, ◌≤◌, true, false, All, List, length, take, Option, slice_index}
+use Rattle.std.specs.Prelude.{◌≡◌, ℕ, ◌<◌, ◌≤◌, true, false, All, List, length, take, Option}
+use Rattle.std.specs.Prelude.{slice_index}
 use Rattle.ring_share.specs.Crowd.{is_less}
 use Rattle.ring_share.specs.Room.{has_open}
 use Rattle.ring_share.specs.Tiers.{AreTier}
@@ -17,17 +17,21 @@ cut Server crowd = crowd
 
 -- No open device is less crowded than this for a seat of a partition.
 abbrev pub IsFloor : Load → List (Option ℕ) → ℕ × ℕ × ℕ → Type 0
-IsFloor load row floor = (id : ℕ) → has_open id load.devices ≡ true → is_less (crowd_in load row id) floor ≡ false
+IsFloor load row floor = (id : ℕ) → has_open id load.devices ≡ true → is_less (crowd_in load row id)
+    floor ≡ false
 
 -- These are places of devices that have room, and each device that has room stands at one of them.
 pub record AreRoomy (load : Load) (places : List ℕ) : Type 0 where
   pub within : All (λ place. place < length load.devices) places
   pub roomy : All (λ place. has_room_in load (id_at load.devices place) ≡ true) places
-  pub covered : (place : ℕ) → place < length load.devices → has_room_in load (id_at load.devices place) ≡ true → (index : ℕ) × (index < length places) × (slice_index places index ≡ place)
+  pub covered : (place : ℕ) → place < length load.devices →
+      has_room_in load (id_at load.devices place) ≡ true → (index : ℕ) × (index < length places) ×
+      (slice_index places index ≡ place)
 
--- The devices that have room, and no others, stand at the first places of a list as long as that of the devices. Each
--- region, zone and server that has an open device has one in a list.
-pub record IsRoom (load : Load) (roomy : List ℕ) (count : ℕ) (regions zones servers : List ℕ) : Type 0 where
+-- The devices that have room, and no others, stand at the first places of a list as long as that of
+-- the devices. Each region, zone and server that has an open device has one in a list.
+pub record IsRoom (load : Load) (roomy : List ℕ) (count : ℕ) (regions zones servers : List ℕ) : Type
+    0 where
   pub counted : IsLoad load
   pub long : length roomy ≡ length load.devices
   pub few : count ≤ length roomy

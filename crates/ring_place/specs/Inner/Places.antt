@@ -1,6 +1,6 @@
--- Words that carry proofs and contracts within the crate alone; no public contract has them.
 -- Devices by their places among those of a ring, and the search among some of these places.
-use Rattle.std.specs.Prelude.{◌≡◌, not, Bool, ℕ, ◌+◌, ◌-◌, ◌<◌, nat_lt, if◌then◌else◌, false, true, List, length, map, Option, Some, None, slice_get, slice_index}
+use Rattle.std.specs.Prelude.{◌≡◌, not, Bool, ℕ, ◌+◌, ◌-◌, ◌<◌, nat_lt, if◌then◌else◌, false, true}
+use Rattle.std.specs.Prelude.{List, length, map, Option, Some, None, slice_get, slice_index}
 use Rattle.ring_words.specs.declared.device.Device.{Device}
 use Rattle.ring_share.specs.Crowd.{is_less}
 use Rattle.ring_place.specs.Load.{Load, is_free_in, crowd_in}
@@ -20,27 +20,36 @@ seats_at devices places = map (λ place. Some (id_at devices place)) places
 
 -- the place so many steps after another, where the first place comes after the last
 abbrev pub place_after : ℕ → ℕ → ℕ → ℕ
-place_after count start step = if nat_lt (start + step) count then start + step else (start + step - count)
+place_after count start step = if nat_lt (start + step) count then start + step else
+    (start + step - count)
 
 -- the number of the device so many steps after one of these places
 abbrev pub id_after : Load → List ℕ → ℕ → ℕ → ℕ
-id_after load places start step = id_at load.devices (slice_index places (place_after (length places) start step))
+id_after load places start step =
+    id_at load.devices (slice_index places (place_after (length places) start step))
 
--- Of the devices of the first steps after a place none that is free is less crowded for a seat than the one at the best place.
+-- Of the devices of the first steps after a place none that is free is less crowded for a seat than
+-- the one at the best place.
 abbrev pub AreNoLess : List ℕ → ℕ → ℕ → Load → List (Option ℕ) → ℕ → Type 0
-AreNoLess places start steps load row best = (step : ℕ) → step < steps → is_free_in load row (id_after load places start step) ≡ true →
-    is_less (crowd_in load row (id_after load places start step)) (crowd_in load row (id_at load.devices best)) ≡ false
+AreNoLess places start steps load row best = (step : ℕ) → step < steps →
+    is_free_in load row (id_after load places start step) ≡ true →
+    is_less (crowd_in load row (id_after load places start step))
+    (crowd_in load row (id_at load.devices best)) ≡ false
 
--- The device at the best place is free for a seat, and least crowded among the devices of the first steps after a place.
-pub record IsBestOf (places : List ℕ) (start steps : ℕ) (load : Load) (row : List (Option ℕ)) (best : ℕ) : Type 0 where
+-- The device at the best place is free for a seat, and least crowded among the devices of the first
+-- steps after a place.
+pub record IsBestOf (places : List ℕ) (start steps : ℕ) (load : Load) (row : List (Option ℕ))
+    (best : ℕ) : Type 0 where
   pub within : best < length load.devices
   pub free : is_free_in load row (id_at load.devices best) ≡ true
   pub least : AreNoLess places start steps load row best
 
 -- So is this, with how crowded it is, or none of them is free.
 abbrev pub IsBestSoFar : List ℕ → ℕ → ℕ → Load → List (Option ℕ) → Option (ℕ × (ℕ × ℕ × ℕ)) → Type 0
-IsBestSoFar places start steps load row None = (step : ℕ) → step < steps → is_free_in load row (id_after load places start step) ≡ false
-IsBestSoFar places start steps load row (Some best) = IsBestOf places start steps load row best.0 × (best.1 ≡ crowd_in load row (id_at load.devices best.0))
+IsBestSoFar places start steps load row None = (step : ℕ) → step < steps →
+    is_free_in load row (id_after load places start step) ≡ false
+IsBestSoFar places start steps load row (Some best) = IsBestOf places start steps load row best.0 ×
+    (best.1 ≡ crowd_in load row (id_at load.devices best.0))
 
 -- whether that is no more crowded than this
 abbrev pub is_within : Option (ℕ × (ℕ × ℕ × ℕ)) → ℕ × ℕ × ℕ → Bool

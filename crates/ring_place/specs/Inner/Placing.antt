@@ -1,7 +1,8 @@
--- Words that carry proofs and contracts within the crate alone; no public contract has them.
--- What putting the lifted seats of partitions keeps.
--- `old` is a partition before a rebalance, `lifted` is it without its gathered seats, and `row` is it later.
-use Rattle.std.specs.Prelude.{◌≡◌, ◌≢◌, ◌==◌, ℕ, ◌+◌, ◌-◌, ◌<◌, ◌≤◌, Bool, true, false, ◌&&◌, ◌||◌, ◌⊎◌, if◌then◌else◌, List, ◌∷◌, length, Option, Some, None, IfSome, slice_get, count_by, sum_by}
+-- What putting the lifted seats of partitions keeps: `old` is a partition before a rebalance,
+-- `lifted` is it without its gathered seats, and `row` is it later.
+use Rattle.std.specs.Prelude.{◌≡◌, ◌≢◌, ◌==◌, ℕ, ◌+◌, ◌-◌, ◌<◌, ◌≤◌, Bool, true, false, ◌&&◌, ◌||◌}
+use Rattle.std.specs.Prelude.{◌⊎◌, if◌then◌else◌, List, ◌∷◌, length, Option, Some, None, IfSome}
+use Rattle.std.specs.Prelude.{slice_get, count_by, sum_by}
 use Rattle.ring_model.specs.Ring.{has_device, has_present}
 use Rattle.ring_words.specs.declared.device.Device.{Device}
 use Rattle.ring_share.specs.Crowd.{is_less, is_on, others, seats_on}
@@ -9,9 +10,9 @@ use Rattle.ring_share.specs.Room.{has_open}
 use Rattle.ring_share.specs.Want.{is_open}
 use Rattle.ring_place.specs.Load.{Load, IsLoad, have_in, want_in, is_free_in, crowd_in}
 use Rattle.ring_place.specs.Rebalance.{differs}
-use Rattle.ring_place.specs.Rows.{row_at}
+use Rattle.ring_place.specs.Inner.SeatRows.{row_at}
 use Rattle.ring_place.specs.Inner.Gathering.{has_free_in}
-use Rattle.ring_place.specs.Rows.{AreKnown}
+use Rattle.ring_place.specs.Inner.SeatRows.{AreKnown}
 
 -- A device that isn't open wants nothing.
 abbrev pub OpenWant : Load → Type 0
@@ -23,17 +24,21 @@ OpenWant load = (id : ℕ) → has_open id load.devices ≡ false → want_in lo
 abbrev pub IsLifted : List (Option ℕ) → ℕ → Type 0
 IsLifted lifted replica = slice_get lifted replica ≡ Some None
 
--- A lifted seat may go to the device of a number: it is open, or the seat's own and not marked to be removed.
+-- A lifted seat may go to the device of a number: it is open, or the seat's own and not marked to
+-- be removed.
 abbrev pub MayTakeSeat : List Device → Option (Option ℕ) → ℕ → Type 0
-MayTakeSeat devices own id = (has_open id devices ≡ true) ⊎ ((own ≡ Some (Some id)) × (has_present id devices ≡ true))
+MayTakeSeat devices own id = (has_open id devices ≡ true) ⊎ ((own ≡ Some (Some id)) ×
+    (has_present id devices ≡ true))
 
 -- No free device is less crowded for the partition's next seat than the device of a number.
 abbrev pub NoneIsLess : Load → List (Option ℕ) → ℕ → Type 0
-NoneIsLess load row id = (other : ℕ) → is_free_in load row other ≡ true → is_less (crowd_in load row other) (crowd_in load row id) ≡ false
+NoneIsLess load row id = (other : ℕ) → is_free_in load row other ≡ true →
+    is_less (crowd_in load row other) (crowd_in load row id) ≡ false
 
 -- The seat's own device wins a tie: who leaves it goes to a less crowded one, or it isn't free.
 abbrev pub OwnWins : Load → List (Option ℕ) → Option ℕ → ℕ → Type 0
-OwnWins load row own id = (from : ℕ) → own ≡ Some from → is_free_in load row from ≡ true → id ≢ from → is_less (crowd_in load row id) (crowd_in load row from) ≡ true
+OwnWins load row own id = (from : ℕ) → own ≡ Some from → is_free_in load row from ≡ true →
+    id ≢ from → is_less (crowd_in load row id) (crowd_in load row from) ≡ true
 
 -- The device of a number is where a lifted seat goes.
 pub record IsChosen (load : Load) (row : List (Option ℕ)) (own : Option ℕ) (id : ℕ) : Type 0 where
@@ -44,13 +49,16 @@ pub record IsChosen (load : Load) (row : List (Option ℕ)) (own : Option ℕ) (
   pub own_wins : OwnWins load row own id
   -- it is free if any device is, and if the seat leaves a device that remains
   pub free : (other : ℕ) → is_free_in load row other ≡ true → is_free_in load row id ≡ true
-  pub stays : IfSome own (λ from. has_present from load.devices ≡ true → id ≢ from → is_free_in load row id ≡ true)
+  pub stays : IfSome own (λ from. has_present from load.devices ≡ true → id ≢ from →
+      is_free_in load row id ≡ true)
 
 -- ---- one partition
 
--- A lifted seat from a device that remains is the only lifted seat of its partition, which has no other seat on that device.
+-- A lifted seat from a device that remains is the only lifted seat of its partition, which has no
+-- other seat on that device.
 abbrev pub IsAlone : List Device → List (Option ℕ) → List (Option ℕ) → Type 0
-IsAlone devices old lifted = (replica id : ℕ) → IsLifted lifted replica → slice_get old replica ≡ Some (Some id) → has_present id devices ≡ true →
+IsAlone devices old lifted = (replica id : ℕ) → IsLifted lifted replica →
+    slice_get old replica ≡ Some (Some id) → has_present id devices ≡ true →
     (seats_on id lifted ≡ 0) × ((other : ℕ) → IsLifted lifted other → other ≡ replica)
 
 -- A partition whose lifted seats can be put.
@@ -66,17 +74,23 @@ pub record CanPlace (devices : List Device) (old lifted : List (Option ℕ)) : T
 -- For a seat no free device is less crowded than its own.
 abbrev pub IsSettled : Load → List (Option ℕ) → ℕ → Type 0
 IsSettled load row replica = (id : ℕ) → slice_get row replica ≡ Some (Some id) →
-    (other : ℕ) → is_free_in load row other ≡ true → is_less (crowd_in load (others row replica) other) (crowd_in load (others row replica) id) ≡ false
+    (other : ℕ) → is_free_in load row other ≡ true →
+    is_less (crowd_in load (others row replica) other) (crowd_in load (others row replica) id) ≡
+    false
 
--- A seat that left a device that remains is on a less crowded one, or that device has what it wants.
+-- A seat that left a device that remains is on a less crowded one, or that device has what it
+-- wants.
 abbrev pub HasGain : Load → List (Option ℕ) → List (Option ℕ) → ℕ → Type 0
-HasGain load old row replica = (from to : ℕ) → slice_get old replica ≡ Some (Some from) → has_present from load.devices ≡ true →
+HasGain load old row replica = (from to : ℕ) → slice_get old replica ≡ Some (Some from) →
+    has_present from load.devices ≡ true →
     slice_get row replica ≡ Some (Some to) → to ≢ from →
-    (is_less (crowd_in load (others row replica) to) (crowd_in load (others row replica) from) ≡ true) ⊎ (want_in load from ≤ have_in load from)
+    (is_less (crowd_in load (others row replica) to) (crowd_in load (others row replica) from) ≡
+    true) ⊎ (want_in load from ≤ have_in load from)
 
 -- What holds of a lifted seat once it is put, for as long as devices only fill up.
 pub record IsPlaced (load : Load) (old row : List (Option ℕ)) (replica : ℕ) : Type 0 where
-  pub seated : (id : ℕ) × (slice_get row replica ≡ Some (Some id)) × MayTakeSeat load.devices (slice_get old replica) id
+  pub seated : (id : ℕ) × (slice_get row replica ≡ Some (Some id)) ×
+      MayTakeSeat load.devices (slice_get old replica) id
   pub settled : IsSettled load row replica
   pub gain : HasGain load old row replica
 
@@ -85,15 +99,18 @@ abbrev pub has_left_from : List Device → Option ℕ → Option ℕ → Bool
 has_left_from devices None to = false
 has_left_from devices (Some from) to = has_present from devices && differs (Some from) to
 
--- whether a seat takes room on the device of a number: it was lifted and is on it now, and it left a device that remains,
--- or its partition has a free device
+-- whether a seat takes room on the device of a number: it was lifted and is on it now, and it left
+-- a device that remains, or its partition has a free device
 abbrev pub draws : List Device → Bool → ℕ → Option ℕ → Option ℕ → Option ℕ → Bool
-draws devices free id before None to = is_on (λ other. other == id) to && (has_left_from devices before to || free)
+draws devices free id before None to = is_on (λ other. other == id) to &&
+    (has_left_from devices before to || free)
 draws devices free id before (Some kept) to = false
 
 -- how many seats of a partition do
-abbrev pub drawn_in : List Device → Bool → ℕ → List (Option ℕ) → List (Option ℕ) → List (Option ℕ) → ℕ
-drawn_in devices free id (before ∷ old) (up ∷ lifted) (to ∷ row) = (if draws devices free id before up to then 1 else 0) + drawn_in devices free id old lifted row
+abbrev pub drawn_in : List Device → Bool → ℕ → List (Option ℕ) → List (Option ℕ) → List (Option ℕ) →
+    ℕ
+drawn_in devices free id (before ∷ old) (up ∷ lifted) (to ∷ row) =
+    (if draws devices free id before up to then 1 else 0) + drawn_in devices free id old lifted row
 drawn_in devices free id old lifted row = 0
 
 -- The same devices and wants, and no device has fewer seats.
@@ -105,7 +122,8 @@ pub record Fills (old new : Load) : Type 0 where
 -- The lifted seats of a partition are put.
 pub record RowSeated (after : Load) (old lifted row : List (Option ℕ)) : Type 0 where
   pub as_many : length row ≡ length lifted
-  pub kept : (replica id : ℕ) → slice_get lifted replica ≡ Some (Some id) → slice_get row replica ≡ Some (Some id)
+  pub kept : (replica id : ℕ) → slice_get lifted replica ≡ Some (Some id) →
+      slice_get row replica ≡ Some (Some id)
   pub placed : (replica : ℕ) → IsLifted lifted replica → IsPlaced after old row replica
   pub distinct : (id : ℕ) → seats_on id row ≤ 1
   pub known : AreKnown after.devices row
@@ -113,8 +131,10 @@ pub record RowSeated (after : Load) (old lifted row : List (Option ℕ)) : Type 
 -- So they are, within the room that there was before, and they are counted.
 pub record RowPlaced (before after : Load) (old lifted row : List (Option ℕ)) : Type 0 where
   pub seated : RowSeated after old lifted row
-  pub drawn : (id : ℕ) → drawn_in after.devices (has_free_in after row) id old lifted row ≤ want_in after id - have_in before id
-  pub counts : (id : ℕ) → has_device id before.devices ≡ true → have_in after id + seats_on id lifted ≡ have_in before id + seats_on id row
+  pub drawn : (id : ℕ) → drawn_in after.devices (has_free_in after row) id old lifted row ≤ want_in
+      after id - have_in before id
+  pub counts : (id : ℕ) → has_device id before.devices ≡ true → have_in after id + seats_on id
+      lifted ≡ have_in before id + seats_on id row
   pub fills : Fills before after
   pub load : IsLoad after
 
@@ -125,14 +145,20 @@ abbrev pub have_on : ℕ → List (List (Option ℕ)) → ℕ
 have_on id rows = sum_by (seats_on id) rows
 
 -- how many seats take room on the device of a number
-abbrev pub drawn : Load → ℕ → List (List (Option ℕ)) → List (List (Option ℕ)) → List (List (Option ℕ)) → ℕ
-drawn load id (before ∷ old) (up ∷ lifted) (to ∷ rows) = drawn_in load.devices (has_free_in load to) id before up to + drawn load id old lifted rows
+abbrev pub drawn : Load → ℕ → List (List (Option ℕ)) → List (List (Option ℕ)) →
+    List (List (Option ℕ)) → ℕ
+drawn load id (before ∷ old) (up ∷ lifted) (to ∷ rows) = drawn_in load.devices (has_free_in load to)
+    id before up to + drawn load id old lifted rows
 drawn load id old lifted rows = 0
 
--- The lifted seats of all partitions are put, within the room that there was before, and they are counted.
+-- The lifted seats of all partitions are put, within the room that there was before, and they are
+-- counted.
 pub record AllPlaced (before after : Load) (old lifted rows : List (List (Option ℕ))) : Type 0 where
   pub as_many : length rows ≡ length lifted
-  pub seated : (partition : ℕ) → partition < length lifted → RowSeated after (row_at old partition) (row_at lifted partition) (row_at rows partition)
-  pub within_room : (id : ℕ) → has_device id before.devices ≡ true → drawn after id old lifted rows ≤ want_in after id - have_in before id
-  pub counts : (id : ℕ) → has_device id before.devices ≡ true → have_in after id + have_on id lifted ≡ have_in before id + have_on id rows
+  pub seated : (partition : ℕ) → partition < length lifted → RowSeated after (row_at old partition)
+      (row_at lifted partition) (row_at rows partition)
+  pub within_room : (id : ℕ) → has_device id before.devices ≡ true → drawn after id old lifted rows
+      ≤ want_in after id - have_in before id
+  pub counts : (id : ℕ) → has_device id before.devices ≡ true → have_in after id + have_on id lifted
+      ≡ have_in before id + have_on id rows
   pub fills : Fills before after

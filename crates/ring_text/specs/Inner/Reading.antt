@@ -1,5 +1,6 @@
 -- The parts of a text, as they are read one after another.
-use Rattle.std.specs.Prelude.{◌≡◌, ℕ, ◌*◌, ◌≤◌, ◌<◌, ◌^◌, ◌++◌, List, [], ◌∷◌, length, map, slice_index_or, IsTrue, All, codes, decimal}
+use Rattle.std.specs.Prelude.{◌≡◌, ℕ, ◌*◌, ◌≤◌, ◌<◌, ◌^◌, ◌++◌, List, [], ◌∷◌, length, map}
+use Rattle.std.specs.Prelude.{slice_index_or, IsTrue, All, codes, decimal}
 use Rattle.std.specs.List.{join_with_byte}
 use Rattle.ring_words.specs.Texts.{is_label, is_device_name}
 use Rattle.ring_words.specs.declared.device.Device.{Device}
@@ -74,8 +75,10 @@ pub record ArePartitionLines (replicas : ℕ) (texts : List (List ℕ)) (seats :
   pub count : length seats ≡ length texts * replicas
   pub limits : All (λ n. n < 2 ^ 16) seats
 
--- What follows the first lines is so many lines of devices, so many lines of partitions, and what stands round these.
-pub record IsCut (device_count partition_count : ℕ) (texts : List (List ℕ)) (parts : List (List ℕ) × List (List ℕ)) : Type 0 where
+-- What follows the first lines is so many lines of devices, so many lines of partitions, and what
+-- stands round these.
+pub record IsCut (device_count partition_count : ℕ) (texts : List (List ℕ)) (parts : List (List ℕ) ×
+    List (List ℕ)) : Type 0 where
   pub is : texts ≡ parts.0 ++ codes "seats" ∷ (parts.1 ++ codes "end" ∷ [] ∷ [])
   pub devices : length parts.0 ≡ device_count
   pub partitions : length parts.1 ≡ partition_count
@@ -92,7 +95,8 @@ made head devices seats = record {
 }
 
 -- These are the parts of a snapshot.
-pub record IsMade (head : Head) (devices : List Device) (seats : List ℕ) (snapshot : SnapshotRecord) : Type 0 where
+pub record IsMade (head : Head) (devices : List Device) (seats : List ℕ) (snapshot : SnapshotRecord)
+    : Type 0 where
   pub valid : IsValidSnapshot snapshot
   pub is : snapshot ≡ made head devices seats
 

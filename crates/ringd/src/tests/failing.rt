@@ -40,7 +40,9 @@ impl<K: Keeper<RingMachine>> Keeper<RingMachine> for Failing<K> {
 
     ghost may_leave = { λ k left. K.may_leave k.kept left };
 
-    ghost settled = { λ k sound whole. K.settled k.kept sound ((elim k.has_failed as (λ has_failed. cond has_failed 1 (K.fault_count k.kept) ≡ 0 → K.fault_count k.kept ≡ 0) [ true ↦ λ n. Prim.cc | false ↦ λ n. n ]) whole) };
+    ghost settled = { λ k sound whole. K.settled k.kept sound
+        ((elim k.has_failed as (λ has_failed. cond has_failed 1 (K.fault_count k.kept) ≡ 0 →
+        K.fault_count k.kept ≡ 0) [ true ↦ λ n. Prim.cc | false ↦ λ n. n ]) whole) };
 
     fn faults(&self) -> u64 {
         if self.has_failed {

@@ -1,4 +1,5 @@
-//! Rebalances, raised rings and published texts, line by line. The rows are written with `'` for `"`.
+//! Rebalances, raised rings and published texts, line by line. The rows are written with `'` for
+//! `"`.
 use super::{ask, open};
 use builder::{decide, read_delivery};
 use ring_model::Rings;

@@ -1,5 +1,6 @@
 -- What a DELETE makes of the map of a table: of the row of a key, and of all rows.
-use Rattle.std.proofs.Common.{◌≡◌, inl, ℕ, ℤ, true, List, [], ◌∷◌, map, filter, slice_get, Some, Ok, refl, sym, ap, subst, ◌∙◌, true≢false}
+use Rattle.std.proofs.Common.{◌≡◌, inl, ℕ, ℤ, true, List, [], ◌∷◌, map, filter, slice_get, Some, Ok}
+use Rattle.std.proofs.Common.{refl, sym, ap, subst, ◌∙◌, true≢false}
 use Rattle.std.specs.List.Sorted.{IsPermutation}
 use Rattle.std.specs.Ordering.{eq_by_cmp}
 use Rattle.std.specs.FinMap.{remove}
@@ -56,15 +57,21 @@ module _ (schema : Schema) {K V : Type 0} (l : Layout K V) (f : Facts schema l) 
     finds db found a =
         let rows = db l.plain.tree in
         let picks = passes text.test params in
-        let out : Row → Row = λ r. (output (of_table l.plain.tree text.test (col 1 0 ∷ []) []) (env_of params r)).1 in
-        let same : IsPermutation (map out (filter picks rows)) found = answer_picks l.plain.tree text.test (col 1 0 ∷ []) db params found a in
+        let out : Row → Row = λ r. (output (of_table l.plain.tree text.test (col 1 0 ∷ []) [])
+        (env_of params r)).1 in
+        let same : IsPermutation (map out (filter picks rows)) found =
+        answer_picks l.plain.tree text.test (col 1 0 ∷ []) db params found a in
         record {
           sound = λ x h.
-              let r = has_mapped out (filter picks rows) x (moved found (map out (filter picks rows)) x (IsPermutation-sym (map out (filter picks rows)) found same) h) in
+              let r = has_mapped out (filter picks rows) x
+              (moved found (map out (filter picks rows)) x
+              (IsPermutation-sym (map out (filter picks rows)) found same) h) in
               let was = has_filtered picks rows r.0 r.1 in
               (r.0, was.0, was.1, r.2 ∙ text.numbers params r.0);
           complete = λ r h passed.
-              subst (Has found) (text.numbers params r) (moved (map out (filter picks rows)) found (out r) same (mapped_has out (filter picks rows) r (has_kept picks rows r h passed)));
+              subst (Has found) (text.numbers params r) (moved (map out (filter picks rows)) found
+              (out r) same (mapped_has out (filter picks rows) r (has_kept picks rows r h
+              passed)));
         }
 
     deleted : (old new : State) (count : ℕ) → Lives schema old.now
@@ -73,7 +80,8 @@ module _ (schema : Schema) {K V : Type 0} (l : Layout K V) (f : Facts schema l) 
         × (found : List Row) × Finds (old.now.trees l.plain.tree) found
         × (new.now.trees l.plain.tree ≡ without_all (old.now.trees l.plain.tree) (ids_of found))
     deleted old new count lives h =
-        let done = deletes schema l.plain text.at sql params _ old new count text.placed text.quiet text.is text.plain lives.schema_is h in
+        let done = deletes schema l.plain text.at sql params _ old new count text.placed text.quiet
+        text.is text.plain lives.schema_is h in
         let found = done.2 in
         let it = done.4 in
         let are = rows_in schema l f old.now lives in
@@ -81,7 +89,8 @@ module _ (schema : Schema) {K V : Type 0} (l : Layout K V) (f : Facts schema l) 
           record {
             schema_is = done.1;
             sound = done.0.sound;
-            ordered = deleted_shaped schema l.plain old.now.trees new.now.trees found lives.ordered are.shaped it;
+            ordered = deleted_shaped schema l.plain old.now.trees new.now.trees found lives.ordered
+                are.shaped it;
           },
           it.tables,
           found,
@@ -89,7 +98,8 @@ module _ (schema : Schema) {K V : Type 0} (l : Layout K V) (f : Facts schema l) 
           it.rows,
         )
 
-  module _ (sql : List ℕ) (text : DropText sql) (params : K → Row) (by_key : (id : ℤ) (k key : K) (v : V) → passes text.test (params key) (l.row id k v) ≡ eq_by_cmp l.cmp k key) where
+  module _ (sql : List ℕ) (text : DropText sql) (params : K → Row) (by_key : (id : ℤ) (k key : K)
+      (v : V) → passes text.test (params key) (l.row id k v) ≡ eq_by_cmp l.cmp k key) where
     pub drops_row : (key : K) (old new : State) (count : ℕ) → Lives schema old.now
         → Executes sql (params key) old new (Ok count)
         → Lives schema new.now × Spares schema l.plain old.now.trees new.now.trees
@@ -103,9 +113,12 @@ module _ (schema : Schema) {K V : Type 0} (l : Layout K V) (f : Facts schema l) 
         let all = it.3 in
         let picks = passes text.test (params key) in
         let tie = row_by_key schema l f text.test params by_key rows are key in
-        let less : Drops f.total f.exact l.entry rows (without_all rows (ids_of found)) key = record {
-          others = λ x h. let was = left_out rows found are.shaped.0 are.shaped.1 picks all.sound all.complete x h in (was.0, sym (tie x was.0) ∙ was.1);
-          kept = λ x h other. left_in rows found are.shaped.0 are.shaped.1 picks all.sound all.complete x h (tie x h ∙ other);
+        let less : Drops f.total f.exact l.entry rows (without_all rows (ids_of found)) key =
+        record {
+          others = λ x h. let was = left_out rows found are.shaped.0 are.shaped.1 picks all.sound
+              all.complete x h in (was.0, sym (tie x was.0) ∙ was.1);
+          kept = λ x h other. left_in rows found are.shaped.0 are.shaped.1 picks all.sound
+              all.complete x h (tie x h ∙ other);
         } in (
           it.0,
           it.1,
@@ -117,7 +130,8 @@ module _ (schema : Schema) {K V : Type 0} (l : Layout K V) (f : Facts schema l) 
   none_left [] none = refl
   none_left (x ∷ rows) none = absurd (none x (inl refl))
 
-  module _ (sql : List ℕ) (text : DropText sql) (all_pass : (r : Row) → passes text.test [] r ≡ true) where
+  module _ (sql : List ℕ) (text : DropText sql) (all_pass : (r : Row) →
+      passes text.test [] r ≡ true) where
     pub drops_all : (old new : State) (count : ℕ) → Lives schema old.now
         → Executes sql [] old new (Ok count)
         → Lives schema new.now × Spares schema l.plain old.now.trees new.now.trees
@@ -129,6 +143,7 @@ module _ (schema : Schema) {K V : Type 0} (l : Layout K V) (f : Facts schema l) 
         let found = it.2 in
         let all = it.3 in
         let none = none_left (without_all rows (ids_of found)) (λ x h.
-        let was = left_out rows found are.shaped.0 are.shaped.1 (passes text.test []) all.sound all.complete x h in
+        let was = left_out rows found are.shaped.0 are.shaped.1 (passes text.test []) all.sound
+        all.complete x h in
         true≢false (sym (all_pass x) ∙ was.1)) in
         (it.0, it.1, ap (map_of l) (it.4 ∙ none))

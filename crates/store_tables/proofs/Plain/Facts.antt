@@ -1,5 +1,6 @@
 -- What has to be known of a table for the lemmas on its rows.
-use Rattle.std.proofs.Common.{◌≡◌, inl, inr, ℤ, true, false, List, [], drop, None, Some, Ordering, Less, Equal, Greater, refl, sym, ap, subst, subst₂, ◌∙◌, true≢false}
+use Rattle.std.proofs.Common.{◌≡◌, inl, inr, ℤ, true, false, List, [], drop, None, Some, Ordering}
+use Rattle.std.proofs.Common.{Less, Equal, Greater, refl, sym, ap, subst, subst₂, ◌∙◌, true≢false}
 use Rattle.std.specs.Cmp.{IsTotalOrder}
 use Rattle.std.specs.FinMap.{IsAntisymmetric}
 use Rattle.std.specs.Ordering.{is_eq, is_ne, eq_by_cmp}
@@ -84,7 +85,8 @@ module _ (schema : Schema) {K V : Type 0} (l : Layout K V) (f : Facts schema l) 
       let table = table_of l.plain in
       let typed : (x : Row) → Has rows x → IsRow l x = λ x h.
       f.typed x (all_has _ rows x shaped.1 h)
-      (and_parts _ _ (keeps_at Datatype schema db table x (sound.obeys.rules Datatype) f.listed h)).0
+      (and_parts _ _ (keeps_at Datatype schema db table x (sound.obeys.rules Datatype) f.listed
+      h)).0
       (keeps_at NotNull schema db table x (sound.obeys.rules NotNull) f.listed h) in
       record {
         shaped = shaped;
@@ -92,18 +94,25 @@ module _ (schema : Schema) {K V : Type 0} (l : Layout K V) (f : Facts schema l) 
         apart = λ a b h k same.
             let ta = typed a h in
             let tb = typed b k in
-            let none = f.unique db b (keeps_at Unique schema db table b (sound.obeys.rules Unique) f.listed k) in
+            let none = f.unique db b (keeps_at Unique schema db table b (sound.obeys.rules Unique)
+            f.listed k) in
             let keys_same : ta.1 ≡ tb.1 = sym (key_is a ta) ∙ same ∙ key_is b tb in
-            let keys : eq_by_cmp l.cmp ta.1 tb.1 ≡ true = ap (λ k. eq_by_cmp l.cmp k tb.1) keys_same ∙ ap is_eq (tied_itself f.total tb.1) in
+            let keys : eq_by_cmp l.cmp ta.1 tb.1 ≡ true = ap (λ k. eq_by_cmp l.cmp k tb.1) keys_same
+            ∙ ap is_eq (tied_itself f.total tb.1) in
             let both : agree plain l.key a l.key b ≡ true =
-            subst₂ (λ x y. agree plain l.key x l.key y ≡ true) (sym ta.3) (sym tb.3) (f.agrees ta.0 ta.1 ta.2 tb.0 tb.1 tb.2 ∙ keys) in
+            subst₂ (λ x y. agree plain l.key x l.key y ≡ true) (sym ta.3) (sym tb.3)
+            (f.agrees ta.0 ta.1 ta.2 tb.0 tb.1 tb.2 ∙ keys) in
             elim (cases_Bool (differ (rowid a) (rowid b))) [
-              | inl apart ↦ absurd (true≢false (sym (some_from _ rows a h (and_from _ _ both apart)) ∙ none))
-              | inr one ↦ tied_same rows a b shaped.0 h k (subst₂ (λ x y. value_cmp x y ≡ Equal) (sym (number_is a ta)) (sym (number_is b tb))
-                  (same_rowid ta.0 tb.0 (subst₂ (λ x y. differ x y ≡ false) (number_is a ta) (number_is b tb) one)))
+              | inl apart ↦ absurd (true≢false (sym (some_from _ rows a h (and_from _ _ both apart))
+                  ∙ none))
+              | inr one ↦ tied_same rows a b shaped.0 h k (subst₂ (λ x y. value_cmp x y ≡ Equal)
+                  (sym (number_is a ta)) (sym (number_is b tb))
+                  (same_rowid ta.0 tb.0 (subst₂ (λ x y. differ x y ≡ false) (number_is a ta)
+                  (number_is b tb) one)))
             ];
       }
 
   pub rows_in : (db : Database) → Lives schema db → AreRows l (db.trees l.plain.tree)
   rows_in db lives =
-      from_sound db.trees (subst (λ s. IsSound s db.trees) lives.schema_is lives.sound) (lives.ordered (table_of l.plain) f.listed)
+      from_sound db.trees (subst (λ s. IsSound s db.trees) lives.schema_is lives.sound)
+      (lives.ordered (table_of l.plain) f.listed)

@@ -1,9 +1,12 @@
 -- Rows as a map, whatever the table.
-use Rattle.std.proofs.Common.{◌≡◌, ◌⊎◌, inl, inr, ℤ, Bool, true, false, not, cond, List, [], ◌∷◌, map, Some, None, Ordering, Equal, IsTrue, refl, sym, ap, subst, ◌∙◌, true≢false}
+use Rattle.std.proofs.Common.{◌≡◌, ◌⊎◌, inl, inr, ℤ, Bool, true, false, not, cond, List, [], ◌∷◌}
+use Rattle.std.proofs.Common.{map, Some, None, Ordering, Equal, IsTrue, refl, sym, ap, subst, ◌∙◌}
+use Rattle.std.proofs.Common.{true≢false}
 use Rattle.std.specs.List.{AllByRecursion}
 use Rattle.std.specs.Cmp.{IsTotalOrder}
 use Rattle.std.specs.Ordering.{is_eq, eq_by_cmp}
-use Rattle.std.specs.FinMap.{FinMap, from_entries, insert, remove, get-remove, find, get-from_entries, get-insert, same_map, IsAntisymmetric}
+use Rattle.std.specs.FinMap.{FinMap, from_entries, insert, remove, get-remove, find}
+use Rattle.std.specs.FinMap.{get-from_entries, get-insert, same_map, IsAntisymmetric}
 use Rattle.std.proofs.lemmas.Bool.{cases_Bool, not-true}
 use Rattle.std.proofs.lemmas.Cmp.{tied_itself}
 use Rattle.sqlite_value.specs.Order.{Row, value_cmp}
@@ -32,17 +35,22 @@ left_from (id ∷ ids) rows x h =
     (was.0, λ other k. elim k [ inl e ↦ rw e (not-true _ was.1) | inr more ↦ r.1 other more ])
 
 own_rowid : (x : Row) → is_int (rowid x) ≡ true → has_rowid (id_in (rowid x)) x ≡ true
-own_rowid x int = ap (λ v. is_eq (value_cmp (rowid x) v)) (sym (int_is (rowid x) int)) ∙ ap is_eq (tied_itself value_cmp_total (rowid x))
+own_rowid x int = ap (λ v. is_eq (value_cmp (rowid x) v)) (sym (int_is (rowid x) int)) ∙ ap is_eq
+    (tied_itself value_cmp_total (rowid x))
 
--- Of rows, those are left that do not pass the test, where the rowids of those that pass were taken out.
-module _ (rows found : List Row) (up : IsTable rows) (keyed : AllByRecursion (λ r. IsTrue (is_int (rowid r))) rows) (test : Row → Bool)
-    (sound : (x : Row) → Has found x → (r : Row) × Has rows r × (test r ≡ true) × (x ≡ rowid r ∷ []))
+-- Of rows, those are left that do not pass the test, where the rowids of those that pass were taken
+-- out.
+module _ (rows found : List Row) (up : IsTable rows) (keyed : AllByRecursion
+    (λ r. IsTrue (is_int (rowid r))) rows) (test : Row → Bool)
+    (sound : (x : Row) → Has found x → (r : Row) × Has rows r × (test r ≡ true) ×
+    (x ≡ rowid r ∷ []))
     (complete : (r : Row) → Has rows r → test r ≡ true → Has found (rowid r ∷ [])) where
   pub left_out : (x : Row) → Has (without_all rows (ids_of found)) x → Has rows x × (test x ≡ false)
   left_out x h =
       let r = left_from (ids_of found) rows x h in
       elim (cases_Bool (test x)) [
-        | inl passes ↦ absurd (true≢false (sym (own_rowid x (all_has _ rows x keyed r.0)) ∙ r.1 (id_in (rowid x)) (mapped_has (λ y. id_in (rowid y)) found _ (complete x r.0 passes))))
+        | inl passes ↦ absurd (true≢false (sym (own_rowid x (all_has _ rows x keyed r.0)) ∙ r.1
+            (id_in (rowid x)) (mapped_has (λ y. id_in (rowid y)) found _ (complete x r.0 passes))))
         | inr fails ↦ (r.0, fails)
       ]
 
@@ -54,7 +62,9 @@ module _ (rows found : List Row) (up : IsTable rows) (keyed : AllByRecursion (λ
         let one = has_mapped (λ (y : Row). id_in (rowid y)) found at.0 at.1 in
         let r = sound one.0 one.1 in
         let id : at.0 ≡ id_in (rowid r.0) = one.2 ∙ ap (λ (y : Row). id_in (rowid y)) r.3 in
-        let same : x ≡ r.0 = at.2 ∙ row_at_is rows at.0 r.0 up r.1 (subst (λ k. has_rowid k r.0 ≡ true) (sym id) (own_rowid r.0 (all_has _ rows r.0 keyed r.1))) in
+        let same : x ≡ r.0 = at.2 ∙ row_at_is rows at.0 r.0 up r.1
+        (subst (λ k. has_rowid k r.0 ≡ true) (sym id)
+        (own_rowid r.0 (all_has _ rows r.0 keyed r.1))) in
         absurd (true≢false (sym r.2 ∙ ap test (sym same) ∙ fails))
   ]
 
@@ -62,7 +72,8 @@ module _ (rows found : List Row) (up : IsTable rows) (keyed : AllByRecursion (λ
 abbrev pub map_by : {K V : Type 0} (R : K → K → Ordering) → (Row → K × V) → List Row → FinMap R V
 map_by R entry rows = from_entries {R = R} (map entry rows)
 
-module _ {K V : Type 0} {R : K → K → Ordering} (o : IsTotalOrder R) (exact : IsAntisymmetric R) (entry : Row → K × V) where
+module _ {K V : Type 0} {R : K → K → Ordering} (o : IsTotalOrder R) (exact : IsAntisymmetric R)
+    (entry : Row → K × V) where
   abbrev key : Row → K
   key r = (entry r).0
 
@@ -74,9 +85,11 @@ module _ {K V : Type 0} {R : K → K → Ordering} (o : IsTotalOrder R) (exact :
       → find R (key x) (map entry rows) ≡ Some (entry x).1
   found_at [] x apart h = absurd h
   found_at (r ∷ rows) x apart h = elim (cases_Bool (eq_by_cmp R (key x) (key r))) [
-    | inl here ↦ let same : x ≡ r = apart x r h (inl refl) (exact _ _ (tied _ here)) in rw here (ap (λ (y : Row). Some (entry y).1) (sym same))
+    | inl here ↦ let same : x ≡ r = apart x r h (inl refl) (exact _ _ (tied _ here)) in
+        rw here (ap (λ (y : Row). Some (entry y).1) (sym same))
     | inr other ↦ elim h [
-      | inl same ↦ absurd (true≢false (sym (ap is_eq (tied_itself o (key r))) ∙ ap (λ (y : Row). eq_by_cmp R (key y) (key r)) (sym same) ∙ other))
+      | inl same ↦ absurd (true≢false (sym (ap is_eq (tied_itself o (key r))) ∙ ap
+          (λ (y : Row). eq_by_cmp R (key y) (key r)) (sym same) ∙ other))
       | inr later ↦ rw other (found_at rows x (λ a b p q. apart a b (inr p) (inr q)) later)
     ]
   ]
@@ -106,7 +119,8 @@ module _ {K V : Type 0} {R : K → K → Ordering} (o : IsTotalOrder R) (exact :
     pub kept : (x : Row) → Has old x → eq_by_cmp R (key x) (key row) ≡ false → Has new x
 
   unlike : (a b : K) → eq_by_cmp R a b ≡ false → a ≡ b → ⊥
-  unlike a b other same = true≢false (sym (ap is_eq (tied_itself o b)) ∙ ap (λ k. eq_by_cmp R k b) (sym same) ∙ other)
+  unlike a b other same = true≢false (sym (ap is_eq (tied_itself o b)) ∙ ap (λ k. eq_by_cmp R k b)
+      (sym same) ∙ other)
 
   pub still_apart : (old new : List Row) (row : Row) → AreApart old → Puts old new row
       → AreApart new
@@ -124,7 +138,9 @@ module _ {K V : Type 0} {R : K → K → Ordering} (o : IsTotalOrder R) (exact :
   pub put_is : (old new : List Row) (row : Row) → AreApart old → Puts old new row
       → map_by R entry new ≡ insert (map_by R entry old) (key row) (entry row).1
   put_is old new row apart puts = same_map o exact _ _ (λ q.
-      get-from_entries o (map entry new) q ∙ at q ∙ ap (cond (eq_by_cmp R q (key row)) (Some (entry row).1)) (sym (get-from_entries o (map entry old) q)) ∙ sym (get-insert o _ _ _ q))
+      get-from_entries o (map entry new) q ∙ at q ∙ ap (cond (eq_by_cmp R q (key row))
+      (Some (entry row).1)) (sym (get-from_entries o (map entry old) q)) ∙ sym
+      (get-insert o _ _ _ q))
     where
       now : AreApart new
       now = still_apart old new row apart puts
@@ -132,25 +148,33 @@ module _ {K V : Type 0} {R : K → K → Ordering} (o : IsTotalOrder R) (exact :
       at : (q : K) → find R q (map entry new)
           ≡ cond (eq_by_cmp R q (key row)) (Some (entry row).1) (find R q (map entry old))
       at q = elim (cases_Bool (eq_by_cmp R q (key row))) [
-        | inl here ↦ rw here (subst (λ k. find R k (map entry new) ≡ Some (entry row).1) (sym (exact _ _ (tied _ here))) (found_at new row now puts.there))
+        | inl here ↦ rw here (subst (λ k. find R k (map entry new) ≡ Some (entry row).1)
+            (sym (exact _ _ (tied _ here))) (found_at new row now puts.there))
         | inr other ↦ rw other (elim (at_or_not old q) [
           | inl was ↦
               let is = was.2 in
-              let apart_from : eq_by_cmp R (key was.0) (key row) ≡ false = ap (λ k. eq_by_cmp R k (key row)) (sym is) ∙ other in
+              let apart_from : eq_by_cmp R (key was.0) (key row) ≡ false =
+              ap (λ k. eq_by_cmp R k (key row)) (sym is) ∙ other in
               subst (λ k. find R k (map entry new) ≡ find R k (map entry old)) (sym is)
-              (found_at new was.0 now (puts.kept was.0 was.1 apart_from) ∙ sym (found_at old was.0 apart was.1))
+              (found_at new was.0 now (puts.kept was.0 was.1 apart_from) ∙ sym
+              (found_at old was.0 apart was.1))
           | inr none ↦
-              missing_at new q (λ x h. elim (puts.others x h) [ inl same ↦ ap (λ (y : Row). eq_by_cmp R q (key y)) same ∙ other | inr was ↦ none x was.0 ])
+              missing_at new q (λ x h. elim (puts.others x h) [
+                | inl same ↦ ap (λ (y : Row). eq_by_cmp R q (key y)) same ∙ other
+                | inr was ↦ none x was.0
+              ])
               ∙ sym (missing_at old q none)
         ])
       ]
 
-  -- where the new rows have each key once, a row that was put beside the others has a key of its own
+  -- where the new rows have each key once, a row that was put beside the others has a key of its
+  -- own
   pub inserted_puts : (old new : List Row) (row : Row) → new ≡ put_row row old
       → are_fresh old (row ∷ []) ≡ true → AreApart new → Puts old new row
   inserted_puts old new row is fresh apart =
       let there : Has new row = subst (λ rows. Has rows row) (sym is) (has_put row old) in
-      let kept : (x : Row) → Has old x → Has new x = λ x h. subst (λ rows. Has rows x) (sym is) (put_all_keeps (row ∷ []) old x fresh h) in
+      let kept : (x : Row) → Has old x → Has new x = λ x h. subst (λ rows. Has rows x) (sym is)
+      (put_all_keeps (row ∷ []) old x fresh h) in
       record {
         there = there;
         others = λ x h. elim (put_has row old x (subst (λ rows. Has rows x) is h)) [
@@ -171,7 +195,8 @@ module _ {K V : Type 0} {R : K → K → Ordering} (o : IsTotalOrder R) (exact :
   pub drop_is : (old new : List Row) (k : K) → AreApart old → Drops old new k
       → map_by R entry new ≡ remove (map_by R entry old) k
   drop_is old new k apart drops = same_map o exact _ _ (λ q.
-      get-from_entries o (map entry new) q ∙ at q ∙ ap (cond (eq_by_cmp R q k) None) (sym (get-from_entries o (map entry old) q)) ∙ sym (get-remove o _ k q))
+      get-from_entries o (map entry new) q ∙ at q ∙ ap (cond (eq_by_cmp R q k) None)
+      (sym (get-from_entries o (map entry old) q)) ∙ sym (get-remove o _ k q))
     where
       now : AreApart new
       now a b h l same = apart a b (drops.others a h).0 (drops.others b l).0 same
@@ -180,14 +205,17 @@ module _ {K V : Type 0} {R : K → K → Ordering} (o : IsTotalOrder R) (exact :
           ≡ cond (eq_by_cmp R q k) None (find R q (map entry old))
       at q = elim (cases_Bool (eq_by_cmp R q k)) [
         | inl here ↦ rw here (missing_at new q (λ x h. elim (cases_Bool (eq_by_cmp R q (key x))) [
-          | inl tie ↦ absurd (unlike (key x) k (drops.others x h).1 (sym (exact _ _ (tied _ tie)) ∙ exact _ _ (tied _ here)))
+          | inl tie ↦ absurd (unlike (key x) k (drops.others x h).1 (sym (exact _ _ (tied _ tie)) ∙
+              exact _ _ (tied _ here)))
           | inr other ↦ other
         ]))
         | inr other ↦ rw other (elim (at_or_not old q) [
           | inl was ↦
               let is = was.2 in
               subst (λ j. find R j (map entry new) ≡ find R j (map entry old)) (sym is)
-              (found_at new was.0 now (drops.kept was.0 was.1 (ap (λ j. eq_by_cmp R j k) (sym is) ∙ other)) ∙ sym (found_at old was.0 apart was.1))
-          | inr none ↦ missing_at new q (λ x h. none x (drops.others x h).0) ∙ sym (missing_at old q none)
+              (found_at new was.0 now (drops.kept was.0 was.1 (ap (λ j. eq_by_cmp R j k) (sym is) ∙
+              other)) ∙ sym (found_at old was.0 apart was.1))
+          | inr none ↦ missing_at new q (λ x h. none x (drops.others x h).0) ∙ sym
+              (missing_at old q none)
         ])
       ]

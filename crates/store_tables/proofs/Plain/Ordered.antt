@@ -1,15 +1,20 @@
 -- Rows in the order of their keys, as the entries of the map that they stand for.
-use Rattle.std.proofs.Common.{◌≡◌, ◌⊎◌, inl, inr, suc, ◌+◌, true, false, List, [], ◌∷◌, map, Some, None, Ordering, Less, Equal, Greater, refl, sym, ap, subst, ◌∙◌, true≢false, arith, T, get_or}
+use Rattle.std.proofs.Common.{◌≡◌, ◌⊎◌, inl, inr, suc, ◌+◌, true, false, List, [], ◌∷◌, map, Some}
+use Rattle.std.proofs.Common.{None, Ordering, Less, Equal, Greater, refl, sym, ap, subst, ◌∙◌}
+use Rattle.std.proofs.Common.{true≢false, arith, T, get_or}
 use Rattle.std.specs.List.{IsDistinct}
 use Rattle.std.specs.List.Sorted.{IsPermutation, IsSorted}
 use Rattle.std.specs.Cmp.{IsTotalOrder}
 use Rattle.std.specs.Ordering.{is_eq, is_lt, eq_by_cmp, ordering_reverse}
-use Rattle.std.specs.FinMap.{from_entries, from_sorted, entries, find, is_sorted, entries-from_sorted, get-from_sorted, get-from_entries, same_map, IsAntisymmetric}
+use Rattle.std.specs.FinMap.{from_entries, from_sorted, entries, find, is_sorted}
+use Rattle.std.specs.FinMap.{entries-from_sorted, get-from_sorted, get-from_entries, same_map}
+use Rattle.std.specs.FinMap.{IsAntisymmetric}
 use Rattle.std.specs.FinMap.Entries.{below_all}
 use Rattle.std.proofs.lemmas.Bool.{cases_Bool, and_from, and_parts}
 use Rattle.std.proofs.lemmas.Cmp.{tied_itself, eq_by_cmp_equiv}
 use Rattle.std.proofs.lemmas.Map.Keys.{IsDistinct-IsPermutation, IsDistinct-head, IsDistinct-tail}
-use Rattle.std.proofs.lemmas.List.Sorted.{IsPermutation-map, Contains-permutation, IsPermutation-sym}
+use Rattle.std.proofs.lemmas.List.Sorted.{IsPermutation-map, Contains-permutation}
+use Rattle.std.proofs.lemmas.List.Sorted.{IsPermutation-sym}
 use Rattle.sqlite_value.specs.Order.{Row, value_cmp}
 use Rattle.sqlite_value.proofs.OrderLemmas.{value_cmp_total}
 use Rattle.sqlite_trees.specs.Tree.{rowid, IsTable}
@@ -44,99 +49,116 @@ tail_sorted cmp x xs up k d low high =
     let h = up (suc k) d (omega arith) (omega (arith, high)) in
     subst (λ n. is_lt (cmp (get_or (x ∷ xs) n d) (get_or xs k d)) ≡ false) next h
 
-module _ {K V : Type 0} {R : K → K → Ordering} (o : IsTotalOrder R) (exact : IsAntisymmetric R) where
-  abbrev keys : List (K × V) → List K
-  keys es = map (λ (e : K × V). e.0) es
+module _ {K V : Type 0} {R : K → K → Ordering} (o : IsTotalOrder R) (exact : IsAntisymmetric R)
+  where
+    abbrev keys : List (K × V) → List K
+    keys es = map (λ (e : K × V). e.0) es
 
-  found_in : (es : List (K × V)) (e : K × V) → IsDistinct (eq_by_cmp R) (keys es) → Has es e
-      → find R e.0 es ≡ Some e.1
-  found_in [] e apart h = absurd h
-  found_in (x ∷ es) e apart (inl same) = rw (same, tied_itself o x.0)
-  found_in (x ∷ es) e apart (inr later) =
-      let other = all_has _ (keys es) e.0 (IsDistinct-head (eq_by_cmp R) x.0 (keys es) apart) (mapped_has (λ (y : K × V). y.0) es e later) in
-      let back : eq_by_cmp R e.0 x.0 ≡ false = (eq_by_cmp_equiv o).symm e.0 x.0 ∙ other in
-      rw back (found_in es e (IsDistinct-tail (eq_by_cmp R) x.0 (keys es) apart) later)
+    found_in : (es : List (K × V)) (e : K × V) → IsDistinct (eq_by_cmp R) (keys es) → Has es e
+        → find R e.0 es ≡ Some e.1
+    found_in [] e apart h = absurd h
+    found_in (x ∷ es) e apart (inl same) = rw (same, tied_itself o x.0)
+    found_in (x ∷ es) e apart (inr later) =
+        let other = all_has _ (keys es) e.0 (IsDistinct-head (eq_by_cmp R) x.0 (keys es) apart)
+        (mapped_has (λ (y : K × V). y.0) es e later) in
+        let back : eq_by_cmp R e.0 x.0 ≡ false = (eq_by_cmp_equiv o).symm e.0 x.0 ∙ other in
+        rw back (found_in es e (IsDistinct-tail (eq_by_cmp R) x.0 (keys es) apart) later)
 
-  none_in : (es : List (K × V)) (q : K) → ((e : K × V) → Has es e → eq_by_cmp R q e.0 ≡ false)
-      → find R q es ≡ None
-  none_in [] q none = refl
-  none_in (x ∷ es) q none = rw (none x (inl refl)) (none_in es q (λ e h. none e (inr h)))
+    none_in : (es : List (K × V)) (q : K) → ((e : K × V) → Has es e → eq_by_cmp R q e.0 ≡ false)
+        → find R q es ≡ None
+    none_in [] q none = refl
+    none_in (x ∷ es) q none = rw (none x (inl refl)) (none_in es q (λ e h. none e (inr h)))
 
-  in_or_not : (es : List (K × V)) (q : K) → ((e : K × V) × Has es e × (q ≡ e.0)) ⊎ ((e : K × V)
-      → Has es e → eq_by_cmp R q e.0 ≡ false)
-  in_or_not [] q = inr (λ e none. absurd none)
-  in_or_not (x ∷ es) q = elim (cases_Bool (eq_by_cmp R q x.0)) [
-    | inl here ↦ inl (x, inl refl, exact _ _ (tied _ here))
-    | inr other ↦ elim (in_or_not es q) [
-      | inl some ↦ inl (some.0, inr some.1, some.2)
-      | inr none ↦ inr (λ e h. elim h [ inl same ↦ rw same other | inr later ↦ none e later ])
+    in_or_not : (es : List (K × V)) (q : K) → ((e : K × V) × Has es e × (q ≡ e.0)) ⊎ ((e : K × V)
+        → Has es e → eq_by_cmp R q e.0 ≡ false)
+    in_or_not [] q = inr (λ e none. absurd none)
+    in_or_not (x ∷ es) q = elim (cases_Bool (eq_by_cmp R q x.0)) [
+      | inl here ↦ inl (x, inl refl, exact _ _ (tied _ here))
+      | inr other ↦ elim (in_or_not es q) [
+        | inl some ↦ inl (some.0, inr some.1, some.2)
+        | inr none ↦ inr (λ e h. elim h [ inl same ↦ rw same other | inr later ↦ none e later ])
+      ]
     ]
-  ]
 
-  find_permuted : (es fs : List (K × V)) → IsPermutation es fs
-      → IsDistinct (eq_by_cmp R) (keys es) → IsDistinct (eq_by_cmp R) (keys fs) → (q : K)
-      → find R q fs ≡ find R q es
-  find_permuted es fs p apart still q = elim (in_or_not es q) [
-    | inl some ↦ subst (λ k. find R k fs ≡ find R k es) (sym some.2) (found_in fs some.0 still (moved es fs some.0 p some.1) ∙ sym (found_in es some.0 apart some.1))
-    | inr none ↦ none_in fs q (λ e h. none e (moved fs es e (IsPermutation-sym es fs p) h)) ∙ sym (none_in es q none)
-  ]
+    find_permuted : (es fs : List (K × V)) → IsPermutation es fs
+        → IsDistinct (eq_by_cmp R) (keys es) → IsDistinct (eq_by_cmp R) (keys fs) → (q : K)
+        → find R q fs ≡ find R q es
+    find_permuted es fs p apart still q = elim (in_or_not es q) [
+      | inl some ↦ subst (λ k. find R k fs ≡ find R k es) (sym some.2) (found_in fs some.0 still
+          (moved es fs some.0 p some.1) ∙ sym (found_in es some.0 apart some.1))
+      | inr none ↦ none_in fs q (λ e h. none e (moved fs es e (IsPermutation-sym es fs p) h)) ∙ sym
+          (none_in es q none)
+    ]
 
-  pub keys_stay : (es fs : List (K × V)) → IsPermutation es fs
-      → IsDistinct (eq_by_cmp R) (keys es) → IsDistinct (eq_by_cmp R) (keys fs)
-  keys_stay es fs p = IsDistinct-IsPermutation (eq_by_cmp R) (eq_by_cmp_equiv o).symm (keys es) (keys fs) (IsPermutation-map (λ (e : K × V). e.0) es fs p)
+    pub keys_stay : (es fs : List (K × V)) → IsPermutation es fs
+        → IsDistinct (eq_by_cmp R) (keys es) → IsDistinct (eq_by_cmp R) (keys fs)
+    keys_stay es fs p = IsDistinct-IsPermutation (eq_by_cmp R) (eq_by_cmp_equiv o).symm (keys es)
+        (keys fs) (IsPermutation-map (λ (e : K × V). e.0) es fs p)
 
-  -- entries whose keys strictly rise are those of the map
-  pub entries_are : (es fs : List (K × V)) → IsPermutation es fs
-      → IsDistinct (eq_by_cmp R) (keys es) → is_sorted R fs ≡ true
-      → entries (from_entries {R = R} es) ≡ fs
-  entries_are es fs p apart up =
-      let still = keys_stay es fs p apart in
-      let rises = subst T (sym up) tt in
-      let same : from_entries {R = R} es ≡ from_sorted {R = R} fs = same_map o exact _ _ (λ q. get-from_entries o es q ∙ sym (get-from_sorted R fs q rises ∙ find_permuted es fs p apart still q)) in
-      ap entries same ∙ entries-from_sorted R fs rises
+    -- entries whose keys strictly rise are those of the map
+    pub entries_are : (es fs : List (K × V)) → IsPermutation es fs
+        → IsDistinct (eq_by_cmp R) (keys es) → is_sorted R fs ≡ true
+        → entries (from_entries {R = R} es) ≡ fs
+    entries_are es fs p apart up =
+        let still = keys_stay es fs p apart in
+        let rises = subst T (sym up) tt in
+        let same : from_entries {R = R} es ≡ from_sorted {R = R} fs =
+        same_map o exact _ _ (λ q. get-from_entries o es q ∙ sym (get-from_sorted R fs q rises ∙
+        find_permuted es fs p apart still q)) in
+        ap entries same ∙ entries-from_sorted R fs rises
 
-  below_trans : (x y : K) (es : List (K × V)) → R x y ≡ Less → below_all R y es ≡ true
-      → below_all R x es ≡ true
-  below_trans x y [] less all = refl
-  below_trans x y (e ∷ es) less all =
-      let parts = and_parts _ _ all in
-      and_from _ _ (ap is_lt (o.trans x y e.0 less (lower _ parts.0))) (below_trans x y es less parts.1)
-    where
-      lower : (r : Ordering) → is_lt r ≡ true → r ≡ Less
-      lower Less h = refl
-      lower Equal h = absurd (true≢false (sym h))
-      lower Greater h = absurd (true≢false (sym h))
+    below_trans : (x y : K) (es : List (K × V)) → R x y ≡ Less → below_all R y es ≡ true
+        → below_all R x es ≡ true
+    below_trans x y [] less all = refl
+    below_trans x y (e ∷ es) less all =
+        let parts = and_parts _ _ all in
+        and_from _ _ (ap is_lt (o.trans x y e.0 less (lower _ parts.0))) (below_trans x y es less
+        parts.1)
+      where
+        lower : (r : Ordering) → is_lt r ≡ true → r ≡ Less
+        lower Less h = refl
+        lower Equal h = absurd (true≢false (sym h))
+        lower Greater h = absurd (true≢false (sym h))
 
-  module _ {X : Type 0} (cmp : X → X → Ordering) (entry : X → K × V) where
-    -- what is sorted by keys that differ rises strictly
-    pub rises : (xs : List X) → ((x y : X) → Has xs x → Has xs y → cmp x y
-        ≡ R (entry x).0 (entry y).0) → IsSorted cmp xs
-        → IsDistinct (eq_by_cmp R) (keys (map entry xs)) → is_sorted R (map entry xs) ≡ true
-    rises [] alike up apart = refl
-    rises (x ∷ []) alike up apart = refl
-    rises (x ∷ y ∷ xs) alike up apart =
-        let rest = rises (y ∷ xs) (λ a b h k. alike a b (inr h) (inr k)) (tail_sorted cmp x (y ∷ xs) up) (IsDistinct-tail (eq_by_cmp R) _ _ apart) in
-        let first : is_lt (R (entry y).0 (entry x).0) ≡ false = ap is_lt (sym (alike y x (inr (inl refl)) (inl refl))) ∙ up 0 x (omega arith) (omega arith) in
-        let less = below o (entry x).0 (entry y).0 first (IsDistinct-head (eq_by_cmp R) _ _ apart).0 in
-        and_from _ _ (and_from _ _ (ap is_lt less) (below_trans (entry x).0 (entry y).0 (map entry xs) less (and_parts _ _ rest).0)) rest
+    module _ {X : Type 0} (cmp : X → X → Ordering) (entry : X → K × V) where
+      -- what is sorted by keys that differ rises strictly
+      pub rises : (xs : List X) → ((x y : X) → Has xs x → Has xs y → cmp x y
+          ≡ R (entry x).0 (entry y).0) → IsSorted cmp xs
+          → IsDistinct (eq_by_cmp R) (keys (map entry xs)) → is_sorted R (map entry xs) ≡ true
+      rises [] alike up apart = refl
+      rises (x ∷ []) alike up apart = refl
+      rises (x ∷ y ∷ xs) alike up apart =
+          let rest = rises (y ∷ xs) (λ a b h k. alike a b (inr h) (inr k)) (tail_sorted cmp x (y ∷
+          xs) up) (IsDistinct-tail (eq_by_cmp R) _ _ apart) in
+          let first : is_lt (R (entry y).0 (entry x).0) ≡ false =
+          ap is_lt (sym (alike y x (inr (inl refl)) (inl refl))) ∙ up 0 x (omega arith)
+          (omega arith) in
+          let less = below o (entry x).0 (entry y).0 first (IsDistinct-head (eq_by_cmp R) _ _
+          apart).0
+          in
+          and_from _ _ (and_from _ _ (ap is_lt less) (below_trans (entry x).0 (entry y).0
+          (map entry xs) less (and_parts _ _ rest).0)) rest
 
-  -- the rows of a table are apart, each from those after it
-  pub rows_distinct : (entry : Row → K × V) (rows : List Row) → IsTable rows
-      → AreApart o exact entry rows → IsDistinct (eq_by_cmp R) (keys (map entry rows))
-  unfolding IsDistinct
-  rows_distinct entry [] up apart = tt
-  rows_distinct entry (r ∷ rows) up apart = (
-    all_from _ (keys (map entry rows)) (λ k h.
-        let e = has_mapped (λ (x : K × V). x.0) (map entry rows) k h in
-        let x = has_mapped entry rows e.0 e.1 in
-        let is : k ≡ (entry x.0).0 = e.2 ∙ ap (λ (y : K × V). y.0) x.2 in
-        elim (cases_Bool (eq_by_cmp R (entry r).0 k)) [
-          | inl same ↦ absurd (
-              let one : r ≡ x.0 = apart r x.0 (inl refl) (inr x.1) (exact _ _ (tied _ same) ∙ is) in
-              let less : value_cmp (rowid r) (rowid x.0) ≡ Less = all_has _ rows x.0 up.0 x.1 in
-              let tie : value_cmp (rowid r) (rowid x.0) ≡ Equal = ap (λ (y : Row). value_cmp (rowid r) (rowid y)) (sym one) ∙ tied_itself value_cmp_total (rowid r) in
-              cc)
-          | inr other ↦ other
-        ]),
-    rows_distinct entry rows up.1 (λ a b p q. apart a b (inr p) (inr q)),
-  )
+    -- the rows of a table are apart, each from those after it
+    pub rows_distinct : (entry : Row → K × V) (rows : List Row) → IsTable rows
+        → AreApart o exact entry rows → IsDistinct (eq_by_cmp R) (keys (map entry rows))
+    unfolding IsDistinct
+    rows_distinct entry [] up apart = tt
+    rows_distinct entry (r ∷ rows) up apart = (
+      all_from _ (keys (map entry rows)) (λ k h.
+          let e = has_mapped (λ (x : K × V). x.0) (map entry rows) k h in
+          let x = has_mapped entry rows e.0 e.1 in
+          let is : k ≡ (entry x.0).0 = e.2 ∙ ap (λ (y : K × V). y.0) x.2 in
+          elim (cases_Bool (eq_by_cmp R (entry r).0 k)) [
+            | inl same ↦ absurd (
+                let one : r ≡ x.0 = apart r x.0 (inl refl) (inr x.1) (exact _ _ (tied _ same) ∙ is)
+                in
+                let less : value_cmp (rowid r) (rowid x.0) ≡ Less = all_has _ rows x.0 up.0 x.1 in
+                let tie : value_cmp (rowid r) (rowid x.0) ≡ Equal =
+                ap (λ (y : Row). value_cmp (rowid r) (rowid y)) (sym one) ∙ tied_itself
+                value_cmp_total (rowid r) in
+                cc)
+            | inr other ↦ other
+          ]),
+      rows_distinct entry rows up.1 (λ a b p q. apart a b (inr p) (inr q)),
+    )

@@ -1,5 +1,6 @@
 -- What an INSERT OR REPLACE of one row makes of the map of a table.
-use Rattle.std.proofs.Common.{◌≡◌, inl, inr, ℕ, ◌/◌, ℤ, true, false, List, [], ◌∷◌, ◌++◌, length, slice_get, None, Some, Ok, refl, sym, ap, subst, ◌∙◌}
+use Rattle.std.proofs.Common.{◌≡◌, inl, inr, ℕ, ◌/◌, ℤ, true, false, List, [], ◌∷◌, ◌++◌, length}
+use Rattle.std.proofs.Common.{slice_get, None, Some, Ok, refl, sym, ap, subst, ◌∙◌}
 use Rattle.std.specs.Ordering.{is_eq, int_cmp, eq_by_cmp}
 use Rattle.std.specs.FinMap.{insert}
 use Rattle.sqlite_value.specs.declared.value.Value.TheVariants.{Null, Int}
@@ -30,8 +31,10 @@ use Rattle.store_tables.proofs.Plain.Maps.{left_out, left_in, Puts, put_is}
 use Rattle.store_tables.proofs.Plain.Writes.{IsQuiet, Spares, replaces, replaced_shaped}
 use Rattle.store_tables.proofs.Plain.Facts.{Facts, AreRows, Lives, rows_in, key_is, number_is}
 
--- the text puts the row of an entry: its columns in order are its parameters, and only a row with its key stands in its way
-pub record PutText (schema : Schema) {K V : Type 0} (l : Layout K V) (sql : List ℕ) (params : K → V → Row) : Type 0 where
+-- the text puts the row of an entry: its columns in order are its parameters, and only a row with
+-- its key stands in its way
+pub record PutText (schema : Schema) {K V : Type 0} (l : Layout K V) (sql : List ℕ) (params : K →
+    V → Row) : Type 0 where
   pub at : ℕ
   pub terms : List Term
   pub width : ℕ
@@ -42,13 +45,15 @@ pub record PutText (schema : Schema) {K V : Type 0} (l : Layout K V) (sql : List
   pub one : (k : K) (v : V) → value_rows (params k v ++ []) width (length terms / width) terms
       ≡ (Null ∷ params k v) ∷ []
   pub stored : (rows : List Row) (k : K) (v : V)
-      → with_rowid Chosen rows (cast_row (table_of l.plain) (mended Replace (table_of l.plain) (Null ∷ params k v))) ≡ l.row (next_rowid rows) k v
+      → with_rowid Chosen rows (cast_row (table_of l.plain) (mended Replace (table_of l.plain)
+      (Null ∷ params k v))) ≡ l.row (next_rowid rows) k v
   pub again : (id : ℤ) (k : K) (v : V) → cast_row (table_of l.plain) (l.row id k v) ≡ l.row id k v
   pub clash : (id new : ℤ) (k key : K) (v value : V) → is_eq (int_cmp id new) ≡ false
       → conflicts None schema.indexes (table_of l.plain) (l.row new key value) (l.row id k v)
       ≡ eq_by_cmp l.cmp k key
 
-module _ (schema : Schema) {K V : Type 0} (l : Layout K V) (f : Facts schema l) (sql : List ℕ) (params : K → V → Row) (text : PutText schema l sql params) where
+module _ (schema : Schema) {K V : Type 0} (l : Layout K V) (f : Facts schema l) (sql : List ℕ)
+    (params : K → V → Row) (text : PutText schema l sql params) where
   -- a row conflicts with a new one where it has its key
   conflicts_are : (rows : List Row) (key : K) (value : V) → AreRows l rows → (x : Row) → Has rows x
       → conflicts None schema.indexes (table_of l.plain) (l.row (next_rowid rows) key value) x
@@ -58,13 +63,16 @@ module _ (schema : Schema) {K V : Type 0} (l : Layout K V) (f : Facts schema l) 
       let t = are.typed x h in
       let free : is_eq (value_cmp (rowid x) (Int new)) ≡ false = is_fresh rows are.shaped x h in
       let apart : is_eq (int_cmp t.0 new) ≡ false =
-      ap is_eq (sym (value_cmp-Int t.0 new)) ∙ ap (λ i. is_eq (value_cmp i (Int new))) (sym (number_is schema l f x t)) ∙ free in
+      ap is_eq (sym (value_cmp-Int t.0 new)) ∙ ap (λ i. is_eq (value_cmp i (Int new)))
+      (sym (number_is schema l f x t)) ∙ free in
       ap (conflicts None schema.indexes (table_of l.plain) (l.row new key value)) t.3
-      ∙ text.clash t.0 new t.1 key t.2 value apart ∙ ap (λ k. eq_by_cmp l.cmp k key) (sym (key_is schema l f x t))
+      ∙ text.clash t.0 new t.1 key t.2 value apart ∙ ap (λ k. eq_by_cmp l.cmp k key)
+      (sym (key_is schema l f x t))
 
   -- what the write of one row makes of the rows
   rows_put : (old new : List Row) (key : K) (value : V) (found : List Row) → AreRows l old
-      → AreConflicts None schema.indexes (table_of l.plain) old (l.row (next_rowid old) key value) found
+      → AreConflicts None schema.indexes (table_of l.plain) old (l.row (next_rowid old) key value)
+      found
       → are_fresh (without_all old (ids_of found)) (l.row (next_rowid old) key value ∷ []) ≡ true
       → new ≡ put_row (l.row (next_rowid old) key value) (without_all old (ids_of found))
       → Puts f.total f.exact l.entry old new (l.row (next_rowid old) key value)
@@ -80,11 +88,13 @@ module _ (schema : Schema) {K V : Type 0} (l : Layout K V) (f : Facts schema l) 
         others = λ x h. elim (put_has row left x h) [
           | inl same ↦ inl same
           | inr was ↦
-              let r = left_out old found are.shaped.0 are.shaped.1 test conflict.sound conflict.complete x was in
+              let r = left_out old found are.shaped.0 are.shaped.1 test conflict.sound
+              conflict.complete x was in
               inr (r.0, sym (tie x r.0) ∙ r.1)
         ];
         kept = λ x h other. put_all_keeps (row ∷ []) left x fresh
-            (left_in old found are.shaped.0 are.shaped.1 test conflict.sound conflict.complete x h (tie x h ∙ other));
+            (left_in old found are.shaped.0 are.shaped.1 test conflict.sound conflict.complete x h
+            (tie x h ∙ other));
       })
 
   pub puts_row : (key : K) (value : V) (old new : State) (count : ℕ) → Lives schema old.now
@@ -96,23 +106,28 @@ module _ (schema : Schema) {K V : Type 0} (l : Layout K V) (f : Facts schema l) 
       let rows = old.now.trees l.plain.tree in
       let table = table_of l.plain in
       let row = l.row (next_rowid rows) key value in
-      let done = replaces schema l.plain text.at sql (params key value) (Null ∷ params key value) text.terms text.width old new count
+      let done = replaces schema l.plain text.at sql (params key value) (Null ∷ params key value)
+      text.terms text.width old new count
       text.placed text.quiet text.is text.plain (text.one key value) lives.schema_is h in
       let it = done.2 in
       let stored = text.stored rows key value in
       let conflict : AreConflicts None schema.indexes table rows row it.found =
       subst (λ r. AreConflicts None schema.indexes table rows r it.found) stored it.conflicts in
       let same = ap (cast_row table) stored ∙ text.again (next_rowid rows) key value in
-      let fresh = subst (λ r. are_fresh (without_all rows (ids_of it.found)) (r ∷ []) ≡ true) same it.fresh in
+      let fresh = subst (λ r. are_fresh (without_all rows (ids_of it.found)) (r ∷ []) ≡ true) same
+      it.fresh in
       let now = it.rows ∙ ap (λ r. put_row r (without_all rows (ids_of it.found))) same in
       let are = rows_in schema l f old.now lives in
-      let put = rows_put rows (new.now.trees l.plain.tree) key value it.found are conflict fresh now in
+      let put = rows_put rows (new.now.trees l.plain.tree) key value it.found are conflict fresh now
+      in
       let entry = f.reads (next_rowid rows) key value in
-      let map = put_is f.total f.exact l.entry rows (new.now.trees l.plain.tree) row are.apart put in (
+      let map = put_is f.total f.exact l.entry rows (new.now.trees l.plain.tree) row are.apart put
+      in (
         record {
           schema_is = done.1;
           sound = done.0.sound;
-          ordered = replaced_shaped schema l.plain old.now.trees new.now.trees _ lives.ordered are.shaped it;
+          ordered = replaced_shaped schema l.plain old.now.trees new.now.trees _ lives.ordered
+              are.shaped it;
         },
         it.tables,
         map ∙ ap (λ (e : K × V). insert (map_of l rows) e.0 e.1) entry,

@@ -1,5 +1,7 @@
 -- Queries of one table: all its rows in order, and the rows of a key.
-use Rattle.std.proofs.Common.{◌≡◌, inl, inr, ℕ, ℤ, pos, negsuc, Bool, false, if◌then◌else◌, List, [], ◌∷◌, map, filter, length, slice_get, option_map, Some, None, refl, sym, ap, subst, subst₂, ◌∙◌, arith}
+use Rattle.std.proofs.Common.{◌≡◌, inl, inr, ℕ, ℤ, pos, negsuc, Bool, false, if◌then◌else◌, List}
+use Rattle.std.proofs.Common.{[], ◌∷◌, map, filter, length, slice_get, option_map, Some, None, refl}
+use Rattle.std.proofs.Common.{sym, ap, subst, subst₂, ◌∙◌, arith}
 use Rattle.std.specs.List.{flat_map, list_all}
 use Rattle.std.specs.List.Sorted.{IsPermutation, IsSorted}
 use Rattle.std.specs.Ordering.{eq_by_cmp}
@@ -70,16 +72,21 @@ abbrev pub passes : List Term → Row → Row → Bool
 passes test params r = list_all (holds (env_of params r)) test
 
 -- an answer with no order is what the query shows of the rows that pass
-pub answer_picks : (tree : ℕ) (test project : List Term) (db : Trees) (params : Row) (shown : List Row) → IsAnswer (of_table tree test project []) db params shown
-    → IsPermutation (map (λ r. (output (of_table tree test project []) (env_of params r)).1) (filter (passes test params) (db tree))) shown
+pub answer_picks : (tree : ℕ) (test project : List Term) (db : Trees) (params : Row)
+    (shown : List Row) → IsAnswer (of_table tree test project []) db params shown
+    → IsPermutation (map (λ r. (output (of_table tree test project []) (env_of params r)).1)
+    (filter (passes test params) (db tree))) shown
 answer_picks tree test project db params shown a =
     let q = of_table tree test project [] in
     let rows = filter (passes test params) (db tree) in
-    let staged : a.staged ≡ map (env_of params) rows = a.grouped ∙ picked (passes test params) (env_of params) (db tree) in
+    let staged : a.staged ≡ map (env_of params) rows = a.grouped ∙ picked (passes test params)
+    (env_of params) (db tree) in
     let all : map (λ (x : Output). x.1) a.kept ≡ map (λ r. (output q (env_of params r)).1) rows =
-    ap (map (λ (x : Output). x.1)) (a.distinct ∙ ap (map (output q)) staged ∙ map-map (output q) (env_of params) rows)
+    ap (map (λ (x : Output). x.1)) (a.distinct ∙ ap (map (output q)) staged ∙ map-map (output q)
+    (env_of params) rows)
     ∙ map-map (λ (x : Output). x.1) (λ r. output q (env_of params r)) rows in
-    subst₂ (λ xs ys. IsPermutation xs ys) all (sym a.shown) (IsPermutation-map (λ (x : Output). x.1) a.kept a.ordered a.same)
+    subst₂ (λ xs ys. IsPermutation xs ys) all (sym a.shown) (IsPermutation-map (λ (x : Output). x.1)
+    a.kept a.ordered a.same)
 
 module _ (schema : Schema) {K V : Type 0} (l : Layout K V) (f : Facts schema l) where
   -- the text shows what is told of the entry with a key
@@ -94,50 +101,68 @@ module _ (schema : Schema) {K V : Type 0} (l : Layout K V) (f : Facts schema l) 
     pub by_key : (id : ℤ) (k key : K) (v : V) → passes test (params key) (l.row id k v)
         ≡ eq_by_cmp l.cmp k key
     pub tells : (id : ℤ) (k key : K) (v : V)
-        → told (output (of_table l.plain.tree test project []) (env_of (params key) (l.row id k v))).1 ≡ v
+        → told (output (of_table l.plain.tree test project [])
+        (env_of (params key) (l.row id k v))).1 ≡ v
 
-  module _ (test : List Term) (params : K → Row) (by_key : (id : ℤ) (k key : K) (v : V) → passes test (params key) (l.row id k v) ≡ eq_by_cmp l.cmp k key) where
+  module _ (test : List Term) (params : K → Row) (by_key : (id : ℤ) (k key : K) (v : V) →
+      passes test (params key) (l.row id k v) ≡ eq_by_cmp l.cmp k key) where
     pub row_by_key : (rows : List Row) → AreRows l rows → (key : K) (r : Row) → Has rows r
         → passes test (params key) r ≡ eq_by_cmp l.cmp (l.entry r).0 key
     row_by_key rows are key r h =
         let t = are.typed r h in
-        ap (passes test (params key)) t.3 ∙ by_key t.0 t.1 key t.2 ∙ ap (λ k. eq_by_cmp l.cmp k key) (sym (key_is schema l f r t))
+        ap (passes test (params key)) t.3 ∙ by_key t.0 t.1 key t.2 ∙ ap (λ k. eq_by_cmp l.cmp k key)
+        (sym (key_is schema l f r t))
 
-  module _ (sql : List ℕ) (params : K → Row) (told : Row → V) (text : PickText sql params told) where
-    abbrev out : K → Row → Row
-    out key r = (output (of_table l.plain.tree text.test text.project []) (env_of (params key) r)).1
+  module _ (sql : List ℕ) (params : K → Row) (told : Row → V) (text : PickText sql params told)
+    where
+      abbrev out : K → Row → Row
+      out key r = (output (of_table l.plain.tree text.test text.project [])
+          (env_of (params key) r)).1
 
-    answer_is : (rows : List Row) (are : AreRows l rows) (key : K) (shown : List Row)
-        → IsPermutation (map (out key) (filter (passes text.test (params key)) rows)) shown
-        → option_map told (slice_get shown 0) ≡ get (map_of l rows) key
-    answer_is rows are key [] same =
-        let picks = passes text.test (params key) in
-        let none : map (out key) (filter picks rows) ≡ [] = nothing_left _ (sym (length_permutation (map (out key) (filter picks rows)) [] same)) in
-        sym (get-from_entries f.total (map l.entry rows) key ∙ missing_at f.total f.exact l.entry rows key (λ x h.
-        elim (cases_Bool (picks x)) [
-          | inl passed ↦ absurd (subst (λ xs. Has xs (out key x)) none (mapped_has (out key) (filter picks rows) x (has_kept picks rows x h passed)))
-          | inr fails ↦ (eq_by_cmp_equiv f.total).symm key (l.entry x).0 ∙ sym (row_by_key text.test params text.by_key rows are key x h) ∙ fails
-        ]))
-    answer_is rows are key (s ∷ more) same =
-        let picks = passes text.test (params key) in
-        let back = moved (s ∷ more) (map (out key) (filter picks rows)) s (IsPermutation-sym _ _ same) (inl refl) in
-        let r = has_mapped (out key) (filter picks rows) s back in
-        let was = has_filtered picks rows r.0 r.1 in
-        let t = are.typed r.0 was.0 in
-        let is : (l.entry r.0).0 ≡ key = f.exact _ _ (tied _ (sym (row_by_key text.test params text.by_key rows are key r.0 was.0) ∙ was.1)) in
-        let tells : told (out key r.0) ≡ (l.entry r.0).1 =
-        ap (λ x. told (out key x)) t.3 ∙ text.tells t.0 t.1 key t.2 ∙ sym (ap (λ (e : K × V). e.1) (entry_is schema l f r.0 t)) in
-        ap Some (ap told r.2 ∙ tells)
-        ∙ sym (get-from_entries f.total (map l.entry rows) key ∙ subst (λ k. find l.cmp k (map l.entry rows) ≡ Some (l.entry r.0).1) is (found_at f.total f.exact l.entry rows r.0 are.apart was.0))
+      answer_is : (rows : List Row) (are : AreRows l rows) (key : K) (shown : List Row)
+          → IsPermutation (map (out key) (filter (passes text.test (params key)) rows)) shown
+          → option_map told (slice_get shown 0) ≡ get (map_of l rows) key
+      answer_is rows are key [] same =
+          let picks = passes text.test (params key) in
+          let none : map (out key) (filter picks rows) ≡ [] =
+          nothing_left _ (sym (length_permutation (map (out key) (filter picks rows)) [] same)) in
+          sym (get-from_entries f.total (map l.entry rows) key ∙ missing_at f.total f.exact l.entry
+          rows key (λ x h.
+          elim (cases_Bool (picks x)) [
+            | inl passed ↦ absurd (subst (λ xs. Has xs (out key x)) none
+                (mapped_has (out key) (filter picks rows) x (has_kept picks rows x h passed)))
+            | inr fails ↦ (eq_by_cmp_equiv f.total).symm key (l.entry x).0 ∙ sym
+                (row_by_key text.test params text.by_key rows are key x h) ∙ fails
+          ]))
+      answer_is rows are key (s ∷ more) same =
+          let picks = passes text.test (params key) in
+          let back = moved (s ∷ more) (map (out key) (filter picks rows)) s
+          (IsPermutation-sym _ _ same) (inl refl) in
+          let r = has_mapped (out key) (filter picks rows) s back in
+          let was = has_filtered picks rows r.0 r.1 in
+          let t = are.typed r.0 was.0 in
+          let is : (l.entry r.0).0 ≡ key =
+          f.exact _ _ (tied _ (sym (row_by_key text.test params text.by_key rows are key r.0
+          was.0) ∙ was.1)) in
+          let tells : told (out key r.0) ≡ (l.entry r.0).1 =
+          ap (λ x. told (out key x)) t.3 ∙ text.tells t.0 t.1 key t.2 ∙ sym (ap (λ (e : K × V). e.1)
+          (entry_is schema l f r.0 t)) in
+          ap Some (ap told r.2 ∙ tells)
+          ∙ sym (get-from_entries f.total (map l.entry rows) key ∙ subst
+          (λ k. find l.cmp k (map l.entry rows) ≡ Some (l.entry r.0).1) is
+          (found_at f.total f.exact l.entry rows r.0 are.apart was.0))
 
-    -- the first row that is shown is that of the key, and there is none where the map has none
-    pub shows_one : (old new : State) (key : K) (rows : List Row) → Lives schema old.now
-        → Shown sql (params key) old new rows
-        → option_map told (slice_get rows 0) ≡ get (map_of l (old.now.trees l.plain.tree)) key
-    shows_one old new key rows lives h =
-        let read = reads_as sql (params key) old new schema lives.schema_is _ text.is.0 text.plain text.is.1 rows h in
-        answer_is (old.now.trees l.plain.tree) (rows_in schema l f old.now lives) key rows
-        (subst (λ all. IsPermutation (map (out key) (filter (passes text.test (params key)) all)) rows) (f.based old.now.trees) (answer_picks l.plain.tree text.test text.project (overlay old.now.trees []) (params key) rows (read.answer Null)))
+      -- the first row that is shown is that of the key, and there is none where the map has none
+      pub shows_one : (old new : State) (key : K) (rows : List Row) → Lives schema old.now
+          → Shown sql (params key) old new rows
+          → option_map told (slice_get rows 0) ≡ get (map_of l (old.now.trees l.plain.tree)) key
+      shows_one old new key rows lives h =
+          let read = reads_as sql (params key) old new schema lives.schema_is _ text.is.0 text.plain
+          text.is.1 rows h in
+          answer_is (old.now.trees l.plain.tree) (rows_in schema l f old.now lives) key rows
+          (subst (λ all. IsPermutation (map (out key) (filter (passes text.test (params key)) all))
+          rows) (f.based old.now.trees) (answer_picks l.plain.tree text.test text.project
+          (overlay old.now.trees []) (params key) rows (read.answer Null)))
 
   -- ---- all rows in the order of their keys
 
@@ -151,9 +176,13 @@ module _ (schema : Schema) {K V : Type 0} (l : Layout K V) (f : Facts schema l) 
         × (reads_listing schema sql ≡ false)
     pub plain : IsPlain (understood schema sql)
     pub ordered_as : (id : ℤ) (k : K) (v : V) (id′ : ℤ) (k′ : K) (v′ : V)
-        → output_cmp (of_table l.plain.tree [] project order) (output (of_table l.plain.tree [] project order) (env_of [] (l.row id k v))) (output (of_table l.plain.tree [] project order) (env_of [] (l.row id′ k′ v′))) ≡ l.cmp k k′
+        → output_cmp (of_table l.plain.tree [] project order)
+        (output (of_table l.plain.tree [] project order) (env_of [] (l.row id k v)))
+        (output (of_table l.plain.tree [] project order) (env_of [] (l.row id′ k′ v′))) ≡ l.cmp
+        k k′
     pub shows : (id : ℤ) (k : K) (v : V)
-        → l.entry (Null ∷ (output (of_table l.plain.tree [] project order) (env_of [] (l.row id k v))).1) ≡ (k, v)
+        → l.entry (Null ∷ (output (of_table l.plain.tree [] project order)
+        (env_of [] (l.row id k v))).1) ≡ (k, v)
 
   module _ (sql : List ℕ) (text : ListText sql) where
     abbrev q : Query
@@ -165,9 +194,11 @@ module _ (schema : Schema) {K V : Type 0} (l : Layout K V) (f : Facts schema l) 
     abbrev entry : Output → K × V
     entry x = l.entry (Null ∷ x.1)
 
-    module _ (rows : List Row) (are : AreRows l rows) (ordered : List Output) (same : IsPermutation (map shown_of rows) ordered) where
+    module _ (rows : List Row) (are : AreRows l rows) (ordered : List Output)
+        (same : IsPermutation (map shown_of rows) ordered) where
       is_out : (x : Output) → Has ordered x → (r : Row) × Has rows r × (x ≡ shown_of r)
-      is_out x h = has_mapped shown_of rows x (moved ordered (map shown_of rows) x (IsPermutation-sym (map shown_of rows) ordered same) h)
+      is_out x h = has_mapped shown_of rows x (moved ordered (map shown_of rows) x
+          (IsPermutation-sym (map shown_of rows) ordered same) h)
 
       alike : (x y : Output) → Has ordered x → Has ordered y → output_cmp q x y
           ≡ l.cmp (entry x).0 (entry y).0
@@ -178,17 +209,23 @@ module _ (schema : Schema) {K V : Type 0} (l : Layout K V) (f : Facts schema l) 
           let ts = are.typed s.0 s.1 in
           let xs : x ≡ shown_of (l.row tr.0 tr.1 tr.2) = r.2 ∙ ap shown_of tr.3 in
           let ys : y ≡ shown_of (l.row ts.0 ts.1 ts.2) = s.2 ∙ ap shown_of ts.3 in
-          let kx : tr.1 ≡ (entry (shown_of (l.row tr.0 tr.1 tr.2))).0 = sym (ap (λ (e : K × V). e.0) (text.shows tr.0 tr.1 tr.2)) in
-          let ky : ts.1 ≡ (entry (shown_of (l.row ts.0 ts.1 ts.2))).0 = sym (ap (λ (e : K × V). e.0) (text.shows ts.0 ts.1 ts.2)) in
-          subst₂ (λ (p q′ : Output). output_cmp q p q′ ≡ l.cmp (entry p).0 (entry q′).0) (sym xs) (sym ys)
-          (subst₂ (λ a b. output_cmp q (shown_of (l.row tr.0 tr.1 tr.2)) (shown_of (l.row ts.0 ts.1 ts.2)) ≡ l.cmp a b) kx ky (text.ordered_as tr.0 tr.1 tr.2 ts.0 ts.1 ts.2))
+          let kx : tr.1 ≡ (entry (shown_of (l.row tr.0 tr.1 tr.2))).0 =
+          sym (ap (λ (e : K × V). e.0) (text.shows tr.0 tr.1 tr.2)) in
+          let ky : ts.1 ≡ (entry (shown_of (l.row ts.0 ts.1 ts.2))).0 =
+          sym (ap (λ (e : K × V). e.0) (text.shows ts.0 ts.1 ts.2)) in
+          subst₂ (λ (p q′ : Output). output_cmp q p q′ ≡ l.cmp (entry p).0 (entry q′).0) (sym xs)
+          (sym ys)
+          (subst₂ (λ a b. output_cmp q (shown_of (l.row tr.0 tr.1 tr.2))
+          (shown_of (l.row ts.0 ts.1 ts.2)) ≡ l.cmp a b) kx ky (text.ordered_as tr.0 tr.1 tr.2
+          ts.0 ts.1 ts.2))
 
       entries_shown : (all : List Row) → ((r : Row) → Has all r → Has rows r)
           → map (λ r. entry (shown_of r)) all ≡ map l.entry all
       entries_shown [] sub = refl
       entries_shown (r ∷ all) sub =
           let t = are.typed r (sub r (inl refl)) in
-          let here : entry (shown_of r) ≡ l.entry r = ap (λ x. entry (shown_of x)) t.3 ∙ text.shows t.0 t.1 t.2 ∙ sym (entry_is schema l f r t) in
+          let here : entry (shown_of r) ≡ l.entry r = ap (λ x. entry (shown_of x)) t.3 ∙ text.shows
+          t.0 t.1 t.2 ∙ sym (entry_is schema l f r t) in
           let more = entries_shown all (λ x h. sub x (inr h)) in
           λ j. here j ∷ more j
 
@@ -197,9 +234,12 @@ module _ (schema : Schema) {K V : Type 0} (l : Layout K V) (f : Facts schema l) 
           let es = map l.entry rows in
           let fs = map entry ordered in
           let apart = rows_distinct f.total f.exact l.entry rows are.shaped.0 are.apart in
-          let whole : map entry (map shown_of rows) ≡ es = map-map entry shown_of rows ∙ entries_shown rows (λ r h. h) in
-          let permuted : IsPermutation es fs = subst (λ xs. IsPermutation xs fs) whole (IsPermutation-map entry (map shown_of rows) ordered same) in
-          let up = rises f.total f.exact (output_cmp q) entry ordered alike sorted (keys_stay f.total f.exact es fs permuted apart) in
+          let whole : map entry (map shown_of rows) ≡ es =
+          map-map entry shown_of rows ∙ entries_shown rows (λ r h. h) in
+          let permuted : IsPermutation es fs = subst (λ xs. IsPermutation xs fs) whole
+          (IsPermutation-map entry (map shown_of rows) ordered same) in
+          let up = rises f.total f.exact (output_cmp q) entry ordered alike sorted
+          (keys_stay f.total f.exact es fs permuted apart) in
           sym (entries_are f.total f.exact es fs permuted apart up)
 
     -- the rows are the entries of the map, in the order of the keys
@@ -207,13 +247,17 @@ module _ (schema : Schema) {K V : Type 0} (l : Layout K V) (f : Facts schema l) 
         → Shown sql [] old new rows
         → map (λ r. l.entry (Null ∷ r)) rows ≡ entries (map_of l (old.now.trees l.plain.tree))
     lists_all old new rows lives h =
-        let read = reads_as sql [] old new schema lives.schema_is _ text.is.0 text.plain text.is.1 rows h in
+        let read = reads_as sql [] old new schema lives.schema_is _ text.is.0 text.plain text.is.1
+        rows h in
         let a = read.answer Null in
         let all = overlay old.now.trees [] l.plain.tree in
         let base = f.based old.now.trees in
         let are : AreRows l all = subst (AreRows l) (sym base) (rows_in schema l f old.now lives) in
         let staged : a.staged ≡ map (env_of []) all = a.grouped ∙ each (env_of []) all in
-        let kept : a.kept ≡ map shown_of all = a.distinct ∙ ap (map (output q)) staged ∙ map-map (output q) (env_of []) all in
-        let same : IsPermutation (map shown_of all) a.ordered = subst (λ k. IsPermutation k a.ordered) kept a.same in
-        ap (map (λ r. l.entry (Null ∷ r))) a.shown ∙ map-map (λ r. l.entry (Null ∷ r)) (λ (x : Output). x.1) a.ordered
+        let kept : a.kept ≡ map shown_of all = a.distinct ∙ ap (map (output q)) staged ∙ map-map
+        (output q) (env_of []) all in
+        let same : IsPermutation (map shown_of all) a.ordered =
+        subst (λ k. IsPermutation k a.ordered) kept a.same in
+        ap (map (λ r. l.entry (Null ∷ r))) a.shown ∙ map-map (λ r. l.entry (Null ∷ r))
+        (λ (x : Output). x.1) a.ordered
         ∙ entries_of all are a.ordered same a.sorted ∙ ap (λ rows. entries (map_of l rows)) base

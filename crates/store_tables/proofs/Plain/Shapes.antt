@@ -1,5 +1,7 @@
 -- What STRICT and NOT NULL say of a row: a rowid, and then a value of its own kind for each column.
-use Rattle.std.proofs.Common.{◌≡◌, ℕ, ℤ, ◌+◌, Bool, true, false, not, List, [], ◌∷◌, ◌++◌, map, length, drop, None, refl, sym, ap, subst, ◌∙◌, true≢false, append_assoc, length-append}
+use Rattle.std.proofs.Common.{◌≡◌, ℕ, ℤ, ◌+◌, Bool, true, false, not, List, [], ◌∷◌, ◌++◌, map}
+use Rattle.std.proofs.Common.{length, drop, None, refl, sym, ap, subst, ◌∙◌, true≢false}
+use Rattle.std.proofs.Common.{append_assoc, length-append}
 use Rattle.std.proofs.lemmas.Bool.{and_parts}
 use Rattle.sqlite_value.specs.declared.value.Value.{Value}
 use Rattle.sqlite_value.specs.declared.value.Value.TheVariants.{Null, Int, Real, Text, Blob}
@@ -84,15 +86,20 @@ cells_in [] at front [] long t p = (tt, refl)
 cells_in [] at front (v ∷ vs) long t p = absurd (true≢false (sym t))
 cells_in (f ∷ fs) at front [] long t p =
     let here = (and_parts _ _ p).0 in
-    absurd (true≢false (sym here ∙ ap (λ v. not (is_null v)) (ap (column (front ++ [])) (sym long) ∙ column_past front)))
+    absurd (true≢false (sym here ∙ ap (λ v. not (is_null v)) (ap (column (front ++ [])) (sym long) ∙
+    column_past front)))
 cells_in (f ∷ fs) at front (v ∷ vs) long t p =
     let ts = and_parts _ _ t in
     let ps = and_parts _ _ p in
-    let here : is_null v ≡ false = present _ (ap (λ x. not (is_null x)) (sym (ap (column (front ++ v ∷ vs)) (sym long) ∙ column_at front vs v)) ∙ ps.0) in
+    let here : is_null v ≡ false =
+    present _ (ap (λ x. not (is_null x)) (sym (ap (column (front ++ v ∷ vs)) (sym long) ∙
+    column_at front vs v)) ∙ ps.0) in
     let one = as_held f.holds v ts.0 here in
-    let longer : length (front ++ v ∷ []) ≡ at + 1 + 1 = length-append front (v ∷ []) ∙ ap (λ n. n + 1) long in
+    let longer : length (front ++ v ∷ []) ≡ at + 1 + 1 = length-append front (v ∷ []) ∙ ap
+    (λ n. n + 1) long in
     let row : front ++ v ∷ vs ≡ (front ++ v ∷ []) ++ vs = sym (append_assoc front (v ∷ []) vs) in
-    let more = cells_in fs (at + 1) (front ++ v ∷ []) vs longer ts.1 (subst (λ r. are_present None (at + 1) (map column_of fs) r ≡ true) row ps.1) in
+    let more = cells_in fs (at + 1) (front ++ v ∷ []) vs longer ts.1
+    (subst (λ r. are_present None (at + 1) (map column_of fs) r ≡ true) row ps.1) in
     ((one.0, more.0), λ j. one.1 j ∷ more.1 j)
 
 -- a row of these columns is a rowid and their values

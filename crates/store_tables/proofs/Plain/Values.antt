@@ -1,5 +1,6 @@
 -- Values of STRICT columns: how they are cast and compared.
-use Rattle.std.proofs.Common.{◌≡◌, inl, inr, Some, ℕ, ℤ, Bool, true, false, cond, List, [], ◌∷◌, refl, sym, ap, ◌∙◌, ◌&&◌, true≢false}
+use Rattle.std.proofs.Common.{◌≡◌, inl, inr, Some, ℕ, ℤ, Bool, true, false, cond, List, [], ◌∷◌}
+use Rattle.std.proofs.Common.{refl, sym, ap, ◌∙◌, ◌&&◌, true≢false}
 use Rattle.std.specs.Ordering.{is_eq, nat_cmp, int_cmp, ordering_then}
 use Rattle.std.specs.declared.cmp.Ordering.{Ordering}
 use Rattle.std.specs.declared.cmp.Ordering.TheVariants.{Less, Equal, Greater}
@@ -69,11 +70,13 @@ alone false = refl
 pub is_fresh : (rows : List Row) → IsShaped Table rows → (r : Row) → Has rows r
     → is_eq (value_cmp (rowid r) (Int (next_rowid rows))) ≡ false
 is_fresh rows shaped r h = elim (cases_Bool (is_eq (value_cmp (rowid r) (Int (next_rowid rows))))) [
-  | inl taken ↦ absurd (true≢false (sym (some_from _ rows r h taken) ∙ next_is_free Chosen rows [] shaped.0 shaped.1))
+  | inl taken ↦ absurd (true≢false (sym (some_from _ rows r h taken) ∙ next_is_free Chosen rows []
+      shaped.0 shaped.1))
   | inr free ↦ free
 ]
 
 pub left_shaped : (rows : List Row) (ids : List ℤ) → IsShaped Table rows
     → IsShaped Table (without_all rows ids)
 left_shaped rows [] h = h
-left_shaped rows (id ∷ ids) h = left_shaped (without_rowid id rows) ids (IsShaped-filter Table _ rows h)
+left_shaped rows (id ∷ ids) h = left_shaped (without_rowid id rows) ids (IsShaped-filter Table _
+    rows h)

@@ -1,5 +1,7 @@
 -- What a write of one row makes of a table, whatever the table.
-use Rattle.std.proofs.Common.{◌≡◌, ◌≢◌, ◌⊎◌, inl, inr, ℕ, ◌/◌, ℤ, true, List, [], ◌∷◌, ◌++◌, length, slice_get, Some, None, Option, Ok, Err, Result, sym, ap, subst, ◌∙◌, ◌==◌}
+use Rattle.std.proofs.Common.{◌≡◌, ◌≢◌, ◌⊎◌, inl, inr, ℕ, ◌/◌, ℤ, true, List, [], ◌∷◌, ◌++◌, length}
+use Rattle.std.proofs.Common.{slice_get, Some, None, Option, Ok, Err, Result, sym, ap, subst, ◌∙◌}
+use Rattle.std.proofs.Common.{◌==◌}
 use Rattle.std.specs.List.{AllByRecursion}
 use Rattle.sqlite_value.specs.Order.{Row}
 use Rattle.sqlite_trees.specs.Tree.{Trees, put_row}
@@ -17,13 +19,15 @@ use Rattle.sqlite_rules.specs.Cast.{cast_row}
 use Rattle.sqlite_rules.specs.Keys.{AreConflicts}
 use Rattle.sqlite_rules.specs.Lists.{Has}
 use Rattle.sqlite_rules.specs.Calls.{ids_of}
-use Rattle.sqlite_rules.specs.Edit.{edit_of, taken_by, with_rowid, without_all, are_fresh, have_rowids}
+use Rattle.sqlite_rules.specs.Edit.{edit_of, taken_by, with_rowid, without_all, are_fresh}
+use Rattle.sqlite_rules.specs.Edit.{have_rowids}
 use Rattle.sqlite_rules.specs.Action.{works}
 use Rattle.sqlite_rules.proofs.ListLemmas.{all_has, all_from}
 use Rattle.sqlite_rules.proofs.ActionLemmas.{no_works}
 use Rattle.sqlite.specs.declared.error.Error.{Error}
 use Rattle.sqlite.specs.Effect.{Database, Answers, value_rows}
-use Rattle.sqlite.specs.Rows.{Task, Written, nothing, mended, Edited, Puts, Clears, Judged, Tries, TriesEach, InsertsOr, count_of, Inserts}
+use Rattle.sqlite.specs.Rows.{Task, Written, nothing, mended, Edited, Puts, Clears, Judged, Tries}
+use Rattle.sqlite.specs.Rows.{TriesEach, InsertsOr, count_of, Inserts}
 use Rattle.sqlite.specs.Does.{Tally, Does, Concludes}
 use Rattle.sqlite.specs.declared.run.Mode.{Mode}
 use Rattle.sqlite.specs.Listing.{understood}
@@ -58,7 +62,8 @@ module _ (schema : Schema) (p : Plain) where
   Spares old new = AllByRecursion (λ t. t.tree ≢ p.tree → new t.tree ≡ old t.tree) schema.tables
 
   spares_again : (a b c : Trees) → Spares a b → Spares b c → Spares a c
-  spares_again a b c h k = all_from _ schema.tables (λ t listed apart. all_has _ schema.tables t k listed apart ∙ all_has _ schema.tables t h listed apart)
+  spares_again a b c h k = all_from _ schema.tables (λ t listed apart. all_has _ schema.tables t k
+      listed apart ∙ all_has _ schema.tables t h listed apart)
 
   -- the row was put beside those that do not conflict with it
   pub record Replaced (old : Trees) (row : Row) (new : Trees) : Type 0 where
@@ -82,24 +87,46 @@ module _ (schema : Schema) (p : Plain) where
 
   module _ (limit : Option ℕ) (params : Row) (quiet : IsQuiet) where
     abbrev task : Task
-    task = record { limit = limit; keys = Enforced; schema = schema; table = table; params = params }
+    task = record {
+      limit = limit;
+      keys = Enforced;
+      schema = schema;
+      table = table;
+      params =
+          params;
+    }
 
     pub puts : (row : Row) (db : Trees) (w : Written) → Puts task row db (Ok w)
         → Inserted db (cast_row table row) w.trees
     puts row db w h =
         let edit = edit_of db table [] Given 0 (row ∷ []) in
         let step = went h in
-        let it = one_step schema Enforced db step.0 edit (no_works schema Enforced 0 p.tree edit.news) step.1 in
+        let it = one_step schema Enforced db step.0 edit (no_works schema Enforced 0 p.tree
+        edit.news) step.1 in
         let ok : ◌≡◌ {A = Result Written (Option Error)} (Ok w) (Ok _) = step.2 in
         let is : w.trees ≡ step.0 = ap (λ (x : Written). x.trees) (same_value ok) in
-        record { rows = ap (λ (t : Trees). t p.tree) is ∙ it.rows; fresh = it.fresh; keyed = it.keyed; tables = subst (Spares db) (sym is) it.tables }
+        record {
+          rows = ap (λ (t : Trees). t p.tree) is ∙ it.rows;
+          fresh = it.fresh;
+          keyed =
+              it.keyed;
+          tables = subst (Spares db) (sym is) it.tables;
+        }
 
     clears : (row : Row) (db : Trees) (found : List Row) (w : Written)
         → AreConflicts None schema.indexes table (db p.tree) row found
         → Clears task Replace row db found (Ok w) → Replaced db row w.trees
     clears row db [] w conflicts h =
         let put = puts row db w h in
-        record { found = []; conflicts = conflicts; rows = put.rows; fresh = put.fresh; keyed = put.keyed; tables = put.tables }
+        record {
+          found = [];
+          conflicts = conflicts;
+          rows = put.rows;
+          fresh = put.fresh;
+          keyed =
+              put.keyed;
+          tables = put.tables;
+        }
     clears row db (x ∷ more) w conflicts h =
         let edit = edit_of db table (ids_of (x ∷ more)) Given 0 [] in
         let step = went h in
@@ -134,7 +161,9 @@ module _ (schema : Schema) (p : Plain) where
     each source top db out h =
         let step = went h in
         let ok : ◌≡◌ {A = Result (Written × ℤ) (Option Error)} (Ok out) (Ok _) = step.2 in
-        subst (Replaced db (row_of db source)) (sym (ap (λ (x : Written × ℤ). x.0.trees) (same_value ok))) (tries (row_of db source) db step.0 step.1)
+        subst (Replaced db (row_of db source))
+        (sym (ap (λ (x : Written × ℤ). x.0.trees) (same_value ok))) (tries (row_of db source) db
+        step.0 step.1)
 
     inserts_or : (terms : List Term) (width : ℕ) (source : Row) (db : Trees) (w : Written)
         → value_rows (params ++ []) width (length terms / width) terms ≡ source ∷ []
@@ -149,40 +178,75 @@ module _ (schema : Schema) (p : Plain) where
         let next : ◌≡◌ {A = Result Trees (Option Error)} (Ok end.0) (Ok _) = end.1 in
         let rows = given.1.1 ∙ one in
         let top = count_of counter.0 in
-        let it = each source top db all.0 (subst (λ rs. TriesEach task Replace [] rs top (nothing db) (Ok all.0)) rows all.1) in
-        subst (Replaced db (row_of db source)) (sym (ap (λ (x : Written). x.trees) (same_value last) ∙ same_value next)) it
+        let it = each source top db all.0 (subst (λ rs. TriesEach task Replace [] rs top
+        (nothing db) (Ok all.0)) rows all.1) in
+        subst (Replaced db (row_of db source)) (sym (ap (λ (x : Written). x.trees) (same_value last)
+        ∙ same_value next)) it
 
-  pub concludes : (limit : Option ℕ) (params : Row) (mode : Mode) (w : Written) (tally : Tally) (after : Database)
-      → Concludes (record { limit = limit; keys = Enforced; schema = schema; table = table; params = params }) mode None w (Ok (tally, after)) → after ≡ record { schema = schema; trees = w.trees }
+  pub concludes : (limit : Option ℕ) (params : Row) (mode : Mode) (w : Written) (tally : Tally)
+      (after : Database)
+      → Concludes (record {
+        limit = limit;
+        keys = Enforced;
+        schema = schema;
+        table = table;
+        params =
+            params;
+      }) mode None w (Ok (tally, after)) → after ≡ record {
+        schema = schema;
+        trees =
+            w.trees;
+      }
   concludes limit params mode w tally after h =
       let tested = went h in
       let returned = went tested.2 in
-      let ok : ◌≡◌ {A = Result (Tally × Database) (Option Error)} (Ok (tally, after)) (Ok _) = returned.2 in
+      let ok : ◌≡◌ {A = Result (Tally × Database) (Option Error)} (Ok (tally, after)) (Ok _) =
+      returned.2 in
       ap (λ (p : Tally × Database). p.1) (same_value ok)
 
   -- `INSERT OR REPLACE INTO .. VALUES (..)`, one row, of which `source` has the values
-  pub replaces : (at : ℕ) (sql : List ℕ) (params source : Row) (terms : List Term) (width : ℕ) (old new : State) (count : ℕ)
+  pub replaces : (at : ℕ) (sql : List ℕ) (params source : Row) (terms : List Term) (width : ℕ)
+      (old new : State) (count : ℕ)
       → slice_get schema.tables at ≡ Some table → IsQuiet
       → command_of (understood schema sql) ≡ InsertOr at Replace (Values terms width) []
       → IsPlain (understood schema sql)
       → value_rows (params ++ []) width (length terms / width) terms ≡ source ∷ []
       → old.now.schema ≡ schema → Executes sql params old new (Ok count)
-      → Writes old new None (InsertOr at Replace (Values terms width) []) (statement_of sql (understood schema sql)) params count
+      → Writes old new None (InsertOr at Replace (Values terms width) [])
+      (statement_of sql (understood schema sql)) params count
       × (new.now.schema ≡ schema)
-      × Replaced old.now.trees (with_rowid Chosen (old.now.trees p.tree) (cast_row table (mended Replace table source))) new.now.trees
+      × Replaced old.now.trees (with_rowid Chosen (old.now.trees p.tree)
+      (cast_row table (mended Replace table source))) new.now.trees
   replaces at sql params source terms width old new count placed quiet is plain one has h =
       let command = InsertOr at Replace (Values terms width) [] in
       let text = statement_of sql (understood schema sql) in
       let w = runs_as sql params old new schema has command is plain count h in
-      let does = subst (λ s. Does old.step_limit (mode_of old) params (record old.now { schema = s }) text None command (Ok (w.tally, new.now))) has w.changed in
+      let does = subst (λ s. Does old.step_limit (mode_of old) params (record old.now {
+        schema =
+            s;
+      }) text None command (Ok (w.tally, new.now))) has w.changed in
       let done = went (rw placed at does) in
       let now = concludes old.step_limit params (mode_of old) done.0 w.tally new.now done.2 in
-      let it = inserts_or old.step_limit params quiet terms width source old.now.trees done.0 one done.1 in
-      (w, ap (λ (d : Database). d.schema) now, subst (Replaced old.now.trees _) (sym (ap (λ (d : Database). d.trees) now)) it)
+      let it = inserts_or old.step_limit params quiet terms width source old.now.trees done.0 one
+      done.1 in (
+        w,
+        ap (λ (d : Database). d.schema) now,
+        subst (Replaced old.now.trees _)
+            (sym (ap (λ (d : Database). d.trees) now)) it,
+      )
 
   -- `INSERT INTO .. VALUES (..)`, one row
-  inserts_one : (limit : Option ℕ) (params : Row) (terms : List Term) (width : ℕ) (source : Row) (db : Trees) (w : Written) → value_rows (params ++ []) width (length terms / width) terms ≡ source ∷ []
-      → Inserts (record { limit = limit; keys = Enforced; schema = schema; table = table; params = params }) (Values terms width) db (Ok w)
+  inserts_one : (limit : Option ℕ) (params : Row) (terms : List Term) (width : ℕ) (source : Row)
+      (db : Trees) (w : Written) → value_rows (params ++ []) width (length terms / width) terms ≡
+      source ∷ []
+      → Inserts (record {
+        limit = limit;
+        keys = Enforced;
+        schema = schema;
+        table = table;
+        params =
+            params;
+      }) (Values terms width) db (Ok w)
       → Inserted db (with_rowid Chosen (db p.tree) (cast_row table source)) w.trees
   inserts_one limit params terms width source db w one h =
       let given = went h in
@@ -193,49 +257,73 @@ module _ (schema : Schema) (p : Plain) where
       let next : ◌≡◌ {A = Result Trees (Option Error)} (Ok end.0) (Ok _) = end.1 in
       let rows : given.0 ≡ source ∷ [] = given.1.1 ∙ one in
       let edit = edit_of db table [] Chosen 0 (source ∷ []) in
-      let wrote = subst (λ rs. Edited schema Enforced db (edit_of db table [] Chosen 0 rs) (Ok step.0)) rows step.1 in
-      let it = one_step schema Enforced db step.0 edit (no_works schema Enforced 0 p.tree edit.news) wrote in
-      let is : w.trees ≡ step.0 = ap (λ (x : Written). x.trees) (same_value last) ∙ same_value next in
-      record { rows = ap (λ (t : Trees). t p.tree) is ∙ it.rows; fresh = it.fresh; keyed = it.keyed; tables = subst (Spares db) (sym is) it.tables }
+      let wrote = subst (λ rs. Edited schema Enforced db (edit_of db table [] Chosen 0 rs)
+      (Ok step.0)) rows step.1 in
+      let it = one_step schema Enforced db step.0 edit (no_works schema Enforced 0 p.tree edit.news)
+      wrote in
+      let is : w.trees ≡ step.0 = ap (λ (x : Written). x.trees) (same_value last) ∙ same_value next
+      in
+      record {
+        rows = ap (λ (t : Trees). t p.tree) is ∙ it.rows;
+        fresh = it.fresh;
+        keyed = it.keyed;
+        tables = subst (Spares db) (sym is) it.tables;
+      }
 
-  pub inserts : (at : ℕ) (sql : List ℕ) (params source : Row) (terms : List Term) (width : ℕ) (old new : State) (count : ℕ)
+  pub inserts : (at : ℕ) (sql : List ℕ) (params source : Row) (terms : List Term) (width : ℕ)
+      (old new : State) (count : ℕ)
       → slice_get schema.tables at ≡ Some table
       → command_of (understood schema sql) ≡ Insert at (Values terms width)
       → IsPlain (understood schema sql)
       → value_rows (params ++ []) width (length terms / width) terms ≡ source ∷ []
       → old.now.schema ≡ schema → Executes sql params old new (Ok count)
-      → Writes old new None (Insert at (Values terms width)) (statement_of sql (understood schema sql)) params count
+      → Writes old new None (Insert at (Values terms width))
+      (statement_of sql (understood schema sql)) params count
       × (new.now.schema ≡ schema)
-      × Inserted old.now.trees (with_rowid Chosen (old.now.trees p.tree) (cast_row table source)) new.now.trees
+      × Inserted old.now.trees (with_rowid Chosen (old.now.trees p.tree) (cast_row table source))
+      new.now.trees
   inserts at sql params source terms width old new count placed is plain one has h =
       let command = Insert at (Values terms width) in
       let text = statement_of sql (understood schema sql) in
       let w = runs_as sql params old new schema has command is plain count h in
-      let does = subst (λ s. Does old.step_limit (mode_of old) params (record old.now { schema = s }) text None command (Ok (w.tally, new.now))) has w.changed in
+      let does = subst (λ s. Does old.step_limit (mode_of old) params (record old.now {
+        schema =
+            s;
+      }) text None command (Ok (w.tally, new.now))) has w.changed in
       let done = went (rw placed at does) in
       let now = concludes old.step_limit params (mode_of old) done.0 w.tally new.now done.2 in
-      let it = inserts_one old.step_limit params terms width source old.now.trees done.0 one done.1 in
-      (w, ap (λ (d : Database). d.schema) now, subst (Inserted old.now.trees _) (sym (ap (λ (d : Database). d.trees) now)) it)
+      let it = inserts_one old.step_limit params terms width source old.now.trees done.0 one done.1
+      in (
+        w,
+        ap (λ (d : Database). d.schema) now,
+        subst (Inserted old.now.trees _)
+            (sym (ap (λ (d : Database). d.trees) now)) it,
+      )
 
   -- ---- rowids still rise
 
   still_shaped : (old new : Trees) → AreShaped schema old → Spares old new
       → IsShaped shape.Table (new p.tree) → AreShaped schema new
   still_shaped old new shaped spares here t h = elim (cases_Bool (t.tree == p.tree)) [
-    | inl same ↦ subst (λ at. IsShaped shape.Table (new at)) (sym (eqb-true t.tree p.tree same)) here
-    | inr other ↦ subst (IsShaped shape.Table) (sym (all_has _ schema.tables t spares h (λ e. eqb-false t.tree p.tree other e))) (shaped t h)
+    | inl same ↦ subst (λ at. IsShaped shape.Table (new at)) (sym (eqb-true t.tree p.tree same))
+        here
+    | inr other ↦ subst (IsShaped shape.Table)
+        (sym (all_has _ schema.tables t spares h (λ e. eqb-false t.tree p.tree other e)))
+        (shaped t h)
   ]
 
   pub replaced_shaped : (old new : Trees) (row : Row) → AreShaped schema old
       → IsShaped shape.Table (old p.tree) → Replaced old row new → AreShaped schema new
   replaced_shaped old new row shaped here it =
       still_shaped old new shaped it.tables (subst (IsShaped shape.Table) (sym it.rows)
-      (IsShaped-put_row (cast_row table row) (without_all (old p.tree) (ids_of it.found)) (and_parts _ _ it.keyed).0 (left_shaped (old p.tree) (ids_of it.found) here)))
+      (IsShaped-put_row (cast_row table row) (without_all (old p.tree) (ids_of it.found))
+      (and_parts _ _ it.keyed).0 (left_shaped (old p.tree) (ids_of it.found) here)))
 
   pub inserted_shaped : (old new : Trees) (row : Row) → AreShaped schema old
       → IsShaped shape.Table (old p.tree) → Inserted old row new → AreShaped schema new
   inserted_shaped old new row shaped here it =
-      still_shaped old new shaped it.tables (subst (IsShaped shape.Table) (sym it.rows) (IsShaped-put_row row (old p.tree) (and_parts _ _ it.keyed).0 here))
+      still_shaped old new shaped it.tables (subst (IsShaped shape.Table) (sym it.rows)
+      (IsShaped-put_row row (old p.tree) (and_parts _ _ it.keyed).0 here))
 
   -- ---- DELETE
 
@@ -256,17 +344,32 @@ module _ (schema : Schema) (p : Plain) where
       let command = Delete at q in
       let text = statement_of sql (understood schema sql) in
       let w = runs_as sql params old new schema has command is plain count h in
-      let does = subst (λ s. Does old.step_limit (mode_of old) params (record old.now { schema = s }) text None command (Ok (w.tally, new.now))) has w.changed in
+      let does = subst (λ s. Does old.step_limit (mode_of old) params (record old.now {
+        schema =
+            s;
+      }) text None command (Ok (w.tally, new.now))) has w.changed in
       let done = went (rw placed at does) in
       let now = concludes old.step_limit params (mode_of old) done.0 w.tally new.now done.2 in
       let found = went done.1 in
       let step = went found.2 in
       let last : ◌≡◌ {A = Result Written (Option Error)} (Ok done.0) (Ok _) = step.2 in
       let edit = edit_of old.now.trees table (ids_of found.0) Given 0 [] in
-      let it = one_step schema Enforced old.now.trees step.0 edit (quiet (taken_by old.now.trees edit)) step.1 in
-      let trees : new.now.trees ≡ step.0 = ap (λ (d : Database). d.trees) now ∙ ap (λ (x : Written). x.trees) (same_value last) in
-      (w, ap (λ (d : Database). d.schema) now, found.0, found.1, record { rows = ap (λ (t : Trees). t p.tree) trees ∙ it.rows; tables = subst (Spares old.now.trees) (sym trees) it.tables })
+      let it = one_step schema Enforced old.now.trees step.0 edit
+      (quiet (taken_by old.now.trees edit)) step.1 in
+      let trees : new.now.trees ≡ step.0 = ap (λ (d : Database). d.trees) now ∙ ap
+      (λ (x : Written). x.trees) (same_value last) in (
+        w,
+        ap (λ (d : Database). d.schema) now,
+        found.0,
+        found.1,
+        record {
+          rows = ap (λ (t : Trees). t p.tree) trees ∙ it.rows;
+          tables =
+              subst (Spares old.now.trees) (sym trees) it.tables;
+        },
+      )
 
   pub deleted_shaped : (old new : Trees) (found : List Row) → AreShaped schema old
       → IsShaped shape.Table (old p.tree) → Deleted old found new → AreShaped schema new
-  deleted_shaped old new found shaped here it = still_shaped old new shaped it.tables (subst (IsShaped shape.Table) (sym it.rows) (left_shaped (old p.tree) (ids_of found) here))
+  deleted_shaped old new found shaped here it = still_shaped old new shaped it.tables
+      (subst (IsShaped shape.Table) (sym it.rows) (left_shaped (old p.tree) (ids_of found) here))

@@ -6,10 +6,11 @@ use Rattle.sqlite_value.specs.Order.{Row}
 use Rattle.sqlite_trees.specs.Tree.{Trees}
 use Rattle.sqlite.specs.State.{State, Executes, Shown}
 use Rattle.store_tables.specs.Tables.{store_schema}
-use Rattle.store_tables.specs.Entries.{map_of, Meta, meta_rows, ring_rows, device_rows, seat_rows, moved_rows, published_rows, request_rows, part_rows}
+use Rattle.store_tables.specs.Entries.{map_of, Meta, meta_rows, ring_rows, device_rows, seat_rows}
+use Rattle.store_tables.specs.Entries.{moved_rows, published_rows, request_rows, part_rows}
 use Rattle.store_tables.specs.Contents.{contents_of, with_meta}
 use Rattle.store_tables.specs.Store.{IsStore, Becomes}
-use Rattle.store_tables.specs.Texts.{put_meta, list_meta}
+use Rattle.store_tables.specs.Inner.Texts.{put_meta, list_meta}
 use Rattle.store_tables.proofs.Plain.Writes.{Spares}
 use Rattle.store_tables.proofs.Plain.Puts.{puts_row}
 use Rattle.store_tables.proofs.Plain.Queries.{lists_all}
@@ -35,10 +36,16 @@ pub puts_meta : (old new : State) (key : ℤ) (value : Meta) (count : ℕ) → I
     → Executes put_meta (meta_params key value) old new (Ok count)
     → Becomes new.now (with_meta (contents_of old.now.trees) key value)
 puts_meta old new key value count is h =
-    let it = puts_row store_schema meta_rows meta_facts put_meta meta_params meta_puts key value old new count (lives_in old.now is) h in
-    record { store = store_from new.now it.0; contents = meta_only old.now.trees new.now.trees it.1 _ it.2 }
+    let it = puts_row store_schema meta_rows meta_facts put_meta meta_params meta_puts key value old
+    new count (lives_in old.now is) h in
+    record {
+      store = store_from new.now it.0;
+      contents = meta_only old.now.trees new.now.trees it.1
+          _ it.2;
+    }
 
 pub lists_meta : (old new : State) (rows : List Row) → IsStore old.now
     → Shown list_meta [] old new rows
     → map (λ r. meta_rows.entry (Null ∷ r)) rows ≡ entries (contents_of old.now.trees).meta
-lists_meta old new rows is h = lists_all store_schema meta_rows meta_facts list_meta lists old new rows (lives_in old.now is) h
+lists_meta old new rows is h = lists_all store_schema meta_rows meta_facts list_meta lists old new
+    rows (lives_in old.now is) h

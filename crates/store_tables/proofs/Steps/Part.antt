@@ -6,10 +6,12 @@ use Rattle.sqlite_value.specs.Order.{Row}
 use Rattle.sqlite_trees.specs.Tree.{Trees}
 use Rattle.sqlite.specs.State.{State, Executes, Shown}
 use Rattle.store_tables.specs.Tables.{store_schema}
-use Rattle.store_tables.specs.Entries.{map_of, NameNumber, Part, meta_rows, ring_rows, device_rows, seat_rows, moved_rows, published_rows, request_rows, part_rows}
+use Rattle.store_tables.specs.Entries.{map_of, NameNumber, Part, meta_rows, ring_rows, device_rows}
+use Rattle.store_tables.specs.Entries.{seat_rows, moved_rows, published_rows, request_rows}
+use Rattle.store_tables.specs.Entries.{part_rows}
 use Rattle.store_tables.specs.Contents.{contents_of, with_part}
 use Rattle.store_tables.specs.Store.{IsStore, Becomes}
-use Rattle.store_tables.specs.Texts.{put_part, list_part}
+use Rattle.store_tables.specs.Inner.Texts.{put_part, list_part}
 use Rattle.store_tables.proofs.Plain.Writes.{Spares}
 use Rattle.store_tables.proofs.Plain.Puts.{puts_row}
 use Rattle.store_tables.proofs.Plain.Queries.{lists_all}
@@ -35,10 +37,16 @@ pub puts_part : (old new : State) (key : NameNumber) (value : Part) (count : ℕ
     → IsStore old.now → Executes put_part (part_params key value) old new (Ok count)
     → Becomes new.now (with_part (contents_of old.now.trees) key value)
 puts_part old new key value count is h =
-    let it = puts_row store_schema part_rows part_facts put_part part_params part_puts key value old new count (lives_in old.now is) h in
-    record { store = store_from new.now it.0; contents = part_only old.now.trees new.now.trees it.1 _ it.2 }
+    let it = puts_row store_schema part_rows part_facts put_part part_params part_puts key value old
+    new count (lives_in old.now is) h in
+    record {
+      store = store_from new.now it.0;
+      contents = part_only old.now.trees new.now.trees it.1
+          _ it.2;
+    }
 
 pub lists_part : (old new : State) (rows : List Row) → IsStore old.now
     → Shown list_part [] old new rows
     → map (λ r. part_rows.entry (Null ∷ r)) rows ≡ entries (contents_of old.now.trees).parts
-lists_part old new rows is h = lists_all store_schema part_rows part_facts list_part lists old new rows (lives_in old.now is) h
+lists_part old new rows is h = lists_all store_schema part_rows part_facts list_part lists old new
+    rows (lives_in old.now is) h

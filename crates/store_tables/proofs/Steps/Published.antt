@@ -6,14 +6,17 @@ use Rattle.sqlite_value.specs.Order.{Row}
 use Rattle.sqlite_trees.specs.Tree.{Trees}
 use Rattle.sqlite.specs.State.{State, Executes, Shown}
 use Rattle.store_tables.specs.Tables.{store_schema}
-use Rattle.store_tables.specs.Entries.{map_of, NameNumber, meta_rows, ring_rows, device_rows, seat_rows, moved_rows, published_rows, request_rows, part_rows}
+use Rattle.store_tables.specs.Entries.{map_of, NameNumber, meta_rows, ring_rows, device_rows}
+use Rattle.store_tables.specs.Entries.{seat_rows, moved_rows, published_rows, request_rows}
+use Rattle.store_tables.specs.Entries.{part_rows}
 use Rattle.store_tables.specs.Contents.{contents_of, with_published}
 use Rattle.store_tables.specs.Store.{IsStore, Becomes}
-use Rattle.store_tables.specs.Texts.{put_published, list_published}
+use Rattle.store_tables.specs.Inner.Texts.{put_published, list_published}
 use Rattle.store_tables.proofs.Plain.Writes.{Spares}
 use Rattle.store_tables.proofs.Plain.Puts.{puts_row}
 use Rattle.store_tables.proofs.Plain.Queries.{lists_all}
-use Rattle.store_tables.proofs.Tables.Published.{published_facts, published_params, published_puts, published_lists as lists}
+use Rattle.store_tables.proofs.Tables.Published.{published_facts, published_params, published_puts}
+use Rattle.store_tables.proofs.Tables.Published.{published_lists as lists}
 use Rattle.store_tables.proofs.Living.{lives_in, store_from}
 
 -- only this table changed
@@ -36,11 +39,17 @@ pub puts_published : (old new : State) (key : NameNumber) (value : List ℕ) (co
     → IsStore old.now → Executes put_published (published_params key value) old new (Ok count)
     → Becomes new.now (with_published (contents_of old.now.trees) key value)
 puts_published old new key value count is h =
-    let it = puts_row store_schema published_rows published_facts put_published published_params published_puts key value old new count (lives_in old.now is) h in
-    record { store = store_from new.now it.0; contents = published_only old.now.trees new.now.trees it.1 _ it.2 }
+    let it = puts_row store_schema published_rows published_facts put_published published_params
+    published_puts key value old new count (lives_in old.now is) h in
+    record {
+      store = store_from new.now it.0;
+      contents = published_only old.now.trees new.now.trees
+          it.1 _ it.2;
+    }
 
 pub lists_published : (old new : State) (rows : List Row) → IsStore old.now
     → Shown list_published [] old new rows
     → map (λ r. published_rows.entry (Null ∷ r)) rows
     ≡ entries (contents_of old.now.trees).published
-lists_published old new rows is h = lists_all store_schema published_rows published_facts list_published lists old new rows (lives_in old.now is) h
+lists_published old new rows is h = lists_all store_schema published_rows published_facts
+    list_published lists old new rows (lives_in old.now is) h

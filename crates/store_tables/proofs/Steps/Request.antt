@@ -6,14 +6,18 @@ use Rattle.sqlite_value.specs.Order.{Row}
 use Rattle.sqlite_trees.specs.Tree.{Trees}
 use Rattle.sqlite.specs.State.{State, Executes, Shown}
 use Rattle.store_tables.specs.Tables.{store_schema}
-use Rattle.store_tables.specs.Entries.{map_of, NameNumber, Request, meta_rows, ring_rows, device_rows, seat_rows, moved_rows, published_rows, request_rows, part_rows}
-use Rattle.store_tables.specs.Contents.{contents_of, with_request, told}
+use Rattle.store_tables.specs.Entries.{map_of, NameNumber, Request, meta_rows, ring_rows}
+use Rattle.store_tables.specs.Entries.{device_rows, seat_rows, moved_rows, published_rows}
+use Rattle.store_tables.specs.Entries.{request_rows, part_rows}
+use Rattle.store_tables.specs.Contents.{contents_of, with_request}
+use Rattle.store_tables.specs.Inner.Told.{told}
 use Rattle.store_tables.specs.Store.{IsStore, Becomes}
-use Rattle.store_tables.specs.Texts.{put_request, list_request, pick_request}
+use Rattle.store_tables.specs.Inner.Texts.{put_request, list_request, pick_request}
 use Rattle.store_tables.proofs.Plain.Writes.{Spares}
 use Rattle.store_tables.proofs.Plain.Adds.{adds_row}
 use Rattle.store_tables.proofs.Plain.Queries.{lists_all, shows_one}
-use Rattle.store_tables.proofs.Tables.Request.{request_facts, request_params, request_adds, request_lists as lists, request_picks, key_params}
+use Rattle.store_tables.proofs.Tables.Request.{request_facts, request_params, request_adds}
+use Rattle.store_tables.proofs.Tables.Request.{request_lists as lists, request_picks, key_params}
 use Rattle.store_tables.proofs.Living.{lives_in, store_from}
 
 -- only this table changed
@@ -36,16 +40,23 @@ pub adds_request : (old new : State) (key : NameNumber) (value : Request) (count
     → IsStore old.now → Executes put_request (request_params key value) old new (Ok count)
     → Becomes new.now (with_request (contents_of old.now.trees) key value)
 adds_request old new key value count is h =
-    let it = adds_row store_schema request_rows request_facts put_request request_params request_adds key value old new count (lives_in old.now is) h in
-    record { store = store_from new.now it.0; contents = request_only old.now.trees new.now.trees it.1 _ it.2 }
+    let it = adds_row store_schema request_rows request_facts put_request request_params
+    request_adds key value old new count (lives_in old.now is) h in
+    record {
+      store = store_from new.now it.0;
+      contents = request_only old.now.trees new.now.trees
+          it.1 _ it.2;
+    }
 
 pub lists_request : (old new : State) (rows : List Row) → IsStore old.now
     → Shown list_request [] old new rows
     → map (λ r. request_rows.entry (Null ∷ r)) rows ≡ entries (contents_of old.now.trees).requests
-lists_request old new rows is h = lists_all store_schema request_rows request_facts list_request lists old new rows (lives_in old.now is) h
+lists_request old new rows is h = lists_all store_schema request_rows request_facts list_request
+    lists old new rows (lives_in old.now is) h
 
 pub picks_request : (old new : State) (key : NameNumber) (rows : List Row) → IsStore old.now
     → Shown pick_request (key_params key) old new rows
     → option_map told (slice_get rows 0) ≡ get (contents_of old.now.trees).requests key
 picks_request old new key rows is h =
-    shows_one store_schema request_rows request_facts pick_request key_params told request_picks old new key rows (lives_in old.now is) h
+    shows_one store_schema request_rows request_facts pick_request key_params told request_picks old
+    new key rows (lives_in old.now is) h

@@ -18,8 +18,9 @@ use Rattle.sqlite.specs.Listing.{understood, reads_listing}
 use Rattle.sqlite.proofs.Callers.{IsPlain, command_of}
 use Rattle.store_tables.specs.Tables.{store_schema}
 use Rattle.store_tables.specs.Entries.{NameNumber, name_cmp, Device, device_rows}
-use Rattle.store_tables.specs.Texts.{put_device, list_device, drop_device}
-use Rattle.store_tables.proofs.Plain.Values.{cast_null, cast_int, equal_ints, equal_texts, both_equal}
+use Rattle.store_tables.specs.Inner.Texts.{put_device, list_device, drop_device}
+use Rattle.store_tables.proofs.Plain.Values.{cast_null, cast_int, equal_ints, equal_texts}
+use Rattle.store_tables.proofs.Plain.Values.{both_equal}
 use Rattle.store_tables.proofs.Plain.Shapes.{present, shape_of}
 use Rattle.store_tables.proofs.Plain.Facts.{Facts}
 use Rattle.store_tables.proofs.Plain.Adds.{AddText}
@@ -29,9 +30,11 @@ use Rattle.store_tables.proofs.Keys.{name_number_total, name_number_exact, then_
 use Rattle.std.proofs.lemmas.Bool.{and_parts}
 
 pub agrees : (id : ℤ) (k : NameNumber) (v : Device) (id′ : ℤ) (k′ : NameNumber) (v′ : Device)
-    → agree Rattle.sqlite_value.specs.Keys.plain device_rows.key (device_rows.row id k v) device_rows.key (device_rows.row id′ k′ v′) ≡ eq_by_cmp device_rows.cmp k k′
+    → agree Rattle.sqlite_value.specs.Keys.plain device_rows.key (device_rows.row id k v)
+    device_rows.key (device_rows.row id′ k′ v′) ≡ eq_by_cmp device_rows.cmp k k′
 unfolding first_key
-agrees id k v id′ k′ v′ = rw (equal_texts k.0 k′.0, equal_ints k.1 k′.1) (both_equal (name_cmp k.0 k′.0) (int_cmp k.1 k′.1))
+agrees id k v id′ k′ v′ = rw (equal_texts k.0 k′.0, equal_ints k.1 k′.1)
+    (both_equal (name_cmp k.0 k′.0) (int_cmp k.1 k′.1))
 
 pub device_facts : Facts store_schema device_rows
 device_facts = record {
@@ -41,16 +44,33 @@ device_facts = record {
   based = λ db. refl;
   reads = λ id k v. refl;
   numbered = λ id k v. refl;
-  typed = λ x int t p. let s = shape_of device_rows.plain.fields x int t p in (s.0, (s.1.0, s.1.1.0), record { region = s.1.1.1.0; zone = s.1.1.1.1.0; address = s.1.1.1.1.1.0; port = s.1.1.1.1.1.1.0; name = s.1.1.1.1.1.1.1.0; weight = s.1.1.1.1.1.1.1.1.0; removed = s.1.1.1.1.1.1.1.1.1.0 }, s.2);
+  typed = λ x int t p. let s = shape_of device_rows.plain.fields x int t p in (
+    s.0,
+    (s.1.0, s.1.1.0),
+    record {
+      region = s.1.1.1.0;
+      zone = s.1.1.1.1.0;
+      address =
+          s.1.1.1.1.1.0;
+      port = s.1.1.1.1.1.1.0;
+      name = s.1.1.1.1.1.1.1.0;
+      weight = s.1.1.1.1.1.1.1.1.0;
+      removed = s.1.1.1.1.1.1.1.1.1.0;
+    },
+    s.2,
+  );
   agrees = agrees;
   unique = λ db x h. present _ (and_parts _ _ h).0;
 }
 
 abbrev pub device_params : NameNumber → Device → Row
-device_params = λ key value. Text key.0 ∷ Int key.1 ∷ Int value.region ∷ Int value.zone ∷ Text value.address ∷ Int value.port ∷ Text value.name ∷ Int value.weight ∷ Int value.removed ∷ []
+device_params = λ key value. Text key.0 ∷ Int key.1 ∷ Int value.region ∷ Int value.zone ∷
+    Text value.address ∷ Int value.port ∷ Text value.name ∷ Int value.weight ∷ Int value.removed ∷
+    []
 
 abbrev terms : List Term
-terms = lit Null ∷ col 0 0 ∷ col 0 1 ∷ col 0 2 ∷ col 0 3 ∷ col 0 4 ∷ col 0 5 ∷ col 0 6 ∷ col 0 7 ∷ col 0 8 ∷ []
+terms = lit Null ∷ col 0 0 ∷ col 0 1 ∷ col 0 2 ∷ col 0 3 ∷ col 0 4 ∷ col 0 5 ∷ col 0 6 ∷ col 0 7 ∷
+    col 0 8 ∷ []
 
 put_is : command_of (understood store_schema put_device) ≡ Insert 2 (Values terms 10)
 unfolding understood everything
@@ -69,17 +89,29 @@ device_adds = record {
   is = put_is;
   plain = put_plain;
   one = λ key value. refl;
-  stored = λ rows key value. rw (cast_null, cast_int key.1, cast_int value.region, cast_int value.zone, cast_int value.port, cast_int value.weight, cast_int value.removed) refl;
+  stored = λ rows key value. rw (
+    cast_null,
+    cast_int key.1,
+    cast_int value.region,
+    cast_int value.zone,
+    cast_int value.port,
+    cast_int value.weight,
+    cast_int value.removed,
+  ) refl;
 }
 
 abbrev project : List Term
-project = col 1 1 ∷ col 1 2 ∷ col 1 3 ∷ col 1 4 ∷ col 1 5 ∷ col 1 6 ∷ col 1 7 ∷ col 1 8 ∷ col 1 9 ∷ []
+project = col 1 1 ∷ col 1 2 ∷ col 1 3 ∷ col 1 4 ∷ col 1 5 ∷ col 1 6 ∷ col 1 7 ∷ col 1 8 ∷ col 1 9 ∷
+    []
 
 abbrev order : List (Term × Key)
 order = (col 1 1, ascending Binary) ∷ (col 1 2, ascending Binary) ∷ []
 
 list_is : (command_of (understood store_schema list_device)
-    ≡ Select (record { lets = []; body = of_table device_rows.plain.tree [] project order }) (codes "ring" ∷ codes "id" ∷ codes "region" ∷ codes "zone" ∷ codes "address" ∷ codes "port" ∷ codes "name" ∷ codes "weight" ∷ codes "removed" ∷ [])) × (reads_listing store_schema list_device ≡ false)
+    ≡ Select (record { lets = []; body = of_table device_rows.plain.tree [] project order })
+    (codes "ring" ∷ codes "id" ∷ codes "region" ∷ codes "zone" ∷ codes "address" ∷
+    codes "port" ∷ codes "name" ∷ codes "weight" ∷ codes "removed" ∷ [])) ×
+    (reads_listing store_schema list_device ≡ false)
 unfolding understood everything
 list_is = (refl, refl)
 
@@ -94,12 +126,14 @@ device_lists = record {
   names = _;
   is = list_is;
   plain = list_plain;
-  ordered_as = λ id k v id′ k′ v′. rw (value_cmp-Text k.0 k′.0, value_cmp-Int k.1 k′.1) (then_equal (name_cmp k.0 k′.0) (int_cmp k.1 k′.1));
+  ordered_as = λ id k v id′ k′ v′. rw (value_cmp-Text k.0 k′.0, value_cmp-Int k.1 k′.1)
+      (then_equal (name_cmp k.0 k′.0) (int_cmp k.1 k′.1));
   shows = λ id k v. refl;
 }
 
 abbrev test : List Term
-test = op2 (Compare Eq Binary) (col 1 1) (col 0 0) ∷ op2 (Compare Eq Binary) (col 1 2) (col 0 1) ∷ []
+test = op2 (Compare Eq Binary) (col 1 1) (col 0 0) ∷ op2 (Compare Eq Binary) (col 1 2) (col 0 1) ∷
+    []
 
 drop_is : command_of (understood store_schema drop_device)
     ≡ Delete 2 (record { lets = []; body = of_table device_rows.plain.tree test (col 1 0 ∷ []) [] })
@@ -128,4 +162,5 @@ pub by_key : (id : ℤ) (k key : NameNumber) (v : Device)
     → passes device_drops.test (key_params key) (device_rows.row id k v)
     ≡ eq_by_cmp device_rows.cmp k key
 unfolding device_drops
-by_key id k key v = rw (equal_texts k.0 key.0, equal_ints k.1 key.1) (both_equal (name_cmp k.0 key.0) (int_cmp k.1 key.1))
+by_key id k key v = rw (equal_texts k.0 key.0, equal_ints k.1 key.1)
+    (both_equal (name_cmp k.0 key.0) (int_cmp k.1 key.1))

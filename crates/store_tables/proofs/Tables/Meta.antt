@@ -19,7 +19,7 @@ use Rattle.sqlite.specs.Listing.{understood, reads_listing}
 use Rattle.sqlite.proofs.Callers.{IsPlain, command_of}
 use Rattle.store_tables.specs.Tables.{store_schema}
 use Rattle.store_tables.specs.Entries.{Meta, meta_rows}
-use Rattle.store_tables.specs.Texts.{put_meta, list_meta}
+use Rattle.store_tables.specs.Inner.Texts.{put_meta, list_meta}
 use Rattle.store_tables.proofs.Plain.Values.{cast_null, cast_int, equal_ints, alone}
 use Rattle.store_tables.proofs.Plain.Shapes.{present, shape_of}
 use Rattle.store_tables.proofs.Plain.Facts.{Facts}
@@ -29,7 +29,8 @@ use Rattle.store_tables.proofs.Keys.{first_of, or_false}
 use Rattle.std.proofs.lemmas.Bool.{and_parts}
 
 pub agrees : (id : ℤ) (k : ℤ) (v : Meta) (id′ : ℤ) (k′ : ℤ) (v′ : Meta)
-    → agree Rattle.sqlite_value.specs.Keys.plain meta_rows.key (meta_rows.row id k v) meta_rows.key (meta_rows.row id′ k′ v′) ≡ eq_by_cmp meta_rows.cmp k k′
+    → agree Rattle.sqlite_value.specs.Keys.plain meta_rows.key (meta_rows.row id k v) meta_rows.key
+    (meta_rows.row id′ k′ v′) ≡ eq_by_cmp meta_rows.cmp k k′
 unfolding first_key
 agrees id k v id′ k′ v′ = rw (equal_ints k k′) (alone _)
 
@@ -41,7 +42,8 @@ meta_facts = record {
   based = λ db. refl;
   reads = λ id k v. refl;
   numbered = λ id k v. refl;
-  typed = λ x int t p. let s = shape_of meta_rows.plain.fields x int t p in (s.0, s.1.0, record { schema = s.1.1.0; hour = s.1.1.1.0 }, s.2);
+  typed = λ x int t p. let s = shape_of meta_rows.plain.fields x int t p in
+      (s.0, s.1.0, record { schema = s.1.1.0; hour = s.1.1.1.0 }, s.2);
   agrees = agrees;
   unique = λ db x h. present _ (and_parts _ _ h).0;
 }
@@ -62,9 +64,12 @@ put_plain = (refl, refl)
 
 clash : (id new : ℤ) (k key : ℤ) (v value : Meta)
     → Rattle.std.specs.Ordering.is_eq (int_cmp id new) ≡ false
-    → Rattle.sqlite_rules.specs.Keys.conflicts Rattle.std.proofs.Common.None store_schema.indexes (Rattle.store_tables.specs.Plain.table_of meta_rows.plain) (meta_rows.row new key value) (meta_rows.row id k v) ≡ eq_by_cmp meta_rows.cmp k key
+    → Rattle.sqlite_rules.specs.Keys.conflicts Rattle.std.proofs.Common.None store_schema.indexes
+    (Rattle.store_tables.specs.Plain.table_of meta_rows.plain) (meta_rows.row new key value)
+    (meta_rows.row id k v) ≡ eq_by_cmp meta_rows.cmp k key
 unfolding first_key
-clash id new k key v value free = rw (equal_ints id new, free, equal_ints k key, alone _) (or_false _)
+clash id new k key v value free = rw (equal_ints id new, free, equal_ints k key, alone _)
+    (or_false _)
 
 pub meta_puts : PutText store_schema meta_rows put_meta meta_params
 meta_puts = record {
@@ -76,8 +81,14 @@ meta_puts = record {
   is = put_is;
   plain = put_plain;
   one = λ key value. refl;
-  stored = λ rows key value. rw (cast_null, cast_int key, cast_int value.schema, cast_int value.hour) refl;
-  again = λ id key value. rw (cast_int id, cast_int key, cast_int value.schema, cast_int value.hour) refl;
+  stored = λ rows key value. rw (
+    cast_null,
+    cast_int key,
+    cast_int value.schema,
+    cast_int value.hour,
+  ) refl;
+  again = λ id key value. rw (cast_int id, cast_int key, cast_int value.schema, cast_int value.hour)
+      refl;
   clash = clash;
 }
 
@@ -88,7 +99,9 @@ abbrev order : List (Term × Key)
 order = (col 1 1, ascending Binary) ∷ []
 
 list_is : (command_of (understood store_schema list_meta)
-    ≡ Select (record { lets = []; body = of_table meta_rows.plain.tree [] project order }) (codes "one" ∷ codes "schema" ∷ codes "hour" ∷ [])) × (reads_listing store_schema list_meta ≡ false)
+    ≡ Select (record { lets = []; body = of_table meta_rows.plain.tree [] project order })
+    (codes "one" ∷ codes "schema" ∷ codes "hour" ∷ [])) ×
+    (reads_listing store_schema list_meta ≡ false)
 unfolding understood everything
 list_is = (refl, refl)
 

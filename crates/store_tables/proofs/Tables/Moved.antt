@@ -16,8 +16,9 @@ use Rattle.sqlite.specs.Listing.{understood, reads_listing}
 use Rattle.sqlite.proofs.Callers.{IsPlain, command_of}
 use Rattle.store_tables.specs.Tables.{store_schema}
 use Rattle.store_tables.specs.Entries.{NameNumber, name_cmp, moved_rows}
-use Rattle.store_tables.specs.Texts.{put_moved, list_moved, clear_moved}
-use Rattle.store_tables.proofs.Plain.Values.{cast_null, cast_int, equal_ints, equal_texts, both_equal}
+use Rattle.store_tables.specs.Inner.Texts.{put_moved, list_moved, clear_moved}
+use Rattle.store_tables.proofs.Plain.Values.{cast_null, cast_int, equal_ints, equal_texts}
+use Rattle.store_tables.proofs.Plain.Values.{both_equal}
 use Rattle.store_tables.proofs.Plain.Shapes.{present, shape_of}
 use Rattle.store_tables.proofs.Plain.Facts.{Facts}
 use Rattle.store_tables.proofs.Plain.Adds.{AddText}
@@ -27,9 +28,11 @@ use Rattle.store_tables.proofs.Keys.{name_number_total, name_number_exact, then_
 use Rattle.std.proofs.lemmas.Bool.{and_parts}
 
 pub agrees : (id : ℤ) (k : NameNumber) (v : ℤ) (id′ : ℤ) (k′ : NameNumber) (v′ : ℤ)
-    → agree Rattle.sqlite_value.specs.Keys.plain moved_rows.key (moved_rows.row id k v) moved_rows.key (moved_rows.row id′ k′ v′) ≡ eq_by_cmp moved_rows.cmp k k′
+    → agree Rattle.sqlite_value.specs.Keys.plain moved_rows.key (moved_rows.row id k v)
+    moved_rows.key (moved_rows.row id′ k′ v′) ≡ eq_by_cmp moved_rows.cmp k k′
 unfolding first_key
-agrees id k v id′ k′ v′ = rw (equal_texts k.0 k′.0, equal_ints k.1 k′.1) (both_equal (name_cmp k.0 k′.0) (int_cmp k.1 k′.1))
+agrees id k v id′ k′ v′ = rw (equal_texts k.0 k′.0, equal_ints k.1 k′.1)
+    (both_equal (name_cmp k.0 k′.0) (int_cmp k.1 k′.1))
 
 pub moved_facts : Facts store_schema moved_rows
 moved_facts = record {
@@ -39,7 +42,12 @@ moved_facts = record {
   based = λ db. refl;
   reads = λ id k v. refl;
   numbered = λ id k v. refl;
-  typed = λ x int t p. let s = shape_of moved_rows.plain.fields x int t p in (s.0, (s.1.0, s.1.1.0), s.1.1.1.0, s.2);
+  typed = λ x int t p. let s = shape_of moved_rows.plain.fields x int t p in (
+    s.0,
+    (s.1.0, s.1.1.0),
+    s.1.1.1.0,
+    s.2,
+  );
   agrees = agrees;
   unique = λ db x h. present _ (and_parts _ _ h).0;
 }
@@ -77,7 +85,9 @@ abbrev order : List (Term × Key)
 order = (col 1 1, ascending Binary) ∷ (col 1 2, ascending Binary) ∷ []
 
 list_is : (command_of (understood store_schema list_moved)
-    ≡ Select (record { lets = []; body = of_table moved_rows.plain.tree [] project order }) (codes "ring" ∷ codes "part" ∷ codes "hour" ∷ [])) × (reads_listing store_schema list_moved ≡ false)
+    ≡ Select (record { lets = []; body = of_table moved_rows.plain.tree [] project order })
+    (codes "ring" ∷ codes "part" ∷ codes "hour" ∷ [])) ×
+    (reads_listing store_schema list_moved ≡ false)
 unfolding understood everything
 list_is = (refl, refl)
 
@@ -92,7 +102,8 @@ moved_lists = record {
   names = _;
   is = list_is;
   plain = list_plain;
-  ordered_as = λ id k v id′ k′ v′. rw (value_cmp-Text k.0 k′.0, value_cmp-Int k.1 k′.1) (then_equal (name_cmp k.0 k′.0) (int_cmp k.1 k′.1));
+  ordered_as = λ id k v id′ k′ v′. rw (value_cmp-Text k.0 k′.0, value_cmp-Int k.1 k′.1)
+      (then_equal (name_cmp k.0 k′.0) (int_cmp k.1 k′.1));
   shows = λ id k v. refl;
 }
 

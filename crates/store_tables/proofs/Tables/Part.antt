@@ -19,8 +19,9 @@ use Rattle.sqlite.specs.Listing.{understood, reads_listing}
 use Rattle.sqlite.proofs.Callers.{IsPlain, command_of}
 use Rattle.store_tables.specs.Tables.{store_schema}
 use Rattle.store_tables.specs.Entries.{NameNumber, name_cmp, Part, part_rows}
-use Rattle.store_tables.specs.Texts.{put_part, list_part}
-use Rattle.store_tables.proofs.Plain.Values.{cast_null, cast_int, equal_ints, equal_texts, both_equal}
+use Rattle.store_tables.specs.Inner.Texts.{put_part, list_part}
+use Rattle.store_tables.proofs.Plain.Values.{cast_null, cast_int, equal_ints, equal_texts}
+use Rattle.store_tables.proofs.Plain.Values.{both_equal}
 use Rattle.store_tables.proofs.Plain.Shapes.{present, shape_of}
 use Rattle.store_tables.proofs.Plain.Facts.{Facts}
 use Rattle.store_tables.proofs.Plain.Puts.{PutText}
@@ -29,9 +30,11 @@ use Rattle.store_tables.proofs.Keys.{name_number_total, name_number_exact, then_
 use Rattle.std.proofs.lemmas.Bool.{and_parts}
 
 pub agrees : (id : ℤ) (k : NameNumber) (v : Part) (id′ : ℤ) (k′ : NameNumber) (v′ : Part)
-    → agree Rattle.sqlite_value.specs.Keys.plain part_rows.key (part_rows.row id k v) part_rows.key (part_rows.row id′ k′ v′) ≡ eq_by_cmp part_rows.cmp k k′
+    → agree Rattle.sqlite_value.specs.Keys.plain part_rows.key (part_rows.row id k v) part_rows.key
+    (part_rows.row id′ k′ v′) ≡ eq_by_cmp part_rows.cmp k k′
 unfolding first_key
-agrees id k v id′ k′ v′ = rw (equal_texts k.0 k′.0, equal_ints k.1 k′.1) (both_equal (name_cmp k.0 k′.0) (int_cmp k.1 k′.1))
+agrees id k v id′ k′ v′ = rw (equal_texts k.0 k′.0, equal_ints k.1 k′.1)
+    (both_equal (name_cmp k.0 k′.0) (int_cmp k.1 k′.1))
 
 pub part_facts : Facts store_schema part_rows
 part_facts = record {
@@ -41,7 +44,12 @@ part_facts = record {
   based = λ db. refl;
   reads = λ id k v. refl;
   numbered = λ id k v. refl;
-  typed = λ x int t p. let s = shape_of part_rows.plain.fields x int t p in (s.0, (s.1.0, s.1.1.0), record { devices = s.1.1.1.0; hour = s.1.1.1.1.0 }, s.2);
+  typed = λ x int t p. let s = shape_of part_rows.plain.fields x int t p in (
+    s.0,
+    (s.1.0, s.1.1.0),
+    record { devices = s.1.1.1.0; hour = s.1.1.1.1.0 },
+    s.2,
+  );
   agrees = agrees;
   unique = λ db x h. present _ (and_parts _ _ h).0;
 }
@@ -62,9 +70,17 @@ put_plain = (refl, refl)
 
 clash : (id new : ℤ) (k key : NameNumber) (v value : Part)
     → Rattle.std.specs.Ordering.is_eq (int_cmp id new) ≡ false
-    → Rattle.sqlite_rules.specs.Keys.conflicts Rattle.std.proofs.Common.None store_schema.indexes (Rattle.store_tables.specs.Plain.table_of part_rows.plain) (part_rows.row new key value) (part_rows.row id k v) ≡ eq_by_cmp part_rows.cmp k key
+    → Rattle.sqlite_rules.specs.Keys.conflicts Rattle.std.proofs.Common.None store_schema.indexes
+    (Rattle.store_tables.specs.Plain.table_of part_rows.plain) (part_rows.row new key value)
+    (part_rows.row id k v) ≡ eq_by_cmp part_rows.cmp k key
 unfolding first_key
-clash id new k key v value free = rw (equal_ints id new, free, equal_texts k.0 key.0, equal_ints k.1 key.1, both_equal (name_cmp k.0 key.0) (int_cmp k.1 key.1)) (or_false _)
+clash id new k key v value free = rw (
+  equal_ints id new,
+  free,
+  equal_texts k.0 key.0,
+  equal_ints k.1 key.1,
+  both_equal (name_cmp k.0 key.0) (int_cmp k.1 key.1),
+) (or_false _)
 
 pub part_puts : PutText store_schema part_rows put_part part_params
 part_puts = record {
@@ -88,7 +104,9 @@ abbrev order : List (Term × Key)
 order = (col 1 1, ascending Binary) ∷ (col 1 2, ascending Binary) ∷ []
 
 list_is : (command_of (understood store_schema list_part)
-    ≡ Select (record { lets = []; body = of_table part_rows.plain.tree [] project order }) (codes "ring" ∷ codes "part" ∷ codes "devices" ∷ codes "hour" ∷ [])) × (reads_listing store_schema list_part ≡ false)
+    ≡ Select (record { lets = []; body = of_table part_rows.plain.tree [] project order })
+    (codes "ring" ∷ codes "part" ∷ codes "devices" ∷ codes "hour" ∷ [])) ×
+    (reads_listing store_schema list_part ≡ false)
 unfolding understood everything
 list_is = (refl, refl)
 
@@ -103,6 +121,7 @@ part_lists = record {
   names = _;
   is = list_is;
   plain = list_plain;
-  ordered_as = λ id k v id′ k′ v′. rw (value_cmp-Text k.0 k′.0, value_cmp-Int k.1 k′.1) (then_equal (name_cmp k.0 k′.0) (int_cmp k.1 k′.1));
+  ordered_as = λ id k v id′ k′ v′. rw (value_cmp-Text k.0 k′.0, value_cmp-Int k.1 k′.1)
+      (then_equal (name_cmp k.0 k′.0) (int_cmp k.1 k′.1));
   shows = λ id k v. refl;
 }

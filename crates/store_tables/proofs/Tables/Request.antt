@@ -18,9 +18,10 @@ use Rattle.sqlite.specs.Listing.{understood, reads_listing}
 use Rattle.sqlite.proofs.Callers.{IsPlain, command_of}
 use Rattle.store_tables.specs.Tables.{store_schema}
 use Rattle.store_tables.specs.Entries.{NameNumber, name_cmp, Request, request_rows}
-use Rattle.store_tables.specs.Contents.{told}
-use Rattle.store_tables.specs.Texts.{put_request, list_request, pick_request}
-use Rattle.store_tables.proofs.Plain.Values.{cast_null, cast_int, equal_ints, equal_texts, both_equal}
+use Rattle.store_tables.specs.Inner.Told.{told}
+use Rattle.store_tables.specs.Inner.Texts.{put_request, list_request, pick_request}
+use Rattle.store_tables.proofs.Plain.Values.{cast_null, cast_int, equal_ints, equal_texts}
+use Rattle.store_tables.proofs.Plain.Values.{both_equal}
 use Rattle.store_tables.proofs.Plain.Shapes.{present, shape_of}
 use Rattle.store_tables.proofs.Plain.Facts.{Facts}
 use Rattle.store_tables.proofs.Plain.Adds.{AddText}
@@ -29,9 +30,11 @@ use Rattle.store_tables.proofs.Keys.{name_number_total, name_number_exact, then_
 use Rattle.std.proofs.lemmas.Bool.{and_parts}
 
 pub agrees : (id : ℤ) (k : NameNumber) (v : Request) (id′ : ℤ) (k′ : NameNumber) (v′ : Request)
-    → agree Rattle.sqlite_value.specs.Keys.plain request_rows.key (request_rows.row id k v) request_rows.key (request_rows.row id′ k′ v′) ≡ eq_by_cmp request_rows.cmp k k′
+    → agree Rattle.sqlite_value.specs.Keys.plain request_rows.key (request_rows.row id k v)
+    request_rows.key (request_rows.row id′ k′ v′) ≡ eq_by_cmp request_rows.cmp k k′
 unfolding first_key
-agrees id k v id′ k′ v′ = rw (equal_texts k.0 k′.0, equal_ints k.1 k′.1) (both_equal (name_cmp k.0 k′.0) (int_cmp k.1 k′.1))
+agrees id k v id′ k′ v′ = rw (equal_texts k.0 k′.0, equal_ints k.1 k′.1)
+    (both_equal (name_cmp k.0 k′.0) (int_cmp k.1 k′.1))
 
 pub request_facts : Facts store_schema request_rows
 request_facts = record {
@@ -41,13 +44,25 @@ request_facts = record {
   based = λ db. refl;
   reads = λ id k v. refl;
   numbered = λ id k v. refl;
-  typed = λ x int t p. let s = shape_of request_rows.plain.fields x int t p in (s.0, (s.1.0, s.1.1.0), record { place = s.1.1.1.0; hour = s.1.1.1.1.0; command = s.1.1.1.1.1.0; reply = s.1.1.1.1.1.1.0 }, s.2);
+  typed = λ x int t p. let s = shape_of request_rows.plain.fields x int t p in (
+    s.0,
+    (s.1.0, s.1.1.0),
+    record {
+      place = s.1.1.1.0;
+      hour = s.1.1.1.1.0;
+      command =
+          s.1.1.1.1.1.0;
+      reply = s.1.1.1.1.1.1.0;
+    },
+    s.2,
+  );
   agrees = agrees;
   unique = λ db x h. present _ (and_parts _ _ h).0;
 }
 
 abbrev pub request_params : NameNumber → Request → Row
-request_params = λ key value. Text key.0 ∷ Int key.1 ∷ Int value.place ∷ Int value.hour ∷ Text value.command ∷ Text value.reply ∷ []
+request_params = λ key value. Text key.0 ∷ Int key.1 ∷ Int value.place ∷ Int value.hour ∷
+    Text value.command ∷ Text value.reply ∷ []
 
 abbrev terms : List Term
 terms = lit Null ∷ col 0 0 ∷ col 0 1 ∷ col 0 2 ∷ col 0 3 ∷ col 0 4 ∷ col 0 5 ∷ []
@@ -69,7 +84,12 @@ request_adds = record {
   is = put_is;
   plain = put_plain;
   one = λ key value. refl;
-  stored = λ rows key value. rw (cast_null, cast_int key.1, cast_int value.place, cast_int value.hour) refl;
+  stored = λ rows key value. rw (
+    cast_null,
+    cast_int key.1,
+    cast_int value.place,
+    cast_int value.hour,
+  ) refl;
 }
 
 abbrev project : List Term
@@ -79,7 +99,9 @@ abbrev order : List (Term × Key)
 order = (col 1 1, ascending Binary) ∷ (col 1 2, ascending Binary) ∷ []
 
 list_is : (command_of (understood store_schema list_request)
-    ≡ Select (record { lets = []; body = of_table request_rows.plain.tree [] project order }) (codes "caller" ∷ codes "number" ∷ codes "place" ∷ codes "hour" ∷ codes "command" ∷ codes "reply" ∷ [])) × (reads_listing store_schema list_request ≡ false)
+    ≡ Select (record { lets = []; body = of_table request_rows.plain.tree [] project order })
+    (codes "caller" ∷ codes "number" ∷ codes "place" ∷ codes "hour" ∷ codes "command" ∷
+    codes "reply" ∷ [])) × (reads_listing store_schema list_request ≡ false)
 unfolding understood everything
 list_is = (refl, refl)
 
@@ -94,18 +116,22 @@ request_lists = record {
   names = _;
   is = list_is;
   plain = list_plain;
-  ordered_as = λ id k v id′ k′ v′. rw (value_cmp-Text k.0 k′.0, value_cmp-Int k.1 k′.1) (then_equal (name_cmp k.0 k′.0) (int_cmp k.1 k′.1));
+  ordered_as = λ id k v id′ k′ v′. rw (value_cmp-Text k.0 k′.0, value_cmp-Int k.1 k′.1)
+      (then_equal (name_cmp k.0 k′.0) (int_cmp k.1 k′.1));
   shows = λ id k v. refl;
 }
 
 abbrev test : List Term
-test = op2 (Compare Eq Binary) (col 1 1) (col 0 0) ∷ op2 (Compare Eq Binary) (col 1 2) (col 0 1) ∷ []
+test = op2 (Compare Eq Binary) (col 1 1) (col 0 0) ∷ op2 (Compare Eq Binary) (col 1 2) (col 0 1) ∷
+    []
 
 abbrev told_project : List Term
 told_project = col 1 3 ∷ col 1 4 ∷ col 1 5 ∷ col 1 6 ∷ []
 
 pick_is : (command_of (understood store_schema pick_request)
-    ≡ Select (record { lets = []; body = of_table request_rows.plain.tree test told_project [] }) (codes "place" ∷ codes "hour" ∷ codes "command" ∷ codes "reply" ∷ [])) × (reads_listing store_schema pick_request ≡ false)
+    ≡ Select (record { lets = []; body = of_table request_rows.plain.tree test told_project [] })
+    (codes "place" ∷ codes "hour" ∷ codes "command" ∷ codes "reply" ∷ [])) ×
+    (reads_listing store_schema pick_request ≡ false)
 unfolding understood everything
 pick_is = (refl, refl)
 
@@ -118,7 +144,8 @@ key_params key = Text key.0 ∷ Int key.1 ∷ []
 
 by_key : (id : ℤ) (k key : NameNumber) (v : Request)
     → passes test (key_params key) (request_rows.row id k v) ≡ eq_by_cmp request_rows.cmp k key
-by_key id k key v = rw (equal_texts k.0 key.0, equal_ints k.1 key.1) (both_equal (name_cmp k.0 key.0) (int_cmp k.1 key.1))
+by_key id k key v = rw (equal_texts k.0 key.0, equal_ints k.1 key.1)
+    (both_equal (name_cmp k.0 key.0) (int_cmp k.1 key.1))
 
 pub request_picks : PickText store_schema request_rows request_facts pick_request key_params told
 request_picks = record {

@@ -19,7 +19,7 @@ use Rattle.sqlite.specs.Listing.{understood, reads_listing}
 use Rattle.sqlite.proofs.Callers.{IsPlain, command_of}
 use Rattle.store_tables.specs.Tables.{store_schema}
 use Rattle.store_tables.specs.Entries.{name_cmp, Ring, ring_rows}
-use Rattle.store_tables.specs.Texts.{put_ring, list_ring}
+use Rattle.store_tables.specs.Inner.Texts.{put_ring, list_ring}
 use Rattle.store_tables.proofs.Plain.Values.{cast_null, cast_int, equal_ints, equal_texts, alone}
 use Rattle.store_tables.proofs.Plain.Shapes.{present, shape_of}
 use Rattle.store_tables.proofs.Plain.Facts.{Facts}
@@ -29,7 +29,8 @@ use Rattle.store_tables.proofs.Keys.{name_total, name_exact, first_of, or_false}
 use Rattle.std.proofs.lemmas.Bool.{and_parts}
 
 pub agrees : (id : ℤ) (k : List ℕ) (v : Ring) (id′ : ℤ) (k′ : List ℕ) (v′ : Ring)
-    → agree Rattle.sqlite_value.specs.Keys.plain ring_rows.key (ring_rows.row id k v) ring_rows.key (ring_rows.row id′ k′ v′) ≡ eq_by_cmp ring_rows.cmp k k′
+    → agree Rattle.sqlite_value.specs.Keys.plain ring_rows.key (ring_rows.row id k v) ring_rows.key
+    (ring_rows.row id′ k′ v′) ≡ eq_by_cmp ring_rows.cmp k k′
 unfolding first_key
 agrees id k v id′ k′ v′ = rw (equal_texts k k′) (alone _)
 
@@ -41,13 +42,25 @@ ring_facts = record {
   based = λ db. refl;
   reads = λ id k v. refl;
   numbered = λ id k v. refl;
-  typed = λ x int t p. let s = shape_of ring_rows.plain.fields x int t p in (s.0, s.1.0, record { power = s.1.1.0; replicas = s.1.1.1.0; min_hours = s.1.1.1.1.0; next_id = s.1.1.1.1.1.0; version = s.1.1.1.1.1.1.0 }, s.2);
+  typed = λ x int t p. let s = shape_of ring_rows.plain.fields x int t p in (
+    s.0,
+    s.1.0,
+    record {
+      power = s.1.1.0;
+      replicas = s.1.1.1.0;
+      min_hours = s.1.1.1.1.0;
+      next_id = s.1.1.1.1.1.0;
+      version = s.1.1.1.1.1.1.0;
+    },
+    s.2,
+  );
   agrees = agrees;
   unique = λ db x h. present _ (and_parts _ _ h).0;
 }
 
 abbrev pub ring_params : List ℕ → Ring → Row
-ring_params = λ key value. Text key ∷ Int value.power ∷ Int value.replicas ∷ Int value.min_hours ∷ Int value.next_id ∷ Int value.version ∷ []
+ring_params = λ key value. Text key ∷ Int value.power ∷ Int value.replicas ∷ Int value.min_hours ∷
+    Int value.next_id ∷ Int value.version ∷ []
 
 abbrev terms : List Term
 terms = lit Null ∷ col 0 0 ∷ col 0 1 ∷ col 0 2 ∷ col 0 3 ∷ col 0 4 ∷ col 0 5 ∷ []
@@ -62,9 +75,12 @@ put_plain = (refl, refl)
 
 clash : (id new : ℤ) (k key : List ℕ) (v value : Ring)
     → Rattle.std.specs.Ordering.is_eq (int_cmp id new) ≡ false
-    → Rattle.sqlite_rules.specs.Keys.conflicts Rattle.std.proofs.Common.None store_schema.indexes (Rattle.store_tables.specs.Plain.table_of ring_rows.plain) (ring_rows.row new key value) (ring_rows.row id k v) ≡ eq_by_cmp ring_rows.cmp k key
+    → Rattle.sqlite_rules.specs.Keys.conflicts Rattle.std.proofs.Common.None store_schema.indexes
+    (Rattle.store_tables.specs.Plain.table_of ring_rows.plain) (ring_rows.row new key value)
+    (ring_rows.row id k v) ≡ eq_by_cmp ring_rows.cmp k key
 unfolding first_key
-clash id new k key v value free = rw (equal_ints id new, free, equal_texts k key, alone _) (or_false _)
+clash id new k key v value free = rw (equal_ints id new, free, equal_texts k key, alone _)
+    (or_false _)
 
 pub ring_puts : PutText store_schema ring_rows put_ring ring_params
 ring_puts = record {
@@ -76,8 +92,22 @@ ring_puts = record {
   is = put_is;
   plain = put_plain;
   one = λ key value. refl;
-  stored = λ rows key value. rw (cast_null, cast_int value.power, cast_int value.replicas, cast_int value.min_hours, cast_int value.next_id, cast_int value.version) refl;
-  again = λ id key value. rw (cast_int id, cast_int value.power, cast_int value.replicas, cast_int value.min_hours, cast_int value.next_id, cast_int value.version) refl;
+  stored = λ rows key value. rw (
+    cast_null,
+    cast_int value.power,
+    cast_int value.replicas,
+    cast_int value.min_hours,
+    cast_int value.next_id,
+    cast_int value.version,
+  ) refl;
+  again = λ id key value. rw (
+    cast_int id,
+    cast_int value.power,
+    cast_int value.replicas,
+    cast_int value.min_hours,
+    cast_int value.next_id,
+    cast_int value.version,
+  ) refl;
   clash = clash;
 }
 
@@ -88,7 +118,9 @@ abbrev order : List (Term × Key)
 order = (col 1 1, ascending Binary) ∷ []
 
 list_is : (command_of (understood store_schema list_ring)
-    ≡ Select (record { lets = []; body = of_table ring_rows.plain.tree [] project order }) (codes "name" ∷ codes "power" ∷ codes "replicas" ∷ codes "min_hours" ∷ codes "next_id" ∷ codes "version" ∷ [])) × (reads_listing store_schema list_ring ≡ false)
+    ≡ Select (record { lets = []; body = of_table ring_rows.plain.tree [] project order })
+    (codes "name" ∷ codes "power" ∷ codes "replicas" ∷ codes "min_hours" ∷ codes "next_id" ∷
+    codes "version" ∷ [])) × (reads_listing store_schema list_ring ≡ false)
 unfolding understood everything
 list_is = (refl, refl)
 

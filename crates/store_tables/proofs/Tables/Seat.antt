@@ -16,8 +16,9 @@ use Rattle.sqlite.specs.Listing.{understood, reads_listing}
 use Rattle.sqlite.proofs.Callers.{IsPlain, command_of}
 use Rattle.store_tables.specs.Tables.{store_schema}
 use Rattle.store_tables.specs.Entries.{SeatKey, name_cmp, seat_rows}
-use Rattle.store_tables.specs.Texts.{put_seat, list_seat, clear_seat}
-use Rattle.store_tables.proofs.Plain.Values.{cast_null, cast_int, equal_ints, equal_texts, all_three}
+use Rattle.store_tables.specs.Inner.Texts.{put_seat, list_seat, clear_seat}
+use Rattle.store_tables.proofs.Plain.Values.{cast_null, cast_int, equal_ints, equal_texts}
+use Rattle.store_tables.proofs.Plain.Values.{all_three}
 use Rattle.store_tables.proofs.Plain.Shapes.{present, shape_of}
 use Rattle.store_tables.proofs.Plain.Facts.{Facts}
 use Rattle.store_tables.proofs.Plain.Adds.{AddText}
@@ -27,9 +28,15 @@ use Rattle.store_tables.proofs.Keys.{seat_total, seat_exact, then_equals}
 use Rattle.std.proofs.lemmas.Bool.{and_parts}
 
 pub agrees : (id : ℤ) (k : SeatKey) (v : ℤ) (id′ : ℤ) (k′ : SeatKey) (v′ : ℤ)
-    → agree Rattle.sqlite_value.specs.Keys.plain seat_rows.key (seat_rows.row id k v) seat_rows.key (seat_rows.row id′ k′ v′) ≡ eq_by_cmp seat_rows.cmp k k′
+    → agree Rattle.sqlite_value.specs.Keys.plain seat_rows.key (seat_rows.row id k v) seat_rows.key
+    (seat_rows.row id′ k′ v′) ≡ eq_by_cmp seat_rows.cmp k k′
 unfolding first_key
-agrees id k v id′ k′ v′ = rw (equal_texts k.0 k′.0, equal_ints k.1.0 k′.1.0, equal_ints k.1.1 k′.1.1) (all_three (name_cmp k.0 k′.0) (int_cmp k.1.0 k′.1.0) (int_cmp k.1.1 k′.1.1))
+agrees id k v id′ k′ v′ = rw (
+  equal_texts k.0 k′.0,
+  equal_ints k.1.0 k′.1.0,
+  equal_ints k.1.1 k′.1.1,
+) (all_three (name_cmp k.0 k′.0) (int_cmp k.1.0 k′.1.0)
+    (int_cmp k.1.1 k′.1.1))
 
 pub seat_facts : Facts store_schema seat_rows
 seat_facts = record {
@@ -39,7 +46,8 @@ seat_facts = record {
   based = λ db. refl;
   reads = λ id k v. refl;
   numbered = λ id k v. refl;
-  typed = λ x int t p. let s = shape_of seat_rows.plain.fields x int t p in (s.0, (s.1.0, (s.1.1.0, s.1.1.1.0)), s.1.1.1.1.0, s.2);
+  typed = λ x int t p. let s = shape_of seat_rows.plain.fields x int t p in
+      (s.0, (s.1.0, (s.1.1.0, s.1.1.1.0)), s.1.1.1.1.0, s.2);
   agrees = agrees;
   unique = λ db x h. present _ (and_parts _ _ h).0;
 }
@@ -67,7 +75,8 @@ seat_adds = record {
   is = put_is;
   plain = put_plain;
   one = λ key value. refl;
-  stored = λ rows key value. rw (cast_null, cast_int key.1.0, cast_int key.1.1, cast_int value) refl;
+  stored = λ rows key value. rw (cast_null, cast_int key.1.0, cast_int key.1.1, cast_int value)
+      refl;
 }
 
 abbrev project : List Term
@@ -77,7 +86,9 @@ abbrev order : List (Term × Key)
 order = (col 1 1, ascending Binary) ∷ (col 1 2, ascending Binary) ∷ (col 1 3, ascending Binary) ∷ []
 
 list_is : (command_of (understood store_schema list_seat)
-    ≡ Select (record { lets = []; body = of_table seat_rows.plain.tree [] project order }) (codes "ring" ∷ codes "part" ∷ codes "replica" ∷ codes "device" ∷ [])) × (reads_listing store_schema list_seat ≡ false)
+    ≡ Select (record { lets = []; body = of_table seat_rows.plain.tree [] project order })
+    (codes "ring" ∷ codes "part" ∷ codes "replica" ∷ codes "device" ∷ [])) ×
+    (reads_listing store_schema list_seat ≡ false)
 unfolding understood everything
 list_is = (refl, refl)
 
@@ -92,7 +103,12 @@ seat_lists = record {
   names = _;
   is = list_is;
   plain = list_plain;
-  ordered_as = λ id k v id′ k′ v′. rw (value_cmp-Text k.0 k′.0, value_cmp-Int k.1.0 k′.1.0, value_cmp-Int k.1.1 k′.1.1) (then_equals (name_cmp k.0 k′.0) (int_cmp k.1.0 k′.1.0) (int_cmp k.1.1 k′.1.1));
+  ordered_as = λ id k v id′ k′ v′. rw (
+    value_cmp-Text k.0 k′.0,
+    value_cmp-Int k.1.0 k′.1.0,
+    value_cmp-Int k.1.1 k′.1.1,
+  ) (then_equals (name_cmp k.0 k′.0) (int_cmp k.1.0 k′.1.0)
+      (int_cmp k.1.1 k′.1.1));
   shows = λ id k v. refl;
 }
 

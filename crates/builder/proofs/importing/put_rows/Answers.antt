@@ -5,12 +5,14 @@ use Rattle.builder.proofs.importing.put_rows.Goals as goal
 
 pub put-requires-clause-room : goal.put-requires-clause-room
 put-requires-clause-room c = λ free.
-    let none : row_refusal c.args.limits.now c.loop-place.draft c.index-rows-place.result ≡ None = sym c.in_default.ensures in
+    let none : row_refusal c.args.limits.now c.loop-place.draft c.index-rows-place.result ≡ None =
+    sym c.in_default.ensures in
     let fits = row_fits c.args.limits.now c.loop-place.draft c.index-rows-place.result none free in
     omega (arith, fits.0, c.args.limits.now.devices_within)
 
 pub put-requires-clause-numbers : goal.put-requires-clause-numbers
 put-requires-clause-numbers c = λ free.
-    let none : row_refusal c.args.limits.now c.loop-place.draft c.index-rows-place.result ≡ None = sym c.in_default.ensures in
+    let none : row_refusal c.args.limits.now c.loop-place.draft c.index-rows-place.result ≡ None =
+    sym c.in_default.ensures in
     let fits = row_fits c.args.limits.now c.loop-place.draft c.index-rows-place.result none free in
     omega (arith, fits.1, c.args.limits.now.ids_within)

@@ -6,7 +6,8 @@ use Rattle.byte_streams.proofs.input.read_all.Given as goal
 abbrev pub invariant-loop-bytes : goal.invariant-loop-bytes
 invariant-loop-bytes g l = record {
   room : vec_len l.chunk ≡ 65536;
-  came : Consumes (g.R.Read.remaining (reader_of l.fn.reader)) (g.R.Read.remaining (reader_of l.reader)) l.bytes.items;
+  came : Consumes (g.R.Read.remaining (reader_of l.fn.reader))
+      (g.R.Read.remaining (reader_of l.reader)) l.bytes.items;
   same : read_faults l.reader ≡ read_faults l.fn.reader;
 }
 

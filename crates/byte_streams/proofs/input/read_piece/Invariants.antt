@@ -5,7 +5,8 @@ use Rattle.byte_streams.proofs.input.read_piece.Given as goal
 
 abbrev pub invariant-loop-count : goal.invariant-loop-count
 invariant-loop-count g l = record {
-  kept : Keeps (g.R.Read.remaining (reader_of l.fn.reader)) (g.R.Read.remaining (reader_of l.reader));
+  kept : Keeps (g.R.Read.remaining (reader_of l.fn.reader))
+      (g.R.Read.remaining (reader_of l.reader));
   fewer : reads_left l.reader ≤ reads_left l.fn.reader;
   same : read_faults l.reader ≡ read_faults l.fn.reader;
 }

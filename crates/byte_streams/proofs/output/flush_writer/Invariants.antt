@@ -5,7 +5,8 @@ use Rattle.byte_streams.proofs.output.flush_writer.Given as goal
 
 abbrev pub invariant-loop-writer : goal.invariant-loop-writer
 invariant-loop-writer g l = record {
-  kept : Keeps (g.W.Write.contents (writer_of l.fn.writer)) (g.W.Write.contents (writer_of l.writer));
+  kept : Keeps (g.W.Write.contents (writer_of l.fn.writer))
+      (g.W.Write.contents (writer_of l.writer));
   same : write_faults l.writer ≡ write_faults l.fn.writer;
 }
 

@@ -6,7 +6,8 @@ use Rattle.byte_streams.proofs.output.write_whole.Given as goal
 abbrev pub invariant-loop-at : goal.invariant-loop-at
 invariant-loop-at g l = record {
   within : l.at ≤ length l.text;
-  so_far : Appends (g.W.Write.contents (writer_of l.fn.writer)) (g.W.Write.contents (writer_of l.writer)) (take l.at l.text);
+  so_far : Appends (g.W.Write.contents (writer_of l.fn.writer))
+      (g.W.Write.contents (writer_of l.writer)) (take l.at l.text);
   same : write_faults l.writer ≡ write_faults l.fn.writer;
 }
 

@@ -2,4 +2,5 @@ use Rattle.csv_import.proofs.Spelling.{address_is_text}
 use Rattle.csv_import.proofs.fields.address_of.Goals as goal
 
 pub returns-in_default-clause-read : goal.returns-in_default-clause-read
-returns-in_default-clause-read c = λ n spells. c.in_default.ensures.none (address_is_text c.args.field.now n spells)
+returns-in_default-clause-read c = λ n spells. c.in_default.ensures.none
+    (address_is_text c.args.field.now n spells)

@@ -5,8 +5,14 @@ use Rattle.csv_import.proofs.read.open.Goals as goal
 
 pub returns-clause-open : goal.returns-clause-open
 returns-clause-open g c =
-    let made = c.from_reader.ensures in
-    (rw (c.flexible.ensures, c.has_headers.ensures) at made.trim ∙ c.new.ensures.trim, inr (inr (rw (c.flexible.ensures, c.has_headers.ensures) at made.has_headers, made.headers)), rw c.flexible.ensures at made.flexible)
+    let made = c.from_reader.ensures in (
+      rw (c.flexible.ensures, c.has_headers.ensures) at made.trim ∙ c.new.ensures.trim,
+      inr (inr (
+        rw (c.flexible.ensures, c.has_headers.ensures) at made.has_headers,
+        made.headers,
+      )),
+      rw c.flexible.ensures at made.flexible,
+    )
 
 pub returns-clause-given : goal.returns-clause-given
 unfolding Reached

@@ -5,6 +5,7 @@ use Rattle.csv_import.proofs.read.rows_from.Given as goal
 abbrev pub invariant-loop-number : goal.invariant-loop-number
 invariant-loop-number g l = record {
   open_still : IsOpen l.records;
-  given : (text : List ℕ) → g.R.Read.remaining l.fn.reader ≡ Some text → HasGivenRows g.R.Read.remaining text l.rows.items l.records;
+  given : (text : List ℕ) → g.R.Read.remaining l.fn.reader ≡ Some text →
+      HasGivenRows g.R.Read.remaining text l.rows.items l.records;
   count : length l.rows.items + 1 ≡ l.number;
 }

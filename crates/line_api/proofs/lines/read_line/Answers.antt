@@ -16,5 +16,10 @@ returns-in_err-key c =
     let p = err_from_is_err_and c.from_residual.result c.from_residual.ensures.1 in
     let line : c.args.line.now ≡ c.in-Ok.text.now = sym c.in-Ok.ensures.cases.0 in
     let found = c.in-Some.ensures.found in
-    rw (p.1, p.2) (reads_err (λ (m : Key × Command). IsMessage c.as_bytes.result.now m.0 m.1) (Asks c.args.line.now) c.in_err-key.field-0.0 c.in_err-key.ensures
-    (λ x asks. ((x.key, x.command), rw c.as_bytes.ensures.value (asks_message c.args.line.now c.in-Some.message.now c.in-Some.hour found.0 (line ∙ found.1) x asks))))
+    rw (p.1, p.2) (reads_err (λ (m : Key × Command). IsMessage c.as_bytes.result.now m.0 m.1)
+    (Asks c.args.line.now) c.in_err-key.field-0.0 c.in_err-key.ensures
+    (λ x asks. (
+      (x.key, x.command),
+      rw c.as_bytes.ensures.value (asks_message c.args.line.now
+          c.in-Some.message.now c.in-Some.hour found.0 (line ∙ found.1) x asks),
+    )))

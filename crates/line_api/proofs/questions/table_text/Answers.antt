@@ -5,4 +5,5 @@ pub without_end-requires : goal.without_end-requires
 without_end-requires c = device_table_ends c.args.ring.now _ c.in_ok-device_table-in-Devices.ensures
 
 pub without_end-requires-in-Balance : goal.without_end-requires-in-Balance
-without_end-requires-in-Balance c = balance_table_ends c.args.ring.now _ c.in_ok-balance_table-in-Balance.ensures.wanted c.in_ok-balance_table-in-Balance.ensures.text
+without_end-requires-in-Balance c = balance_table_ends c.args.ring.now _
+    c.in_ok-balance_table-in-Balance.ensures.wanted c.in_ok-balance_table-in-Balance.ensures.text

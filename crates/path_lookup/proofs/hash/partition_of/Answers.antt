@@ -6,4 +6,5 @@ pub returns-clause-within : goal.returns-clause-within
 returns-clause-within c =
     let low : c.get.result ≤ 32 = omega arith in
     let bits = greatest_bits c.from_be_bytes.result c.get.result c.from_be_bytes.type_inv low in
-    subst (λ (n : ℕ). c.from_be_bytes.result / 2 ^ (32 - c.get.result) < 2 ^ n) c.get.ensures.value bits
+    subst (λ (n : ℕ). c.from_be_bytes.result / 2 ^ (32 - c.get.result) < 2 ^ n) c.get.ensures.value
+    bits

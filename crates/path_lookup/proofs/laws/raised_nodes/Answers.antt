@@ -8,6 +8,8 @@ pub returns : goal.returns
 returns c = λ old new prefix suffix ids names raised low.
     let front = from_be_bytes w32 (take 4 (path_hash prefix names suffix)) in
     let same = of_halves old new front raised low in (
-      λ seated. subst (λ (p : ℕ). AreSeated old p ids) same (half_to_whole old new (front / 2 ^ (32 - new.power)) ids raised seated),
-      λ seated. whole_to_half old new (front / 2 ^ (32 - new.power)) ids raised (subst (λ (p : ℕ). AreSeated old p ids) (sym same) seated),
+      λ seated. subst (λ (p : ℕ). AreSeated old p ids) same
+          (half_to_whole old new (front / 2 ^ (32 - new.power)) ids raised seated),
+      λ seated. whole_to_half old new (front / 2 ^ (32 - new.power)) ids raised
+          (subst (λ (p : ℕ). AreSeated old p ids) (sym same) seated),
     )

@@ -5,4 +5,6 @@ use Rattle.ring_model.proofs.Rising.{rising_by_test}
 use Rattle.ring_model.proofs.parts.are_ids_rising.Goals as goal
 
 pub returns : goal.returns
-returns c = rising_by_test (λ device. device.id) c.args.devices.now c.is_sorted_by.result (c.is_sorted_by.ensures.cases (λ one next. nat_lt one.id next.id) (answers_always _ _ _ (λ f a r g called. search rules)))
+returns c = rising_by_test (λ device. device.id) c.args.devices.now c.is_sorted_by.result
+    (c.is_sorted_by.ensures.cases (λ one next. nat_lt one.id next.id)
+    (answers_always _ _ _ (λ f a r g called. search rules)))

@@ -6,5 +6,6 @@ use Rattle.ring_model.proofs.parts.known_ids.Given as goal
 abbrev pub invariant-loop-device : goal.invariant-loop-device
 invariant-loop-device l = record {
   count : length l.known ≡ 65536;
-  marks : (id : ℕ) → slice_index_or l.known id false ≡ has_device id (take l.device-index l.devices);
+  marks : (id : ℕ) → slice_index_or l.known id false ≡ has_device id
+      (take l.device-index l.devices);
 }

@@ -4,4 +4,5 @@ use Rattle.ring_model.specs.Rings.{is_before, seen}
 use Rattle.ring_model.proofs.rings.push_after.Given as goal
 
 abbrev pub invariant-loop-entry : goal.invariant-loop-entry
-invariant-loop-entry l = seen l.into.items ≡ seen l.fn.into.items ++ filter (λ e. is_before l.name e.0) (take l.entry-index (seen l.rings))
+invariant-loop-entry l = seen l.into.items ≡ seen l.fn.into.items ++
+    filter (λ e. is_before l.name e.0) (take l.entry-index (seen l.rings))

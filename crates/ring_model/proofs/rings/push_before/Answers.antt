@@ -5,4 +5,6 @@ use Rattle.ring_model.proofs.rings.push_before.Goals as goal
 
 pub loop-entry-preserved : goal.loop-entry-preserved
 loop-entry-preserved c = rw (c.in_ok-push_if.ensures, c.is_before.ensures)
-    (kept_more (λ e. is_before e.0 c.args.name.now) c.args.rings.now c.loop-entry.entry-index c.entry-item.result (omega arith) c.entry-item.is (seen c.loop-entry.into.items) (seen c.args.into.now.items) c.loop-entry.invariant)
+    (kept_more (λ e. is_before e.0 c.args.name.now) c.args.rings.now c.loop-entry.entry-index
+    c.entry-item.result (omega arith) c.entry-item.is (seen c.loop-entry.into.items)
+    (seen c.args.into.now.items) c.loop-entry.invariant)

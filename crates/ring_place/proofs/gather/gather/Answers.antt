@@ -1,23 +1,27 @@
 use Rattle.std.proofs.Common.{◌<◌, ◌+◌, length, get_or, take, false, sym, subst, ◌∙◌, arith}
 use Rattle.std.specs.Prelude.{slice_index_or}
-use Rattle.ring_place.specs.Rows.{AreKnown}
+use Rattle.ring_place.specs.Inner.SeatRows.{AreKnown}
 use Rattle.ring_place.specs.Inner.Gathering.{IsLifting, Takes}
-use Rattle.ring_place.proofs.Rows.PartitionOrders.{among_below, among_more, order_fresh, order_below}
+use Rattle.ring_place.proofs.Rows.PartitionOrders.{among_below, among_more, order_fresh}
+use Rattle.ring_place.proofs.Rows.PartitionOrders.{order_below}
 use Rattle.ring_place.proofs.Gathering.PassSteps.{pass_start, pass_written}
 use Rattle.ring_place.proofs.gather.gather.Goals as goal
 
 pub loop-partition-init : goal.loop-partition-init
-loop-partition-init c = pass_start c.args.pass c.args.was.now c.args.kept.now c.args.locked.now c.args.seats.now c.requires.filled
+loop-partition-init c = pass_start c.args.pass c.args.was.now c.args.kept.now c.args.locked.now
+    c.args.seats.now c.requires.filled
 
 pub row-requires : goal.row-requires
 row-requires c =
-    let within = order_below (length c.args.seats.now) c.args.order.now c.requires.order c.loop-partition.partition-index (omega arith) in
+    let within = order_below (length c.args.seats.now) c.args.order.now c.requires.order
+    c.loop-partition.partition-index (omega arith) in
     let same = c.loop-partition.invariant.as_many in
     omega (arith, within, same)
 
 pub bounds-locked-partition : goal.bounds-locked-partition
 bounds-locked-partition c =
-    let within = order_below (length c.args.seats.now) c.args.order.now c.requires.order c.loop-partition.partition-index (omega arith) in
+    let within = order_below (length c.args.seats.now) c.args.order.now c.requires.order
+    c.loop-partition.partition-index (omega arith) in
     let same = c.requires.locked in
     omega (arith, within, same)
 
@@ -25,14 +29,19 @@ pub gather_row-requires-clause-row : goal.gather_row-requires-clause-row
 gather_row-requires-clause-row c =
     let order = c.args.order.now in
     let partition = get_or order c.loop-partition.partition-index 0 in
-    let within = order_below (length c.args.seats.now) order c.requires.order c.loop-partition.partition-index (omega arith) in
-    let once = order_fresh (length c.args.seats.now) order c.requires.order c.loop-partition.partition-index (omega arith) in
-    let read = c.row_copy-count.ensures.row ∙ c.row.ensures ∙ c.loop-partition.invariant.rest partition once in
-    subst (λ r. AreKnown c.args.was.now.devices r) (sym read) (c.requires.rows.known partition within)
+    let within = order_below (length c.args.seats.now) order c.requires.order
+    c.loop-partition.partition-index (omega arith) in
+    let once = order_fresh (length c.args.seats.now) order c.requires.order
+    c.loop-partition.partition-index (omega arith) in
+    let read = c.row_copy-count.ensures.row ∙ c.row.ensures ∙ c.loop-partition.invariant.rest
+    partition once in
+    subst (λ r. AreKnown c.args.was.now.devices r) (sym read) (c.requires.rows.known partition
+    within)
 
 pub set_row-requires-clause-partition : goal.set_row-requires-clause-partition
 set_row-requires-clause-partition c =
-    let within = order_below (length c.args.seats.now) c.args.order.now c.requires.order c.loop-partition.partition-index (omega arith) in
+    let within = order_below (length c.args.seats.now) c.args.order.now c.requires.order
+    c.loop-partition.partition-index (omega arith) in
     let same = c.loop-partition.invariant.as_many in
     omega (arith, within, same)
 
@@ -45,8 +54,12 @@ loop-partition-preserved c =
     let once = order_fresh (length c.args.seats.now) order c.requires.order i lt in
     let locked = slice_index_or c.args.locked.now (get_or order i 0) false in
     let read = c.row_copy-count.ensures.row ∙ c.row.ensures in
-    pass_written c.args.pass (take i order) (take (i + 1) order) (get_or order i 0) c.args.was.now c.loop-partition.kept c.gather_row.new.kept c.args.locked.now c.args.seats.now
+    pass_written c.args.pass (take i order) (take (i + 1) order) (get_or order i 0) c.args.was.now
+    c.loop-partition.kept c.gather_row.new.kept c.args.locked.now c.args.seats.now
     c.loop-partition.seats c.set_row.new.self c.gather_row.new.row c.loop-partition.invariant within
-    (λ p among. among_below (length c.args.seats.now) order c.requires.order i p among) c.requires.rows once (λ p. among_more order i p lt) c.set_row.ensures
-    (subst (λ r. IsLifting c.args.pass c.args.was.now c.gather_row.new.kept locked r c.gather_row.new.row) read c.gather_row.ensures.lifted)
-    (subst (λ r. Takes c.loop-partition.kept c.gather_row.new.kept r c.gather_row.new.row) read c.gather_row.ensures.takes) c.gather_row.ensures.falls
+    (λ p among. among_below (length c.args.seats.now) order c.requires.order i p among)
+    c.requires.rows once (λ p. among_more order i p lt) c.set_row.ensures
+    (subst (λ r. IsLifting c.args.pass c.args.was.now c.gather_row.new.kept locked r
+    c.gather_row.new.row) read c.gather_row.ensures.lifted)
+    (subst (λ r. Takes c.loop-partition.kept c.gather_row.new.kept r c.gather_row.new.row) read
+    c.gather_row.ensures.takes) c.gather_row.ensures.falls

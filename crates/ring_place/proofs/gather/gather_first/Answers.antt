@@ -2,46 +2,62 @@ use Rattle.std.proofs.Common.{◌≡◌, ◌∙◌, sym, ap, subst, refl, arith,
 use Rattle.std.specs.List.{list_any}
 use Rattle.ring_model.specs.Ring.{has_device}
 use Rattle.ring_place.specs.Load.{load_take}
-use Rattle.ring_place.specs.Inner.Gathering.{Calm, Crowded, LostFirst, Takes, is_lost_in, present_only}
+use Rattle.ring_place.specs.Inner.Gathering.{Calm, Crowded, LostFirst, Takes, is_lost_in}
+use Rattle.ring_place.specs.Inner.Gathering.{present_only}
 use Rattle.ring_place.proofs.Gathering.BothPasses.{none_empty}
 use Rattle.ring_place.proofs.Searching.LessCrowded.{one_here}
 use Rattle.ring_place.proofs.Gathering.TakenSeats.{takes_none, takes_seat}
 use Rattle.ring_place.proofs.gather.gather_first.Goals as goal
-use Rattle.ring_place.proofs.gather.gather_first.Goals.{else-not-locked-via-then-not-locked+else-not-is_calm, else-not-locked-via-else-not-locked}
+use
+    Rattle.ring_place.proofs.gather.gather_first.Goals.{else-not-locked-via-then-not-locked+else-not-is_calm, else-not-locked-via-else-not-locked}
 
 pub returns-then-has_lost-clause-first : goal.returns-then-has_lost-clause-first
 returns-then-has_lost-clause-first c = LostFirst
-    (ap (λ ds. list_any (is_lost_in ds) c.args.row.now) (sym c.requires.same) ∙ sym c.has_lost.ensures ∙ c.if-has_lost.true)
+    (ap (λ ds. list_any (is_lost_in ds) c.args.row.now) (sym c.requires.same) ∙ sym
+    c.has_lost.ensures ∙ c.if-has_lost.true)
     (c.lift_lost.ensures.row ∙ ap (λ ds. map (present_only ds) c.args.row.now) c.requires.same)
 
 pub returns-in-Some-clause-first : goal.returns-in-Some-clause-first
 returns-in-Some-clause-first c =
     let found = c.in-Some.ensures.some in
-    Crowded (ap (λ ds. list_any (is_lost_in ds) c.args.row.now) (sym c.requires.same) ∙ sym c.has_lost.ensures ∙ c.if-has_lost.false) c.if-not-locked.true found.0 c.in-Some.device found.1 found.2
+    Crowded (ap (λ ds. list_any (is_lost_in ds) c.args.row.now) (sym c.requires.same) ∙ sym
+    c.has_lost.ensures ∙ c.if-has_lost.false) c.if-not-locked.true found.0 c.in-Some.device
+    found.1 found.2
 
 pub returns-in-Some-clause-takes : goal.returns-in-Some-clause-takes
 returns-in-Some-clause-takes c =
     let before = c.args.kept.now in
     let row = c.args.row.now in
     let found = c.in-Some.ensures.some in
-    let known : has_device c.in-Some.device before.devices ≡ true = ap (has_device c.in-Some.device) c.requires.same ∙ c.requires.row found.0 c.in-Some.device found.1.at in
+    let known : has_device c.in-Some.device before.devices ≡ true = ap (has_device c.in-Some.device)
+    c.requires.same ∙ c.requires.row found.0 c.in-Some.device found.1.at in
     subst (λ k. Takes before k row c.lift_crowded.new.row) (sym c.take.ensures)
     (subst (λ r. Takes before (load_take before c.in-Some.device) row r) (sym found.1.lifted)
-    (takes_seat before before row row found.0 c.in-Some.device (takes_none before row c.requires.load) known
-    (omega (arith, one_here row found.0 c.in-Some.device found.1.at, c.requires.has c.in-Some.device known)) found.1.at))
+    (takes_seat before before row row found.0 c.in-Some.device
+    (takes_none before row c.requires.load) known
+    (omega (
+      arith,
+      one_here row found.0 c.in-Some.device found.1.at,
+      c.requires.has c.in-Some.device
+          known,
+    )) found.1.at))
 
 pub returns-in_default-clause-first : goal.returns-in_default-clause-first
 returns-in_default-clause-first c =
-    Calm (ap (λ ds. list_any (is_lost_in ds) c.args.row.now) (sym c.requires.same) ∙ sym c.has_lost.ensures ∙ c.if-has_lost.false)
+    Calm (ap (λ ds. list_any (is_lost_in ds) c.args.row.now) (sym c.requires.same) ∙ sym
+    c.has_lost.ensures ∙ c.if-has_lost.false)
     c.in_default.ensures.none.0 (λ unlocked. c.in_default.ensures.none.1)
 
 pub is_calm-requires-clause-full : goal.is_calm-requires-clause-full
-is_calm-requires-clause-full c = none_empty c.args.kept.now.devices c.args.row.now (sym c.has_lost.ensures ∙ c.if-has_lost.false)
+is_calm-requires-clause-full c = none_empty c.args.kept.now.devices c.args.row.now
+    (sym c.has_lost.ensures ∙ c.if-has_lost.false)
 
 pub returns-else-not-locked-clause-first : goal.returns-else-not-locked-clause-first
 returns-else-not-locked-clause-first c =
-    Calm (ap (λ ds. list_any (is_lost_in ds) c.args.row.now) (sym c.requires.same) ∙ sym c.has_lost.ensures ∙ c.if-has_lost.false)
+    Calm (ap (λ ds. list_any (is_lost_in ds) c.args.row.now) (sym c.requires.same) ∙ sym
+    c.has_lost.ensures ∙ c.if-has_lost.false)
     refl (λ unlocked. elim c.else-not-locked.branch [
-      | else-not-locked-via-then-not-locked+else-not-is_calm w ↦ w.is_calm.ensures w.if-not-is_calm.false
+      | else-not-locked-via-then-not-locked+else-not-is_calm w ↦ w.is_calm.ensures
+          w.if-not-is_calm.false
       | else-not-locked-via-else-not-locked w ↦ absurd (cc (unlocked, w.if-not-locked.false))
     ])

@@ -7,5 +7,6 @@ use Rattle.ring_place.proofs.gather.lift_crowded.Given as goal
 abbrev pub invariant-loop-replica : goal.invariant-loop-replica
 invariant-loop-replica l = record {
   same : l.row ≡ l.fn.row;
-  uncrowded : (k : ℕ) → k < l.replica → (id : ℕ) → slice_get l.fn.row k ≡ Some (Some id) → is_crowded_in l.was l.fn.row k id ≡ false;
+  uncrowded : (k : ℕ) → k < l.replica → (id : ℕ) → slice_get l.fn.row k ≡ Some (Some id) →
+      is_crowded_in l.was l.fn.row k id ≡ false;
 }

@@ -1,4 +1,5 @@
-use Rattle.std.proofs.Common.{◌≡◌, ◌∙◌, sym, ap, subst, refl, ◌<◌, ◌≤◌, arith, Some, None, false, true}
+use Rattle.std.proofs.Common.{◌≡◌, ◌∙◌, sym, ap, subst, refl, ◌<◌, ◌≤◌, arith, Some, None, false}
+use Rattle.std.proofs.Common.{true}
 use Rattle.ring_model.specs.Ring.{has_device, has_present}
 use Rattle.ring_share.specs.Crowd.{seats_on}
 use Rattle.ring_place.specs.Load.{have_in, load_take}
@@ -8,19 +9,26 @@ use Rattle.ring_place.proofs.Searching.LessCrowded.{one_here}
 use Rattle.ring_place.proofs.Rows.RowFronts.{front_all, front_lift, front_old, front_skip}
 use Rattle.ring_place.proofs.Gathering.TakenSeats.{has_taken, takes_seat}
 use Rattle.ring_place.proofs.gather.lift_lost.Goals as goal
-use Rattle.ring_place.proofs.gather.lift_lost.Goals.{in-Some+then-not-is_present, in-Some+else-not-is_present, in_default}
+use Rattle.ring_place.proofs.gather.lift_lost.Goals.{in-Some+then-not-is_present}
+use Rattle.ring_place.proofs.gather.lift_lost.Goals.{in-Some+else-not-is_present, in_default}
 
 pub is_present-requires : goal.is_present-requires
 is_present-requires c =
-    let at = seat_at c.loop-replica.row c.loop-replica.replica (Some c.in-Some.device) (omega arith) c.in-Some.is in
+    let at = seat_at c.loop-replica.row c.loop-replica.replica (Some c.in-Some.device) (omega arith)
+    c.in-Some.is in
     ap (has_device c.in-Some.device) c.loop-replica.invariant.takes.devices
-    ∙ c.requires.row c.loop-replica.replica c.in-Some.device (front_old c.loop-replica.row c.args.row.now c.loop-replica.replica (present_only c.args.kept.now.devices) (Some c.in-Some.device) c.loop-replica.invariant.row at)
+    ∙ c.requires.row c.loop-replica.replica c.in-Some.device (front_old c.loop-replica.row
+    c.args.row.now c.loop-replica.replica (present_only c.args.kept.now.devices)
+    (Some c.in-Some.device) c.loop-replica.invariant.row at)
 
 pub take-requires : goal.take-requires
 take-requires c =
-    let at = seat_at c.loop-replica.row c.loop-replica.replica (Some c.in-Some.device) (omega arith) c.in-Some.is in
+    let at = seat_at c.loop-replica.row c.loop-replica.replica (Some c.in-Some.device) (omega arith)
+    c.in-Some.is in
     ap (has_device c.in-Some.device) c.loop-replica.invariant.takes.devices
-    ∙ c.requires.row c.loop-replica.replica c.in-Some.device (front_old c.loop-replica.row c.args.row.now c.loop-replica.replica (present_only c.args.kept.now.devices) (Some c.in-Some.device) c.loop-replica.invariant.row at)
+    ∙ c.requires.row c.loop-replica.replica c.in-Some.device (front_old c.loop-replica.row
+    c.args.row.now c.loop-replica.replica (present_only c.args.kept.now.devices)
+    (Some c.in-Some.device) c.loop-replica.invariant.row at)
 
 pub loop-replica-preserved : goal.loop-replica-preserved
 loop-replica-preserved c = elim c.match-row-replica.branch [
@@ -32,18 +40,31 @@ loop-replica-preserved c = elim c.match-row-replica.branch [
       let inv = c.loop-replica.invariant in
       let at = seat_at row replica (Some w.in-Some.device) (omega arith) w.in-Some.is in
       let known : has_device w.in-Some.device before.devices ≡ true =
-      c.requires.row replica w.in-Some.device (front_old row c.args.row.now replica (present_only before.devices) (Some w.in-Some.device) inv.row at) in
-      let some : 0 < have_in left w.in-Some.device = omega (arith, one_here row replica w.in-Some.device at, inv.has w.in-Some.device known) in
-      let absent : has_present w.in-Some.device before.devices ≡ false = ap (has_present w.in-Some.device) (sym inv.takes.devices) ∙ sym w.is_present.ensures ∙ w.if-not-is_present.true in
-      let kept_is : c.match-row-replica.kept ≡ load_take left w.in-Some.device = w.kept-is ∙ w.take.ensures in
+      c.requires.row replica w.in-Some.device (front_old row c.args.row.now replica
+      (present_only before.devices) (Some w.in-Some.device) inv.row at) in
+      let some : 0 < have_in left w.in-Some.device =
+      omega (arith, one_here row replica w.in-Some.device at, inv.has w.in-Some.device known) in
+      let absent : has_present w.in-Some.device before.devices ≡ false =
+      ap (has_present w.in-Some.device) (sym inv.takes.devices) ∙ sym w.is_present.ensures ∙
+      w.if-not-is_present.true in
+      let kept_is : c.match-row-replica.kept ≡ load_take left w.in-Some.device =
+      w.kept-is ∙ w.take.ensures in
       record {
-        row = w.row-is ∙ front_lift row c.args.row.now replica (present_only before.devices) (Some w.in-Some.device) None inv.row at (lost_absent before.devices w.in-Some.device absent);
+        row = w.row-is ∙ front_lift row c.args.row.now replica (present_only before.devices)
+            (Some w.in-Some.device) None inv.row at (lost_absent before.devices w.in-Some.device
+            absent);
         takes = subst (λ k. Takes before k c.args.row.now c.match-row-replica.row) (sym kept_is)
-            (subst (λ r. Takes before (load_take left w.in-Some.device) c.args.row.now r) (sym w.row-is)
-            (takes_seat before left c.args.row.now row replica w.in-Some.device inv.takes known some at));
-        has = λ id also. subst (λ k. seats_on id c.match-row-replica.row ≤ have_in k id) (sym kept_is)
-            (subst (λ r. seats_on id r ≤ have_in (load_take left w.in-Some.device) id) (sym w.row-is)
-            (has_taken left row replica w.in-Some.device id inv.takes.load (ap (has_device w.in-Some.device) inv.takes.devices ∙ known) (ap (has_device id) inv.takes.devices ∙ also) at some (inv.has id also)));
+            (subst (λ r. Takes before (load_take left w.in-Some.device) c.args.row.now r)
+            (sym w.row-is)
+            (takes_seat before left c.args.row.now row replica w.in-Some.device inv.takes known some
+            at));
+        has = λ id also. subst (λ k. seats_on id c.match-row-replica.row ≤ have_in k id)
+            (sym kept_is)
+            (subst (λ r. seats_on id r ≤ have_in (load_take left w.in-Some.device) id)
+            (sym w.row-is)
+            (has_taken left row replica w.in-Some.device id inv.takes.load
+            (ap (has_device w.in-Some.device) inv.takes.devices ∙ known)
+            (ap (has_device id) inv.takes.devices ∙ also) at some (inv.has id also)));
       }
   | in-Some+else-not-is_present w ↦
       let before = c.args.kept.now in
@@ -51,11 +72,19 @@ loop-replica-preserved c = elim c.match-row-replica.branch [
       let replica = c.loop-replica.replica in
       let inv = c.loop-replica.invariant in
       let at = seat_at row replica (Some w.in-Some.device) (omega arith) w.in-Some.is in
-      let present : has_present w.in-Some.device before.devices ≡ true = ap (has_present w.in-Some.device) (sym inv.takes.devices) ∙ sym w.is_present.ensures ∙ w.if-not-is_present.false in
+      let present : has_present w.in-Some.device before.devices ≡ true =
+      ap (has_present w.in-Some.device) (sym inv.takes.devices) ∙ sym w.is_present.ensures ∙
+      w.if-not-is_present.false in
       record {
-        row = w.row-is ∙ front_skip row c.args.row.now replica (present_only before.devices) (Some w.in-Some.device) inv.row at (kept_present before.devices w.in-Some.device present);
-        takes = subst (λ k. Takes before k c.args.row.now c.match-row-replica.row) (sym w.kept-is) (subst (λ r. Takes before c.loop-replica.kept c.args.row.now r) (sym w.row-is) inv.takes);
-        has = λ id also. subst (λ k. seats_on id c.match-row-replica.row ≤ have_in k id) (sym w.kept-is) (subst (λ r. seats_on id r ≤ have_in c.loop-replica.kept id) (sym w.row-is) (inv.has id also));
+        row = w.row-is ∙ front_skip row c.args.row.now replica (present_only before.devices)
+            (Some w.in-Some.device) inv.row at (kept_present before.devices w.in-Some.device
+            present);
+        takes = subst (λ k. Takes before k c.args.row.now c.match-row-replica.row) (sym w.kept-is)
+            (subst (λ r. Takes before c.loop-replica.kept c.args.row.now r) (sym w.row-is)
+            inv.takes);
+        has = λ id also. subst (λ k. seats_on id c.match-row-replica.row ≤ have_in k id)
+            (sym w.kept-is) (subst (λ r. seats_on id r ≤ have_in c.loop-replica.kept id)
+            (sym w.row-is) (inv.has id also));
       }
   | in_default w ↦
       let before = c.args.kept.now in
@@ -64,11 +93,17 @@ loop-replica-preserved c = elim c.match-row-replica.branch [
       let inv = c.loop-replica.invariant in
       let at = seat_at row replica None (omega arith) w.in_default.is in
       record {
-        row = w.row-is ∙ front_skip row c.args.row.now replica (present_only before.devices) None inv.row at refl;
-        takes = subst (λ k. Takes before k c.args.row.now c.match-row-replica.row) (sym w.kept-is) (subst (λ r. Takes before c.loop-replica.kept c.args.row.now r) (sym w.row-is) inv.takes);
-        has = λ id also. subst (λ k. seats_on id c.match-row-replica.row ≤ have_in k id) (sym w.kept-is) (subst (λ r. seats_on id r ≤ have_in c.loop-replica.kept id) (sym w.row-is) (inv.has id also));
+        row = w.row-is ∙ front_skip row c.args.row.now replica (present_only before.devices) None
+            inv.row at refl;
+        takes = subst (λ k. Takes before k c.args.row.now c.match-row-replica.row) (sym w.kept-is)
+            (subst (λ r. Takes before c.loop-replica.kept c.args.row.now r) (sym w.row-is)
+            inv.takes);
+        has = λ id also. subst (λ k. seats_on id c.match-row-replica.row ≤ have_in k id)
+            (sym w.kept-is) (subst (λ r. seats_on id r ≤ have_in c.loop-replica.kept id)
+            (sym w.row-is) (inv.has id also));
       }
 ]
 
 pub returns-clause-row : goal.returns-clause-row
-returns-clause-row c = c.loop-replica.invariant.row ∙ front_all c.loop-replica.replica (present_only c.args.kept.now.devices) c.args.row.now (omega arith)
+returns-clause-row c = c.loop-replica.invariant.row ∙ front_all c.loop-replica.replica
+    (present_only c.args.kept.now.devices) c.args.row.now (omega arith)

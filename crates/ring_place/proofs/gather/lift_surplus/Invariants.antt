@@ -7,5 +7,6 @@ use Rattle.ring_place.proofs.gather.lift_surplus.Given as goal
 abbrev pub invariant-loop-replica : goal.invariant-loop-replica
 invariant-loop-replica l = record {
   same : l.row ≡ l.fn.row;
-  below : (k : ℕ) → k < l.replica → (id : ℕ) → slice_get l.fn.row k ≡ Some (Some id) → have_in l.kept id ≤ want_in l.kept id;
+  below : (k : ℕ) → k < l.replica → (id : ℕ) → slice_get l.fn.row k ≡ Some (Some id) →
+      have_in l.kept id ≤ want_in l.kept id;
 }

@@ -4,8 +4,9 @@ use Rattle.ring_model.specs.Parts.{record_of}
 use Rattle.ring_share.specs.Crowd.{rows_of}
 use Rattle.ring_place.specs.Inner.Finishing.{AreAlike, changed_in}
 use Rattle.ring_place.specs.Rebalance.{IsAfter, changed_seats}
-use Rattle.ring_place.specs.Rows.{row_at}
-use Rattle.ring_place.proofs.Finishing.FinishedRing.{alike, count_rows, is_made, made_after, made_changed, made_valid, rows_same}
+use Rattle.ring_place.specs.Inner.SeatRows.{row_at}
+use Rattle.ring_place.proofs.Finishing.FinishedRing.{alike, count_rows, is_made, made_after}
+use Rattle.ring_place.proofs.Finishing.FinishedRing.{made_changed, made_valid, rows_same}
 use Rattle.ring_place.proofs.rebalances.finish.Goals as goal
 
 pub moves-requires-clause-partitions : goal.moves-requires-clause-partitions
@@ -15,31 +16,51 @@ moves-requires-clause-partitions c =
     omega (arith, old, moved, count_rows c.args.ring.now)
 
 pub moves-requires-clause-alike : goal.moves-requires-clause-alike
-moves-requires-clause-alike c = subst (λ rows. AreAlike rows c.args.new.now) (sym c.requires.old) (alike c.args.ring.now c.args.new.now c.requires.valid c.requires.new)
+moves-requires-clause-alike c = subst (λ rows. AreAlike rows c.args.new.now) (sym c.requires.old)
+    (alike c.args.ring.now c.args.new.now c.requires.valid c.requires.new)
 
 pub prove-unreachable-requires : goal.prove-unreachable-requires
 prove-unreachable-requires c =
-    let made = is_made c.args.ring.now (record_of c.in_ok-parts.parts) c.args.hour c.args.old.now c.args.new.now c.risen.result c.devices.result.now c.in_ok-parts-2.field-0.items c.in_ok-parts-3.field-0.items c.in_ok-moved.moved.items
-    c.in_ok-parts.ensures.parts c.requires.old c.devices.ensures.value c.in_ok-parts-2.ensures c.in_ok-parts-3.ensures c.in_ok-moved.ensures.moved c.risen.ensures in
-    c.in-Err-Invalid.ensures.invalid.0 (ap Err c.in-Err-Invalid.field-0-is) (made_valid c.args.ring.now c.args.hour c.args.new.now _ c.requires.valid c.requires.new made)
+    let made = is_made c.args.ring.now (record_of c.in_ok-parts.parts) c.args.hour c.args.old.now
+    c.args.new.now c.risen.result c.devices.result.now c.in_ok-parts-2.field-0.items
+    c.in_ok-parts-3.field-0.items c.in_ok-moved.moved.items
+    c.in_ok-parts.ensures.parts c.requires.old c.devices.ensures.value c.in_ok-parts-2.ensures
+    c.in_ok-parts-3.ensures c.in_ok-moved.ensures.moved c.risen.ensures in
+    c.in-Err-Invalid.ensures.invalid.0 (ap Err c.in-Err-Invalid.field-0-is)
+    (made_valid c.args.ring.now c.args.hour c.args.new.now _ c.requires.valid c.requires.new
+    made)
 
 pub returns-in-Ok-clause-rows : goal.returns-in-Ok-clause-rows
 returns-in-Ok-clause-rows c =
-    let made = is_made c.args.ring.now (record_of c.in_ok-parts.parts) c.args.hour c.args.old.now c.args.new.now c.risen.result c.devices.result.now c.in_ok-parts-2.field-0.items c.in_ok-parts-3.field-0.items c.in_ok-moved.moved.items
-    c.in_ok-parts.ensures.parts c.requires.old c.devices.ensures.value c.in_ok-parts-2.ensures c.in_ok-parts-3.ensures c.in_ok-moved.ensures.moved c.risen.ensures in
-    ap rows_of c.in-Ok.ensures.built ∙ rows_same c.args.ring.now c.args.hour c.args.new.now _ c.requires.valid c.requires.new made
+    let made = is_made c.args.ring.now (record_of c.in_ok-parts.parts) c.args.hour c.args.old.now
+    c.args.new.now c.risen.result c.devices.result.now c.in_ok-parts-2.field-0.items
+    c.in_ok-parts-3.field-0.items c.in_ok-moved.moved.items
+    c.in_ok-parts.ensures.parts c.requires.old c.devices.ensures.value c.in_ok-parts-2.ensures
+    c.in_ok-parts-3.ensures c.in_ok-moved.ensures.moved c.risen.ensures in
+    ap rows_of c.in-Ok.ensures.built ∙ rows_same c.args.ring.now c.args.hour c.args.new.now _
+    c.requires.valid c.requires.new made
 
 pub returns-in-Ok-clause-after : goal.returns-in-Ok-clause-after
 returns-in-Ok-clause-after c =
-    let made = is_made c.args.ring.now (record_of c.in_ok-parts.parts) c.args.hour c.args.old.now c.args.new.now c.risen.result c.devices.result.now c.in_ok-parts-2.field-0.items c.in_ok-parts-3.field-0.items c.in_ok-moved.moved.items
-    c.in_ok-parts.ensures.parts c.requires.old c.devices.ensures.value c.in_ok-parts-2.ensures c.in_ok-parts-3.ensures c.in_ok-moved.ensures.moved c.risen.ensures in
-    subst (λ r. IsAfter c.args.ring.now c.args.hour r) (sym c.in-Ok.ensures.built) (made_after c.args.ring.now c.args.hour c.args.new.now _ c.requires.valid c.requires.new made)
+    let made = is_made c.args.ring.now (record_of c.in_ok-parts.parts) c.args.hour c.args.old.now
+    c.args.new.now c.risen.result c.devices.result.now c.in_ok-parts-2.field-0.items
+    c.in_ok-parts-3.field-0.items c.in_ok-moved.moved.items
+    c.in_ok-parts.ensures.parts c.requires.old c.devices.ensures.value c.in_ok-parts-2.ensures
+    c.in_ok-parts-3.ensures c.in_ok-moved.ensures.moved c.risen.ensures in
+    subst (λ r. IsAfter c.args.ring.now c.args.hour r) (sym c.in-Ok.ensures.built)
+    (made_after c.args.ring.now c.args.hour c.args.new.now _ c.requires.valid c.requires.new
+    made)
 
 pub returns-in-Ok-clause-changed : goal.returns-in-Ok-clause-changed
 returns-in-Ok-clause-changed c =
-    let made = is_made c.args.ring.now (record_of c.in_ok-parts.parts) c.args.hour c.args.old.now c.args.new.now c.risen.result c.devices.result.now c.in_ok-parts-2.field-0.items c.in_ok-parts-3.field-0.items c.in_ok-moved.moved.items
-    c.in_ok-parts.ensures.parts c.requires.old c.devices.ensures.value c.in_ok-parts-2.ensures c.in_ok-parts-3.ensures c.in_ok-moved.ensures.moved c.risen.ensures in
+    let made = is_made c.args.ring.now (record_of c.in_ok-parts.parts) c.args.hour c.args.old.now
+    c.args.new.now c.risen.result c.devices.result.now c.in_ok-parts-2.field-0.items
+    c.in_ok-parts-3.field-0.items c.in_ok-moved.moved.items
+    c.in_ok-parts.ensures.parts c.requires.old c.devices.ensures.value c.in_ok-parts-2.ensures
+    c.in_ok-parts-3.ensures c.in_ok-moved.ensures.moved c.risen.ensures in
     c.in_ok-moved.ensures.changed
-    ∙ ap (λ (before : List (List (Option ℕ))). sum_by (λ partition. changed_in (row_at before partition) (row_at c.args.new.now partition)) (range_with_len 0 (length before))) c.requires.old
+    ∙ ap (λ (before : List (List (Option ℕ))). sum_by (λ partition. changed_in
+    (row_at before partition) (row_at c.args.new.now partition))
+    (range_with_len 0 (length before))) c.requires.old
     ∙ made_changed c.args.ring.now c.args.hour c.args.new.now _ c.requires.valid c.requires.new made
     ∙ ap (changed_seats c.args.ring.now) (sym c.in-Ok.ensures.built)

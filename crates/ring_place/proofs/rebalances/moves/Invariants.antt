@@ -1,12 +1,15 @@
 use Rattle.std.proofs.Common.{◌≡◌, ◌≤◌, ◌*◌, map, sum_by, None, get_or}
 use Rattle.std.specs.List.{range_with_len}
 use Rattle.ring_place.specs.Inner.Finishing.{changed_in, stamped}
-use Rattle.ring_place.specs.Rows.{row_at}
+use Rattle.ring_place.specs.Inner.SeatRows.{row_at}
 use Rattle.ring_place.proofs.rebalances.moves.Given as goal
 
 abbrev pub invariant-loop-partition : goal.invariant-loop-partition
 invariant-loop-partition l = record {
-  moved : l.moved.items ≡ map (λ partition. stamped l.hour (changed_in (row_at l.old partition) (row_at l.new partition)) (get_or l.ring.moved partition None)) (range_with_len 0 l.partition);
-  changed : l.changed ≡ sum_by (λ partition. changed_in (row_at l.old partition) (row_at l.new partition)) (range_with_len 0 l.partition);
+  moved : l.moved.items ≡ map (λ partition. stamped l.hour (changed_in (row_at l.old partition)
+      (row_at l.new partition)) (get_or l.ring.moved partition None))
+      (range_with_len 0 l.partition);
+  changed : l.changed ≡ sum_by (λ partition. changed_in (row_at l.old partition)
+      (row_at l.new partition)) (range_with_len 0 l.partition);
   few : l.changed ≤ 5 * l.partition;
 }

@@ -1,4 +1,5 @@
-use Rattle.std.proofs.Common.{◌≡◌, ℕ, List, Option, IfOk, Result, Ok, Err, length, count_by, sym, ap, subst, ◌∙◌, arith}
+use Rattle.std.proofs.Common.{◌≡◌, ◌^◌, ℕ, List, Option, IfOk, Result, Ok, Err, length, count_by, sym}
+use Rattle.std.proofs.Common.{ap, subst, ◌∙◌, arith}
 use Rattle.std.specs.List.{range_with_len}
 use Rattle.std.specs.List.Sorted.{IsPermutation}
 use Rattle.ring_model.specs.Valid.{IsValid}
@@ -6,45 +7,67 @@ use Rattle.ring_share.specs.Crowd.{rows_of}
 use Rattle.ring_share.specs.Want.{is_open}
 use Rattle.ring_place.specs.Inner.Placing.{AllPlaced, CanPlace}
 use Rattle.ring_place.specs.Rebalance.{IsAfter, IsRebalance}
-use Rattle.ring_place.specs.Rows.{row_at}
+use Rattle.ring_place.specs.Inner.SeatRows.{row_at}
 use Rattle.ring_place.proofs.Finishing.NewRing.{is_rebalance}
-use Rattle.ring_place.proofs.Placing.Placeable.{left_counts, open_want, partitions_are, rows_count, rows_few, rows_placeable, whole}
+use Rattle.ring_place.proofs.Placing.Placeable.{left_counts, open_want, partitions_are, rows_count}
+use Rattle.ring_place.proofs.Placing.Placeable.{rows_few, rows_placeable, whole}
 use Rattle.ring_place.proofs.rebalances.rebalance.Goals as goal
 
 pub place_all-requires-clause-order : goal.place_all-requires-clause-order
 place_all-requires-clause-order c =
     let valid = c.devices.ensures.valid in
-    let count = c.partition_count.ensures.value ∙ partitions_are c.args.ring.now c.args.hour c.in_ok-room.room c.in_ok-room.seats valid c.in_ok-room.ensures in
-    subst (λ (order : List ℕ). IsPermutation (range_with_len 0 (length c.in_ok-room.seats)) order) (sym c.as_slice-2.ensures.value)
-    (subst (λ (n : ℕ). IsPermutation (range_with_len 0 n) c.in_ok-order.order.items) count c.in_ok-order.ensures)
+    let count = c.partition_count.ensures.value ∙ ap (λ (n : ℕ). 2 ^ n) c.power.ensures.value
+    ∙ partitions_are c.args.ring.now c.args.hour c.in_ok-room.room c.in_ok-room.seats valid
+    c.in_ok-room.ensures in
+    subst (λ (order : List ℕ). IsPermutation (range_with_len 0 (length c.in_ok-room.seats)) order)
+    (sym c.as_slice-2.ensures.value)
+    (subst (λ (n : ℕ). IsPermutation (range_with_len 0 n) c.in_ok-order.order.items) count
+    c.in_ok-order.ensures)
 
 pub place_all-requires-clause-as_many : goal.place_all-requires-clause-as_many
 place_all-requires-clause-as_many c =
-    ap length c.in_ok-old.ensures.rows ∙ rows_count c.args.ring.now c.args.hour c.in_ok-room.room c.in_ok-room.seats c.devices.ensures.valid c.in_ok-room.ensures
+    ap length c.in_ok-old.ensures.rows ∙ rows_count c.args.ring.now c.args.hour c.in_ok-room.room
+    c.in_ok-room.seats c.devices.ensures.valid c.in_ok-room.ensures
 
 pub place_all-requires-clause-rows : goal.place_all-requires-clause-rows
 place_all-requires-clause-rows c p lt =
     let opens = ap (count_by is_open) c.devices.ensures.value in
     let enough = c.if-open_count-from.false in
-    subst (λ (old : List (List (Option ℕ))). CanPlace c.in_ok-room.room.devices (row_at old p) (row_at c.in_ok-room.seats p)) (sym c.in_ok-old.ensures.rows)
-    (rows_placeable c.args.ring.now c.args.hour c.in_ok-room.room c.in_ok-room.seats c.devices.ensures.valid c.in_ok-room.ensures p lt
-    (omega (arith, opens, enough, c.open_count.ensures, c.from.ensures, c.get.ensures, c.replicas.ensures)))
+    subst (λ (old : List (List (Option ℕ))). CanPlace c.in_ok-room.room.devices (row_at old p)
+    (row_at c.in_ok-room.seats p)) (sym c.in_ok-old.ensures.rows)
+    (rows_placeable c.args.ring.now c.args.hour c.in_ok-room.room c.in_ok-room.seats
+    c.devices.ensures.valid c.in_ok-room.ensures p lt
+    (omega (
+      arith,
+      opens,
+      enough,
+      c.open_count.ensures,
+      c.from.ensures,
+      c.get.ensures,
+      c.replicas.ensures,
+    )))
 
 pub place_all-requires-clause-closed : goal.place_all-requires-clause-closed
-place_all-requires-clause-closed c = open_want c.args.ring.now c.in_ok-room.room c.devices.ensures.valid c.in_ok-room.ensures.wanted c.in_ok-room.ensures.devices
+place_all-requires-clause-closed c = open_want c.args.ring.now c.in_ok-room.room
+    c.devices.ensures.valid c.in_ok-room.ensures.wanted c.in_ok-room.ensures.devices
 
 pub place_all-requires-clause-counts : goal.place_all-requires-clause-counts
-place_all-requires-clause-counts c = left_counts c.args.ring.now c.args.hour c.in_ok-room.room c.in_ok-room.seats c.devices.ensures.valid c.in_ok-room.ensures
+place_all-requires-clause-counts c = left_counts c.args.ring.now c.args.hour c.in_ok-room.room
+    c.in_ok-room.seats c.devices.ensures.valid c.in_ok-room.ensures
 
 pub place_all-requires-clause-few : goal.place_all-requires-clause-few
-place_all-requires-clause-few c = rows_few c.args.ring.now c.args.hour c.in_ok-room.room c.in_ok-room.seats c.devices.ensures.valid c.in_ok-room.ensures
+place_all-requires-clause-few c = rows_few c.args.ring.now c.args.hour c.in_ok-room.room
+    c.in_ok-room.seats c.devices.ensures.valid c.in_ok-room.ensures
 
 pub finish-requires-clause-new : goal.finish-requires-clause-new
 finish-requires-clause-new c =
-    whole c.args.ring.now c.args.hour c.in_ok-room.room c.in_ok-room.seats c.devices.ensures.valid c.in_ok-room.ensures c.place_all.new.room c.place_all.new.seats
-    (subst (λ old. AllPlaced c.in_ok-room.room c.place_all.new.room old c.in_ok-room.seats c.place_all.new.seats) c.in_ok-old.ensures.rows c.place_all.ensures)
+    whole c.args.ring.now c.args.hour c.in_ok-room.room c.in_ok-room.seats c.devices.ensures.valid
+    c.in_ok-room.ensures c.place_all.new.room c.place_all.new.seats
+    (subst (λ old. AllPlaced c.in_ok-room.room c.place_all.new.room old c.in_ok-room.seats
+    c.place_all.new.seats) c.in_ok-old.ensures.rows c.place_all.ensures)
 
-if_ok_all : {T E : Type 0} (r : Result T E) (P Q R S : T → Type 0) → IfOk r P → IfOk r Q → IfOk r R → ((x : T) → P x → Q x → R x → S x) → IfOk r S
+if_ok_all : {T E : Type 0} (r : Result T E) (P Q R S : T → Type 0) → IfOk r P → IfOk r Q →
+    IfOk r R → ((x : T) → P x → Q x → R x → S x) → IfOk r S
 if_ok_all (Ok x) P Q R S p q r all = all x p q r
 if_ok_all (Err e) P Q R S p q r all = tt
 
@@ -52,9 +75,14 @@ pub returns-clause-rebalance : goal.returns-clause-rebalance
 returns-clause-rebalance c =
     let ring = c.args.ring.now in
     let new = c.place_all.new.seats in
-    let placed = subst (λ old. AllPlaced c.in_ok-room.room c.place_all.new.room old c.in_ok-room.seats new) c.in_ok-old.ensures.rows c.place_all.ensures in
-    if_ok_all c.finish.result (λ done. rows_of done.ring ≡ new) (λ done. IsValid done.ring) (λ done. IsAfter ring c.args.hour done.ring) (λ done. IsRebalance ring c.args.hour done.ring)
+    let placed = subst (λ old. AllPlaced c.in_ok-room.room c.place_all.new.room old
+    c.in_ok-room.seats new) c.in_ok-old.ensures.rows c.place_all.ensures in
+    if_ok_all c.finish.result (λ done. rows_of done.ring ≡ new) (λ done. IsValid done.ring)
+    (λ done. IsAfter ring c.args.hour done.ring) (λ done. IsRebalance ring c.args.hour
+    done.ring)
     c.finish.ensures.rows c.finish.ensures.valid c.finish.ensures.after
     (λ done rows valid after.
-    is_rebalance ring done.ring c.args.hour c.in_ok-room.room c.place_all.new.room c.in_ok-room.seats c.devices.ensures.valid valid c.in_ok-room.ensures
-    (subst (λ n. AllPlaced c.in_ok-room.room c.place_all.new.room (rows_of ring) c.in_ok-room.seats n) (sym rows) placed) after)
+    is_rebalance ring done.ring c.args.hour c.in_ok-room.room c.place_all.new.room
+    c.in_ok-room.seats c.devices.ensures.valid valid c.in_ok-room.ensures
+    (subst (λ n. AllPlaced c.in_ok-room.room c.place_all.new.room (rows_of ring) c.in_ok-room.seats
+    n) (sym rows) placed) after)

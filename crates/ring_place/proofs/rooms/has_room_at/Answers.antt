@@ -6,5 +6,12 @@ use Rattle.ring_place.proofs.rooms.has_room_at.Goals as goal
 
 pub returns : goal.returns
 returns c =
-    let load : Load = record { devices = c.args.devices.now; wanted = c.args.wanted.now; counts = c.args.counts.now } in
-    c.wants_more.ensures ∙ sym (room_at load c.requires.load c.args.place c.index-devices-place.result (read_at c.args.devices.now c.args.place c.index-devices-place.result c.requires.place c.index-devices-place.is))
+    let load : Load = record {
+      devices = c.args.devices.now;
+      wanted = c.args.wanted.now;
+      counts =
+          c.args.counts.now;
+    } in
+    c.wants_more.ensures ∙ sym (room_at load c.requires.load c.args.place
+    c.index-devices-place.result (read_at c.args.devices.now c.args.place
+    c.index-devices-place.result c.requires.place c.index-devices-place.is))

@@ -11,6 +11,8 @@ invariant-loop-place l =
       few : l.count ≤ l.place;
       long : length l.places ≡ length l.devices;
       within : (k : ℕ) → k < l.count → get_or l.places k 0 < length l.devices;
-      roomy : (k : ℕ) → k < l.count → has_room_in load (id_at l.devices (get_or l.places k 0)) ≡ true;
-      covered : (place : ℕ) → place < l.place → has_room_in load (id_at l.devices place) ≡ true → (k : ℕ) × (k < l.count) × (get_or l.places k 0 ≡ place);
+      roomy : (k : ℕ) → k < l.count → has_room_in load (id_at l.devices (get_or l.places k 0)) ≡
+          true;
+      covered : (place : ℕ) → place < l.place → has_room_in load (id_at l.devices place) ≡ true →
+          (k : ℕ) × (k < l.count) × (get_or l.places k 0 ≡ place);
     }

@@ -8,17 +8,23 @@ pub loop-seat-preserved : goal.loop-seat-preserved
 loop-seat-preserved c = elim c.match-seat.branch [
   | in-Some w ↦
       let lt : c.loop-seat.seat-index < length c.args.row.now = omega arith in
-      let room : c.loop-seat.count < length c.loop-seat.ids = (let few = c.loop-seat.invariant.few in let long = c.loop-seat.invariant.long in omega (arith, few, long, lt, c.requires)) in
+      let room : c.loop-seat.count < length c.loop-seat.ids =
+      (let few = c.loop-seat.invariant.few in let long = c.loop-seat.invariant.long in
+      omega (arith, few, long, lt, c.requires)) in
       rw (w.ids-is, w.count-is) (record {
-        taken = take_more_set c.loop-seat.ids c.loop-seat.count w.in-Some.id room ∙ ap (λ xs. xs ++ w.in-Some.id ∷ []) c.loop-seat.invariant.taken
-            ∙ sym (devices_more_some c.args.row.now c.loop-seat.seat-index w.in-Some.id lt w.in-Some.is);
+        taken = take_more_set c.loop-seat.ids c.loop-seat.count w.in-Some.id room ∙ ap (λ xs. xs ++
+            w.in-Some.id ∷ []) c.loop-seat.invariant.taken
+            ∙ sym (devices_more_some c.args.row.now c.loop-seat.seat-index w.in-Some.id lt
+            w.in-Some.is);
         few = omega (arith, c.loop-seat.invariant.few);
-        long = length-set c.loop-seat.ids c.loop-seat.count w.in-Some.id ∙ c.loop-seat.invariant.long;
+        long = length-set c.loop-seat.ids c.loop-seat.count w.in-Some.id ∙
+            c.loop-seat.invariant.long;
       })
   | in_default w ↦
       let lt : c.loop-seat.seat-index < length c.args.row.now = omega arith in
       rw (w.ids-is, w.count-is) (record {
-        taken = c.loop-seat.invariant.taken ∙ sym (devices_more_none c.args.row.now c.loop-seat.seat-index lt w.in_default.is);
+        taken = c.loop-seat.invariant.taken ∙ sym (devices_more_none c.args.row.now
+            c.loop-seat.seat-index lt w.in_default.is);
         few = omega (arith, c.loop-seat.invariant.few);
         long = c.loop-seat.invariant.long;
       })

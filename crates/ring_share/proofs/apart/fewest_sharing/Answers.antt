@@ -1,4 +1,5 @@
-use Rattle.std.proofs.Common.{◌≡◌, ◌<◌, ◌≤◌, Some, below_more, get_or, length, sym, subst, ◌∙◌, arith}
+use Rattle.std.proofs.Common.{◌≡◌, ◌<◌, ◌≤◌, Some, below_more, get_or, length, sym, subst, ◌∙◌}
+use Rattle.std.proofs.Common.{arith}
 use Rattle.std.specs.Prelude.{slice_get}
 use Rattle.std.proofs.lemmas.Option.{same_Some}
 use Rattle.ring_words.specs.declared.device.Device.{Device}
@@ -15,13 +16,21 @@ loop-region-preserved c =
     let i = c.loop-region.region-index in
     let x = c.index-devices-region.result in
     let lt : i < length regions = omega arith in
-    let at = read_at devices (get_or regions i 0) x (c.requires.regions i 0 lt) c.index-devices-region.is in
+    let at = read_at devices (get_or regions i 0) x (c.requires.regions i 0 lt)
+    c.index-devices-region.is in
     record {
       least = λ index device below there.
-          below_more (λ k. (d : Device) → slice_get devices (get_or regions k 0) ≡ Some d → c.min-fewest.result ≤ sharing in_region devices places d) i
-          (λ k before d dt. let le = c.loop-region.invariant.least k d before dt in omega (arith, le, c.min-fewest.ensures))
+          below_more (λ k. (d : Device) → slice_get devices (get_or regions k 0) ≡ Some d →
+          c.min-fewest.result ≤ sharing in_region devices places d) i
+          (λ k before d dt. let le = c.loop-region.invariant.least k d before dt in
+          omega (arith, le, c.min-fewest.ensures))
           (λ d dt.
-          subst (λ y. c.min-fewest.result ≤ sharing in_region devices places y) (same_Some x d (sym at ∙ dt)) (omega (arith, c.min-fewest.ensures, c.sharing-count.ensures.region)))
+          subst (λ y. c.min-fewest.result ≤ sharing in_region devices places y)
+          (same_Some x d (sym at ∙ dt)) (omega (
+            arith,
+            c.min-fewest.ensures,
+            c.sharing-count.ensures.region,
+          )))
           index below device there;
       few = omega (arith, c.min-fewest.ensures, c.loop-region.invariant.few);
     }

@@ -17,12 +17,28 @@ loop-place-preserved c =
     let i = c.loop-place.place-index in
     let x = c.index-devices-place.result in
     let lt : i < length places = omega arith in
-    let at = read_at devices (get_or places i 0) x (c.requires.places i 0 lt) c.index-devices-place.is in
+    let at = read_at devices (get_or places i 0) x (c.requires.places i 0 lt)
+    c.index-devices-place.is in
     let region = sharing_more in_region devices places device i x lt at in
     let zone = sharing_more in_zone devices places device i x lt at in
     record {
-      region = omega (arith, region, c.loop-place.invariant.region, c.shared_tiers-more.ensures.region);
+      region = omega (
+        arith,
+        region,
+        c.loop-place.invariant.region,
+        c.shared_tiers-more.ensures.region,
+      );
       zone = omega (arith, zone, c.loop-place.invariant.zone, c.shared_tiers-more.ensures.zone);
-      regions = omega (arith, at_most_one (in_region device x), c.loop-place.invariant.regions, c.shared_tiers-more.ensures.region);
-      zones = omega (arith, at_most_one (in_zone device x), c.loop-place.invariant.zones, c.shared_tiers-more.ensures.zone);
+      regions = omega (
+        arith,
+        at_most_one (in_region device x),
+        c.loop-place.invariant.regions,
+        c.shared_tiers-more.ensures.region,
+      );
+      zones = omega (
+        arith,
+        at_most_one (in_zone device x),
+        c.loop-place.invariant.zones,
+        c.shared_tiers-more.ensures.zone,
+      );
     }

@@ -7,7 +7,9 @@ use Rattle.ring_share.proofs.crowds.crowd.Goals as goal
 pub returns : goal.returns
 returns c =
     let row = others (row_of c.args.ring.now c.args.partition) c.args.replica in
-    let few : length row ≤ c.loop-other.other = omega (arith, length-others c.args.ring.now c.args.partition c.args.replica) in
+    let few : length row ≤ c.loop-other.other =
+    omega (arith, length-others c.args.ring.now c.args.partition c.args.replica) in
     let all : take c.loop-other.other row ≡ row = take_all c.loop-other.other row few in
-    crowd_is (tiers_of c.args.ring.now.devices) row c.args.device c.loop-other.other c.loop-other.region c.loop-other.zone c.loop-other.server all
+    crowd_is (tiers_of c.args.ring.now.devices) row c.args.device c.loop-other.other
+    c.loop-other.region c.loop-other.zone c.loop-other.server all
     c.loop-other.invariant.region c.loop-other.invariant.zone c.loop-other.invariant.server

@@ -7,6 +7,7 @@ use Rattle.ring_share.proofs.figures.counts_of.Given as goal
 abbrev pub invariant-loop-seat : goal.invariant-loop-seat
 invariant-loop-seat l = record {
   long : length l.counts ≡ 256;
-  counts : (place : ℕ) (device : Device) → slice_get l.devices place ≡ Some device → get_or l.counts place 0 ≡ count_by (λ seat. seat == device.id) (take l.seat-index l.seats);
+  counts : (place : ℕ) (device : Device) → slice_get l.devices place ≡ Some device →
+      get_or l.counts place 0 ≡ count_by (λ seat. seat == device.id) (take l.seat-index l.seats);
   small : (place : ℕ) → get_or l.counts place 0 ≤ l.seat-index;
 }

@@ -1,5 +1,5 @@
 use Rattle.std.proofs.Common.{◌≡◌, ◌<◌, ℕ, false}
-use Rattle.ring_share.specs.Near.{is_better_at}
+use Rattle.ring_share.specs.Inner.Nearness.{is_better_at}
 use Rattle.ring_share.proofs.nearness.has_less.Given as goal
 
 abbrev pub invariant-loop-other : goal.invariant-loop-other

@@ -8,7 +8,8 @@ abbrev pub invariant-loop-high : goal.invariant-loop-high
 invariant-loop-high l = record {
   some : l.low < l.high;
   within : l.high ≤ length l.devices;
-  between : (k : ℕ) (device : Device) → slice_get l.devices k ≡ Some device → device.id ≡ l.id → (l.low ≤ k) × (k < l.high);
+  between : (k : ℕ) (device : Device) → slice_get l.devices k ≡ Some device → device.id ≡ l.id →
+      (l.low ≤ k) × (k < l.high);
 }
 
 abbrev pub decreases-loop-high : goal.decreases-loop-high

@@ -7,4 +7,5 @@ use Rattle.ring_share.proofs.tiers.has_shared.Given as goal
 
 -- none so far
 abbrev pub invariant-loop-place : goal.invariant-loop-place
-invariant-loop-place l = list_any (λ place. pass_both (shares l.tier) (slice_get l.devices place) (Some l.device)) (take l.place-index l.places) ≡ false
+invariant-loop-place l = list_any (λ place. pass_both (shares l.tier) (slice_get l.devices place)
+    (Some l.device)) (take l.place-index l.places) ≡ false

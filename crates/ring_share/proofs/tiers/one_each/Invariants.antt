@@ -13,7 +13,9 @@ abbrev pub invariant-loop-place : goal.invariant-loop-place
 invariant-loop-place l = record {
   within : All (λ place. place < length l.devices) (take l.count l.places);
   opens : All (λ place. is_open_at l.devices place ≡ true) (take l.count l.places);
-  covered : (k : ℕ) (d : Device) → k < l.place → is_open (get_or l.devices k d) ≡ true → list_any (λ place. pass_both (shares l.tier) (slice_get l.devices place) (Some (get_or l.devices k d))) (take l.count l.places) ≡ true;
+  covered : (k : ℕ) (d : Device) → k < l.place → is_open (get_or l.devices k d) ≡ true →
+      list_any (λ place. pass_both (shares l.tier) (slice_get l.devices place)
+      (Some (get_or l.devices k d))) (take l.count l.places) ≡ true;
   few : l.count ≤ l.place;
   long : length l.places ≡ 256;
 }

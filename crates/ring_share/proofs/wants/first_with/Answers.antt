@@ -9,8 +9,10 @@ returns-else-share_rest c =
     let ring = c.args.ring.now in
     let before = rw c.in-Some.is at c.requires.first in
     let last : ComesBefore ring c.in-Some.earlier c.args.place =
-    comes_first ring c.in-Some.earlier c.args.place c.index-devices-earlier.result c.index-devices-place.result c.devices-devices.ensures.valid before.0
-    (rw (← c.devices-devices.ensures.value) c.index-devices-earlier.is) (rw (← c.devices-devices.ensures.value) c.index-devices-place.is)
+    comes_first ring c.in-Some.earlier c.args.place c.index-devices-earlier.result
+    c.index-devices-place.result c.devices-devices.ensures.valid before.0
+    (rw (← c.devices-devices.ensures.value) c.index-devices-earlier.is)
+    (rw (← c.devices-devices.ensures.value) c.index-devices-place.is)
     (omega (arith, c.if-share_rest.false, c.share_rest.ensures, c.share_rest-2.ensures)) in (
       omega (arith, before.0),
       before.1,

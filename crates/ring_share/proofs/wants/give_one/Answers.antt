@@ -4,8 +4,13 @@ use Rattle.ring_share.proofs.wants.give_one.Goals as goal
 
 pub prove-unreachable-requires : goal.prove-unreachable-requires
 prove-unreachable-requires c =
-    let over = none_waits c.args.ring.now c.args.shares.now (omega (arith, c.requires.total, c.requires.some)) c.requires.shares c.in_default.ensures in
+    let over = none_waits c.args.ring.now c.args.shares.now (omega (
+      arith,
+      c.requires.total,
+      c.requires.some,
+    )) c.requires.shares c.in_default.ensures in
     omega (arith, over, c.requires.left)
 
 pub returns-in-Some-clause-shares : goal.returns-in-Some-clause-shares
-returns-in-Some-clause-shares c = shares_more c.args.ring.now c.args.shares.now c.in-Some.place c.requires.shares c.in-Some.ensures.1 c.in-Some.ensures.2
+returns-in-Some-clause-shares c = shares_more c.args.ring.now c.args.shares.now c.in-Some.place
+    c.requires.shares c.in-Some.ensures.1 c.in-Some.ensures.2

@@ -14,10 +14,15 @@ returns c =
     let wanted = string_bytes c.in_ok-wanted.wanted in
     let has = string_bytes c.in_ok-has.has in
     let balance = string_bytes c.in_ok-balance.balance in
-    let line : IfOk c.format.result (λ text. string_bytes text ≡ id ++ 32 ∷ (weight ++ 32 ∷ (wanted ++ 32 ∷ (has ++ 32 ∷ (balance ++ 10 ∷ []))))) = search rules in
+    let line : IfOk c.format.result (λ text. string_bytes text ≡ id ++ 32 ∷
+    (weight ++ 32 ∷ (wanted ++ 32 ∷ (has ++ 32 ∷ (balance ++ 10 ∷ []))))) = search rules in
     let first : id ≡ at_right 5 (decimal c.args.device.now.id) = search rules in
-    let second : weight ≡ at_right 10 (hundredths_text c.args.device.now.row.weight) = search rules in
+    let second : weight ≡ at_right 10 (hundredths_text c.args.device.now.row.weight) =
+    search rules in
     let third : wanted ≡ at_right 6 (decimal c.args.want) = search rules in
-    let fourth : has ≡ at_right 6 (decimal (have c.args.ring.now c.args.device.now.id)) = search rules in
-    let fifth : balance ≡ at_right 7 (hundredths_text (device_balance c.args.ring.now c.args.device.now)) = search rules in
-    IfOk-weaker c.format.result _ _ (λ text is. five (string_bytes text) id weight wanted has balance _ _ _ _ _ first second third fourth fifth is) line
+    let fourth : has ≡ at_right 6 (decimal (have c.args.ring.now c.args.device.now.id)) =
+    search rules in
+    let fifth : balance ≡ at_right 7 (hundredths_text (device_balance c.args.ring.now
+    c.args.device.now)) = search rules in
+    IfOk-weaker c.format.result _ _ (λ text is. five (string_bytes text) id weight wanted has
+    balance _ _ _ _ _ first second third fourth fifth is) line

@@ -1,4 +1,5 @@
-use Rattle.std.proofs.Common.{rules, take, ◌∙◌, ◌≡◌, ◌++◌, List, ℕ, ◌<◌, Some, length, ap, sym, subst, map, string_bytes, arith}
+use Rattle.std.proofs.Common.{rules, take, ◌∙◌, ◌≡◌, ◌++◌, List, ℕ, ◌<◌, Some, length, ap, sym}
+use Rattle.std.proofs.Common.{subst, map, string_bytes, arith}
 use Rattle.std.specs.List.{zip}
 use Rattle.std.specs.List.Sorted.{IsStrictlyIncreasing}
 use Rattle.ring_words.specs.declared.device.Device.{Device}
@@ -18,9 +19,12 @@ pub balance_row-requires : goal.balance_row-requires
 balance_row-requires c =
     let devices = c.devices-device-items.result.now in
     let same = c.devices-device-items.ensures.value in
-    let rise = subst (λ (all : List Device). IsStrictlyIncreasing (map (λ device. device.id) all)) (sym same) c.devices-device-items.ensures.valid.devices.rise in
-    let read = read_at devices c.loop-place.place c.device-item.result (omega arith) c.device-item.is in
-    subst (λ (all : List Device). device_of c.device-item.result.id all ≡ Some c.device-item.result) same (device_of_at devices rise c.loop-place.place c.device-item.result read)
+    let rise = subst (λ (all : List Device). IsStrictlyIncreasing (map (λ device. device.id) all))
+    (sym same) c.devices-device-items.ensures.valid.devices.rise in
+    let read = read_at devices c.loop-place.place c.device-item.result (omega arith)
+    c.device-item.is in
+    subst (λ (all : List Device). device_of c.device-item.result.id all ≡ Some c.device-item.result)
+    same (device_of_at devices rise c.loop-place.place c.device-item.result read)
 
 pub loop-place-preserved : goal.loop-place-preserved
 loop-place-preserved c =
@@ -34,13 +38,21 @@ loop-place-preserved c =
     let same = ap (λ (all : List Device). length all) c.devices-device-items.ensures.value in
     let below : c.loop-place.place < length devices = omega arith in
     let under : c.loop-place.place < length wants = omega (arith, many, same) in
-    let is : string_bytes c.in_ok-row.row ≡ row balance_columns (balance_texts c.args.ring.now device want) = search rules in
-    let grown : string_bytes c.push_str.new.self ≡ string_bytes c.loop-place.table ++ string_bytes c.in_ok-row.row = search rules in
-    next_row balance_columns balance_titles texts (zip devices wants) c.loop-place.place (device, want) _ _ (string_bytes c.in_ok-row.row)
-    (pair_below devices wants c.loop-place.place below under) (pair_at devices wants c.loop-place.place device want below under c.device-item.is c.index.ensures) c.loop-place.invariant is grown
+    let is : string_bytes c.in_ok-row.row ≡ row balance_columns (balance_texts c.args.ring.now
+    device want) = search rules in
+    let grown : string_bytes c.push_str.new.self ≡ string_bytes c.loop-place.table ++
+    string_bytes c.in_ok-row.row = search rules in
+    next_row balance_columns balance_titles texts (zip devices wants) c.loop-place.place (
+      device,
+      want,
+    ) _ _ (string_bytes c.in_ok-row.row)
+    (pair_below devices wants c.loop-place.place below under)
+    (pair_at devices wants c.loop-place.place device want below under c.device-item.is
+    c.index.ensures) c.loop-place.invariant is grown
 
 pub returns-clause-wanted : goal.returns-clause-wanted
-returns-clause-wanted c = let wanted : AreWanted c.args.ring.now c.in_ok-wants.wants.items = search rules in (c.in_ok-wants.wants.items, wanted)
+returns-clause-wanted c = let wanted : AreWanted c.args.ring.now c.in_ok-wants.wants.items =
+    search rules in (c.in_ok-wants.wants.items, wanted)
 
 pub returns-clause-text : goal.returns-clause-text
 returns-clause-text c = λ wants are.
@@ -49,10 +61,17 @@ returns-clause-text c = λ wants are.
     let texts = λ (e : Device × ℕ). balance_texts c.args.ring.now e.0 e.1 in
     let wanted : AreWanted c.args.ring.now found = search rules in
     let last : string_bytes c.in_ok-last.last ≡ figures_line c.args.ring.now = search rules in
-    let grown : string_bytes c.push_str-2.new.self ≡ string_bytes c.loop-place.table ++ string_bytes c.in_ok-last.last = search rules in
+    let grown : string_bytes c.push_str-2.new.self ≡ string_bytes c.loop-place.table ++
+    string_bytes c.in_ok-last.last = search rules in
     let long = length-zip devices found in
     let all : take c.loop-place.place (zip devices found) ≡ zip c.args.ring.now.devices wants =
-    take_all c.loop-place.place (zip devices found) (omega (arith, long)) ∙ ap (λ (ds : List Device). zip ds found) c.devices-device-items.ensures.value ∙ ap (zip c.args.ring.now.devices) (same_wants c.args.ring.now found wants wanted are) in
-    let rows : string_bytes c.loop-place.table ≡ table balance_columns balance_titles (map texts (zip c.args.ring.now.devices wants)) =
-    c.loop-place.invariant ∙ ap (λ (es : List (Device × ℕ)). table balance_columns balance_titles (map texts es)) all in
-    grown ∙ ap (λ (l : List ℕ). l ++ string_bytes c.in_ok-last.last) rows ∙ ap (λ (l : List ℕ). table balance_columns balance_titles (map texts (zip c.args.ring.now.devices wants)) ++ l) last
+    take_all c.loop-place.place (zip devices found) (omega (arith, long)) ∙ ap
+    (λ (ds : List Device). zip ds found) c.devices-device-items.ensures.value ∙ ap
+    (zip c.args.ring.now.devices) (same_wants c.args.ring.now found wants wanted are) in
+    let rows : string_bytes c.loop-place.table ≡ table balance_columns balance_titles
+    (map texts (zip c.args.ring.now.devices wants)) =
+    c.loop-place.invariant ∙ ap (λ (es : List (Device × ℕ)). table balance_columns balance_titles
+    (map texts es)) all in
+    grown ∙ ap (λ (l : List ℕ). l ++ string_bytes c.in_ok-last.last) rows ∙ ap
+    (λ (l : List ℕ). table balance_columns balance_titles
+    (map texts (zip c.args.ring.now.devices wants)) ++ l) last

@@ -6,6 +6,10 @@ use Rattle.ring_tables.proofs.devices.device_table.Goals as goal
 
 pub loop-device-preserved : goal.loop-device-preserved
 loop-device-preserved c =
-    let is : string_bytes c.in_ok-row.row ≡ row device_columns (device_texts c.device-item.result) = search rules in
-    let grown : string_bytes c.push_str.new.self ≡ string_bytes c.loop-device.table ++ string_bytes c.in_ok-row.row = search rules in
-    next_row device_columns device_titles device_texts c.devices-devices.result.now c.loop-device.device-index c.device-item.result _ _ (string_bytes c.in_ok-row.row) (omega arith) c.device-item.is c.loop-device.invariant is grown
+    let is : string_bytes c.in_ok-row.row ≡ row device_columns (device_texts c.device-item.result) =
+    search rules in
+    let grown : string_bytes c.push_str.new.self ≡ string_bytes c.loop-device.table ++
+    string_bytes c.in_ok-row.row = search rules in
+    next_row device_columns device_titles device_texts c.devices-devices.result.now
+    c.loop-device.device-index c.device-item.result _ _ (string_bytes c.in_ok-row.row)
+    (omega arith) c.device-item.is c.loop-device.invariant is grown

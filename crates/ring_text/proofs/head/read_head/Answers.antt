@@ -7,7 +7,8 @@ use Rattle.ring_text.proofs.head.read_head.Goals as goal
 pub returns : goal.returns
 returns c = record {
   count = rw length-map (omega arith);
-  form = sym c.text_at.ensures ∙ (bytes_eq-Decides _ _).0 (not-false _ (sym c.ne.ensures ∙ c.if-ne.false));
+  form = sym c.text_at.ensures ∙ (bytes_eq-Decides _ _).0
+      (not-false _ (sym c.ne.ensures ∙ c.if-ne.false));
   name = rw c.text_at-2.ensures at c.in_ok-name.ensures;
   version = rw c.text_at-3.ensures at c.in_ok-version.ensures;
   power = rw c.text_at-4.ensures at c.in_ok-power.ensures;

@@ -5,10 +5,12 @@ use Rattle.ring_text.proofs.Text.{text_of_lines, lines_of_text, text_is_utf8}
 use Rattle.ring_text.proofs.read.read_ring.Goals as goal
 
 pub returns-in_default : goal.returns-in_default
-returns-in_default c = λ s spells. c.in_default.ensures.cases.0 (text_is_utf8 c.args.bytes.now s spells)
+returns-in_default c = λ s spells. c.in_default.ensures.cases.0 (text_is_utf8 c.args.bytes.now s
+    spells)
 
 pub returns : goal.returns
 returns c =
     let bytes = c.args.bytes.now in
     let lines = rw c.in-Ok.ensures.cases.0 at c.in_ok-lines.ensures in
-    reads_same (AreLines _) (Spells bytes) c.read_lines.result (λ s. text_of_lines bytes _ s lines) (λ s. lines_of_text bytes _ s lines) (rw c.deref.ensures.value at c.read_lines.ensures)
+    reads_same (AreLines _) (Spells bytes) c.read_lines.result (λ s. text_of_lines bytes _ s lines)
+    (λ s. lines_of_text bytes _ s lines) (rw c.deref.ensures.value at c.read_lines.ensures)

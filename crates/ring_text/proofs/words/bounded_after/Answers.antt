@@ -12,7 +12,8 @@ returns g c =
     let cut = c.in_ok-rest.ensures in
     let least = g.row.LEAST in
     let most = g.row.MOST in
-    reads_same (SpellsNumber rest least most) (IsNumberAfter key line least most) c.read_bounded.result
+    reads_same (SpellsNumber rest least most) (IsNumberAfter key line least most)
+    c.read_bounded.result
     (λ n. number_after_of key line rest least most n cut)
     (λ n. number_of_after key line rest least most n cut)
     c.read_bounded.ensures.read

@@ -5,4 +5,5 @@ use Rattle.ring_text.specs.Spelling.{line, device_line}
 use Rattle.ring_text.proofs.write.push_devices.Given as goal
 
 abbrev pub invariant-loop-device : goal.invariant-loop-device
-invariant-loop-device l = string_bytes l.text ≡ string_bytes l.initial.text ++ flat_map line (map device_line (take l.device-index l.devices))
+invariant-loop-device l = string_bytes l.text ≡ string_bytes l.initial.text ++
+    flat_map line (map device_line (take l.device-index l.devices))

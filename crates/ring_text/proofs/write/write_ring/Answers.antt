@@ -9,5 +9,10 @@ returns c =
     (rw c.new-text.ensures.bytes at c.in_ok-push_head.ensures)
     (rw c.devices.ensures.value at c.in_ok-push_devices.ensures)
     c.in_ok-push_str.ensures.bytes
-    (rw (c.partition_count-partitions.ensures, c.power.ensures, replicas, c.seats.ensures.value) at c.in_ok-push_partitions.ensures)
+    (rw (
+      c.partition_count-partitions.ensures.value,
+      c.power.ensures,
+      replicas,
+      c.seats.ensures.value,
+    ) at c.in_ok-push_partitions.ensures)
     c.in_ok-push_str-2.ensures.bytes

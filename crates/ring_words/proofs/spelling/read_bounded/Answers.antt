@@ -7,7 +7,8 @@ returns-in_default-clause-read g c = λ n h.
     let all : 65535 < 2 ^ 32 = omega arith in
     let most : g.row.MOST < 2 ^ 32 = omega (arith, g.MOST.fits) in
     let found = c.in_ok-number.ensures.read in
-    let same = one_number c.args.word.now 0 65535 g.row.LEAST g.row.MOST c.in_ok-number.number n all most found h in
+    let same = one_number c.args.word.now 0 65535 g.row.LEAST g.row.MOST c.in_ok-number.number n all
+    most found h in
     let lower : g.row.LEAST ≤ c.in_ok-number.number = omega (arith, same, h.above) in
     let upper : c.in_ok-number.number ≤ g.row.MOST = omega (arith, same, h.below) in
     c.in_default.ensures (lower, upper)

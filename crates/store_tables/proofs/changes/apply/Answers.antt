@@ -20,8 +20,10 @@ changes-preserved g c =
           let early : HasCleanDisk mid = omega (arith, did.survives.clean, clean) in
           let now = (did.done clean).contents in
           let sofar = was.made early in
-          ap (λ x. changed_all x (drop (c.changes.change-index + 1) c.args.changes.now)) now ∙ first_of (search rules, grind (arith, common_steps)) ∙ sofar;
+          ap (λ x. changed_all x (drop (c.changes.change-index + 1) c.args.changes.now)) now ∙
+          first_of (search rules, grind (arith, common_steps)) ∙ sofar;
       inside = λ clean. did.inside clean ∙ was.inside (omega (arith, did.survives.clean, clean));
-      kept = λ clean. kept_on old mid new (was.kept (omega (arith, did.survives.clean, clean))) (did.kept clean);
+      kept = λ clean. kept_on old mid new (was.kept (omega (arith, did.survives.clean, clean)))
+          (did.kept clean);
       survives = quiet_on old mid new was.survives did.survives;
     }

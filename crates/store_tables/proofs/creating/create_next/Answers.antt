@@ -12,7 +12,8 @@ returns-clause-makes g c =
     let low : c.args.made < 8 = c.requires.missing in
     record {
       done = λ clean. on_ok_weaker c.run.result (λ ran.
-          creates_next c.args.made low old new ran.0 (c.requires.begun (omega (arith, run.survives.clean, clean))) ran.1)
+          creates_next c.args.made low old new ran.0
+          (c.requires.begun (omega (arith, run.survives.clean, clean))) ran.1)
           (rw c.create_text.ensures at (run.done clean));
       inside = run.inside;
       kept = run.kept;

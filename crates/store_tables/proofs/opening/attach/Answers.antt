@@ -13,7 +13,9 @@ returns-clause-ordered g c =
     let whole : v.is_broken ≡ false = sym (c.is_broken.ensures early) ∙ c.if-is_broken.false in
     let was = opens clean in
     let same = trees clean in
-    let sound : IsSound conn.schema v.trees = subst (IsSound conn.schema) same (was.1 was.0.is_open).0 in
+    let sound : IsSound conn.schema v.trees = subst (IsSound conn.schema) same
+    (was.1 was.0.is_open).0 in
     subst (λ db. IsShaped shape.Table (db t.tree)) (sym same)
-    (tables_ordered v conn.schema sound (g.met.S.Alter.listed c.into_store-store.result whole) (g.met.S.Store.ordered c.into_store-store.result whole) t h))
+    (tables_ordered v conn.schema sound (g.met.S.Alter.listed c.into_store-store.result whole)
+    (g.met.S.Store.ordered c.into_store-store.result whole) t h))
     c.over.ensures.opens c.over.ensures.trees c.over.ensures.clean

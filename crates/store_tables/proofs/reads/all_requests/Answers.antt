@@ -1,8 +1,9 @@
 use Rattle.std.proofs.Common.{◌∙◌, [], ap, arith, map, rules}
 use Rattle.std.proofs.lemmas.Result.{IfOk-weaker}
 use Rattle.sqlite.specs.Held.{state}
-use Rattle.store_tables.specs.Entries.{shown_as, request_rows}
-use Rattle.store_tables.specs.Texts.{list_request}
+use Rattle.store_tables.specs.Entries.{request_rows}
+use Rattle.store_tables.specs.Inner.Shown.{shown_as}
+use Rattle.store_tables.specs.Inner.Texts.{list_request}
 use Rattle.store_tables.proofs.Tables.Request.{list_plain}
 use Rattle.store_tables.proofs.Steps.Request.{lists_request}
 use Rattle.store_tables.proofs.Reading.{reads_shown, reads_nothing}
@@ -12,14 +13,21 @@ pub returns-in_err-shown-clause-reads : goal.returns-in_err-shown-clause-reads
 returns-in_err-shown-clause-reads g c =
     let old = state g.S.Store c.args.conn.now in
     let new = state g.S.Store c.query_all.new.self in
-    reads_nothing list_request list_plain [] old new c.requires c.query_all.ensures.survives c.from_residual.result _ c.in_err-shown.field-0.0 (search rules)
+    reads_nothing list_request list_plain [] old new c.requires c.query_all.ensures.survives
+    c.from_residual.result _ c.in_err-shown.field-0.0 (search rules)
 
 pub returns-clause-reads : goal.returns-clause-reads
 returns-clause-reads g c =
     let old = state g.S.Store c.args.conn.now in
     let new = state g.S.Store c.query_all.new.self in
     let shown = c.in_ok-shown.shown.items in
-    reads_shown list_request list_plain [] old new c.requires c.query_all.ensures.survives c.request_rows_in.result _ shown c.in_ok-shown.ensures.ok
-    (λ clean. IfOk-weaker c.request_rows_in.result _ _ (λ rows is. is ∙ ap (map (shown_as request_rows)) c.deref.ensures.value
-    ∙ lists_request old new shown (c.requires (omega (arith, c.query_all.ensures.survives.clean, clean))) (c.in_ok-shown.ensures.ok clean))
+    reads_shown list_request list_plain [] old new c.requires c.query_all.ensures.survives
+    c.request_rows_in.result _ shown c.in_ok-shown.ensures.ok
+    (λ clean. IfOk-weaker c.request_rows_in.result _ _
+    (λ rows is. is ∙ ap (map (shown_as request_rows)) c.deref.ensures.value
+    ∙ lists_request old new shown (c.requires (omega (
+      arith,
+      c.query_all.ensures.survives.clean,
+      clean,
+    ))) (c.in_ok-shown.ensures.ok clean))
     c.request_rows_in.ensures)

@@ -1,8 +1,10 @@
 use Rattle.std.proofs.Common.{◌≡◌, map, take}
 use Rattle.store_tables.specs.Contents.{device_of}
-use Rattle.store_tables.specs.Entries.{shown_as, device_rows}
+use Rattle.store_tables.specs.Entries.{device_rows}
+use Rattle.store_tables.specs.Inner.Shown.{shown_as}
 use Rattle.store_tables.proofs.reads.device_rows_in.Given as goal
 
 -- the rows so far are those that were shown so far
 abbrev pub invariant-rows : goal.invariant-rows
-invariant-rows l = map device_of l.rows.items ≡ map (shown_as device_rows) (take l.row-index l.shown)
+invariant-rows l = map device_of l.rows.items ≡ map (shown_as device_rows)
+    (take l.row-index l.shown)

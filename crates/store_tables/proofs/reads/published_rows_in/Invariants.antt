@@ -1,8 +1,10 @@
 use Rattle.std.proofs.Common.{◌≡◌, map, take}
 use Rattle.store_tables.specs.Contents.{published_of}
-use Rattle.store_tables.specs.Entries.{shown_as, published_rows}
+use Rattle.store_tables.specs.Entries.{published_rows}
+use Rattle.store_tables.specs.Inner.Shown.{shown_as}
 use Rattle.store_tables.proofs.reads.published_rows_in.Given as goal
 
 -- the rows so far are those that were shown so far
 abbrev pub invariant-rows : goal.invariant-rows
-invariant-rows l = map published_of l.rows.items ≡ map (shown_as published_rows) (take l.row-index l.shown)
+invariant-rows l = map published_of l.rows.items ≡ map (shown_as published_rows)
+    (take l.row-index l.shown)

@@ -1,6 +1,7 @@
 use Rattle.std.proofs.Common.{◌≡◌, map, take}
 use Rattle.store_tables.specs.Contents.{ring_of}
-use Rattle.store_tables.specs.Entries.{shown_as, ring_rows}
+use Rattle.store_tables.specs.Entries.{ring_rows}
+use Rattle.store_tables.specs.Inner.Shown.{shown_as}
 use Rattle.store_tables.proofs.reads.ring_rows_in.Given as goal
 
 -- the rows so far are those that were shown so far

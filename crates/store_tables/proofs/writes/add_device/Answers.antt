@@ -11,8 +11,20 @@ returns-clause-writes g c =
     let new = state g.S.Store c.run.new.tx.conn.now in
     record {
       done = λ clean. on_ok_weaker c.run.result (λ ran.
-          adds_device old new (device_of c.args.row.now).0 (device_of c.args.row.now).1 ran.0 (c.requires (omega (arith, c.run.ensures.survives.clean, clean))) ran.1)
-          (rw (c.params-to_sql.ensures, c.params-to_sql-2.ensures, c.params-to_sql-3.ensures, c.params-to_sql-4.ensures, c.params-to_sql-5.ensures, c.params-to_sql-6.ensures, c.params-to_sql-7.ensures, c.params-to_sql-8.ensures, c.params-to_sql-9.ensures) at (c.run.ensures.done clean));
+          adds_device old new (device_of c.args.row.now).0 (device_of c.args.row.now).1 ran.0
+          (c.requires (omega (arith, c.run.ensures.survives.clean, clean))) ran.1)
+          (rw (
+            c.params-to_sql.ensures,
+            c.params-to_sql-2.ensures,
+            c.params-to_sql-3.ensures,
+            c.params-to_sql-4.ensures,
+            c.params-to_sql-5.ensures,
+            c.params-to_sql-6.ensures,
+            c.params-to_sql-7.ensures,
+            c.params-to_sql-8.ensures,
+            c.params-to_sql-9.ensures,
+          ) at
+          (c.run.ensures.done clean));
       inside = c.run.ensures.inside;
       kept = c.run.ensures.kept;
       survives = c.run.ensures.survives;

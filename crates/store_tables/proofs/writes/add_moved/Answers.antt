@@ -11,8 +11,10 @@ returns-clause-writes g c =
     let new = state g.S.Store c.run.new.tx.conn.now in
     record {
       done = λ clean. on_ok_weaker c.run.result (λ ran.
-          adds_moved old new (moved_of c.args.row.now).0 (moved_of c.args.row.now).1 ran.0 (c.requires (omega (arith, c.run.ensures.survives.clean, clean))) ran.1)
-          (rw (c.params-to_sql.ensures, c.params-to_sql-2.ensures, c.params-to_sql-3.ensures) at (c.run.ensures.done clean));
+          adds_moved old new (moved_of c.args.row.now).0 (moved_of c.args.row.now).1 ran.0
+          (c.requires (omega (arith, c.run.ensures.survives.clean, clean))) ran.1)
+          (rw (c.params-to_sql.ensures, c.params-to_sql-2.ensures, c.params-to_sql-3.ensures) at
+          (c.run.ensures.done clean));
       inside = c.run.ensures.inside;
       kept = c.run.ensures.kept;
       survives = c.run.ensures.survives;

@@ -10,7 +10,11 @@ returns-clause-writes g c =
     let new = state g.S.Store c.run.new.tx.conn.now in
     record {
       done = λ clean. on_ok_weaker c.run.result (λ ran.
-          clears_seat old new ran.0 (c.requires (omega (arith, c.run.ensures.survives.clean, clean))) ran.1)
+          clears_seat old new ran.0 (c.requires (omega (
+            arith,
+            c.run.ensures.survives.clean,
+            clean,
+          ))) ran.1)
           (c.run.ensures.done clean);
       inside = c.run.ensures.inside;
       kept = c.run.ensures.kept;

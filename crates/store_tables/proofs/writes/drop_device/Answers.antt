@@ -11,7 +11,8 @@ returns-clause-writes g c =
     let new = state g.S.Store c.run.new.tx.conn.now in
     record {
       done = λ clean. on_ok_weaker c.run.result (λ ran.
-          drops_device old new (device_key c.args.key.now) ran.0 (c.requires (omega (arith, c.run.ensures.survives.clean, clean))) ran.1)
+          drops_device old new (device_key c.args.key.now) ran.0
+          (c.requires (omega (arith, c.run.ensures.survives.clean, clean))) ran.1)
           (rw (c.params-to_sql.ensures, c.params-to_sql-2.ensures) at (c.run.ensures.done clean));
       inside = c.run.ensures.inside;
       kept = c.run.ensures.kept;

@@ -6,12 +6,14 @@ use Rattle.line_stream.proofs.serving.Progress.answer_rest.Goals as goal
 
 pub returns-then-is_empty-clause-answered : goal.returns-then-is_empty-clause-answered
 returns-then-is_empty-clause-answered g c = λ origin before came m.
-    let gives = Answered g.H.Handler.answers g.H.Handler.loses g.H.Handler.no_memory g.H.Handler.too_long in
+    let gives = Answered g.H.Handler.answers g.H.Handler.loses g.H.Handler.no_memory
+    g.H.Handler.too_long in
     ends_empty gives came before _ origin _ _ _ _ m (c.is_empty.ensures.0 c.if-is_empty.true)
 
 pub returns-clause-answered : goal.returns-clause-answered
 returns-clause-answered g c = λ origin before came m.
-    let gives = Answered g.H.Handler.answers g.H.Handler.loses g.H.Handler.no_memory g.H.Handler.too_long in
+    let gives = Answered g.H.Handler.answers g.H.Handler.loses g.H.Handler.no_memory
+    g.H.Handler.too_long in
     let some = iff_false c.is_empty.ensures c.if-is_empty.false in
     let e = c.end_line.ensures.answered in
     MatchResult-weaker c.end_line.result e.2

@@ -6,7 +6,8 @@ use Rattle.request_book.specs.Call.{calls_of}
 use Rattle.request_book.specs.Run.{AnswersAlike}
 use Rattle.request_book.proofs.Alike.{alike}
 use Rattle.request_book.proofs.Calls.{closed_by, closes-none, closes_more, faults_more}
-use Rattle.request_book.proofs.Runs.{leaves_map, left_more, other_step, run_left, run_more, run_none}
+use Rattle.request_book.proofs.Runs.{leaves_map, left_more, other_step, run_left, run_more}
+use Rattle.request_book.proofs.Runs.{run_none}
 use Rattle.request_book.proofs.book.Book.run.Goals as goal
 
 pub loop-delivery-init : goal.loop-delivery-init
@@ -41,17 +42,28 @@ loop-delivery-preserved g c =
     let was = c.loop-delivery.invariant in
     let told = c.answer-answer.ensures in
     let more : later ≡ sofar ++ a ∷ [] = grind (arith, common_steps) in
-    let now_closed = closed_by (K.fault_count old) (K.fault_count mid) (calls_of ds sofar) was.faults in
+    let now_closed = closed_by (K.fault_count old) (K.fault_count mid) (calls_of ds sofar)
+    was.faults in
     let same = ap g.M.Machine.step was.machine in
     record {
-      run = λ s. run_more step (K.limit old) _ (K.content old) ds sofar later (K.limit mid) _ (K.content mid) d a (K.content new) was.count more was.limit now_closed (was.run (told.stays_sound s)) (other_step _ step _ _ _ _ _ same (told.called s));
+      run = λ s. run_more step (K.limit old) _ (K.content old) ds sofar later (K.limit mid) _
+          (K.content mid) d a (K.content new) was.count more was.limit now_closed
+          (was.run (told.stays_sound s)) (other_step _ step _ _ _ _ _ same (told.called s));
       sound = λ s. was.sound (told.stays_sound s);
       machine = told.machine ∙ was.machine;
       limit = told.limits ∙ was.limit;
-      faults = faults_more (K.fault_count old) (K.fault_count mid) (K.fault_count new) ds sofar later d a was.count more was.faults told.told;
-      closed = closes_more (K.fault_count old) (K.fault_count mid) ds sofar later d a was.count more was.faults was.closed told.closed;
-      nothing = λ h. told.nothing (subst (λ b. 0 < K.fault_count b.keeper) (sym (was.nothing h)) h) ∙ was.nothing h;
-      left = λ s z. left_more step (K.limit old) _ (K.content old) ds sofar later (K.limit mid) (K.fault_count mid) (K.content mid) d a (K.may_leave mid) (K.may_leave new) was.count more was.limit now_closed (was.run (told.stays_sound s)) (was.left (told.stays_sound s) z) (λ none. leaves_map _ _ _ (λ left. other_step _ step _ _ _ _ left same) (told.left s none)) (λ h. ap (λ b. K.may_leave b.keeper) (sym (told.nothing h))) told.closed;
+      faults = faults_more (K.fault_count old) (K.fault_count mid) (K.fault_count new) ds sofar
+          later d a was.count more was.faults told.told;
+      closed = closes_more (K.fault_count old) (K.fault_count mid) ds sofar later d a was.count more
+          was.faults was.closed told.closed;
+      nothing = λ h. told.nothing (subst (λ b. 0 < K.fault_count b.keeper) (sym (was.nothing h)) h)
+          ∙ was.nothing h;
+      left = λ s z. left_more step (K.limit old) _ (K.content old) ds sofar later (K.limit mid)
+          (K.fault_count mid) (K.content mid) d a (K.may_leave mid) (K.may_leave new) was.count more
+          was.limit now_closed (was.run (told.stays_sound s)) (was.left (told.stays_sound s) z)
+          (λ none. leaves_map _ _ _ (λ left. other_step _ step _ _ _ _ left same)
+          (told.left s none)) (λ h. ap (λ b. K.may_leave b.keeper) (sym (told.nothing h)))
+          told.closed;
       count = grind (arith, common_steps);
       all = grind (arith, common_steps);
       room = grind (arith, common_steps);
@@ -60,5 +72,9 @@ loop-delivery-preserved g c =
 pub returns-clause-alike : goal.returns-clause-alike
 returns-clause-alike g c = λ s.
     let whole : c.loop-delivery.yielded ≡ c.args.deliveries.items = grind (arith, common_steps) in
-    subst (λ (ds : List (Delivery _)). AnswersAlike (calls_of ds c.loop-delivery.answers.items)) whole
-    (alike (g.M.Machine.step c.args.self.now.machine) (g.K.Keeper.limit c.args.self.now.keeper) _ (g.K.Keeper.content c.args.self.now.keeper) (calls_of c.loop-delivery.yielded c.loop-delivery.answers.items) (g.K.Keeper.content c.loop-delivery.self.keeper) (c.loop-delivery.invariant.run s))
+    subst (λ (ds : List (Delivery _)). AnswersAlike (calls_of ds c.loop-delivery.answers.items))
+    whole
+    (alike (g.M.Machine.step c.args.self.now.machine) (g.K.Keeper.limit c.args.self.now.keeper) _
+    (g.K.Keeper.content c.args.self.now.keeper) (calls_of c.loop-delivery.yielded
+    c.loop-delivery.answers.items) (g.K.Keeper.content c.loop-delivery.self.keeper)
+    (c.loop-delivery.invariant.run s))

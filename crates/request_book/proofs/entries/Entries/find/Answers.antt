@@ -8,7 +8,8 @@ pub index-requires : goal.index-requires
 index-requires g c =
     let list = c.self.inside.list in
     let found = sym c.in-Some.ensures.value in
-    let at = place_of c.self.inside.places list.items c.self.invariant c.args.key.now c.in-Some.place.now found in
+    let at = place_of c.self.inside.places list.items c.self.invariant c.args.key.now
+    c.in-Some.place.now found in
     omega (arith, at.0, list.ok.0)
 
 pub returns-in-Some : goal.returns-in-Some
@@ -18,7 +19,8 @@ returns-in-Some g c =
     let entry = c.index.result.now in
     let found = sym c.in-Some.ensures.value in
     let at = place_of c.self.inside.places list.items c.self.invariant c.args.key.now place found in
-    let stands = slice_get-get_or list.items place entry at.0 ∙ ap (λ e. Some e) (sym c.index.ensures) in
+    let stands = slice_get-get_or list.items place entry at.0 ∙ ap (λ e. Some e)
+    (sym c.index.ensures) in
     subst (λ book. Some entry ≡ entry_of c.args.key.now book) c.self.view_is (sym stands ∙ at.1)
 
 pub returns-in-None : goal.returns-in-None

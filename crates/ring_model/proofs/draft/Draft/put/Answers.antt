@@ -1,3 +1,4 @@
+use Rattle.std.proofs.Common.{rules}
 use Rattle.std.proofs.Common.{◌≡◌, map, false, ap, sym, ◌∙◌}
 use Rattle.std.proofs.lemmas.List.{length-map}
 use Rattle.ring_model.specs.Ring.{RingRecord}
@@ -12,12 +13,23 @@ pub invariant_of-self : goal.invariant_of-self
 invariant_of-self c =
     let parts = c.self.inside.parts in
     let f = reweighed_by c.args.row.now in
-    rw (c.alter_all.ensures, c.deref_mut.ensures.value, written_all parts.devices.items (map f parts.devices.items) parts.devices.len parts.devices.ok.0 (length-map _ _))
+    rw (
+      c.alter_all.ensures,
+      c.deref_mut.ensures.value,
+      written_all parts.devices.items
+          (map f parts.devices.items) parts.devices.len parts.devices.ok.0 (length-map _ _),
+    )
     (altered_valid f (reweighed_by_keeps c.args.row.now) (record_of parts) c.self.invariant)
 
 pub invariant_of-self-2 : goal.invariant_of-self-2
 invariant_of-self-2 c =
     let old : RingRecord = record_of c.self.inside.parts in
     let row : c.in_ok-clone.field-0 ≡ c.args.row.now = same_row _ _ c.in_ok-clone.ensures.cases in
-    let free : has_place c.args.row.now old.devices ≡ false = ap (has_place c.args.row.now) (sym c.deref.ensures.value) ∙ sym c.if-has_place_in.ensures in
-    rw (c.in_ok-push.ensures.items, row) (added_valid old c.args.row.now c.self.invariant ((rw (← c.self.view_is) at c.requires.room) free) ((rw (← c.self.view_is) at c.requires.numbers) free) free)
+    let free : has_place c.args.row.now old.devices ≡ false =
+    ap (has_place c.args.row.now) (sym c.deref.ensures.value) ∙ sym c.if-has_place_in.ensures in
+    rw (c.in_ok-push.ensures.items, row) (added_valid old c.args.row.now c.self.invariant
+    ((rw (← c.self.view_is) at c.requires.room) free)
+    ((rw (← c.self.view_is) at c.requires.numbers) free) free)
+
+pub returns-in_err-push-clause-err : goal.returns-in_err-push-clause-err
+returns-in_err-push-clause-err c = search rules

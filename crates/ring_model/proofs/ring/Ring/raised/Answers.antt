@@ -1,3 +1,4 @@
+use Rattle.std.proofs.Common.{rules}
 use Rattle.std.proofs.Common.{◌≡◌, ◌+◌, ℕ, ap, sym, ◌∙◌, subst}
 use Rattle.ring_model.specs.Ring.{RingRecord}
 use Rattle.ring_model.specs.Parts.{record_of}
@@ -9,14 +10,32 @@ use Rattle.ring_model.proofs.ring.Ring.raised.Goals as goal
 pub invariant_of-result : goal.invariant_of-result
 invariant_of-result c =
     let old : RingRecord = record_of c.self.inside.parts in
-    let up : c.in-Some.power ≡ old.power + 1 = c.in-Some.ensures.1 ∙ ap (λ (n : ℕ). n + 1) c.get.ensures.value in
-    let raised = raised_is old c.in-Some.power c.in_ok-parts-2.field-0.items c.in_ok-parts-3.field-0.items up c.in_ok-parts-2.ensures.count c.in_ok-parts-2.ensures.halves c.in_ok-parts-3.ensures.count c.in_ok-parts-3.ensures.halves in
-    let valid = raised_valid old (raised_to old c.in-Some.power c.in_ok-parts-2.field-0.items c.in_ok-parts-3.field-0.items) c.self.invariant raised (rw c.in-Some.ensures.1 c.in-Some.ensures.0.1) in
-    rw c.risen.ensures (subst (λ (r : RingRecord). IsValid (raised_to r c.in-Some.power c.in_ok-parts-2.field-0.items c.in_ok-parts-3.field-0.items)) (sym c.in_ok-parts.ensures) valid)
+    let up : c.in-Some.power ≡ old.power + 1 = c.in-Some.ensures.1 ∙ ap (λ (n : ℕ). n + 1)
+    c.get.ensures.value in
+    let raised = raised_is old c.in-Some.power c.in_ok-parts-2.field-0.items
+    c.in_ok-parts-3.field-0.items up c.in_ok-parts-2.ensures.count
+    c.in_ok-parts-2.ensures.halves c.in_ok-parts-3.ensures.count c.in_ok-parts-3.ensures.halves
+    in
+    let valid = raised_valid old (raised_to old c.in-Some.power c.in_ok-parts-2.field-0.items
+    c.in_ok-parts-3.field-0.items) c.self.invariant raised (rw c.in-Some.ensures.1
+    c.in-Some.ensures.0.1) in
+    rw c.risen.ensures (subst (λ (r : RingRecord). IsValid (raised_to r c.in-Some.power
+    c.in_ok-parts-2.field-0.items c.in_ok-parts-3.field-0.items)) (sym c.in_ok-parts.ensures)
+    valid)
 
 pub returns-clause-raised : goal.returns-clause-raised
 returns-clause-raised c =
     let old : RingRecord = record_of c.self.inside.parts in
-    let up : c.in-Some.power ≡ old.power + 1 = c.in-Some.ensures.1 ∙ ap (λ (n : ℕ). n + 1) c.get.ensures.value in
-    let raised = raised_is old c.in-Some.power c.in_ok-parts-2.field-0.items c.in_ok-parts-3.field-0.items up c.in_ok-parts-2.ensures.count c.in_ok-parts-2.ensures.halves c.in_ok-parts-3.ensures.count c.in_ok-parts-3.ensures.halves in
-    rw (c.risen.ensures, ← c.self.view_is) (subst (λ (r : RingRecord). IsRaised old (raised_to r c.in-Some.power c.in_ok-parts-2.field-0.items c.in_ok-parts-3.field-0.items)) (sym c.in_ok-parts.ensures) raised)
+    let up : c.in-Some.power ≡ old.power + 1 = c.in-Some.ensures.1 ∙ ap (λ (n : ℕ). n + 1)
+    c.get.ensures.value in
+    let raised = raised_is old c.in-Some.power c.in_ok-parts-2.field-0.items
+    c.in_ok-parts-3.field-0.items up c.in_ok-parts-2.ensures.count
+    c.in_ok-parts-2.ensures.halves c.in_ok-parts-3.ensures.count c.in_ok-parts-3.ensures.halves
+    in
+    rw (c.risen.ensures, ← c.self.view_is)
+    (subst (λ (r : RingRecord). IsRaised old (raised_to r c.in-Some.power
+    c.in_ok-parts-2.field-0.items c.in_ok-parts-3.field-0.items)) (sym c.in_ok-parts.ensures)
+    raised)
+
+pub returns-in_default-clause-limit : goal.returns-in_default-clause-limit
+returns-in_default-clause-limit c = search rules

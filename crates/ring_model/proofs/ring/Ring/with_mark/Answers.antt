@@ -11,11 +11,24 @@ invariant_of-result c =
     let old : RingRecord = record_of c.self.inside.parts in
     let parts = c.in_ok-parts.parts in
     let f = marked c.args.id in
-    rw (c.alter_all.ensures, c.deref_mut.ensures.value, c.risen.ensures, written_all parts.devices.items (map f parts.devices.items) parts.devices.len parts.devices.ok.0 (length-map _ _))
-    (subst (λ (r : RingRecord). IsValid (with_mark r c.args.id)) (sym c.in_ok-parts.ensures) (changed_valid _ (altered_valid f (marked_keeps c.args.id) old c.self.invariant)))
+    rw (
+      c.alter_all.ensures,
+      c.deref_mut.ensures.value,
+      c.risen.ensures,
+      written_all parts.devices.items (map f parts.devices.items) parts.devices.len
+          parts.devices.ok.0 (length-map _ _),
+    )
+    (subst (λ (r : RingRecord). IsValid (with_mark r c.args.id)) (sym c.in_ok-parts.ensures)
+    (changed_valid _ (altered_valid f (marked_keeps c.args.id) old c.self.invariant)))
 
 pub returns : goal.returns
 returns c =
     let parts = c.in_ok-parts.parts in
-    rw (c.alter_all.ensures, c.deref_mut.ensures.value, c.risen.ensures, written_all parts.devices.items (map (marked c.args.id) parts.devices.items) parts.devices.len parts.devices.ok.0 (length-map _ _))
+    rw (
+      c.alter_all.ensures,
+      c.deref_mut.ensures.value,
+      c.risen.ensures,
+      written_all parts.devices.items (map (marked c.args.id) parts.devices.items)
+          parts.devices.len parts.devices.ok.0 (length-map _ _),
+    )
     (ap (λ (r : RingRecord). with_mark r c.args.id) (c.in_ok-parts.ensures ∙ c.self.view_is))

@@ -11,11 +11,26 @@ invariant_of-result c =
     let old : RingRecord = record_of c.self.inside.parts in
     let parts = c.in_ok-parts.parts in
     let f = reweighed c.args.id c.args.weight in
-    rw (c.alter_all.ensures, c.deref_mut.ensures.value, c.risen.ensures, written_all parts.devices.items (map f parts.devices.items) parts.devices.len parts.devices.ok.0 (length-map _ _))
-    (subst (λ (r : RingRecord). IsValid (with_weight r c.args.id c.args.weight)) (sym c.in_ok-parts.ensures) (changed_valid _ (altered_valid f (reweighed_keeps c.args.id c.args.weight) old c.self.invariant)))
+    rw (
+      c.alter_all.ensures,
+      c.deref_mut.ensures.value,
+      c.risen.ensures,
+      written_all parts.devices.items (map f parts.devices.items) parts.devices.len
+          parts.devices.ok.0 (length-map _ _),
+    )
+    (subst (λ (r : RingRecord). IsValid (with_weight r c.args.id c.args.weight))
+    (sym c.in_ok-parts.ensures) (changed_valid _
+    (altered_valid f (reweighed_keeps c.args.id c.args.weight) old c.self.invariant)))
 
 pub returns : goal.returns
 returns c =
     let parts = c.in_ok-parts.parts in
-    rw (c.alter_all.ensures, c.deref_mut.ensures.value, c.risen.ensures, written_all parts.devices.items (map (reweighed c.args.id c.args.weight) parts.devices.items) parts.devices.len parts.devices.ok.0 (length-map _ _))
-    (ap (λ (r : RingRecord). with_weight r c.args.id c.args.weight) (c.in_ok-parts.ensures ∙ c.self.view_is))
+    rw (
+      c.alter_all.ensures,
+      c.deref_mut.ensures.value,
+      c.risen.ensures,
+      written_all parts.devices.items (map (reweighed c.args.id c.args.weight)
+          parts.devices.items) parts.devices.len parts.devices.ok.0 (length-map _ _),
+    )
+    (ap (λ (r : RingRecord). with_weight r c.args.id c.args.weight) (c.in_ok-parts.ensures ∙
+    c.self.view_is))

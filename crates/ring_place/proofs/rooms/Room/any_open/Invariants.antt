@@ -6,4 +6,6 @@ use Rattle.ring_place.proofs.rooms.Room.any_open.Given as goal
 
 -- none so far is open and outside
 abbrev pub invariant-loop-device : goal.invariant-loop-device
-invariant-loop-device l = (k : ℕ) (d : Device) → k < l.device-index → (is_open (get_or l.device-items k d) && not (list_any (λ other. other == (get_or l.device-items k d).id) l.others)) ≡ false
+invariant-loop-device l = (k : ℕ) (d : Device) → k < l.device-index →
+    (is_open (get_or l.device-items k d) &&
+    not (list_any (λ other. other == (get_or l.device-items k d).id) l.others)) ≡ false

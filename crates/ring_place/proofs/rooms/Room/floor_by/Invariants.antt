@@ -6,4 +6,6 @@ use Rattle.ring_place.proofs.rooms.Room.floor_by.Given as goal
 
 -- none so far is less crowded
 abbrev pub invariant-loop-place : goal.invariant-loop-place
-invariant-loop-place l = (k : ℕ) → k < l.place-index → is_less (crowd_in l.self (seats_at l.self.devices l.others) (id_at l.self.devices (get_or l.places k 0))) l.least ≡ false
+invariant-loop-place l = (k : ℕ) → k < l.place-index →
+    is_less (crowd_in l.self (seats_at l.self.devices l.others)
+    (id_at l.self.devices (get_or l.places k 0))) l.least ≡ false

@@ -5,5 +5,6 @@ use Rattle.ring_place.proofs.rooms.Room.places_of.Given as goal
 abbrev pub invariant-loop-index : goal.invariant-loop-index
 invariant-loop-index l = record {
   long : length l.places ≡ 5;
-  stand : (k : ℕ) → k < l.index → (get_or l.places k 0 < length l.self.devices) × (id_at l.self.devices (get_or l.places k 0) ≡ get_or l.ids k 0);
+  stand : (k : ℕ) → k < l.index → (get_or l.places k 0 < length l.self.devices) ×
+      (id_at l.self.devices (get_or l.places k 0) ≡ get_or l.ids k 0);
 }

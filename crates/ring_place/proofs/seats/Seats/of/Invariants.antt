@@ -5,4 +5,5 @@ use Rattle.ring_place.proofs.seats.Seats.of.Given as goal
 
 -- the seats so far
 abbrev pub invariant-loop-place : goal.invariant-loop-place
-invariant-loop-place l = l.seats.items ≡ map (λ place. slice_get l.ring.seats place) (range_with_len 0 l.place)
+invariant-loop-place l = l.seats.items ≡ map (λ place. slice_get l.ring.seats place)
+    (range_with_len 0 l.place)

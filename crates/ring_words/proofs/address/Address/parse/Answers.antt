@@ -1,33 +1,73 @@
 use Rattle.std.proofs.Common.{◌<◌, ◌^◌, ◌%◌, ◌/◌, ◌∙◌, sym, arith}
-use Rattle.ring_words.proofs.Decimals.{First, Second, Third, first_octet, second_octet, third_octet, after_second_point, same_number}
+use Rattle.ring_words.proofs.Decimals.{First, Second, Third, first_octet, second_octet, third_octet}
+use Rattle.ring_words.proofs.Decimals.{after_second_point, same_number}
 use Rattle.ring_words.proofs.address.Address.parse.Goals as goal
 
 pub returns-in_err-second-clause-none : goal.returns-in_err-second-clause-none
 returns-in_err-second-clause-none c = rw c.from_residual-in_err-second.ensures (λ a lt e.
-    let f : First c.args.text.now c.in_ok-first.rest.now c.in_ok-first.first = record { below = c.in_ok-first.ensures.found.0; text = c.in_ok-first.ensures.found.1 } in
+    let f : First c.args.text.now c.in_ok-first.rest.now c.in_ok-first.first =
+    record { below = c.in_ok-first.ensures.found.0; text = c.in_ok-first.ensures.found.1 } in
     let low : a / 65536 % 256 < 256 = omega arith in
-    c.in_err-second.ensures.none (a / 65536 % 256) (after_second_point a) low (first_octet _ _ _ a f lt e).1)
+    c.in_err-second.ensures.none (a / 65536 % 256) (after_second_point a) low
+    (first_octet _ _ _ a f lt e).1)
 
 pub returns-in_err-third-clause-none : goal.returns-in_err-third-clause-none
 returns-in_err-third-clause-none c = rw c.from_residual-in_err-third.ensures (λ a lt e.
-    let f : First c.args.text.now c.in_ok-first.rest.now c.in_ok-first.first = record { below = c.in_ok-first.ensures.found.0; text = c.in_ok-first.ensures.found.1 } in
-    let s : Second c.args.text.now c.in_ok-second.rest.now c.in_ok-first.first c.in_ok-second.second = record { between = c.in_ok-first.rest.now; front = f; last = record { below = c.in_ok-second.ensures.found.0; text = c.in_ok-second.ensures.found.1 } } in
+    let f : First c.args.text.now c.in_ok-first.rest.now c.in_ok-first.first =
+    record { below = c.in_ok-first.ensures.found.0; text = c.in_ok-first.ensures.found.1 } in
+    let s : Second c.args.text.now c.in_ok-second.rest.now c.in_ok-first.first c.in_ok-second.second
+    = record {
+      between = c.in_ok-first.rest.now;
+      front = f;
+      last =
+          record { below = c.in_ok-second.ensures.found.0; text = c.in_ok-second.ensures.found.1 };
+    }
+    in
     let low : a / 256 % 256 < 256 = omega arith in
     c.in_err-third.ensures.none (a / 256 % 256) _ low (second_octet _ _ _ _ a s lt e).2)
 
 pub returns-in_err-fourth-clause-none : goal.returns-in_err-fourth-clause-none
 returns-in_err-fourth-clause-none c = rw c.from_residual-in_err-fourth.ensures (λ a lt e.
-    let f : First c.args.text.now c.in_ok-first.rest.now c.in_ok-first.first = record { below = c.in_ok-first.ensures.found.0; text = c.in_ok-first.ensures.found.1 } in
-    let s : Second c.args.text.now c.in_ok-second.rest.now c.in_ok-first.first c.in_ok-second.second = record { between = c.in_ok-first.rest.now; front = f; last = record { below = c.in_ok-second.ensures.found.0; text = c.in_ok-second.ensures.found.1 } } in
-    let t : Third c.args.text.now c.in_ok-third.rest.now c.in_ok-first.first c.in_ok-second.second c.in_ok-third.third = record { between = c.in_ok-second.rest.now; front = s; last = record { below = c.in_ok-third.ensures.found.0; text = c.in_ok-third.ensures.found.1 } } in
+    let f : First c.args.text.now c.in_ok-first.rest.now c.in_ok-first.first =
+    record { below = c.in_ok-first.ensures.found.0; text = c.in_ok-first.ensures.found.1 } in
+    let s : Second c.args.text.now c.in_ok-second.rest.now c.in_ok-first.first c.in_ok-second.second
+    = record {
+      between = c.in_ok-first.rest.now;
+      front = f;
+      last =
+          record { below = c.in_ok-second.ensures.found.0; text = c.in_ok-second.ensures.found.1 };
+    }
+    in
+    let t : Third c.args.text.now c.in_ok-third.rest.now c.in_ok-first.first c.in_ok-second.second
+    c.in_ok-third.third = record {
+      between = c.in_ok-second.rest.now;
+      front = s;
+      last =
+          record { below = c.in_ok-third.ensures.found.0; text = c.in_ok-third.ensures.found.1 };
+    } in
     let low : a % 256 < 2 ^ 32 = omega arith in
     c.in_err-fourth.ensures.none (a % 256) low (third_octet _ _ _ _ _ a t lt e).3)
 
 pub returns-then-fourth-ge256-clause-none : goal.returns-then-fourth-ge256-clause-none
 returns-then-fourth-ge256-clause-none c = λ a lt e.
-    let f : First c.args.text.now c.in_ok-first.rest.now c.in_ok-first.first = record { below = c.in_ok-first.ensures.found.0; text = c.in_ok-first.ensures.found.1 } in
-    let s : Second c.args.text.now c.in_ok-second.rest.now c.in_ok-first.first c.in_ok-second.second = record { between = c.in_ok-first.rest.now; front = f; last = record { below = c.in_ok-second.ensures.found.0; text = c.in_ok-second.ensures.found.1 } } in
-    let t : Third c.args.text.now c.in_ok-third.rest.now c.in_ok-first.first c.in_ok-second.second c.in_ok-third.third = record { between = c.in_ok-second.rest.now; front = s; last = record { below = c.in_ok-third.ensures.found.0; text = c.in_ok-third.ensures.found.1 } } in
+    let f : First c.args.text.now c.in_ok-first.rest.now c.in_ok-first.first =
+    record { below = c.in_ok-first.ensures.found.0; text = c.in_ok-first.ensures.found.1 } in
+    let s : Second c.args.text.now c.in_ok-second.rest.now c.in_ok-first.first c.in_ok-second.second
+    = record {
+      between = c.in_ok-first.rest.now;
+      front = f;
+      last =
+          record { below = c.in_ok-second.ensures.found.0; text = c.in_ok-second.ensures.found.1 };
+    }
+    in
+    let t : Third c.args.text.now c.in_ok-third.rest.now c.in_ok-first.first c.in_ok-second.second
+    c.in_ok-third.third = record {
+      between = c.in_ok-second.rest.now;
+      front = s;
+      last =
+          record { below = c.in_ok-third.ensures.found.0; text = c.in_ok-third.ensures.found.1 };
+    } in
     let low : a % 256 < 2 ^ 32 = omega arith in
-    let same = same_number c.in_ok-fourth.fourth (a % 256) c.in_ok-fourth.ensures.found.0 low (sym c.in_ok-fourth.ensures.found.1 ∙ (third_octet _ _ _ _ _ a t lt e).3) in
+    let same = same_number c.in_ok-fourth.fourth (a % 256) c.in_ok-fourth.ensures.found.0 low
+    (sym c.in_ok-fourth.ensures.found.1 ∙ (third_octet _ _ _ _ _ a t lt e).3) in
     omega arith

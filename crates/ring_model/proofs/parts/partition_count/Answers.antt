@@ -1,8 +1,0 @@
-use Rattle.std.proofs.Common.{◌^◌, ◌≤◌, arith}
-use Rattle.std.proofs.Math.Pow.{pow_mono}
-use Rattle.ring_model.proofs.parts.partition_count.Goals as goal
-
-pub returns-clause-small : goal.returns-clause-small
-returns-clause-small c =
-    let low : 2 ^ c.get.result ≤ 2 ^ 14 = pow_mono c.get.ensures.within.1 in
-    omega arith

@@ -1,0 +1,5 @@
+use Rattle.std.proofs.Common.{arith}
+use Rattle.ring_words.proofs.bounded.Bounded.get.Goals as goal
+
+pub returns-clause-value : goal.returns-clause-value
+returns-clause-value c = omega arith
