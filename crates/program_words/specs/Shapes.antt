@@ -1,0 +1,76 @@
+-- What may be written on the command line of `ringd`.
+use Rattle.std.specs.Prelude.{List, [], ◌∷◌, ◌++◌, Some, codes, true}
+use Rattle.clap.specs.Simple.{App, Shape, new_app, new_rule, new_shape, on_top, with_subcommand}
+use Rattle.clap.specs.Walk.{Rule, Text}
+
+-- An argument without a name of its own, which has to be there.
+abbrev pub needed : Text → Rule
+needed name = record (new_rule name) { required = true }
+
+-- An argument that may be there, as `--name TEXT`.
+abbrev pub optional : Text → Rule
+optional name = record (new_rule name) { long = Some name }
+
+-- A program with these arguments.
+abbrev pub program : Text → List Rule → Shape
+program name rules = record (new_shape name) { rules = rules }
+
+-- What is hashed before and after a path.
+abbrev pub hash_names : List Rule
+hash_names = optional (codes "prefix") ∷ optional (codes "suffix") ∷ []
+
+-- ---- the programs
+
+abbrev pub run : Shape
+run = program (codes "run") (optional (codes "file") ∷ [])
+
+-- Serves connections of HTTP.
+abbrev pub serve : Shape
+serve = program (codes "serve")
+    (needed (codes "FILE") ∷ needed (codes "PORT") ∷ needed (codes "COUNT") ∷
+    optional (codes "hour") ∷ hash_names)
+
+-- Answers the bytes of a file as those of a connection.
+abbrev pub loop_over : Shape
+loop_over = program (codes "loop")
+    (needed (codes "FILE") ∷ needed (codes "INPUT") ∷ optional (codes "hour") ∷ hash_names)
+
+-- Imports the rows of a CSV file.
+abbrev pub import_rows : Shape
+import_rows = program (codes "import")
+    (needed (codes "FILE") ∷ needed (codes "RING") ∷ needed (codes "CALLER") ∷
+    needed (codes "NUMBER") ∷ needed (codes "CSV") ∷ optional (codes "hour") ∷ [])
+
+-- Shows a ring.
+abbrev pub table : Shape
+table = program (codes "table") (needed (codes "FILE") ∷ needed (codes "RING") ∷ [])
+
+-- Shows the devices of a path.
+abbrev pub nodes : Shape
+nodes = program (codes "nodes")
+    (needed (codes "FILE") ∷ needed (codes "RING") ∷ needed (codes "ACCOUNT") ∷
+    optional (codes "container") ∷ optional (codes "object") ∷ hash_names)
+
+-- Writes a published text.
+abbrev pub export : Shape
+export = program (codes "export")
+    (needed (codes "FILE") ∷ needed (codes "RING") ∷ needed (codes "VERSION") ∷ [])
+
+-- Makes a file with the rings of another.
+abbrev pub renew : Shape
+renew = program (codes "renew") (needed (codes "FILE") ∷ needed (codes "NEW") ∷ [])
+
+-- The programs that answer requests.
+abbrev pub with_services : App → App
+with_services app = with_subcommand (with_subcommand (with_subcommand (with_subcommand app
+    run) serve) loop_over) import_rows
+
+-- The programs that read what is kept, or copy it.
+abbrev pub with_readers : App → App
+with_readers app = with_subcommand (with_subcommand (with_subcommand (with_subcommand app
+    table) nodes) export) renew
+
+-- All that may be written: the name of a program, and its arguments.
+abbrev pub programs : App
+programs = with_readers (with_services
+    (on_top (λ s. record s { subcommand_required = true }) (new_app (codes "ringd"))))

@@ -1,0 +1,89 @@
+//! What words may ask for.
+ghost use Rattle.std.specs.Prelude.{◌≡◌};
+ghost use Rattle.program_words.specs.declared.task.ArgsFault.TheVariants.{NoMemory};
+
+use ring_words::{Hour, Port};
+use std::alloc::AllocError;
+
+/// What is hashed before and after each path.
+#[derive(Clone, Copy, Debug)]
+pub struct HashNames<'a> {
+    pub prefix: &'a str,
+    pub suffix: &'a str,
+}
+
+/// What the words ask for. A text stands as it was written.
+#[derive(Clone, Copy, Debug)]
+pub enum Task<'a> {
+    /// To answer requests and questions, a line each, over this file or over memory.
+    Run {
+        file: Option<&'a str>,
+    },
+    /// To serve so many connections on a port, one after another.
+    Serve {
+        file: &'a str,
+        port: Port,
+        count: u16,
+        /// The hour that the clock tells always. Without it, it tells the time.
+        hour: Option<Hour>,
+        names: HashNames<'a>,
+    },
+    /// To answer the bytes of a file as if they came over a connection.
+    Loop {
+        file: &'a str,
+        input: &'a str,
+        hour: Option<Hour>,
+        names: HashNames<'a>,
+    },
+    /// To import the rows of a CSV file, under a caller's number.
+    Import {
+        file: &'a str,
+        ring: &'a str,
+        caller: &'a str,
+        number: &'a str,
+        csv: &'a str,
+        hour: Option<Hour>,
+    },
+    /// To show the devices and the balance of a ring.
+    Table {
+        file: &'a str,
+        ring: &'a str,
+    },
+    /// To show which devices hold a path.
+    Nodes {
+        file: &'a str,
+        ring: &'a str,
+        account: &'a str,
+        container: Option<&'a str>,
+        object: Option<&'a str>,
+        names: HashNames<'a>,
+    },
+    /// To write a published text.
+    Export {
+        file: &'a str,
+        ring: &'a str,
+        version: &'a str,
+    },
+    /// To make a new file with the rings of an old one, and no requests.
+    Renew {
+        file: &'a str,
+        new: &'a str,
+    },
+}
+
+/// Why words ask for nothing.
+#[derive(Debug, Drop)]
+pub enum ArgsFault {
+    /// They are none that the program knows, or ask for help. The text says what may be written.
+    Bad(String),
+    /// A growth of memory was refused.
+    NoMemory,
+}
+
+impl From<AllocError> for ArgsFault {
+    ghost from_gives = { λ _ fault. fault ≡ NoMemory };
+
+    fn from(_error: AllocError) -> ArgsFault {
+        ArgsFault::NoMemory
+    }
+}
