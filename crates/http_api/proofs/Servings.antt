@@ -1,0 +1,133 @@
+-- Requests that are answered one after another are one run.
+use Rattle.std.proofs.Common.{◌≡◌, Err, List, None, Ok, Option, Result, [], ap, inl, inr, refl}
+use Rattle.std.proofs.Common.{subst, sym, ℕ}
+use Rattle.std.specs.Prelude.{IfErr, IfOk}
+use Rattle.byte_streams.specs.InTurn.{InTurn}
+use Rattle.byte_streams.specs.declared.fault.StreamFault.{StreamFault}
+use Rattle.byte_streams.specs.declared.fault.StreamFault.TheVariants.{NoMemory, ReadFailed}
+use Rattle.byte_streams.specs.declared.fault.StreamFault.TheVariants.{WriteFailed}
+use Rattle.byte_streams.proofs.ServedLemmas.{served_as, stopped_as}
+use Rattle.ring_words.specs.declared.command.Command.{Command}
+use Rattle.ring_words.specs.declared.command.Reply.{Reply}
+use Rattle.request_book.specs.Call.{Call}
+use Rattle.request_book.specs.Content.{Content}
+use Rattle.book_front.specs.Front.{CallsMade, Turn, is_closed}
+use Rattle.book_front.proofs.Fronts.{in_turn_serves, none_made, starts}
+use Rattle.builder.proofs.Safe.{safe_run}
+use Rattle.builder.specs.Safety.{IsSafeRun}
+use Rattle.builder.specs.Step.{State}
+use Rattle.http_stream.specs.Answers.{ItemAnswered, joined}
+use Rattle.http_stream.specs.Serving.{RequestsServed, RequestsStopped}
+use Rattle.http_stream.specs.Streams.{AreRequests, BeginWith, Calls, Item, Refuses}
+use Rattle.line_api.specs.Lines.{Asked}
+use Rattle.line_api.specs.Served.{Found, Made, RingBook, steps_of}
+use Rattle.http_api.specs.Http.{GetsHttp}
+use Rattle.http_api.specs.Served.{HttpAnswers, HttpFront, HttpLoses, ServesHttp}
+
+module _ {K C : Type 0} (content : K → Content State Command Reply) (sound : K → Type 0)
+    (limit : K → ℕ) (faults : K → ℕ)
+    (tells : C → ℕ → C → Type 0) (prefix suffix : List ℕ) where
+  abbrev Front : Type 0
+  Front = HttpFront {C = C} content sound limit faults tells prefix suffix
+
+  -- what the service gives
+  abbrev Gives : Front → Item → List ℕ → Front → Type 0
+  Gives old item text new =
+      ItemAnswered (HttpAnswers content sound limit faults tells prefix suffix)
+      (HttpLoses content sound limit faults tells prefix suffix) old item text new
+
+  abbrev Gets : Front → Item → Asked → List ℕ → Front → Type 0
+  Gets before item asks answer after =
+      GetsHttp tells prefix suffix (Found content sound limit faults before.1 after.1) before.0 item
+      asks answer after.0
+
+  abbrev IsTurn : Front → Item → Asked → List ℕ → Front → Type 0
+  IsTurn old item asked text new =
+      Turn steps_of content sound limit faults (λ (front : Front). front.1)
+      (λ before item asks answer after. Gets before item asks answer after) old item asked text
+      new
+
+  turns : (old : Front) (item : Item) (text : List ℕ) (new : Front) → Gives old item text new →
+      (asked : Asked) × IsTurn old item asked text new
+  turns old (Calls ask) text new (inl answered) =
+      (answered.0, record { gets = inl answered.1; made = answered.2 })
+  turns old (Calls ask) text new (inr lost) = (
+    lost.0.0,
+    record {
+      gets = inr (lost.0.1, lost.1);
+      made = lost.0.2;
+    },
+  )
+  turns old (Refuses why) text new (text_is, same) = (
+    None,
+    record {
+      gets = (refl, text_is, ap (λ (front : Front). front.0) same);
+      made = subst (λ (front : Front). Made content sound limit faults old.1 front.1 None)
+          (sym same) (none_made steps_of content sound limit faults old.1);
+    },
+  )
+
+  serves : (old : Front) (items : List Item) (texts : List (List ℕ)) (new : Front) →
+      InTurn Gives old items texts new
+      → ServesHttp content sound limit faults tells prefix suffix old items texts new
+  serves old items texts new turn =
+      in_turn_serves steps_of content sound limit faults (λ (front : Front). front.1)
+      (λ before item asks answer after. Gets before item asks answer after) Gives turns old
+      items texts new turn
+
+  -- what the server of requests tells of its service holds of the run
+  pub served_run : (known before after : Option (List ℕ)) (old new : Front) (count : ℕ) →
+      RequestsServed (InTurn Gives) known before after old new count
+      → RequestsServed (ServesHttp content sound limit faults tells prefix suffix) known before
+      after old new count
+  served_run = served_as AreRequests AreRequests joined (InTurn Gives) (ServesHttp content sound
+      limit faults tells prefix suffix) serves
+
+  pub stopped_run : (known left before after : Option (List ℕ)) (old new : Front)
+      (untouched : Type 0) (fault : StreamFault)
+      → RequestsStopped (InTurn Gives) known left before after old new untouched fault
+      → RequestsStopped (ServesHttp content sound limit faults tells prefix suffix) known left
+      before after old new untouched fault
+  stopped_run = stopped_as BeginWith AreRequests joined (InTurn Gives) (ServesHttp content sound
+      limit faults tells prefix suffix) serves
+
+  -- calls that are one run are a safe run
+  safe_calls : (old new : RingBook content sound limit faults) (calls : List (Call Command Reply)) →
+      CallsMade steps_of content sound limit faults old new calls → sound new.keeper
+      → IsSafeRun old.machine.limits (content old.keeper) (content new.keeper)
+  safe_calls old new calls made s =
+      safe_run old.machine.limits (limit old.keeper) (is_closed steps_of content sound limit faults
+      old) (content old.keeper) (content new.keeper) calls (made.run s)
+
+  unmoved : (old new : RingBook content sound limit faults) → new ≡ old → sound new.keeper →
+      IsSafeRun old.machine.limits (content old.keeper) (content new.keeper)
+  unmoved old new same = subst (λ (book : RingBook content sound limit faults). sound book.keeper →
+      IsSafeRun old.machine.limits (content old.keeper) (content book.keeper)) (sym same)
+      (λ s. safe_calls old old [] (starts steps_of content sound limit faults old) s)
+
+  stopped_safe : (known left before after : Option (List ℕ)) (old new : Front)
+      (readers writers clocks : Type 0) (fault : StreamFault)
+      → RequestsStopped (ServesHttp content sound limit faults tells prefix suffix) known left
+      before after old new (readers × writers × clocks × (new.1 ≡ old.1)) fault
+      → sound new.1.keeper → IsSafeRun old.1.machine.limits (content old.1.keeper)
+      (content new.1.keeper)
+  stopped_safe known left before after old new readers writers clocks ReadFailed stopped s =
+      safe_calls old.1 new.1 stopped.get.calls stopped.get.made s
+  stopped_safe known left before after old new readers writers clocks WriteFailed stopped s =
+      safe_calls old.1 new.1 stopped.get.calls stopped.get.made s
+  stopped_safe known left before after old new readers writers clocks NoMemory stopped s =
+      unmoved old.1 new.1 stopped.3 s
+
+  -- whatever requests came, what the book was led to is a safe run
+  pub served_safe : (known left before after : Option (List ℕ)) (old new : Front)
+      (readers writers clocks : Type 0) (result : Result ℕ StreamFault)
+      → IfOk result (RequestsServed (ServesHttp content sound limit faults tells prefix suffix)
+      known before after old new)
+      → IfErr result (RequestsStopped (ServesHttp content sound limit faults tells prefix suffix)
+      known left before after old new (readers × writers × clocks × (new.1 ≡ old.1)))
+      → sound new.1.keeper → IsSafeRun old.1.machine.limits (content old.1.keeper)
+      (content new.1.keeper)
+  served_safe known left before after old new readers writers clocks (Ok count) served stopped s =
+      safe_calls old.1 new.1 served.get.calls served.get.made s
+  served_safe known left before after old new readers writers clocks (Err fault) served stopped s =
+      stopped_safe known left before after old new readers writers clocks fault stopped s

@@ -1,0 +1,106 @@
+-- What a body leads to is an answer.
+use Rattle.std.proofs.Common.{◌≡◌, ◌∙◌, ℕ, List, ap, subst, sym, inl, inr, Some, None, Result, Ok}
+use Rattle.std.proofs.Common.{Err}
+use Rattle.std.specs.Prelude.{IfOk, MatchResult, Vec}
+use Rattle.std.specs.declared.alloc.AllocError.{AllocError}
+use Rattle.std.specs.declared.alloc.Global.{Global}
+use Rattle.builder.specs.Step.{State}
+use Rattle.http_requests.specs.Requests.{Ask}
+use Rattle.http_routes.specs.Targets.{TargetAsks}
+use Rattle.http_routes.specs.declared.target.TargetAsk.TheVariants as target
+use Rattle.line_api.specs.Lines.{Asked}
+use Rattle.line_api.specs.Served.{Made, RingBook}
+use Rattle.request_book.specs.Call.{Deliver, Load}
+use Rattle.request_book.specs.Content.{Content}
+use Rattle.ring_messages.specs.declared.told.Told.{Told}
+use Rattle.ring_words.specs.declared.command.Command.{Command}
+use Rattle.ring_words.specs.declared.command.Reply.{Reply}
+use Rattle.ring_words.specs.declared.request.Key.{Key}
+use Rattle.http_api.specs.Http.{told_answer}
+use Rattle.http_api.specs.Inner.Telling.{IsImportTold, IsMessageTold}
+use Rattle.http_api.specs.Served.{HttpAnswers, HttpLoses}
+
+module _ {K C : Type 0} (content : K → Content State Command Reply) (sound : K → Type 0)
+    (limit : K → ℕ) (faults : K → ℕ)
+    (tells : C → ℕ → C → Type 0) (prefix suffix : List ℕ) (ask : Ask) (early late : C)
+    (old new : RingBook content sound limit faults) (t : Told) where
+  abbrev Tells : Result (Vec ℕ Global) AllocError → Type 0
+  Tells result = IfOk result (λ text. text.items ≡ told_answer ask.is_last t)
+
+  abbrev Answered : Result (Vec ℕ Global) AllocError → Type 0
+  Answered result = MatchResult result
+      (λ text. HttpAnswers content sound limit faults tells prefix suffix (early, old) ask
+      text.items (late, new))
+      (λ _. HttpLoses content sound limit faults tells prefix suffix (early, old) ask (late, new))
+
+  pub message_answered : (asked : Asked) → TargetAsks ask.target ask.method target.Deliver →
+      Made content sound limit faults old new asked
+      → IsMessageTold tells early late ask.body asked (Ok t) →
+      (result : Result (Vec ℕ Global) AllocError) → Tells result → Answered result
+  message_answered None asks made told (Ok text) is = (
+    None,
+    (
+      inr (inl (
+        asks,
+        λ delivery message. told.1 delivery.key delivery.command message,
+        is ∙ ap (told_answer ask.is_last) told.2,
+      )),
+      told.0,
+    ),
+    made,
+  )
+  message_answered None asks made told (Err refused) is = (None, told.0, made)
+  message_answered (Some (Deliver delivery answer)) asks made told (Ok text) is = (
+    Some (Deliver delivery answer),
+    (
+      inl (asks, told.1),
+      told.0,
+      is ∙ ap (told_answer ask.is_last) told.2,
+    ),
+    made,
+  )
+  message_answered (Some (Deliver delivery answer)) asks made told (Err refused) is =
+      (Some (Deliver delivery answer), (inl (asks, told.1), told.0), made)
+  message_answered (Some (Load answer)) asks made told result is = absurd told
+
+  pub import_answered : (asked : Asked) (ring : List ℕ) (key : Key) →
+      TargetAsks ask.target ask.method (target.Import ring key) → Made content sound limit faults
+      old new asked
+      → IsImportTold tells early late ring key ask.body asked (Ok t) →
+      (result : Result (Vec ℕ Global) AllocError) → Tells result → Answered result
+  import_answered None ring key asks made told (Ok text) is = (
+    None,
+    (
+      inr (inr (
+        ring,
+        key,
+        told.1.0,
+        asks,
+        told.1.1,
+        told.1.2,
+        is ∙ ap (told_answer ask.is_last) told.1.3,
+      )),
+      told.0,
+    ),
+    made,
+  )
+  import_answered None ring key asks made told (Err refused) is = (None, told.0, made)
+  import_answered (Some (Deliver delivery answer)) ring key asks made told (Ok text) is =
+      let same = subst (λ (k : Key). TargetAsks ask.target ask.method (target.Import ring k))
+      (sym told.1) asks in (
+        Some (Deliver delivery answer),
+        (
+          inr (ring, told.2.0, same, told.2.1, told.2.2),
+          told.0,
+          is ∙ ap (told_answer ask.is_last) told.3,
+        ),
+        made,
+      )
+  import_answered (Some (Deliver delivery answer)) ring key asks made told (Err refused) is =
+      let same = subst (λ (k : Key). TargetAsks ask.target ask.method (target.Import ring k))
+      (sym told.1) asks in (
+        Some (Deliver delivery answer),
+        (inr (ring, told.2.0, same, told.2.1, told.2.2), told.0),
+        made,
+      )
+  import_answered (Some (Load answer)) ring key asks made told result is = absurd told

@@ -1,0 +1,33 @@
+use Rattle.http_api.proofs.Tellings.{message_answered, import_answered}
+use Rattle.http_api.proofs.service.RingServiceService.answer.Goals as goal
+
+pub returns-in_ok-told-in-Ok-Deliver : goal.returns-in_ok-told-in-Ok-Deliver
+returns-in_ok-told-in-Ok-Deliver g c =
+    let asks = rw c.in-Ok-Deliver.field-0-is at c.in-Ok-Deliver.ensures in
+    let told = c.in_ok-told-in-Ok-Deliver.ensures in
+    message_answered g.K.Keeper.content g.K.Keeper.sound g.K.Keeper.limit g.K.Keeper.fault_count
+    g.C.Clock.tells _ _
+    (record {
+      method = c.args.method;
+      target = c.args.target.now;
+      body = c.args.body.now;
+      is_last =
+          c.args.is_last;
+    }) _ _ _ _ c.in_ok-told-in-Ok-Deliver.told
+    told.0 asks told.1 told.2 c.told_answer.result c.told_answer.ensures
+
+pub returns-in_ok-told-in-Ok-Import : goal.returns-in_ok-told-in-Ok-Import
+returns-in_ok-told-in-Ok-Import g c =
+    let asks = rw c.in-Ok-Import.field-0-is at c.in-Ok-Import.ensures in
+    let told = c.in_ok-told-in-Ok-Import.ensures in
+    import_answered g.K.Keeper.content g.K.Keeper.sound g.K.Keeper.limit g.K.Keeper.fault_count
+    g.C.Clock.tells _ _
+    (record {
+      method = c.args.method;
+      target = c.args.target.now;
+      body = c.args.body.now;
+      is_last =
+          c.args.is_last;
+    }) _ _ _ _ c.in_ok-told-in-Ok-Import.told
+    told.0 _ _ asks told.1 told.2 c.told_answer-in-Ok-Import.result
+    c.told_answer-in-Ok-Import.ensures

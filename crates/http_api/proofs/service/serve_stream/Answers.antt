@@ -1,0 +1,34 @@
+use Rattle.std.proofs.lemmas.Result.{IfOk-weaker, IfErr-weaker}
+use Rattle.byte_streams.specs.Counted.{reader_of, writer_of}
+use Rattle.http_api.proofs.Servings.{served_run, served_safe, stopped_run}
+use Rattle.http_api.proofs.service.serve_stream.Goals as goal
+
+pub returns-clause-served : goal.returns-clause-served
+returns-clause-served g c = IfOk-weaker c.serve_requests.result _ _
+    (served_run g.K.Keeper.content g.K.Keeper.sound g.K.Keeper.limit g.K.Keeper.fault_count
+    g.C.Clock.tells c.args.prefix.now c.args.suffix.now
+    (g.R.Read.remaining (reader_of c.args.reader.now))
+    (g.W.Write.contents (writer_of c.args.writer.now))
+    (g.W.Write.contents (writer_of c.serve_requests.new.writer))
+    (c.args.clock.now, c.args.book.now) (c.serve_requests.new.clock, c.serve_requests.new.state))
+    c.serve_requests.ensures.served
+
+pub returns-clause-stopped : goal.returns-clause-stopped
+returns-clause-stopped g c = IfErr-weaker c.serve_requests.result _ _
+    (stopped_run g.K.Keeper.content g.K.Keeper.sound g.K.Keeper.limit g.K.Keeper.fault_count
+    g.C.Clock.tells c.args.prefix.now c.args.suffix.now
+    (g.R.Read.remaining (reader_of c.args.reader.now))
+    (g.R.Read.remaining (reader_of c.serve_requests.new.reader))
+    (g.W.Write.contents (writer_of c.args.writer.now))
+    (g.W.Write.contents (writer_of c.serve_requests.new.writer))
+    (c.args.clock.now, c.args.book.now) (c.serve_requests.new.clock, c.serve_requests.new.state) _)
+    c.serve_requests.ensures.stopped
+
+pub returns-clause-safe : goal.returns-clause-safe
+returns-clause-safe g c = served_safe g.K.Keeper.content g.K.Keeper.sound g.K.Keeper.limit
+    g.K.Keeper.fault_count g.C.Clock.tells c.args.prefix.now c.args.suffix.now
+    _ _ _ _ (c.args.clock.now, c.args.book.now) (
+      c.serve_requests.new.clock,
+      c.serve_requests.new.state,
+    ) _ _ _ c.serve_requests.result
+    (returns-clause-served g c) (returns-clause-stopped g c)

@@ -1,0 +1,4 @@
+pub mod Hours
+pub mod Http
+pub mod Served
+pub mod Inner

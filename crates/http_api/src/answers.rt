@@ -1,0 +1,97 @@
+//! Answers of the builder as bytes of HTTP.
+ghost use Rattle.std.specs.Prelude.{◌≡◌, IfOk};
+ghost use Rattle.builder.specs.Replies.{answer_status};
+ghost use Rattle.http_api.specs.Http.{refused_answer, shown_answer, told_answer, told_csv};
+ghost use Rattle.line_api.specs.Lines.{told_fault, told_of};
+
+use builder::{Told, status_of, told_text};
+use csv_import::CsvFault;
+use http::StatusCode;
+use http_answers::{AnswerHead, BodyKind, answer_bytes};
+use request_book::{Answer, Fault};
+use ring_words::{Refusal, Reply};
+use std::alloc::{AllocError, Global};
+
+/// What a fault of the book is told as.
+pub fn told_fault(fault: Fault) -> Told
+    ensures { result ≡ told_fault fault }
+{
+    match fault {
+        Fault::NumberReused => Told::NumberReused,
+        Fault::BookFull => Told::BookFull,
+        Fault::NoMemory => Told::NoMemory,
+        Fault::StoreFault => Told::StoreFault,
+        Fault::Closed => Told::Closed,
+    }
+}
+
+/// What a delivery's answer is told as.
+pub fn told_of(answer: Answer<Reply>) -> Told
+    ensures { result ≡ told_of answer }
+{
+    match answer {
+        Ok(reply) => Told::Reply(reply),
+        Err(fault) => told_fault(fault),
+    }
+}
+
+/// What a table that can't be read is told as.
+pub fn told_csv(fault: CsvFault) -> Told
+    ensures { result ≡ told_csv fault }
+{
+    match fault {
+        CsvFault::BadHeader => Told::BadHeader,
+        CsvFault::BadRow(row) => Told::BadRow { row },
+        CsvFault::BadField(row, column) => Told::BadField { row, column },
+        CsvFault::ReadFailed => Told::ReadFailed,
+        CsvFault::NoMemory => Told::NoMemory,
+    }
+}
+
+fn status_code(told: &Told) -> StatusCode
+    ensures { result ≡ answer_status told.now }
+{
+    match StatusCode::from_u16(status_of(told)) {
+        Ok(status) => status,
+        Err(_) => unreachable!(),
+    }
+}
+
+/// The answer that tells this.
+pub fn told_answer(alloc: Global, told: &Told, is_last: bool) -> Result<Vec<u8>, AllocError>
+    ensures { IfOk result (λ text. text.items ≡ told_answer is_last told.now) }
+{
+    let head = AnswerHead {
+        status: status_code(told),
+        kind: BodyKind::Json,
+        allow: None,
+        is_last,
+    };
+    let body = told_text(alloc, told)?;
+    answer_bytes(alloc, head, body.as_bytes())
+}
+
+/// The answer that tells this refusal by rule.
+pub fn refused_answer(alloc: Global, why: Refusal, is_last: bool) -> Result<Vec<u8>, AllocError>
+    ensures { IfOk result (λ text. text.items ≡ refused_answer is_last why) }
+{
+    told_answer(alloc, &Told::Reply(Reply::Refused(why)), is_last)
+}
+
+/// The answer with a body that was asked for.
+pub fn shown_answer(
+    alloc: Global,
+    kind: BodyKind,
+    body: &str,
+    is_last: bool,
+) -> Result<Vec<u8>, AllocError>
+    ensures { IfOk result (λ text. text.items ≡ shown_answer is_last kind body.now) }
+{
+    let head = AnswerHead {
+        status: StatusCode::OK,
+        kind,
+        allow: None,
+        is_last,
+    };
+    answer_bytes(alloc, head, body.as_bytes())
+}

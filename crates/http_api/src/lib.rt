@@ -1,0 +1,14 @@
+//! The service over HTTP/1.1: numbered requests and imports are posted, and rings are read.
+//!
+//! `serve_stream` serves any reader and any writer by a book of the builder. What a request is
+//! answered stands in `specs/Http.antt`; that the deliveries of all requests are one run of the
+//! book, in `specs/Served.antt`.
+#![tactic(auto)]
+
+mod answers;
+mod clock;
+mod reads;
+mod service;
+
+pub use clock::{Clock, KnownClock};
+pub use service::serve_stream;

@@ -1,0 +1,4 @@
+pub mod FieldLemmas
+pub mod NumberLemmas
+pub mod RequestLemmas
+pub mod OneRequest

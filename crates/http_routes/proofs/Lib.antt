@@ -1,0 +1,3 @@
+pub mod Slashes
+pub mod Pairs
+pub mod Told

@@ -1,0 +1,85 @@
+-- What a route asks for is what its target asks for.
+use Rattle.std.proofs.Common.{◌≡◌, ℕ, List, [], refl, sym, ap, subst, ◌∙◌, Result, Ok, Err}
+use Rattle.std.specs.Prelude.{MatchResult}
+use Rattle.http_requests.specs.declared.request.Method.{Method}
+use Rattle.http_routes.specs.declared.routes.Endpoint.{Endpoint}
+use Rattle.http_routes.specs.declared.routes.Endpoint.TheVariants as endpoint
+use Rattle.http_routes.specs.declared.target.RingRead.TheVariants.{Devices, Balance, Nodes, Text}
+use Rattle.http_routes.specs.declared.target.TargetAsk.{TargetAsk}
+use Rattle.http_routes.specs.declared.target.TargetAsk.TheVariants.{Deliver, Import, Read}
+use Rattle.http_routes.specs.declared.target.TargetFault.{TargetFault}
+use Rattle.http_routes.specs.declared.target.TargetFault.TheVariants as fault
+use Rattle.http_routes.specs.Inner.Routing.{RouteAsks, RouteFails}
+use Rattle.http_routes.specs.Routes.{HasRoute, endpoint_method}
+use Rattle.http_routes.specs.Targets.{TargetAsks, TargetFails, target_path, target_query}
+
+module _ (target : List ℕ) (by : Method) (at : Endpoint) (ring version : List ℕ)
+    (route : HasRoute (target_path target) at ring version) (right : by ≡ endpoint_method at) where
+  abbrev Path : List ℕ
+  Path = target_path target
+
+  here : (other : Endpoint) → at ≡ other → HasRoute Path other ring version
+  here other is = subst (λ (e : Endpoint). HasRoute Path e ring version) is route
+
+  by_this : (other : Endpoint) → at ≡ other → by ≡ endpoint_method other
+  by_this other is = right ∙ ap endpoint_method is
+
+  pub told : (result : Result TargetAsk TargetFault) →
+      MatchResult result (RouteAsks at ring version (target_query target))
+      (RouteFails at ring version (target_query target))
+      → MatchResult result (TargetAsks target by) (TargetFails target by)
+  told (Ok Deliver) is = let h = here endpoint.Requests is in (
+    by_this endpoint.Requests is,
+    (h.0, refl, refl),
+  )
+  told (Ok (Import name key)) (is, named, label, query) =
+      let h = here endpoint.Import is in (
+        by_this endpoint.Import is,
+        subst (λ (n : List ℕ). HasRoute Path endpoint.Import n [])
+            (sym named) (h.0, h.1, refl),
+        rw named label,
+        query,
+      )
+  told (Ok (Read name Devices)) (is, named, label) =
+      let h = here endpoint.Devices is in (
+        by_this endpoint.Devices is,
+        rw named label,
+        subst (λ (n : List ℕ). HasRoute Path endpoint.Devices n []) (sym named) (h.0, h.1, refl),
+      )
+  told (Ok (Read name Balance)) (is, named, label) =
+      let h = here endpoint.Balance is in (
+        by_this endpoint.Balance is,
+        rw named label,
+        subst (λ (n : List ℕ). HasRoute Path endpoint.Balance n []) (sym named) (h.0, h.1, refl),
+      )
+  told (Ok (Read name (Nodes names))) (is, named, label, query, good) =
+      let h = here endpoint.Nodes is in (
+        by_this endpoint.Nodes is,
+        rw named label,
+        (
+          subst (λ (n : List ℕ). HasRoute Path endpoint.Nodes n []) (sym named) (h.0, h.1, refl),
+          query,
+          good,
+        ),
+      )
+  told (Ok (Read name (Text number))) (is, named, label, spelled) =
+      let h = here endpoint.Text is in (
+        by_this endpoint.Text is,
+        rw named label,
+        (
+          version,
+          subst (λ (n : List ℕ). HasRoute Path endpoint.Text n version) (sym named) h,
+          spelled,
+        ),
+      )
+  told (Err (fault.Route why)) f = absurd f
+  told (Err fault.Unreadable) f = (at, ring, version, route, right, f.0, f.1)
+  told (Err fault.BadPath) f =
+      let h = here endpoint.Nodes f.0 in (
+        ring,
+        (h.0, h.1, refl),
+        by_this endpoint.Nodes f.0,
+        f.1,
+        f.2,
+      )
+  told (Err fault.NoMemory) f = tt

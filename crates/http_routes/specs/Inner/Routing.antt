@@ -1,0 +1,41 @@
+-- What a route asks for whose path and method are right.
+use Rattle.std.specs.Prelude.{◌≡◌, ◌≢◌, ℕ, List, ⊤, IsTrue, true}
+use Rattle.path_lookup.specs.Names.{PathNames, is_path}
+use Rattle.ring_words.specs.Spelling.{SpellsNumber}
+use Rattle.ring_words.specs.Texts.{is_label}
+use Rattle.http_routes.specs.declared.routes.Endpoint.{Endpoint}
+use Rattle.http_routes.specs.declared.routes.Endpoint.TheVariants as endpoint
+use Rattle.http_routes.specs.declared.target.RingRead.TheVariants.{Devices, Balance, Nodes, Text}
+use Rattle.http_routes.specs.declared.target.TargetAsk.{TargetAsk}
+use Rattle.http_routes.specs.declared.target.TargetAsk.TheVariants.{Deliver, Import, Read}
+use Rattle.http_routes.specs.declared.target.TargetFault.{TargetFault}
+use Rattle.http_routes.specs.declared.target.TargetFault.TheVariants as fault
+use Rattle.http_routes.specs.Queries.{pairs_of, IsImportQuery, IsPathQuery}
+use Rattle.http_routes.specs.Targets.{IsMalformed}
+
+-- The route to this endpoint, with these segments and this query, asks for this.
+abbrev pub RouteAsks : Endpoint → List ℕ → List ℕ → List ℕ → TargetAsk → Type 0
+RouteAsks at ring version query Deliver = at ≡ endpoint.Requests
+RouteAsks at ring version query (Import name key) =
+    (at ≡ endpoint.Import) × (name ≡ ring) × IsTrue (is_label ring) × IsImportQuery (pairs_of query)
+    key
+RouteAsks at ring version query (Read name Devices) =
+    (at ≡ endpoint.Devices) × (name ≡ ring) × IsTrue (is_label ring)
+RouteAsks at ring version query (Read name Balance) =
+    (at ≡ endpoint.Balance) × (name ≡ ring) × IsTrue (is_label ring)
+RouteAsks at ring version query (Read name (Nodes names)) =
+    (at ≡ endpoint.Nodes) × (name ≡ ring) × IsTrue (is_label ring)
+    × IsPathQuery (pairs_of query) names × (is_path names ≡ true)
+RouteAsks at ring version query (Read name (Text number)) =
+    (at ≡ endpoint.Text) × (name ≡ ring) × IsTrue (is_label ring) ×
+    SpellsNumber version 0 4294967295 number
+
+-- The route asks for nothing, for this reason.
+abbrev pub RouteFails : Endpoint → List ℕ → List ℕ → List ℕ → TargetFault → Type 0
+RouteFails at ring version query (fault.Route why) = ⊥
+RouteFails at ring version query fault.Unreadable = (at ≢ endpoint.Requests) ×
+    IsMalformed at ring version query
+RouteFails at ring version query fault.BadPath =
+    (at ≡ endpoint.Nodes) × IsTrue (is_label ring)
+    × ((names : PathNames) → IsPathQuery (pairs_of query) names → is_path names ≢ true)
+RouteFails at ring version query fault.NoMemory = ⊤

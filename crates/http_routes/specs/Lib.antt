@@ -1,0 +1,4 @@
+pub mod Routes
+pub mod Queries
+pub mod Targets
+pub mod Inner

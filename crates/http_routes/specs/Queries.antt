@@ -1,0 +1,39 @@
+-- What queries say.
+use Rattle.std.specs.Prelude.{◌≡◌, ◌+◌, ℕ, List, [], ◌∷◌, IsTrue, Some, None, codes, length, map}
+use Rattle.std.specs.Prelude.{if◌then◌else◌}
+use Rattle.std.specs.List.{filter_map}
+use Rattle.std.specs.Option.{option_to_list}
+use Rattle.std.specs.Str.{bytes_eq}
+use Rattle.std.specs.Str.Lossy.{utf8_lossy}
+use Rattle.form_urlencoded.specs.Form.{decode, raw_pairs}
+use Rattle.ring_words.specs.Spelling.{SpellsNumber}
+use Rattle.ring_words.specs.Texts.{is_label}
+use Rattle.ring_words.specs.declared.request.Key.{Key}
+use Rattle.path_lookup.specs.Names.{PathNames}
+
+-- the pairs of a query, each a name and a value, decoded; bytes that are no UTF-8 stand as U+FFFD
+abbrev pub pairs_of : List ℕ → List (List ℕ × List ℕ)
+pairs_of query = map (λ pair. (utf8_lossy (decode pair.0), utf8_lossy (decode pair.1)))
+    (raw_pairs query)
+
+-- the values of the pairs of this name, in order
+abbrev pub values_of_pairs : List ℕ → List (List ℕ × List ℕ) → List (List ℕ)
+values_of_pairs name pairs = filter_map (λ pair. if bytes_eq pair.0 name then Some pair.1 else
+    None) pairs
+
+-- The query of an import: a caller and a number, once each, and nothing else.
+pub record IsImportQuery (pairs : List (List ℕ × List ℕ)) (key : Key) : Type 0 where
+  pub number : List ℕ
+  pub caller_once : values_of_pairs (codes "caller") pairs ≡ key.caller ∷ []
+  pub caller_named : IsTrue (is_label key.caller)
+  pub number_once : values_of_pairs (codes "number") pairs ≡ number ∷ []
+  pub number_spelled : SpellsNumber number 0 4294967295 key.number
+  pub nothing_else : length pairs ≡ 2
+
+-- The query of a path: an account, a container and an object at most once each, and nothing else.
+pub record IsPathQuery (pairs : List (List ℕ × List ℕ)) (names : PathNames) : Type 0 where
+  pub account : values_of_pairs (codes "account") pairs ≡ names.account ∷ []
+  pub container : values_of_pairs (codes "container") pairs ≡ option_to_list names.container
+  pub object : values_of_pairs (codes "object") pairs ≡ option_to_list names.object
+  pub nothing_else : length pairs
+      ≡ 1 + length (option_to_list names.container) + length (option_to_list names.object)

@@ -1,0 +1,83 @@
+-- What a target asks for, and why it may ask for nothing.
+use Rattle.std.specs.Prelude.{◌≡◌, ◌≢◌, ◌⊎◌, ◌==◌, ◌+◌, ℕ, List, [], ⊤, IsTrue, true, drop, length}
+use Rattle.std.specs.Prelude.{position, take, unwrap_or}
+use Rattle.http_answers.specs.declared.faults.RouteFault.TheVariants.{NoRoute, WrongMethod}
+use Rattle.http_requests.specs.declared.request.Method.{Method}
+use Rattle.http_requests.specs.declared.request.Method.TheVariants as method
+use Rattle.path_lookup.specs.Names.{PathNames, is_path}
+use Rattle.ring_words.specs.Spelling.{SpellsNumber}
+use Rattle.ring_words.specs.Texts.{is_label}
+use Rattle.ring_words.specs.declared.request.Key.{Key}
+use Rattle.http_routes.specs.declared.routes.Endpoint.{Endpoint}
+use Rattle.http_routes.specs.declared.routes.Endpoint.TheVariants as endpoint
+use Rattle.http_routes.specs.declared.target.TargetAsk.{TargetAsk}
+use Rattle.http_routes.specs.declared.target.TargetAsk.TheVariants.{Deliver, Import, Read}
+use Rattle.http_routes.specs.declared.target.RingRead.{RingRead}
+use Rattle.http_routes.specs.declared.target.RingRead.TheVariants.{Devices, Balance, Nodes, Text}
+use Rattle.http_routes.specs.declared.target.TargetFault.{TargetFault}
+use Rattle.http_routes.specs.declared.target.TargetFault.TheVariants as fault
+use Rattle.http_routes.specs.Queries.{pairs_of, IsImportQuery, IsPathQuery}
+use Rattle.http_routes.specs.Routes.{endpoint_method, HasRoute}
+
+-- where the first question mark of a target is, or its end
+abbrev pub path_end : List ℕ → ℕ
+path_end target = unwrap_or (position (λ byte. byte == 63) target) (length target)
+
+-- the part of a target before its first question mark
+abbrev pub target_path : List ℕ → List ℕ
+target_path target = take (path_end target) target
+
+-- the part of a target behind its first question mark
+abbrev pub target_query : List ℕ → List ℕ
+target_query target = drop (path_end target + 1) target
+
+-- The path and the query ask that this is read of the ring of this name.
+abbrev pub ReadsRing : List ℕ → List ℕ → List ℕ → RingRead → Type 0
+ReadsRing path query ring Devices = HasRoute path endpoint.Devices ring []
+ReadsRing path query ring Balance = HasRoute path endpoint.Balance ring []
+ReadsRing path query ring (Nodes names) =
+    HasRoute path endpoint.Nodes ring [] × IsPathQuery (pairs_of query) names ×
+    (is_path names ≡ true)
+ReadsRing path query ring (Text version) =
+    (segment : List ℕ) × HasRoute path endpoint.Text ring segment ×
+    SpellsNumber segment 0 4294967295 version
+
+-- The target asks for this by this method. The names of rings and the numbers are of their forms.
+abbrev pub TargetAsks : List ℕ → Method → TargetAsk → Type 0
+TargetAsks target by Deliver = (by ≡ method.Post) × HasRoute (target_path target) endpoint.Requests
+    [] []
+TargetAsks target by (Import ring key) =
+    (by ≡ method.Post) × HasRoute (target_path target) endpoint.Import ring [] ×
+    IsTrue (is_label ring)
+    × IsImportQuery (pairs_of (target_query target)) key
+TargetAsks target by (Read ring read) =
+    (by ≡ method.Get) × IsTrue (is_label ring) × ReadsRing (target_path target)
+    (target_query target) ring read
+
+-- What stands in a route is not of its form: the ring's name, the version, or the query of an
+-- import.
+abbrev pub IsMalformed : Endpoint → List ℕ → List ℕ → List ℕ → Type 0
+IsMalformed at ring version query =
+    (IsTrue (is_label ring) → ⊥)
+    ⊎ ((at ≡ endpoint.Import) × ((key : Key) → IsImportQuery (pairs_of query) key → ⊥))
+    ⊎ ((at ≡ endpoint.Text) × ((number : ℕ) → SpellsNumber version 0 4294967295 number → ⊥))
+
+-- The target asks by this method for nothing, for this reason. Want of memory says nothing.
+abbrev pub TargetFails : List ℕ → Method → TargetFault → Type 0
+TargetFails target by (fault.Route NoRoute) =
+    (at : Endpoint) (ring version : List ℕ) → HasRoute (target_path target) at ring version → ⊥
+TargetFails target by (fault.Route (WrongMethod other)) =
+    (at : Endpoint) × (ring : List ℕ) × (version : List ℕ) × HasRoute (target_path target) at ring
+    version
+    × (other ≡ endpoint_method at) × (by ≢ other)
+TargetFails target by fault.Unreadable =
+    (at : Endpoint) × (ring : List ℕ) × (version : List ℕ) × HasRoute (target_path target) at ring
+    version
+    × (by ≡ endpoint_method at) × (at ≢ endpoint.Requests) ×
+    IsMalformed at ring version (target_query target)
+TargetFails target by fault.BadPath =
+    (ring : List ℕ) × HasRoute (target_path target) endpoint.Nodes ring [] × (by ≡ method.Get) ×
+    IsTrue (is_label ring)
+    × ((names : PathNames) → IsPathQuery (pairs_of (target_query target)) names →
+    is_path names ≢ true)
+TargetFails target by fault.NoMemory = ⊤

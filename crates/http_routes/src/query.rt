@@ -1,0 +1,111 @@
+//! Queries.
+ghost use Rattle.std.specs.Prelude.{◌≡◌, ℕ, List, [], ◌∷◌, ◌≤◌, IfOk, length, map, string_bytes};
+ghost use Rattle.http_routes.specs.Queries.{pairs_of, values_of_pairs, IsImportQuery, IsPathQuery};
+ghost use Rattle.http_routes.specs.Inner.Pairs.{IsValueFound, ReadsPath, decoded, pair_text};
+ghost use Rattle.ring_words.specs.Spelling.{Reads};
+
+use form_urlencoded::{decode, raw_pairs};
+use path_lookup::{Path, PathFault};
+use ring_words::{Caller, Key, SpellingFault, read_name, read_number};
+use std::alloc::{AllocError, Global};
+
+/// A pair of a query.
+#[derive(Drop)]
+struct Pair {
+    name: String,
+    value: String,
+}
+
+/// How often a name comes in a query.
+#[derive(Clone, Copy, Debug)]
+enum ValueFound<'q> {
+    Missing,
+    One(&'q str),
+    Several,
+}
+
+fn read_pair(alloc: Global, name: &[u8], value: &[u8]) -> Result<Pair, AllocError>
+    ensures { IfOk result (λ pair. pair_text pair ≡ decoded (name.now, value.now)) }
+{
+    let name = decode(alloc, name)?.into_owned(alloc)?;
+    let value = decode(alloc, value)?.into_owned(alloc)?;
+    Ok(Pair { name, value })
+}
+
+/// The pairs of a query.
+fn read_pairs(alloc: Global, query: &[u8]) -> Result<Vec<Pair>, AllocError>
+    ensures { IfOk result (λ pairs. map pair_text pairs.items ≡ pairs_of query.now) }
+{
+    let mut pairs = Vec::new(alloc);
+    for (name, value) in raw_pairs(query) {
+        pairs.push(read_pair(alloc, name, value)?)?;
+    }
+    Ok(pairs)
+}
+
+/// The value of the pair of this name, if there is one such pair.
+fn find<'q>(pairs: &'q [Pair], name: &str) -> ValueFound<'q>
+    ensures { IsValueFound result (values_of_pairs name.now (map pair_text pairs.now)) }
+{
+    let mut found = ValueFound::Missing;
+    for pair in pairs {
+        if pair.name.as_str() == name {
+            found = match found {
+                ValueFound::Missing => ValueFound::One(pair.value.as_str()),
+                _ => ValueFound::Several,
+            };
+        }
+    }
+    found
+}
+
+/// The key that the query of an import says. Bad exactly where it is no such query.
+pub fn read_key(alloc: Global, query: &[u8]) -> Result<Key, SpellingFault>
+    ensures { Reads (IsImportQuery (pairs_of query.now)) result }
+{
+    let pairs = read_pairs(alloc, query)?;
+    let ValueFound::One(caller) = find(&pairs, "caller") else {
+        return Err(SpellingFault::Bad);
+    };
+    let ValueFound::One(number) = find(&pairs, "number") else {
+        return Err(SpellingFault::Bad);
+    };
+    if pairs.len() != 2 {
+        return Err(SpellingFault::Bad);
+    }
+    let number = read_number(number, u32::MAX)?;
+    let caller: Caller = read_name(alloc, caller)?;
+    Ok(Key { caller, number })
+}
+
+/// The path that the query of a lookup says. BadPath exactly where it is no such query, or the
+/// names are not of their forms.
+pub fn read_path(alloc: Global, query: &[u8]) -> Result<Path, PathFault>
+    ensures { ReadsPath (pairs_of query.now) result }
+{
+    let pairs = read_pairs(alloc, query)?;
+    let ValueFound::One(account) = find(&pairs, "account") else {
+        return Err(PathFault::BadPath);
+    };
+    let mut known = 1;
+    let container = match find(&pairs, "container") {
+        ValueFound::Missing => None,
+        ValueFound::One(container) => {
+            known += 1;
+            Some(container.as_bytes())
+        }
+        ValueFound::Several => return Err(PathFault::BadPath),
+    };
+    let object = match find(&pairs, "object") {
+        ValueFound::Missing => None,
+        ValueFound::One(object) => {
+            known += 1;
+            Some(object.as_bytes())
+        }
+        ValueFound::Several => return Err(PathFault::BadPath),
+    };
+    if pairs.len() != known {
+        return Err(PathFault::BadPath);
+    }
+    Path::new(alloc, account.as_bytes(), container, object)
+}

@@ -1,0 +1,136 @@
+//! What a target asks for.
+ghost use Rattle.std.specs.Prelude.{◌≡◌, ◌==◌, MatchResult, position};
+ghost use Rattle.http_routes.specs.Targets.{TargetAsks, TargetFails, target_path, target_query};
+ghost use Rattle.http_routes.specs.Inner.Routing.{RouteAsks, RouteFails};
+
+use crate::query::{read_key, read_path};
+use crate::routes::{Endpoint, FoundRoute, find_route};
+use http_answers::RouteFault;
+use http_requests::Method;
+use path_lookup::{Path, PathFault};
+use ring_words::{Key, RingName, SpellingFault, read_name, read_number};
+use std::alloc::Global;
+
+/// What a target asks for.
+#[derive(Drop)]
+pub enum TargetAsk {
+    /// That the message in the body is delivered.
+    Deliver,
+    /// That the table in the body is imported into a ring.
+    Import(RingName, Key),
+    /// That this is read of a ring.
+    Read(RingName, RingRead),
+}
+
+/// What is read of a ring.
+#[derive(Drop)]
+pub enum RingRead {
+    /// Its device table.
+    Devices,
+    /// Its balance table.
+    Balance,
+    /// The nodes of a path.
+    Nodes(Path),
+    /// Its text that is published under this version.
+    Text(u32),
+}
+
+/// Why a target asks for nothing.
+#[derive(Clone, Copy, Debug, PartialEq, Eq)]
+pub enum TargetFault {
+    /// It has no route, or has it by the other method.
+    Route(RouteFault),
+    /// A name or a number in it is not of its form, or the query of an import is none.
+    Unreadable,
+    /// The query of a lookup names no path.
+    BadPath,
+    /// A growth of memory was refused.
+    NoMemory,
+}
+
+impl From<SpellingFault> for TargetFault {
+    ghost use Rattle.http_routes.specs.Inner.Faults.{spelling_fault};
+
+    ghost from_gives = { λ fault made. made ≡ spelling_fault fault };
+
+    fn from(fault: SpellingFault) -> TargetFault {
+        match fault {
+            SpellingFault::Bad => TargetFault::Unreadable,
+            SpellingFault::NoMemory => TargetFault::NoMemory,
+        }
+    }
+}
+
+impl From<PathFault> for TargetFault {
+    ghost use Rattle.http_routes.specs.Inner.Faults.{path_fault};
+
+    ghost from_gives = { λ fault made. made ≡ path_fault fault };
+
+    fn from(fault: PathFault) -> TargetFault {
+        match fault {
+            PathFault::BadPath => TargetFault::BadPath,
+            PathFault::NoMemory => TargetFault::NoMemory,
+        }
+    }
+}
+
+/// Where the first question mark is.
+fn question_mark(target: &[u8]) -> Option<usize>
+    ensures { result ≡ position (λ byte. byte == 63) target.now }
+{
+    target.iter().position(|byte| *byte == b'?')
+}
+
+/// The parts of a target before and behind its first question mark.
+fn split_target(target: &[u8]) -> (&[u8], &[u8])
+    ensures path { result.0.now ≡ target_path target.now }
+    ensures query { result.1.now ≡ target_query target.now }
+{
+    match question_mark(target) {
+        Some(at) if at < target.len() => (&target[..at], &target[at + 1..]),
+        _ => (target, b"".as_slice()),
+    }
+}
+
+/// What a route asks for.
+fn read_route(alloc: Global, found: FoundRoute<'_>, query: &[u8]) -> Result<TargetAsk, TargetFault>
+    ensures { MatchResult result (RouteAsks found.entry.endpoint found.entry.ring.now
+        found.entry.version.now query.now)
+        (RouteFails found.entry.endpoint found.entry.ring.now found.entry.version.now query.now) }
+{
+    if found.endpoint == Endpoint::Requests {
+        return Ok(TargetAsk::Deliver);
+    }
+    let ring: RingName = read_name(alloc, found.ring)?;
+    match found.endpoint {
+        Endpoint::Requests => Ok(TargetAsk::Deliver),
+        Endpoint::Import => Ok(TargetAsk::Import(ring, read_key(alloc, query)?)),
+        Endpoint::Devices => Ok(TargetAsk::Read(ring, RingRead::Devices)),
+        Endpoint::Balance => Ok(TargetAsk::Read(ring, RingRead::Balance)),
+        Endpoint::Nodes => {
+            let path = read_path(alloc, query)?;
+            Ok(TargetAsk::Read(ring, RingRead::Nodes(path)))
+        }
+        Endpoint::Text => {
+            let version = read_number(found.version, u32::MAX)?;
+            Ok(TargetAsk::Read(ring, RingRead::Text(version)))
+        }
+    }
+}
+
+/// What a target asks for by a method. The path is looked at first, then the method, then the
+/// ring's name, and then the version or the query. Segments are taken as they stand, and the values
+/// of a query are decoded.
+pub fn read_target(alloc: Global, method: Method, target: &[u8]) -> Result<TargetAsk, TargetFault>
+    ensures { MatchResult result (TargetAsks target.now method) (TargetFails target.now method) }
+{
+    let (path, query) = split_target(target);
+    let Some(found) = find_route(path) else {
+        return Err(TargetFault::Route(RouteFault::NoRoute));
+    };
+    let allowed = found.endpoint.method();
+    if method != allowed {
+        return Err(TargetFault::Route(RouteFault::WrongMethod(allowed)));
+    }
+    read_route(alloc, found, query)
+}

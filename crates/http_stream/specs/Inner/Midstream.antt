@@ -1,0 +1,63 @@
+-- What the parts of the server know in mid-stream.
+use Rattle.std.specs.Prelude.{◌≡◌, ℕ, ◌-◌, ◌^◌, ◌<◌, ◌≤◌, min, Bool, true, false, List, [], ◌∷◌}
+use Rattle.std.specs.Prelude.{length, Option}
+use Rattle.std.specs.Io.KnownBytes.{Appends}
+use Rattle.byte_streams.specs.declared.fault.StreamFault.{StreamFault}
+use Rattle.byte_streams.specs.declared.fault.StreamFault.TheVariants.{ReadFailed, WriteFailed}
+use Rattle.byte_streams.specs.declared.fault.StreamFault.TheVariants.{NoMemory}
+use Rattle.byte_streams.specs.InTurn.{InTurn}
+use Rattle.byte_streams.specs.Writing.{Forwards, WritesBeginning}
+use Rattle.http_requests.specs.Requests.{HasAsk}
+use Rattle.http_stream.specs.Streams.{Item, Calls, Refuses, Follow, BeginWith}
+use Rattle.http_stream.specs.Answers.{joined}
+
+-- The bytes begin with these requests, of which none is the last, and then the rest comes.
+abbrev pub LeadTo : List ℕ → List Item → List ℕ → Type 0
+LeadTo bytes [] rest = rest ≡ bytes
+LeadTo bytes (Refuses why ∷ items) rest = ⊥
+LeadTo bytes (Calls ask ∷ items) rest =
+    (mid : List ℕ) × HasAsk bytes ask mid × (ask.is_last ≡ false) × LeadTo mid items rest
+
+module _ {S : Type 0} (gives : S → Item → List ℕ → S → Type 0) where
+  -- The requests in the bytes up to the rest are answered, and none of them is the last. The
+  -- answers are written or wait.
+  pub record IsMidstream (bytes : List ℕ) (before now : Option (List ℕ)) (old new : S)
+      (rest waiting : List ℕ)
+      (count : ℕ) : Type 0 where
+    pub items : List Item
+    pub leads : LeadTo bytes items rest
+    pub texts : List (List ℕ)
+    pub in_turn : InTurn gives old items texts new
+    pub forwards : Forwards before now (joined texts) waiting
+    pub count_is : count ≡ min (length items) (2 ^ 32 - 1)
+
+  -- The requests in the bytes are answered up to the last. The answers are written or wait.
+  pub record IsOver (bytes : List ℕ) (before now : Option (List ℕ)) (old new : S) (waiting : List ℕ)
+      (count : ℕ)
+      : Type 0 where
+    pub items : List Item
+    pub follow : Follow (λ rest. ⊥) bytes items
+    pub texts : List (List ℕ)
+    pub in_turn : InTurn gives old items texts new
+    pub forwards : Forwards before now (joined texts) waiting
+    pub count_is : count ≡ min (length items) (2 ^ 32 - 1)
+
+  -- Some requests in the bytes were answered, and a beginning of the answers was written.
+  pub record IsBroken (bytes : List ℕ) (before now : Option (List ℕ)) (old new : S) : Type 0 where
+    pub items : List Item
+    pub begin : BeginWith bytes items
+    pub texts : List (List ℕ)
+    pub in_turn : InTurn gives old items texts new
+    pub written : WritesBeginning before now (joined texts)
+
+-- So many bytes are there, or fewer and the input has ended.
+abbrev pub IsFilledUp : Bool → ℕ → ℕ → Type 0 → Type 0
+IsFilledUp true wanted count at_end = wanted ≤ count
+IsFilledUp false wanted count at_end = (count < wanted) × at_end
+
+-- A read failed before so many bytes were there, with what waited written; or a write failed.
+abbrev pub FailedToRead : StreamFault → ℕ → ℕ → Option (List ℕ) → Option (List ℕ) → List ℕ → Type 0
+FailedToRead ReadFailed wanted count before after waiting = (count < wanted) ×
+    Appends before after waiting
+FailedToRead WriteFailed wanted count before after waiting = WritesBeginning before after waiting
+FailedToRead NoMemory wanted count before after waiting = ⊥

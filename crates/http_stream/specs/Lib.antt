@@ -1,0 +1,4 @@
+pub mod Streams
+pub mod Answers
+pub mod Serving
+pub mod Inner

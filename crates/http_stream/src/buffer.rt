@@ -1,0 +1,83 @@
+//! The bytes that were read and are not answered yet.
+ghost use Rattle.std.specs.Prelude.{◌≡◌, ◌≤◌, ◌+◌, ◌++◌, ℕ, List, [], length, drop, IfOk, IsTrue};
+ghost use Rattle.std.specs.Prelude.{◌↔◌, ◌<◌, vec_len, vec_capacity};
+ghost use Rattle.httparse.specs.Spans.{IsWithin, span_bytes};
+ghost use Rattle.http_requests.specs.Requests.{IsLook};
+
+use http_requests::{Look, look_at};
+use httparse::spans::Span;
+use std::alloc::{AllocError, Global};
+use std::marker::Model;
+
+/// How many bytes there is room for: a request of the greatest length, and one more read.
+const ROOM: usize = 139264;
+
+/// The bytes that were read and are not answered yet. Contracts see them as a list.
+#[derive(Drop)]
+pub struct Buffer {
+    bytes: Vec<u8>,
+    /// How many of the bytes are answered.
+    start: usize,
+}
+
+impl Model for Buffer {
+    ghost Value = { List ℕ };
+
+    ghost view = { λ buffer. drop buffer.start buffer.bytes.items };
+
+    ghost invariant = { λ buffer. (buffer.start ≤ vec_len buffer.bytes) ×
+        (vec_len buffer.bytes ≤ 139264)
+        × (139264 ≤ vec_capacity buffer.bytes) };
+}
+
+impl Buffer {
+    /// An empty one, with all its room.
+    pub fn new(alloc: Global) -> Result<Buffer, AllocError>
+        ensures { IfOk result (λ buffer. buffer ≡ []) }
+    {
+        Ok(Buffer {
+            bytes: Vec::with_capacity(alloc, ROOM)?,
+            start: 0,
+        })
+    }
+
+    /// What is at the front.
+    pub fn look(&self) -> Look
+        ensures { IsLook self.now result }
+    {
+        look_at(&self.bytes[self.start..])
+    }
+
+    /// The bytes of a part.
+    pub fn part(&self, span: Span) -> &[u8]
+        requires { IsWithin (length self.now) span }
+        ensures { result.now ≡ span_bytes self.now span }
+    {
+        span.of(&self.bytes[self.start..])
+    }
+
+    /// Whether there are at least so many bytes.
+    pub fn has(&self, count: usize) -> bool
+        ensures { IsTrue result ↔ (count ≤ length self.now) }
+    {
+        count <= self.bytes.len() - self.start
+    }
+
+    /// Drops the first bytes.
+    pub fn consume(&mut self, count: usize)
+        requires { count ≤ length self.old }
+        ensures { self.new ≡ drop count self.old }
+    {
+        self.start += count;
+    }
+
+    /// Adds what was read.
+    pub fn add(&mut self, more: &[u8])
+        requires { length self.old + length more.now ≤ 139264 }
+        ensures { self.new ≡ self.old ++ more.now }
+    {
+        drop(self.bytes.drain(..self.start));
+        self.start = 0;
+        self.bytes.extend_from_slice(more).unwrap();
+    }
+}
