@@ -1,0 +1,74 @@
+-- From one connection of a keeper to the next.
+use Rattle.std.proofs.Common.{◌≡◌, ◌≢◌, ◌+◌, Err, Ok, ap, arith, refl, rules, subst, sym}
+use Rattle.std.specs.Prelude.{◌++◌, ◌∷◌, [], Bool, List, length, ◌≤◌, ◌↔◌, ℕ, IsTrue, Result, cond}
+use Rattle.std.specs.Prelude.{nat_le, nat_lt}
+use Rattle.request_book.specs.declared.keeper.KeepFault.{KeepFault}
+use Rattle.request_book.specs.declared.keeper.KeepFault.TheVariants.{NoMemory, Store}
+use Rattle.request_book.specs.Keeper.{Gains}
+use Rattle.sqlite_trees.specs.Tree.{Trees}
+use Rattle.sqlite_trees.specs.View.{doubt}
+use Rattle.sqlite_trees.specs.declared.store.Store.{Ghosts}
+use Rattle.sqlite.specs.Held.{Held, state}
+use Rattle.sqlite.specs.State.{HasCleanDisk}
+use Rattle.store_rows.specs.RingRows.{NamedRings}
+use Rattle.store_rows.specs.Stands.{DecidedRequest, RingContent, gained}
+use Rattle.store_rows.specs.Differences.{with_state}
+use Rattle.builder_store.specs.Standing.{Holds, IsKnown, StandsAlone, content_told, is_known}
+use Rattle.builder_store.specs.Inner.Known.{told_is, told_stands, whole_trees}
+
+pub ok_other : {A : Type 0} (x : A) → ◌≢◌ {A = Result A KeepFault} (Ok x) (Err Store)
+ok_other x e = cc
+
+pub memory_other : {A : Type 0} → ◌≢◌ {A = Result A KeepFault} (Err NoMemory) (Err Store)
+memory_other e = cc
+
+-- the connection of a keeper whose store has failed
+failed : {A : Type 0} (n : ℕ) (last conn : A) → n ≡ 0 → cond (nat_lt 0 (n + 1)) last conn ≡ last
+failed n last conn e = subst (λ m. cond (nat_lt 0 (m + 1)) last conn ≡ last) (sym e) refl
+
+pub failed_trees : {S : Type 0} (g : Ghosts S) (n : ℕ) (last conn : Held S) → n ≡ 0 → (state g
+    (cond (nat_lt 0 (n + 1)) last conn)).committed.trees ≡ (state g last).committed.trees
+failed_trees g n last conn e = ap (λ h. (state g h).committed.trees) (failed n last conn e)
+
+-- what is committed stands for the content that is told, where the store hasn't failed
+pub told_now : {S : Type 0} (g : Ghosts S) (n : ℕ) (last conn : Held S) (rings : NamedRings)
+    (count hour : ℕ)
+    (holds : HasCleanDisk (state g conn) → Holds (state g (cond
+    (nat_lt 0 n) last conn)).committed.trees rings count hour) (other : RingContent) → n ≡ 0
+    → HasCleanDisk (state g conn)
+    → ∥ StandsAlone (state g conn).committed.trees (content_told (state g (cond
+    (nat_lt 0 n) last conn)).committed.trees (state g conn).is_clean (λ it. is_known
+    (holds it)) other) ∥₁
+told_now g n last conn rings count hour holds other none clean =
+    subst (λ db. ∥ StandsAlone db (content_told (state g (cond
+    (nat_lt 0 n) last conn)).committed.trees (state g conn).is_clean (λ it. is_known
+    (holds it)) other) ∥₁) (whole_trees g n last conn none)
+    (told_stands (state g (cond (nat_lt 0 n) last conn)).committed.trees (state g conn).is_clean
+    (λ it. is_known (holds it)) other clean)
+
+pub never : (n : ℕ) → n + 1 ≡ 0 → ⊥
+never n e = omega (arith, e)
+
+-- a book of so many requests is full
+pub full_at : (limit count n : ℕ) → n ≡ count → IsTrue (nat_le limit count) ↔ (limit ≤ n)
+full_at limit count n e = subst (λ m. IsTrue (nat_le limit count) ↔ (limit ≤ m)) (sym e)
+    (search rules)
+
+pub one_more : {A : Type 0} (xs : List A) (x : A) (count : ℕ) → length xs ≡ count → length
+    (xs ++ x ∷ []) ≡ count + 1
+one_more [] x count e = omega (arith, e)
+one_more (y ∷ ys) x count e = let rest = one_more ys x (length ys) refl in omega (arith, e, rest)
+
+-- where the tables stand for what a content gains, that is what is told
+pub gains_told : (db : Trees) (clean : Bool) (known : doubt clean ≡ 0 → IsKnown db)
+    (other content : RingContent) (entry : DecidedRequest) (after : NamedRings) → doubt clean ≡ 0
+    → ∥ StandsAlone db (gained (with_state content after) entry) ∥₁ → Gains content entry after
+    (content_told db clean known other)
+gains_told db clean known other content entry after is h =
+    subst (λ x. Gains content entry after x) (sym (told_is db clean known other (gained
+    (with_state content after) entry) is h)) (record {
+      appended = refl;
+      reached = refl;
+      latest =
+          refl;
+    })

@@ -1,0 +1,9 @@
+pub mod Settled
+pub mod Finds
+pub mod Nothing
+pub mod Opens
+pub mod Declared
+pub mod Empty
+pub mod Found
+pub mod Gained
+pub mod Keeping

@@ -1,0 +1,49 @@
+-- Tables without a row stand for no ring and no request.
+use Rattle.std.proofs.Common.{◌≡◌, ◌∙◌, ap, arith, inl, inr, subst, sym, ℤ}
+use Rattle.std.specs.Prelude.{is_some, cond, ◌+◌}
+use Rattle.std.specs.Cmp.{int_cmp_total}
+use Rattle.std.specs.FinMap.{empty, get-empty, insert, len, len-empty, len-insert}
+use Rattle.std.specs.Ordering.{int_cmp}
+use Rattle.sqlite_trees.specs.Objects.{catalog_tree}
+use Rattle.sqlite_catalog.specs.Listing.{Lists}
+use Rattle.sqlite_catalog.proofs.ReadLemmas.{lists_once}
+use Rattle.sqlite.specs.State.{State}
+use Rattle.sqlite.specs.Steps.{IsEmpty}
+use Rattle.store_tables.specs.Contents.{Contents}
+use Rattle.store_tables.specs.Store.{begun_contents}
+use Rattle.store_tables.specs.Tables.{schema_of_first}
+use Rattle.store_tables.specs.Entries.{Meta}
+use Rattle.store_rows.specs.Stands.{RingContent}
+use Rattle.builder_store.proofs.Declared.{made_once}
+use Rattle.builder_store.specs.Opening.{IsOpenedAs, OpensAs, no_contents, nothing}
+
+pub one_row : (key : ℤ) (m : Meta) → insert (empty {X = Meta} {R = int_cmp}) key m ≡ empty → ⊥
+one_row key m is =
+    let one = len-insert int_cmp_total (empty {X = Meta} {R = int_cmp}) key m ∙ ap (λ o. cond
+    (is_some o) (len (empty {X = Meta} {R = int_cmp})) (len
+    (empty {X = Meta} {R = int_cmp}) + 1)) (get-empty int_cmp key) in
+    let none = ap len is ∙ len-empty int_cmp Meta in
+    let zero = len-empty int_cmp Meta in
+    omega (arith, one, none, zero)
+
+pub nothing_only : (content : RingContent) → OpensAs no_contents content → content ≡ nothing
+nothing_only content opens = elim opens.stands [
+  | inl is ↦ absurd (one_row _ _ (ap (λ (c : Contents). c.meta) (sym is)))
+  | inr more ↦ elim more [
+    | inl is ↦ absurd (one_row _ _ (ap (λ (c : Contents). c.meta) (sym is)))
+    | inr none ↦ none.1
+  ]
+]
+
+-- what is opened of nothing
+pub opened_empty : (s : State) → IsEmpty s → (content : RingContent)
+    → IsOpenedAs s.committed.trees content → content ≡ nothing
+opened_empty s e content it =
+    let trees : s.committed.trees ≡ s.now.trees = ap (λ d. d.trees) (sym e.0.clean) in
+    let listed : Lists (s.now.trees catalog_tree) (schema_of_first it.0) = subst (λ db. Lists
+    (db catalog_tree) (schema_of_first it.0)) trees it.1.1.lists in
+    let made : it.0 ≡ 0 = made_once it.0 0 it.1.0 (omega arith) (lists_once
+    (s.now.trees catalog_tree) (schema_of_first it.0) s.now.schema listed
+    (e.1 e.0.is_open).0.lists ∙ e.2) in
+    nothing_only content (subst (λ n. OpensAs (begun_contents n s.committed.trees) content) made
+    it.2)

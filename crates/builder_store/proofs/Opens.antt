@@ -1,0 +1,98 @@
+-- What the steps of an opening lead to.
+use Rattle.std.proofs.Common.{◌≡◌, ◌∙◌, [], List, None, Option, Some, ap, arith, inl, inr, refl}
+use Rattle.std.proofs.Common.{subst}
+use Rattle.std.specs.Prelude.{◌⊎◌, IfOk, MatchOption, Result}
+use Rattle.sqlite_trees.specs.Tree.{Trees}
+use Rattle.sqlite.specs.Effect.{Database}
+use Rattle.sqlite.specs.State.{HasCleanDisk, State, Survives}
+use Rattle.sqlite.proofs.StateLemmas.{survives_then}
+use Rattle.std.specs.declared.alloc.Global.{Global}
+use Rattle.std.specs.declared.vec.Vec.{Vec}
+use Rattle.store_tables.specs.declared.changes.RowChange.{RowChange}
+use Rattle.store_tables.specs.declared.rows.MetaRow.{MetaRow}
+use Rattle.store_tables.specs.Changes.{prepared}
+use Rattle.store_tables.specs.Contents.{Contents, contents_of}
+use Rattle.store_tables.specs.Store.{IsBegun, IsStore}
+use Rattle.store_tables.proofs.Living.{lives_in}
+use Rattle.store_rows.specs.Judging.{IsFoundIn, meta_now}
+use Rattle.store_rows.specs.Stands.{IsHoldable, RingContent, contents_for, first_contents_for}
+use Rattle.store_rows.specs.declared.judging.Judged.{Judged}
+use Rattle.builder_store.specs.Opening.{OpensAs, no_contents, nothing}
+use Rattle.builder_store.specs.Inner.Opened.{Leads, LeadsTo, OpensRows}
+use Rattle.builder_store.specs.declared.fault.OpenFault.{OpenFault}
+use Rattle.builder_store.specs.declared.reading.Opened.{Opened}
+
+-- a store has all tables
+pub begun_store : (db : Database) → IsStore db → IsBegun 8 db
+begun_store db is = let lives = lives_in db is in record {
+  schema = lives.schema_is;
+  sound =
+      lives.sound;
+  ordered = lives.ordered;
+}
+
+pub survives_same : (s : State) (P : Trees → Type 0) → Survives s s P
+survives_same s P = record {
+  clean = omega arith;
+  shield = λ h. h;
+  counts = omega arith;
+  limit = refl;
+  closes = λ clean h. inl h;
+  crash = λ clean db h. inl h;
+}
+
+-- tables without a row stand for nothing
+pub nothing_opens : IsHoldable nothing → OpensAs no_contents nothing
+nothing_opens holdable = record { holdable = holdable; stands = inr (inr (refl, refl)) }
+
+-- and what is made of them stands for it too
+pub begun_is : (x : Contents) (meta : MetaRow) → x ≡ no_contents → meta ≡ meta_now 0
+    → prepared x [] meta ≡ contents_for nothing
+begun_is x meta empty is = ap (λ y. prepared y [] meta) empty ∙ ap (prepared no_contents []) is
+
+-- one step after a step that commits nothing
+pub opens_after : (c d : Contents) (old mid new : State) (r : Result Opened OpenFault)
+    → Survives old mid (λ _. ⊥) → (HasCleanDisk new → d ≡ c) → OpensRows d mid new r
+    → OpensRows c old new r
+opens_after c d old mid new r quiet is opens = record {
+  tables = opens.tables;
+  found = λ clean. subst (λ x. IfOk r (LeadsTo x new.committed.trees)) (is clean)
+      (opens.found clean);
+  survives = survives_then old mid new (λ _. ⊥) (Leads d) (Leads c) (λ clean db none. absurd none)
+      (λ clean db leads. subst (λ x. Leads x db) (is clean) leads) quiet opens.survives;
+}
+
+-- the content that was found in the rows
+pub found_opens : (c : Contents) (content : RingContent) (judged : Judged)
+    → IsFoundIn c content judged → OpensAs c content
+found_opens c content judged found = record {
+  holdable = found.holdable;
+  stands = by_schema
+      judged.migration found.stands;
+}
+  where
+    by_schema : (o : Option (Vec RowChange Global)) → MatchOption o (c ≡ contents_for content)
+        (λ changes. (c ≡ first_contents_for content) × (prepared c changes.items
+        (meta_now content.hour) ≡ contents_for content))
+        → (c ≡ contents_for content) ⊎ ((c ≡ first_contents_for content) ⊎ ((c ≡ no_contents) ×
+        (content ≡ nothing)))
+    by_schema None is = inl is
+    by_schema (Some changes) is = inr (inl is.0)
+
+-- tables that were migrated stand for the content that was found in them
+pub migrated_leads : (c : Contents) (judged : Judged) (changes : Vec RowChange Global)
+    (made : List RowChange) (meta : MetaRow) (db : Trees) → judged.migration ≡ Some changes
+    → made ≡ changes.items → meta ≡ meta_now judged.hour
+    → contents_of db ≡ prepared c made meta → (content : RingContent) → IsFoundIn c content judged
+    → Leads c db
+migrated_leads c judged changes made meta db some same is stands content found =
+    let both : (c ≡ first_contents_for content) × (prepared c changes.items
+    (meta_now content.hour) ≡ contents_for content) =
+    subst (λ o. MatchOption o (c ≡ contents_for content) (λ (xs : Vec RowChange Global).
+    (c ≡ first_contents_for content) × (prepared c xs.items
+    (meta_now content.hour) ≡ contents_for content))) some found.stands in (
+      content,
+      found_opens c content judged found,
+      stands ∙ ap (λ xs. prepared c xs meta) same ∙ ap
+          (prepared c changes.items) (is ∙ ap meta_now found.hour) ∙ both.1,
+    )

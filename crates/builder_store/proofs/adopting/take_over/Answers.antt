@@ -1,0 +1,55 @@
+use Rattle.std.proofs.Common.{◌≡◌, ◌∙◌, ap, arith, false, subst, sym}
+use Rattle.sqlite_trees.specs.View.{IsClean, IsShaped}
+use Rattle.sqlite_trees.specs.declared.store.Shape.TheVariants as shape
+use Rattle.sqlite_catalog.specs.Listing.{IsSound}
+use Rattle.store_tables.proofs.Orders.{if_ok_three, tables_ordered}
+use Rattle.builder_store.proofs.Settled.{open_if}
+use Rattle.builder_store.proofs.adopting.take_over.Goals as goal
+
+pub returns-clause-fresh : goal.returns-clause-fresh
+returns-clause-fresh g c =
+    let v = g.S.Store.view c.into_store-store.result in
+    if_ok_three c.over.result _ _ _ _ (λ conn opens trees least clean.
+    let early : IsClean v = omega (arith, least) in
+    let whole : v.is_broken ≡ false = sym (c.is_broken.ensures early) ∙ c.if-is_broken.false in
+    let was = opens clean in
+    let same = trees clean in
+    let sound : IsSound conn.schema v.trees = subst (IsSound conn.schema) same
+    (was.1 was.0.is_open).0 in
+    record {
+      is_open = was.0.is_open;
+      live = was.1;
+      ordered = λ t h. subst (λ db. IsShaped shape.Table (db t.tree)) (sym same)
+          (tables_ordered v conn.schema sound (g.met.S.Alter.listed c.into_store-store.result whole)
+          (g.met.S.Store.ordered c.into_store-store.result whole) t h);
+      committed = was.0.clean;
+    })
+    c.over.ensures.opens c.over.ensures.trees c.over.ensures.clean
+
+pub returns-clause-same : goal.returns-clause-same
+returns-clause-same g c =
+    let v = g.S.Store.view c.into_store-store.result in
+    if_ok_three c.over.result _ _ _ _ (λ conn opens trees least clean.
+    let early : IsClean v = omega (arith, least) in
+    let whole : v.is_broken ≡ false = sym (c.is_broken.ensures early) ∙ c.if-is_broken.false in
+    let is_open = open_if v.is_open v.is_broken (g.met.S.Store.broken_if_shut
+    c.into_store-store.result) whole in
+    ap (λ d. d.trees) (sym (opens clean).0.clean) ∙ trees clean ∙
+    (c.into_store-store.ensures.undone.undone is_open).0)
+    c.over.ensures.opens c.over.ensures.trees c.over.ensures.clean
+
+pub returns-clause-crash : goal.returns-clause-crash
+returns-clause-crash g c =
+    let v = g.S.Store.view c.into_store-store.result in
+    if_ok_three c.over.result _ _ _ _ (λ conn opens trees least clean db may.
+    let early : IsClean v = omega (arith, least) in
+    let whole : v.is_broken ≡ false = sym (c.is_broken.ensures early) ∙ c.if-is_broken.false in
+    let is_open = open_if v.is_open v.is_broken (g.met.S.Store.broken_if_shut
+    c.into_store-store.result) whole in
+    let was = opens clean in
+    let undone = c.into_store-store.ensures.undone in
+    let same = ap (λ d. d.trees) (sym was.0.clean) ∙ trees clean ∙ (undone.undone is_open).0 in
+    subst (λ t. g.S.Store.recovers c.args.conn.store t) (sym
+    (g.met.S.Store.settled conn.store db was.0.is_open may ∙ same))
+    (g.met.S.Store.stays c.args.conn.store ((undone.kept early).was_open is_open)))
+    c.over.ensures.opens c.over.ensures.trees c.over.ensures.clean

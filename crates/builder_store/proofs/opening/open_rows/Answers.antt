@@ -1,0 +1,61 @@
+use Rattle.std.proofs.Common.{◌≡◌, ◌∙◌, ap, arith, subst, sym}
+use Rattle.std.specs.Prelude.{IfOk}
+use Rattle.sqlite.specs.Held.{state}
+use Rattle.sqlite.specs.State.{HasCleanDisk}
+use Rattle.sqlite.proofs.StateLemmas.{survives_then}
+use Rattle.store_tables.specs.Contents.{Contents, contents_of}
+use Rattle.store_tables.specs.Store.{IsStore}
+use Rattle.store_rows.specs.Judging.{IsFoundIn}
+use Rattle.builder_store.specs.Opening.{no_contents}
+use Rattle.builder_store.specs.Inner.Opened.{Leads, LeadsTo}
+use Rattle.builder_store.proofs.Opens.{begun_store, opens_after}
+use Rattle.builder_store.proofs.opening.open_rows.Goals as goal
+
+pub begin-requires-clause-begun : goal.begin-requires-clause-begun
+begin-requires-clause-begun g c = λ clean.
+    let old = state g.S.Store c.args.conn.now in
+    let was : HasCleanDisk old = omega (arith, c.in-Ok.ensures.reads.survives.clean, clean) in
+    let same = c.in-Ok.ensures.reads.same clean in
+    begun_store _ (subst IsStore (sym same.0.now_is) (c.requires.tables was).store)
+
+pub returns-then-is_empty-clause-opens : goal.returns-then-is_empty-clause-opens
+returns-then-is_empty-clause-opens g c =
+    let old = state g.S.Store c.args.conn.now in
+    let mid = state g.S.Store c.read_rows.new.conn in
+    let new = state g.S.Store c.begin.new.conn in
+    let found : Contents = contents_of old.now.trees in
+    let reads = c.in-Ok.ensures.reads in
+    let empty : HasCleanDisk mid → found ≡ no_contents = λ clean. (c.is_empty.ensures found
+    (reads.answer clean)).0 c.if-is_empty.true in
+    let premise : HasCleanDisk mid → contents_of mid.now.trees ≡ no_contents = λ clean. ap
+    (λ d. contents_of d.trees) (reads.same clean).0.now_is ∙ empty clean in
+    opens_after found no_contents old mid new c.begin.result reads.survives (λ clean. sym (empty
+    (omega (arith, (c.begin.ensures.opens premise).survives.clean, clean))))
+    (c.begin.ensures.opens premise)
+
+pub returns-in-Ok-judge-clause-opens : goal.returns-in-Ok-judge-clause-opens
+returns-in-Ok-judge-clause-opens g c =
+    let old = state g.S.Store c.args.conn.now in
+    let mid = state g.S.Store c.read_rows.new.conn in
+    let new = state g.S.Store c.migrate.new.conn in
+    let found : Contents = contents_of old.now.trees in
+    let reads = c.in-Ok.ensures.reads in
+    let before : HasCleanDisk new → HasCleanDisk mid = λ clean. omega
+    (arith, c.migrate.ensures.survives.clean, clean) in
+    let same : HasCleanDisk new → contents_of mid.now.trees ≡ found = λ clean. ap
+    (λ d. contents_of d.trees) (reads.same (before clean)).0.now_is in
+    let judged = λ (clean : HasCleanDisk new). c.in-Ok-judge.ensures found (reads.answer
+    (before clean)) in
+    let is : (clean : HasCleanDisk new) → IsFoundIn (contents_of mid.now.trees)
+    (judged clean).0 c.in-Ok-judge.judged =
+    λ clean. subst (λ x. IsFoundIn x (judged clean).0 c.in-Ok-judge.judged) (sym (same clean))
+    (judged clean).1 in
+    record {
+      tables = c.migrate.ensures.tables;
+      found = λ clean. subst (λ x. IfOk c.migrate.result (LeadsTo x new.committed.trees))
+          (same clean) (c.migrate.ensures.found clean (judged clean).0 (is clean));
+      survives = survives_then old mid new (λ _. ⊥) _ (Leads found) (λ clean db none. absurd none)
+          (λ clean db leads. subst (λ x. Leads x db) (same clean) (leads (judged clean).0
+          (is clean)))
+          reads.survives c.migrate.ensures.survives;
+    }

@@ -1,0 +1,14 @@
+-- When a disk is in doubt.
+use Rattle.std.specs.Prelude.{◌≡◌, true, false}
+use Rattle.std.proofs.Common.{refl}
+use Rattle.sqlite_trees.specs.View.{doubt}
+
+-- There is no doubt of a clean disk.
+pub undoubted : doubt true ≡ 0
+unfolding doubt
+undoubted = refl
+
+-- And there is some of another one.
+pub doubted : doubt false ≡ 0 → ⊥
+unfolding doubt
+doubted h = cc

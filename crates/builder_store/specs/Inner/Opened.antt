@@ -1,0 +1,48 @@
+-- What the steps of an opening find and leave.
+use Rattle.std.specs.Prelude.{◌≡◌, IfOk, IsTrue, OnOk, Result, length}
+use Rattle.sqlite_trees.specs.Tree.{Trees}
+use Rattle.sqlite.specs.State.{HasCleanDisk, IsLive, State, Survives}
+use Rattle.store_tables.specs.Contents.{Contents, contents_of}
+use Rattle.store_tables.specs.Store.{AreOrdered}
+use Rattle.store_rows.specs.Stands.{RingContent, contents_for}
+use Rattle.builder_store.specs.Opening.{IsOpenedAs, OpensAs}
+use Rattle.builder_store.specs.Inner.Tables.{HasTables}
+use Rattle.builder_store.specs.declared.reading.Opened.{Opened}
+use Rattle.builder_store.specs.declared.fault.OpenFault.{OpenFault}
+
+-- The tables stand for the content that is found in these contents.
+abbrev pub Leads : Contents → Trees → Type 0
+Leads c db = (content : RingContent) × OpensAs c content × (contents_of db ≡ contents_for content)
+
+-- The same, and this is what is to be held of the content.
+pub record LeadsTo (c : Contents) (db : Trees) (held : Opened) : Type 0 where
+  pub content : RingContent
+  pub opens : OpensAs c content
+  pub stands : contents_of db ≡ contents_for content
+  pub rings : content.state ≡ held.rings
+  pub count : length content.book ≡ held.count
+  pub hour : content.hour ≡ held.hour
+
+-- A step that finds a content in these contents and leads to the tables that stand for it. A crash
+-- leaves what it could leave before, or tables that stand for that content.
+pub record OpensRows (c : Contents) (old new : State) (result : Result Opened OpenFault) : Type 0
+  where
+    pub tables : HasCleanDisk new → OnOk result (HasTables new)
+    pub found : HasCleanDisk new → IfOk result (LeadsTo c new.committed.trees)
+    pub survives : Survives old new (Leads c)
+
+-- What is known of a connection that was made over a store.
+pub record IsFresh (s : State) : Type 0 where
+  pub is_open : IsTrue s.is_open
+  pub live : IsLive s
+  pub ordered : AreOrdered s.now
+  pub committed : s.now ≡ s.committed
+
+-- An opening of the old trees leads to these, and this is what is to be held of the content.
+pub record IsOpenedTo (old db : Trees) (held : Opened) : Type 0 where
+  pub content : RingContent
+  pub opens : IsOpenedAs old content
+  pub stands : contents_of db ≡ contents_for content
+  pub rings : content.state ≡ held.rings
+  pub count : length content.book ≡ held.count
+  pub hour : content.hour ≡ held.hour

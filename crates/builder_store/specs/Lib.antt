@@ -1,0 +1,6 @@
+pub mod Codes
+pub mod Doubt
+pub mod Standing
+pub mod Opening
+pub mod Keepers
+pub mod Inner

@@ -1,0 +1,62 @@
+-- What an opening finds in the tables, and what it makes of them.
+use Rattle.std.specs.Prelude.{◌≡◌, ◌≤◌, ◌⊎◌, ℕ, []}
+use Rattle.std.specs.FinMap.{empty}
+use Rattle.sqlite_trees.specs.Tree.{Trees}
+use Rattle.sqlite_wal.specs.Recovery.{Image}
+use Rattle.sqlite.specs.Effect.{IsDatabase}
+use Rattle.sqlite.specs.Files.{AreFoundIn, HoldsDatabase}
+use Rattle.store_tables.specs.Contents.{Contents, contents_of}
+use Rattle.store_tables.specs.Store.{begun_contents}
+use Rattle.store_tables.specs.Tables.{schema_of_first}
+use Rattle.store_rows.specs.Stands.{IsHoldable, RingContent, contents_for, first_contents_for}
+
+-- Tables without a row.
+abbrev pub no_contents : Contents
+no_contents = record {
+  meta = empty;
+  rings = empty;
+  devices = empty;
+  seats = empty;
+  moved = empty;
+  published = empty;
+  requests = empty;
+  parts = empty;
+}
+
+-- No ring and no request, at hour 0.
+abbrev pub nothing : RingContent
+nothing = record { state = []; book = []; hour = 0 }
+
+-- Tables of this schema or of the first one that stand for this content, or tables without a row,
+-- for no ring and no request.
+pub record OpensAs (c : Contents) (content : RingContent) : Type 0 where
+  pub holdable : IsHoldable content
+  pub stands : (c ≡ contents_for content) ⊎ ((c ≡ first_contents_for content) ⊎ ((c ≡ no_contents)
+      × (content ≡ nothing)))
+
+-- The first so many tables of the store are there, declared as in the store, and nothing else.
+abbrev pub AreDeclared : ℕ → Trees → Type 0
+AreDeclared made db = (made ≤ 8) × IsDatabase (record { schema = schema_of_first made; trees = db })
+
+-- An opening of these trees finds this content.
+abbrev pub IsOpenedAs : Trees → RingContent → Type 0
+IsOpenedAs db content = (made : ℕ) × AreDeclared made db × OpensAs (begun_contents made db) content
+
+-- An opening of files that held this finds this content: it opens the trees that they recover to,
+-- which are those of the database that they hold, if they hold one.
+pub record IsOpenedFrom (image : Image) (content : RingContent) : Type 0 where
+  pub trees : Trees
+  pub holds : (db : Trees) → HoldsDatabase image db → trees ≡ db
+  pub reads : AreFoundIn image trees
+  pub opens : IsOpenedAs trees content
+
+-- The tables that were missing are there, and no row is another.
+abbrev pub KeepsRows : Trees → Trees → Type 0
+KeepsRows old db = (made : ℕ) × AreDeclared made old × (contents_of db ≡ begun_contents made old)
+
+-- What an opening makes of the old trees: the tables that were missing, with no row changed; or the
+-- tables that stand for the content that it finds.
+abbrev pub IsMadeOf : Trees → Trees → Type 0
+IsMadeOf old db = KeepsRows old db
+    ⊎ ((made : ℕ) × AreDeclared made old × ((content : RingContent) × OpensAs
+    (begun_contents made old) content × (contents_of db ≡ contents_for content)))

@@ -1,0 +1,65 @@
+-- The content for which the tables stand, and what a crash may leave of it.
+use Rattle.std.specs.Prelude.{◌≡◌, ℕ, length, Bool, true, false, Option, Some, None}
+use Rattle.std.proofs.Math.Logic.{∥∥₁_elim, ∥∥₁_map}
+use mathlib.Core.Logic.{∥∥₁_prop}
+use mathlib.Core.HLevel.{Σ_prop_path}
+use Rattle.sqlite_trees.specs.Tree.{Trees}
+use Rattle.sqlite_trees.specs.View.{doubt}
+use Rattle.sqlite.specs.State.{State}
+use Rattle.store_tables.specs.Contents.{contents_of}
+use Rattle.store_rows.specs.RingRows.{NamedRings}
+use Rattle.store_rows.specs.Stands.{IsHoldable, RingContent, contents_for}
+use Rattle.builder_store.specs.Codes.{content_set}
+use Rattle.builder_store.specs.Doubt.{undoubted}
+
+-- The tables in these trees stand for this content: a store can hold it, and they contain what they
+-- do where it is held.
+pub record Stands (db : Trees) (content : RingContent) : Type 0 where
+  pub holdable : IsHoldable content
+  pub contents : contents_of db ≡ contents_for content
+
+-- They stand for this content and for no other.
+abbrev pub StandsAlone : Trees → RingContent → Type 0
+StandsAlone db content = Stands db content × ((other : RingContent) → Stands db other
+    → other ≡ content)
+
+-- They stand for one content.
+abbrev pub IsKnown : Trees → Type 0
+IsKnown db = ∥ ((content : RingContent) × StandsAlone db content) ∥₁
+
+alike : (db : Trees) (c d : RingContent) → ∥ StandsAlone db c ∥₁ → ∥ StandsAlone db d ∥₁ → c ≡ d
+alike db c d p q = ∥∥₁_elim p (content_set c d) (λ h. ∥∥₁_elim q (content_set c d) (λ k. k.1 c h.0))
+
+only_one : (db : Trees) → IsProp ((c : RingContent) × ∥ StandsAlone db c ∥₁)
+only_one db u v = Σ_prop_path (λ c. ∥∥₁_prop) (alike db u.0 v.0 u.1 v.1)
+
+-- The content for which they stand.
+pub the_content : (db : Trees) → IsKnown db → (content : RingContent) × ∥ StandsAlone db content ∥₁
+the_content db known = ∥∥₁_elim known (only_one db) (λ s. (s.0, ∣ s.1 ∣₁))
+
+-- The content for which they stand, while the disk is clean. Else nothing is known, and it is this
+-- one.
+abbrev pub content_told : (db : Trees) (is_clean : Bool) → (doubt is_clean ≡ 0 → IsKnown db)
+    → RingContent → RingContent
+content_told db true known other = (the_content db (known undoubted)).0
+content_told db false known other = other
+
+-- They stand for one content, and it has these rings, so many requests and this hour.
+abbrev pub Holds : Trees → NamedRings → ℕ → ℕ → Type 0
+Holds db rings count hour = ∥ ((content : RingContent) × StandsAlone db content ×
+    (content.state ≡ rings) × (length content.book ≡ count) × (content.hour ≡ hour)) ∥₁
+
+-- Where they hold that, they stand for one content.
+abbrev pub is_known : {db : Trees} {rings : NamedRings} {count hour : ℕ}
+    → Holds db rings count hour → IsKnown db
+is_known held = ∥∥₁_map held (λ h. (h.0, h.1))
+
+-- What an opening finds of trees: the content for which they stand, or nothing where they stand for
+-- none.
+abbrev pub Finds : Trees → Option RingContent → Type 0
+Finds db None = (content : RingContent) → ¬ Stands db content
+Finds db (Some content) = Stands db content
+
+-- A crash may leave trees of which an opening finds this.
+abbrev pub MayLeave : State → Option RingContent → Type 0
+MayLeave s left = (db : Trees) × s.may_leave db × Finds db left

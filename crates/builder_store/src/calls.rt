@@ -1,0 +1,95 @@
+//! What the keeper asks of its connection.
+
+ghost use Rattle.std.specs.Prelude.{◌≡◌, ◌≢◌, false, Err, IfOk, IsTrue};
+ghost use Rattle.sqlite.specs.Held.{state};
+ghost use Rattle.sqlite.specs.State.{HasCleanDisk, IsLive, IsUnchanged, Survives};
+ghost use Rattle.request_book.specs.Content.{entry_of};
+ghost use Rattle.request_book.specs.Keeper.{IsFound};
+ghost use Rattle.request_book.specs.declared.keeper.KeepFault.TheVariants.{NoMemory, Store};
+ghost use Rattle.store_rows.specs.Stands.{RingContent};
+ghost use Rattle.builder_store.specs.Standing.{Stands};
+ghost use Rattle.builder_store.specs.Inner.Tables.{HasTables, IsSettled};
+
+use request_book::{Found, KeepFault};
+use ring_words::{Command, Key, Reply, SpellingFault};
+use sqlite::{Alter, Connection, Error, ErrorCode};
+use std::alloc::Global;
+use store_rows::read_found;
+use store_tables::find_request;
+
+/// What is known of a connection that sees the tables outside a transaction: it sees a store, which
+/// is committed.
+pub(crate) fn settle<S: Alter>(conn: &Connection<S>)
+    ensures live { IsLive (state S.Store conn.now) }
+    ensures committed { conn.now.in_transaction ≡ false → IsTrue (state S.Store conn.now).is_open
+        → (state S.Store conn.now).now ≡ (state S.Store conn.now).committed }
+    ensures settled { conn.now.in_transaction ≡ false → HasTables (state S.Store conn.now)
+        → IsSettled (state S.Store conn.now) }
+{
+    let _schema = conn.schema();
+    let _ended = conn.is_autocommit();
+}
+
+/// Whether the store still answers. It asks for nothing and changes nothing.
+fn answers<S: Alter>(conn: &mut Connection<S>) -> bool
+    requires { conn.old.in_transaction ≡ false }
+    ensures mode { conn.new.in_transaction ≡ false }
+    ensures same { HasCleanDisk (state S.Store conn.new) → IsTrue result
+        → IsUnchanged (state S.Store conn.old) (state S.Store conn.new) }
+    ensures survives { Survives (state S.Store conn.old) (state S.Store conn.new) (λ _. ⊥) }
+{
+    conn.prepare("SELECT hour FROM meta").is_ok()
+}
+
+/// What a failed statement comes to: want of memory where the store is still open, and else the
+/// store has failed.
+///
+/// Want of memory may come with the store shut, and then nobody knows what was committed.
+pub(crate) fn cause<S: Alter>(conn: &mut Connection<S>, error: &Error) -> KeepFault
+    requires { conn.old.in_transaction ≡ false }
+    ensures mode { conn.new.in_transaction ≡ false }
+    ensures same { HasCleanDisk (state S.Store conn.new) → result ≡ NoMemory
+        → IsUnchanged (state S.Store conn.old) (state S.Store conn.new) }
+    ensures survives { Survives (state S.Store conn.old) (state S.Store conn.new) (λ _. ⊥) }
+{
+    let wants_memory = matches!(error, Error::SqliteFailure(ErrorCode::OutOfMemory));
+    if wants_memory && answers(conn) {
+        KeepFault::NoMemory
+    } else {
+        KeepFault::Store
+    }
+}
+
+/// What the tables have of a key and a command.
+pub(crate) fn find<S: Alter>(
+    alloc: Global,
+    conn: &mut Connection<S>,
+    key: &Key,
+    command: &Command,
+) -> Result<Found<Reply>, KeepFault>
+    requires mode { conn.old.in_transaction ≡ false }
+    requires tables { HasCleanDisk (state S.Store conn.old) → HasTables (state S.Store conn.old) }
+    ensures mode { conn.new.in_transaction ≡ false }
+    ensures tables { HasCleanDisk (state S.Store conn.new) → result ≢ Err Store
+        → HasTables (state S.Store conn.new) }
+    ensures found { HasCleanDisk (state S.Store conn.new) → (content : RingContent)
+        → Stands (state S.Store conn.old).committed.trees content
+        → IfOk result (IsFound (entry_of key.now content.book) command.now) }
+    ensures survives { Survives (state S.Store conn.old) (state S.Store conn.new) (λ _. ⊥) }
+{
+    settle(conn);
+    let answer = find_request(conn, key.caller.as_str(), key.number);
+    let kept = match answer {
+        Ok(kept) => kept,
+        Err(error) => {
+            let fault = cause(conn, &error);
+            settle(conn);
+            return Err(fault);
+        }
+    };
+    match read_found(alloc, kept, command) {
+        Ok(found) => Ok(found),
+        Err(SpellingFault::NoMemory) => Err(KeepFault::NoMemory),
+        Err(SpellingFault::Bad) => Err(KeepFault::Store),
+    }
+}

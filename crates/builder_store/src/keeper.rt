@@ -1,0 +1,233 @@
+//! The keeper.
+ghost use Rattle.std.specs.Prelude.{◌≡◌, ◌≤◌, [], cond, false, nat_lt};
+ghost use Rattle.sqlite.specs.Held.{state};
+ghost use Rattle.sqlite.specs.State.{HasCleanDisk};
+ghost use Rattle.builder_store.specs.Standing.{Holds};
+ghost use Rattle.builder_store.specs.Inner.Tables.{HasTables, fact_prop};
+
+use crate::adopting::{Left, fault_of, take_over};
+use crate::calls::find;
+use crate::fault::OpenFault;
+use crate::planning::keep;
+use crate::reading::Opened;
+use crate::starting::open_tables;
+use builder::RingMachine;
+use request_book::{Entry, Found, KeepFault, Keeper};
+use ring_model::Rings;
+use ring_words::{Command, Hour, Key, Limits, Reply};
+use sqlite::{Alter, Connection};
+use std::alloc::Global;
+use std::snapshot::Snapshot;
+use store_rows::laws::one_content;
+
+/// Keeps rings and decided requests in the tables of a SQL store. The rings, the count of the
+/// requests and the greatest hour are held in memory beside the tables.
+///
+/// After a fault of the store nobody knows what the connection shows. The content is then that of
+/// the tables as the call in which the store failed found them.
+pub struct SqlKeeper<S: Alter> {
+    alloc: Global,
+    conn: Connection<S>,
+    /// The connection as the last call found it.
+    last: Snapshot<Connection<S>>,
+    rings: Rings,
+    count: usize,
+    hour: Hour,
+    limit: u32,
+    faults: u64,
+    ghost small: { limit ≤ 100000 },
+    ghost idle: { conn.in_transaction ≡ false },
+    ghost tables: { faults ≡ 0 → HasCleanDisk (state S.Store conn) → HasTables
+        (state S.Store conn) } by { fact_prop (state S.Store conn) faults },
+    ghost holds: { HasCleanDisk (state S.Store conn)
+        → Holds (state S.Store (cond (nat_lt 0 faults) last.value conn)).committed.trees rings count
+        hour },
+}
+
+// It is written out, so that a caller does not prove again how each part is dropped.
+impl<S: Alter + Drop> Drop for SqlKeeper<S> {
+    fn drop(self) {
+        let SqlKeeper {
+            alloc: _,
+            conn: _,
+            last: _,
+            rings: _,
+            count: _,
+            hour: _,
+            limit: _,
+            faults: _,
+        } = self;
+    }
+}
+
+impl<S: Alter + Drop> SqlKeeper<S> {
+    ghost use Rattle.std.specs.Prelude.{IfErr, IfOk, ◌⊎◌};
+    ghost use Rattle.sqlite_trees.specs.Tree.{Trees};
+    ghost use Rattle.sqlite_trees.specs.View.{doubt};
+    ghost use Rattle.builder_store.specs.Keepers.{IsCleanLeft, content_of_keeper, left_may_leave};
+    ghost use Rattle.builder_store.specs.Opening.{IsMadeOf, IsOpenedAs, KeepsRows};
+    ghost use Rattle.builder_store.specs.declared.fault.OpenFault.TheVariants.{BadRows};
+
+    /// Opens what the connection's last commit holds, and keeps at most `limits.numbers` requests.
+    /// What the connection hasn't committed is rolled back.
+    ///
+    /// Makes the tables that are missing, judges every row, and migrates a store of schema 1 in one
+    /// transaction. A refused opening gives back what is left.
+    pub fn adopt(
+        alloc: Global,
+        conn: Connection<S>,
+        limits: Limits,
+    ) -> Result<SqlKeeper<S>, (OpenFault, Left<S>)>
+        ensures limit { IfOk result (λ k. k.limit ≡ limits.numbers) }
+        ensures faults { IfOk result (λ k. k.faults ≡ 0) }
+        ensures clean { IfOk result (λ k. doubt (state S.Store conn).is_clean ≤ doubt
+            (state S.Store k.conn).is_clean) }
+        ensures found { IfOk result (λ k. HasCleanDisk (state S.Store k.conn)
+            → IsOpenedAs (state S.Store conn).committed.trees (content_of_keeper k)) }
+        // Where the rows are refused, a crash leaves what it could leave before, or tables with the
+        // same rows.
+        ensures rows { IfErr result (λ e. e.0 ≡ BadRows → IsCleanLeft S.Store e.1 → (db : Trees)
+            → left_may_leave S.Store e.1 db
+            → (state S.Store conn).may_leave db ⊎ KeepsRows
+            (state S.Store conn).committed.trees db) }
+        // A crash after a refusal leaves what it could leave before, or what an opening makes of
+        // it.
+        ensures crash { IfErr result (λ e. IsCleanLeft S.Store e.1 → (db : Trees)
+            → left_may_leave S.Store e.1 db
+            → (state S.Store conn).may_leave db ⊎ IsMadeOf
+            (state S.Store conn).committed.trees db) }
+    {
+        one_content();
+        let mut conn = match take_over(alloc, conn) {
+            Ok(conn) => conn,
+            Err((error, store)) => return Err((fault_of(&error), Left::Store(store))),
+        };
+        match open_tables(alloc, &mut conn) {
+            Ok(Opened { rings, count, hour }) => Ok(SqlKeeper {
+                alloc,
+                last: Snapshot::of(&conn),
+                conn,
+                rings,
+                count,
+                hour,
+                limit: limits.numbers,
+                faults: 0,
+            }),
+            Err(fault) => Err((fault, Left::Connection(conn))),
+        }
+    }
+}
+
+impl<S: Alter> SqlKeeper<S> {
+    /// Gives the connection back. It takes no memory.
+    pub fn close(self) -> Connection<S>
+        ensures { result ≡ self.conn }
+    {
+        let SqlKeeper {
+            alloc: _,
+            conn,
+            last: _,
+            rings: _,
+            count: _,
+            hour: _,
+            limit: _,
+            faults: _,
+        } = self;
+        conn
+    }
+}
+
+impl<S: Alter> Keeper<RingMachine> for SqlKeeper<S> {
+    ghost use Rattle.builder_store.specs.Standing.{MayLeave, is_known};
+    ghost use Rattle.builder_store.specs.Keepers.{content_of_keeper};
+    ghost use Rattle.builder_store.specs.Inner.Leaves.{leaves_still};
+    ghost use Rattle.builder_store.specs.Inner.Known.{whole_trees};
+
+    ghost content = { λ k. content_of_keeper k };
+
+    ghost sound = { λ k. HasCleanDisk (state S.Store k.conn) };
+
+    ghost fault_count = { λ k. k.faults };
+
+    ghost limit = { λ k. k.limit };
+
+    ghost is_loaded = { λ _. Unit {0} };
+
+    ghost may_leave = { λ k left. MayLeave (state S.Store k.conn) left };
+
+    ghost settled = { λ k clean none. leaves_still (state S.Store.own k.conn) _ (λ it. is_known
+        (k.holds it)) _ clean
+        (whole_trees S.Store.own k.faults k.last.value k.conn none)
+        (λ db may. S.settled k.conn.store db (k.tables none clean).0 may) (S.stays k.conn.store (k.tables none clean).0) };
+
+    fn faults(&self) -> u64 {
+        self.faults
+    }
+
+    fn look(&mut self, key: &Key, command: &Command) -> Result<Found<Reply>, KeepFault> {
+        self.last = Snapshot::of(&self.conn);
+        match find(self.alloc, &mut self.conn, key, command) {
+            Ok(found) => Ok(found),
+            Err(KeepFault::NoMemory) => Err(KeepFault::NoMemory),
+            Err(KeepFault::Store) => {
+                self.faults += 1;
+                Err(KeepFault::Store)
+            }
+        }
+    }
+
+    fn is_full(&mut self) -> Result<bool, KeepFault> {
+        Ok(self.count >= self.limit as usize)
+    }
+
+    fn hour(&mut self) -> Result<Hour, KeepFault> {
+        Ok(self.hour)
+    }
+
+    fn load(&mut self) -> Result<(), KeepFault> {
+        Ok(())
+    }
+
+    fn state(&self) -> &Rings {
+        &self.rings
+    }
+
+    #[tactic(none)]
+    fn commit(
+        &mut self,
+        key: Key,
+        hour: Hour,
+        command: Command,
+        reply: Reply,
+        state: Rings,
+    ) -> Result<(), KeepFault> {
+        self.last = Snapshot::of(&self.conn);
+        let entry = Entry {
+            key,
+            hour,
+            command,
+            reply,
+        };
+        match keep(
+            self.alloc,
+            &mut self.conn,
+            &self.rings,
+            &state,
+            self.count,
+            self.limit,
+            &entry,
+        ) {
+            Ok(()) => {
+                self.rings = state;
+                self.count += 1;
+                self.hour = hour;
+                Ok(())
+            }
+            Err(KeepFault::NoMemory) => Err(KeepFault::NoMemory),
+            Err(KeepFault::Store) => {
+                self.faults += 1;
+                Err(KeepFault::Store)
+            }
+        }
+    }
+}

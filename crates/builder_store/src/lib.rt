@@ -1,0 +1,22 @@
+//! The keeper over a SQL store: the rings are held in memory beside the tables, and each decided
+//! request is one transaction that writes what it changed of them and its reply.
+#![tactic(auto)]
+
+mod adopting;
+mod calls;
+mod fault;
+mod keeper;
+pub mod laws;
+mod opening;
+mod over;
+mod planning;
+mod reading;
+mod starting;
+
+pub use adopting::Left;
+pub use fault::{FileFault, OpenFault};
+pub use keeper::SqlKeeper;
+pub use over::{open_from, open_memory};
+
+#[cfg(test)]
+mod tests;

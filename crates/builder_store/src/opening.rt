@@ -1,0 +1,142 @@
+//! Opening a store.
+ghost use Rattle.std.specs.Prelude.{◌≡◌, ◌≢◌, ◌≤◌, false, Err, IfOk, OnOk};
+ghost use Rattle.sqlite.specs.Held.{state};
+ghost use Rattle.sqlite.specs.State.{HasCleanDisk, Survives};
+ghost use Rattle.store_tables.specs.Contents.{contents_of};
+ghost use Rattle.store_tables.specs.Store.{CommitsTables, IsBegun, begun_contents};
+ghost use Rattle.store_rows.specs.Judging.{IsFoundIn};
+ghost use Rattle.store_rows.specs.Stands.{RingContent};
+ghost use Rattle.builder_store.specs.Opening.{no_contents};
+ghost use Rattle.builder_store.specs.Inner.Opened.{Leads, LeadsTo, OpensRows};
+ghost use Rattle.builder_store.specs.Inner.Tables.{HasTables, IsSettled};
+ghost use Rattle.builder_store.specs.declared.fault.OpenFault.TheVariants.{BadRows, BadTables};
+
+use crate::calls::cause;
+use crate::fault::OpenFault;
+use crate::reading::{Opened, is_empty, read_rows};
+use request_book::KeepFault;
+use ring_model::Rings;
+use ring_words::SpellingFault;
+use sqlite::{Alter, Connection, Error};
+use std::alloc::Global;
+use store_rows::laws::nothing_is_holdable;
+use store_rows::{Judged, judge, meta_row};
+use store_tables::{TABLE_COUNT, create_missing, prepare_store};
+
+/// Makes the tables that are missing, where the first `made` ones are there, in a transaction of
+/// its own. No row is changed.
+pub(crate) fn make_missing<S: Alter>(conn: &mut Connection<S>, made: usize) -> Result<(), Error>
+    requires mode { conn.old.in_transaction ≡ false }
+    requires within { made ≤ 8 }
+    requires begun { HasCleanDisk (state S.Store conn.old)
+        → IsBegun made (state S.Store conn.old).now }
+    ensures mode { conn.new.in_transaction ≡ false }
+    ensures commits { CommitsTables (state S.Store conn.old) (state S.Store conn.new) result
+        (begun_contents made (state S.Store conn.old).now.trees) }
+{
+    let mut tx = conn.transaction();
+    create_missing(&mut tx, made)?;
+    tx.commit()
+}
+
+/// Why a failed statement ends an opening.
+pub(crate) fn refused<S: Alter>(conn: &mut Connection<S>, error: &Error) -> OpenFault
+    requires { conn.old.in_transaction ≡ false }
+    ensures mode { conn.new.in_transaction ≡ false }
+    ensures other { (result ≢ BadRows) × (result ≢ BadTables) }
+    ensures survives { Survives (state S.Store conn.old) (state S.Store conn.new) (λ _. ⊥) }
+{
+    match cause(conn, error) {
+        KeepFault::NoMemory => OpenFault::NoMemory,
+        KeepFault::Store => OpenFault::Store,
+    }
+}
+
+/// Makes a store of no rings and no request, where the first `made` tables are there and have no
+/// row.
+pub(crate) fn begin<S: Alter>(
+    alloc: Global,
+    conn: &mut Connection<S>,
+    made: usize,
+) -> Result<Opened, OpenFault>
+    requires mode { conn.old.in_transaction ≡ false }
+    requires within { made ≤ 8 }
+    requires begun { HasCleanDisk (state S.Store conn.old)
+        → IsBegun made (state S.Store conn.old).now }
+    ensures mode { conn.new.in_transaction ≡ false }
+    ensures other { (result ≢ Err BadRows) × (result ≢ Err BadTables) }
+    ensures opens { (HasCleanDisk (state S.Store conn.old) → begun_contents made
+        (state S.Store conn.old).now.trees ≡ no_contents)
+        → OpensRows no_contents (state S.Store conn.old) (state S.Store conn.new) result }
+{
+    nothing_is_holdable();
+    let meta = meta_row(0);
+    match prepare_store(conn, made, &[], &meta) {
+        Ok(()) => Ok(Opened {
+            rings: Rings::new(alloc),
+            count: 0,
+            hour: 0,
+        }),
+        Err(error) => Err(refused(conn, &error)),
+    }
+}
+
+/// Migrates a store that was judged, where it is of schema 1, in one transaction.
+fn migrate<S: Alter>(conn: &mut Connection<S>, judged: Judged) -> Result<Opened, OpenFault>
+    requires mode { conn.old.in_transaction ≡ false }
+    requires tables { HasCleanDisk (state S.Store conn.old) → IsSettled (state S.Store conn.old) }
+    ensures mode { conn.new.in_transaction ≡ false }
+    ensures other { (result ≢ Err BadRows) × (result ≢ Err BadTables) }
+    ensures tables { HasCleanDisk (state S.Store conn.new) → OnOk result (HasTables
+        (state S.Store conn.new)) }
+    ensures found { HasCleanDisk (state S.Store conn.new) → (content : RingContent)
+        → IsFoundIn (contents_of (state S.Store conn.old).now.trees) content judged
+        → IfOk result (LeadsTo (contents_of (state S.Store conn.old).now.trees)
+        (state S.Store conn.new).committed.trees) }
+    ensures survives { Survives (state S.Store conn.old) (state S.Store conn.new)
+        (λ trees. (content : RingContent) → IsFoundIn (contents_of (state S.Store conn.old).now.trees) content judged
+        → Leads (contents_of (state S.Store conn.old).now.trees) trees) }
+{
+    let Judged {
+        rings,
+        count,
+        hour,
+        migration,
+    } = judged;
+    let Some(changes) = migration else {
+        return Ok(Opened { rings, count, hour });
+    };
+    let meta = meta_row(hour);
+    match prepare_store(conn, TABLE_COUNT, &changes, &meta) {
+        Ok(()) => Ok(Opened { rings, count, hour }),
+        Err(error) => Err(refused(conn, &error)),
+    }
+}
+
+/// Judges all rows of a store, and migrates it where it is of schema 1.
+pub(crate) fn open_rows<S: Alter>(
+    alloc: Global,
+    conn: &mut Connection<S>,
+) -> Result<Opened, OpenFault>
+    requires mode { conn.old.in_transaction ≡ false }
+    requires tables { HasCleanDisk (state S.Store conn.old) → IsSettled (state S.Store conn.old) }
+    ensures mode { conn.new.in_transaction ≡ false }
+    ensures other { result ≢ Err BadTables }
+    ensures opens { OpensRows (contents_of (state S.Store conn.old).now.trees)
+        (state S.Store conn.old) (state S.Store conn.new) result }
+    ensures quiet { result ≡ Err BadRows
+        → Survives (state S.Store conn.old) (state S.Store conn.new) (λ _. ⊥) }
+{
+    let rows = match read_rows(alloc, conn) {
+        Ok(rows) => rows,
+        Err(error) => return Err(refused(conn, &error)),
+    };
+    if is_empty(&rows) {
+        return begin(alloc, conn, TABLE_COUNT);
+    }
+    match judge(alloc, rows) {
+        Ok(judged) => migrate(conn, judged),
+        Err(SpellingFault::NoMemory) => Err(OpenFault::NoMemory),
+        Err(SpellingFault::Bad) => Err(OpenFault::BadRows),
+    }
+}

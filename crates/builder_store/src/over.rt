@@ -1,0 +1,68 @@
+//! Opening over memory and over the files at a path.
+ghost use Rattle.std.specs.Prelude.{◌≡◌, IfOk};
+ghost use Rattle.sqlite.specs.Files.{file_state};
+ghost use Rattle.sqlite.specs.Held.{state};
+ghost use Rattle.sqlite.specs.State.{HasCleanDisk};
+ghost use Rattle.sqlite.specs.Steps.{over_memory};
+ghost use Rattle.sqlite_wal.specs.Files.{image_at};
+ghost use Rattle.builder_store.specs.Keepers.{content_of_keeper};
+ghost use Rattle.builder_store.specs.Opening.{IsOpenedFrom, nothing};
+
+use crate::fault::{FileFault, OpenFault};
+use crate::keeper::SqlKeeper;
+use ring_words::Limits;
+use sqlite::{Connection, Error, ErrorCode, FileFrom, FileStore, MemStore, Start};
+use std::alloc::Global;
+use std::rt::HostRuntime;
+
+/// A keeper of no rings and no request, in memory. It keeps at most `limits.numbers` requests.
+pub fn open_memory(alloc: Global, limits: Limits) -> Result<SqlKeeper<MemStore>, OpenFault>
+    ensures limit { IfOk result (λ k. k.limit ≡ limits.numbers) }
+    ensures faults { IfOk result (λ k. k.faults ≡ 0) }
+    ensures found { IfOk result (λ k. HasCleanDisk (state over_memory k.conn)
+        → content_of_keeper k ≡ nothing) }
+{
+    let Ok(conn) = Connection::open_in_memory(alloc) else {
+        return Err(OpenFault::NoMemory);
+    };
+    match SqlKeeper::adopt(alloc, conn, limits) {
+        Ok(keeper) => Ok(keeper),
+        Err((fault, _)) => Err(fault),
+    }
+}
+
+/// Why a connection over files isn't made.
+fn file_fault(error: &Error) -> FileFault {
+    match error {
+        Error::SqliteFailure(ErrorCode::DatabaseBusy) => FileFault::Busy,
+        Error::SqliteFailure(ErrorCode::CannotOpen) => FileFault::CannotOpen,
+        Error::SqliteFailure(ErrorCode::NotADatabase) => FileFault::NoDatabase,
+        Error::SqliteFailure(ErrorCode::OutOfMemory) => FileFault::Opening(OpenFault::NoMemory),
+        _ => FileFault::Opening(OpenFault::Store),
+    }
+}
+
+/// Opens the database file at a path and the log beside it, and makes them where they are missing.
+/// Keeps at most `limits.numbers` requests. A refused opening drops the connection.
+///
+/// `start` stands for what the files hold: the keeper has the content for which they stand.
+pub fn open_from<S: Start>(
+    rt: &HostRuntime,
+    path: &str,
+    limits: Limits,
+    start: S,
+) -> Result<SqlKeeper<FileStore<FileFrom<S>>>, FileFault>
+    ensures limit { IfOk result (λ k. k.limit ≡ limits.numbers) }
+    ensures faults { IfOk result (λ k. k.faults ≡ 0) }
+    ensures found { IfOk result (λ k. HasCleanDisk (file_state k.conn) → IsOpenedFrom
+        (image_at S.Start) (content_of_keeper k)) }
+{
+    let conn = match Connection::open_from(rt, path, false, start) {
+        Ok(conn) => conn,
+        Err((error, _)) => return Err(file_fault(&error)),
+    };
+    match SqlKeeper::adopt(rt.alloc(), conn, limits) {
+        Ok(keeper) => Ok(keeper),
+        Err((fault, _)) => Err(FileFault::Opening(fault)),
+    }
+}

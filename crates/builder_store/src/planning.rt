@@ -1,0 +1,130 @@
+//! What a commit writes, and its transaction.
+ghost use Rattle.std.specs.Prelude.{◌≡◌, ◌≢◌, ◌<◌, ◌≤◌, false, Err, IfOk, None, OnOk, length};
+ghost use Rattle.sqlite.specs.Held.{state};
+ghost use Rattle.sqlite.specs.State.{HasCleanDisk, Survives};
+ghost use Rattle.request_book.specs.declared.keeper.KeepFault.TheVariants.{NoMemory, Store};
+ghost use Rattle.store_tables.specs.Contents.{contents_of};
+ghost use Rattle.builder_store.specs.Inner.Gains.{GainsIn};
+ghost use Rattle.builder_store.specs.Inner.Tables.{HasTables};
+ghost use Rattle.request_book.specs.Content.{entry_of};
+ghost use Rattle.store_tables.specs.Changes.{changed_all, with_decided};
+ghost use Rattle.store_rows.specs.Differences.{Grows, with_state};
+ghost use Rattle.store_rows.specs.Stands.{IsHoldable, RingContent, contents_for, gained};
+
+use crate::calls::{cause, settle};
+use request_book::{Entry, KeepFault};
+use ring_model::Rings;
+use ring_words::{Command, Reply};
+use sqlite::{Alter, Connection};
+use std::alloc::{AllocError, Global};
+use store_rows::laws::one_content;
+use store_rows::{Change, DecidedRows, decided_rows, grows};
+use store_tables::{RowChange, commit_decided};
+
+/// What a commit writes: the rows of rings that differ, and those of the request.
+#[derive(Drop)]
+pub(crate) struct Plan {
+    pub(crate) change: Change,
+    pub(crate) rows: DecidedRows,
+}
+
+/// What a commit of a request writes that is the next in a book of `count` requests and leads from
+/// the old rings to the new. Written over what stands for a content, it is what stands for the
+/// content with the request and the new rings.
+pub(crate) fn planned(
+    alloc: Global,
+    old: &Rings,
+    new: &Rings,
+    count: u32,
+    entry: &Entry<Command, Reply>,
+) -> Result<Plan, AllocError>
+    requires room { count < 100000 }
+    requires grows { Grows old.now new.now }
+    ensures { IfOk result (λ plan. (content : RingContent) → IsHoldable content
+        → content.state ≡ old.now
+        → length content.book ≡ count → entry_of entry.now.key content.book ≡ None
+        → content.hour ≤ entry.now.hour
+        → (with_decided (changed_all (contents_for content) plan.change.0) plan.rows.request
+        plan.rows.meta
+        ≡ contents_for (gained (with_state content new.now) entry.now))
+        × IsHoldable (gained (with_state content new.now) entry.now)) }
+{
+    let change = Change::between(alloc, old, new)?;
+    let rows = decided_rows(
+        alloc,
+        count,
+        &entry.key,
+        entry.hour,
+        &entry.command,
+        &entry.reply,
+    )?;
+    Ok(Plan { change, rows })
+}
+
+/// Makes the changes and keeps the request, in one transaction.
+fn write<S: Alter>(
+    conn: &mut Connection<S>,
+    changes: &[RowChange],
+    rows: &DecidedRows,
+) -> Result<(), KeepFault>
+    requires mode { conn.old.in_transaction ≡ false }
+    requires tables { HasCleanDisk (state S.Store conn.old) → HasTables (state S.Store conn.old) }
+    ensures mode { conn.new.in_transaction ≡ false }
+    ensures tables { HasCleanDisk (state S.Store conn.new) → result ≢ Err Store
+        → HasTables (state S.Store conn.new) }
+    ensures done { HasCleanDisk (state S.Store conn.new)
+        → OnOk result (contents_of (state S.Store conn.new).committed.trees
+        ≡ with_decided (changed_all (contents_of (state S.Store conn.old).committed.trees) changes.now)
+        rows.now.request rows.now.meta) }
+    ensures none { HasCleanDisk (state S.Store conn.new) → result ≡ Err NoMemory
+        → (state S.Store conn.new).committed ≡ (state S.Store conn.old).committed }
+    ensures survives { Survives (state S.Store conn.old) (state S.Store conn.new)
+        (λ trees. contents_of trees
+        ≡ with_decided (changed_all (contents_of (state S.Store conn.old).committed.trees) changes.now)
+        rows.now.request rows.now.meta) }
+{
+    settle(conn);
+    let done = commit_decided(conn, changes, &rows.request, &rows.meta);
+    match done {
+        Ok(()) => Ok(()),
+        Err(error) => Err(cause(conn, &error)),
+    }
+}
+
+/// Keeps a decided request with the rings that it leads to, in one transaction. All that it needs
+/// of memory besides the store's own is asked for before.
+pub(crate) fn keep<S: Alter>(
+    alloc: Global,
+    conn: &mut Connection<S>,
+    old: &Rings,
+    new: &Rings,
+    count: usize,
+    limit: u32,
+    entry: &Entry<Command, Reply>,
+) -> Result<(), KeepFault>
+    requires mode { conn.old.in_transaction ≡ false }
+    requires tables { HasCleanDisk (state S.Store conn.old) → HasTables (state S.Store conn.old) }
+    requires small { limit ≤ 100000 }
+    ensures mode { conn.new.in_transaction ≡ false }
+    ensures tables { HasCleanDisk (state S.Store conn.new) → result ≢ Err Store
+        → HasTables (state S.Store conn.new) }
+    ensures room { OnOk result (count < limit) }
+    ensures done { HasCleanDisk (state S.Store conn.new)
+        → OnOk result (GainsIn (state S.Store conn.old).committed.trees old.now count limit
+        entry.now new.now
+        (state S.Store conn.new).committed.trees) }
+    ensures none { HasCleanDisk (state S.Store conn.new) → result ≡ Err NoMemory
+        → (state S.Store conn.new).committed ≡ (state S.Store conn.old).committed }
+    ensures survives { Survives (state S.Store conn.old) (state S.Store conn.new)
+        (GainsIn (state S.Store conn.old).committed.trees old.now count limit entry.now new.now) }
+{
+    one_content();
+    // While the keeper is sound, the book that asks has found room, and no step takes a ring away.
+    if count >= limit as usize || !grows(old, new) {
+        return Err(KeepFault::Store);
+    }
+    let Ok(plan) = planned(alloc, old, new, count as u32, entry) else {
+        return Err(KeepFault::NoMemory);
+    };
+    write(conn, plan.change.rows(), &plan.rows)
+}

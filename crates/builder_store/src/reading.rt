@@ -1,0 +1,114 @@
+//! What the tables of an opened store say.
+ghost use Rattle.std.specs.Prelude.{◌≡◌, ◌↔◌, false, IsTrue, map};
+ghost use Rattle.std.specs.FinMap.{entries};
+ghost use Rattle.sqlite.specs.Held.{state};
+ghost use Rattle.store_tables.specs.Contents.{Contents, device_of, meta_of, moved_of, part_of};
+ghost use Rattle.store_tables.specs.Contents.{published_of, request_of, ring_of, seat_of};
+ghost use Rattle.store_tables.specs.Store.{ReadsTables, SeesStore};
+ghost use Rattle.store_rows.specs.Judging.{AreRowsOf};
+ghost use Rattle.builder_store.specs.Opening.{no_contents};
+
+use ring_model::Rings;
+use ring_words::Hour;
+use sqlite::{Alter, Connection, Error};
+use std::alloc::Global;
+use store_rows::StoreRows;
+use store_tables::{
+    DeviceRow, MetaRow, MovedRow, PartRow, PublishedRow, RequestRow, RingRow, SeatRow, all_devices,
+    all_meta, all_moved, all_parts, all_published, all_requests, all_rings, all_seats,
+};
+
+/// What a keeper holds in memory of a content.
+#[derive(Drop)]
+pub(crate) struct Opened {
+    pub(crate) rings: Rings,
+    pub(crate) count: usize,
+    pub(crate) hour: Hour,
+}
+
+/// The rows on the whole store, of rings and of devices, and the seats of schema 1.
+fn read_first<S: Alter>(
+    alloc: Global,
+    conn: &mut Connection<S>,
+) -> Result<(Vec<MetaRow>, Vec<RingRow>, Vec<DeviceRow>, Vec<SeatRow>), Error>
+    requires mode { conn.old.in_transaction ≡ false }
+    requires store { SeesStore (state S.Store conn.old) }
+    ensures reads { ReadsTables (state S.Store conn.old) (state S.Store conn.new) result
+        (λ c rows. (map meta_of rows.0.items ≡ entries c.meta) × (map ring_of rows.1.items ≡ entries c.rings)
+        × (map device_of rows.2.items ≡ entries c.devices) ×
+        (map seat_of rows.3.items ≡ entries c.seats)) }
+    ensures mode { conn.new.in_transaction ≡ false }
+{
+    let meta = all_meta(alloc, conn)?;
+    let rings = all_rings(alloc, conn)?;
+    let devices = all_devices(alloc, conn)?;
+    let seats = all_seats(alloc, conn)?;
+    Ok((meta, rings, devices, seats))
+}
+
+/// The moves of schema 1, the published texts, the requests and the partitions.
+fn read_rest<S: Alter>(
+    alloc: Global,
+    conn: &mut Connection<S>,
+) -> Result<
+    (
+        Vec<MovedRow>,
+        Vec<PublishedRow>,
+        Vec<RequestRow>,
+        Vec<PartRow>,
+    ),
+    Error,
+>
+    requires mode { conn.old.in_transaction ≡ false }
+    requires store { SeesStore (state S.Store conn.old) }
+    ensures reads { ReadsTables (state S.Store conn.old) (state S.Store conn.new) result
+        (λ c rows. (map moved_of rows.0.items ≡ entries c.moved) × (map published_of rows.1.items ≡ entries c.published)
+        × (map request_of rows.2.items ≡ entries c.requests) ×
+        (map part_of rows.3.items ≡ entries c.parts)) }
+    ensures mode { conn.new.in_transaction ≡ false }
+{
+    let moved = all_moved(alloc, conn)?;
+    let published = all_published(alloc, conn)?;
+    let requests = all_requests(alloc, conn)?;
+    let parts = all_parts(alloc, conn)?;
+    Ok((moved, published, requests, parts))
+}
+
+/// All rows of a store.
+pub(crate) fn read_rows<S: Alter>(
+    alloc: Global,
+    conn: &mut Connection<S>,
+) -> Result<StoreRows, Error>
+    requires mode { conn.old.in_transaction ≡ false }
+    requires store { SeesStore (state S.Store conn.old) }
+    ensures reads { ReadsTables (state S.Store conn.old) (state S.Store conn.new) result
+        (λ c rows. AreRowsOf rows c) }
+    ensures mode { conn.new.in_transaction ≡ false }
+{
+    let (meta, rings, devices, seats) = read_first(alloc, conn)?;
+    let (moved, published, requests, parts) = read_rest(alloc, conn)?;
+    Ok(StoreRows {
+        meta,
+        rings,
+        devices,
+        seats,
+        moved,
+        published,
+        requests,
+        parts,
+    })
+}
+
+/// Whether there is no row in any table.
+pub(crate) fn is_empty(rows: &StoreRows) -> bool
+    ensures { (c : Contents) → AreRowsOf rows.now c → IsTrue result ↔ (c ≡ no_contents) }
+{
+    rows.meta.is_empty()
+        & rows.rings.is_empty()
+        & rows.devices.is_empty()
+        & rows.seats.is_empty()
+        & rows.moved.is_empty()
+        & rows.published.is_empty()
+        & rows.requests.is_empty()
+        & rows.parts.is_empty()
+}

@@ -1,0 +1,78 @@
+//! From what tables are there to what they hold.
+ghost use Rattle.std.specs.Prelude.{◌≡◌, ◌⊎◌, ◌≤◌, false, Err, IfOk, OnOk};
+ghost use Rattle.sqlite.specs.Held.{state};
+ghost use Rattle.sqlite.specs.State.{HasCleanDisk, Survives};
+ghost use Rattle.store_tables.specs.Contents.{contents_of};
+ghost use Rattle.store_tables.specs.Store.{IsBegun, begun_contents};
+ghost use Rattle.builder_store.specs.Opening.{IsMadeOf, KeepsRows};
+ghost use Rattle.builder_store.specs.Inner.Opened.{IsFresh, IsOpenedTo, Leads, LeadsTo};
+ghost use Rattle.builder_store.specs.Inner.Tables.{HasTables};
+ghost use Rattle.builder_store.specs.declared.fault.OpenFault.TheVariants.{BadRows, BadTables};
+
+use crate::calls::settle;
+use crate::fault::OpenFault;
+use crate::opening::{begin, make_missing, open_rows, refused};
+use crate::reading::Opened;
+use sqlite::{Alter, Connection};
+use std::alloc::Global;
+use store_tables::{TABLE_COUNT, tables_made};
+
+/// Opens a store of which the first `made` tables are there, and makes the others.
+fn open_begun<S: Alter>(
+    alloc: Global,
+    conn: &mut Connection<S>,
+    made: usize,
+) -> Result<Opened, OpenFault>
+    requires mode { conn.old.in_transaction ≡ false }
+    requires within { made ≤ 8 }
+    requires fresh { HasCleanDisk (state S.Store conn.old) → IsFresh (state S.Store conn.old) }
+    requires begun { HasCleanDisk (state S.Store conn.old)
+        → IsBegun made (state S.Store conn.old).now }
+    ensures mode { conn.new.in_transaction ≡ false }
+    ensures tables { HasCleanDisk (state S.Store conn.new) → OnOk result (HasTables
+        (state S.Store conn.new)) }
+    ensures found { HasCleanDisk (state S.Store conn.new) → IfOk result
+        (LeadsTo (begun_contents made (state S.Store conn.old).now.trees) (state S.Store conn.new).committed.trees) }
+    ensures quiet { result ≡ Err BadRows → Survives (state S.Store conn.old)
+        (state S.Store conn.new)
+        (λ trees. contents_of trees ≡ begun_contents made (state S.Store conn.old).now.trees) }
+    ensures survives { Survives (state S.Store conn.old) (state S.Store conn.new)
+        (λ trees. (contents_of trees ≡ begun_contents made (state S.Store conn.old).now.trees)
+        ⊎ Leads (begun_contents made (state S.Store conn.old).now.trees) trees) }
+{
+    if made == 0 {
+        return begin(alloc, conn, 0);
+    }
+    if made == TABLE_COUNT {
+        return open_rows(alloc, conn);
+    }
+    match make_missing(conn, made) {
+        Ok(()) => open_rows(alloc, conn),
+        Err(error) => Err(refused(conn, &error)),
+    }
+}
+
+/// Opens what is there.
+pub(crate) fn open_tables<S: Alter>(
+    alloc: Global,
+    conn: &mut Connection<S>,
+) -> Result<Opened, OpenFault>
+    requires mode { conn.old.in_transaction ≡ false }
+    requires fresh { HasCleanDisk (state S.Store conn.old) → IsFresh (state S.Store conn.old) }
+    ensures mode { conn.new.in_transaction ≡ false }
+    ensures tables { HasCleanDisk (state S.Store conn.new) → OnOk result (HasTables
+        (state S.Store conn.new)) }
+    ensures found { HasCleanDisk (state S.Store conn.new) → IfOk result
+        (IsOpenedTo (state S.Store conn.old).committed.trees (state S.Store conn.new).committed.trees) }
+    ensures quiet { result ≡ Err BadRows → Survives (state S.Store conn.old)
+        (state S.Store conn.new)
+        (KeepsRows (state S.Store conn.old).committed.trees) }
+    ensures survives { Survives (state S.Store conn.old) (state S.Store conn.new)
+        (IsMadeOf (state S.Store conn.old).committed.trees) }
+{
+    match tables_made(alloc, conn) {
+        Ok(Some(made)) => open_begun(alloc, conn, made),
+        Ok(None) => Err(OpenFault::BadTables),
+        Err(error) => Err(refused(conn, &error)),
+    }
+}

@@ -1,0 +1,163 @@
+//! Stores of schema 1, and stores that are none.
+use super::rows::{AT_THE_HOUR, FIRST, LOCKED, Row};
+use super::{answers_all, book_of};
+use crate::{OpenFault, SqlKeeper};
+use ring_words::Limits;
+use sqlite::{Connection, Error, MemStore};
+use std::alloc::Global;
+use std::test::Fail;
+
+/// The tables of schema 1.
+const TABLES: [&str; 7] = [
+    "CREATE TABLE meta (one INTEGER NOT NULL, schema INTEGER NOT NULL, \
+     hour INTEGER NOT NULL, UNIQUE (one)) STRICT",
+    "CREATE TABLE ring (name TEXT NOT NULL, power INTEGER NOT NULL, \
+     replicas INTEGER NOT NULL, min_hours INTEGER NOT NULL, \
+     next_id INTEGER NOT NULL, version INTEGER NOT NULL, PRIMARY KEY (name)) STRICT",
+    "CREATE TABLE device (ring TEXT NOT NULL REFERENCES ring (name), \
+     id INTEGER NOT NULL, region INTEGER NOT NULL, zone INTEGER NOT NULL, \
+     address TEXT NOT NULL, port INTEGER NOT NULL, name TEXT NOT NULL, \
+     weight INTEGER NOT NULL, removed INTEGER NOT NULL, PRIMARY KEY (ring, id), \
+     UNIQUE (ring, address, port, name)) STRICT",
+    "CREATE TABLE seat (ring TEXT NOT NULL, part INTEGER NOT NULL, \
+     replica INTEGER NOT NULL, device INTEGER NOT NULL, \
+     PRIMARY KEY (ring, part, replica), UNIQUE (ring, part, device), \
+     FOREIGN KEY (ring, device) REFERENCES device (ring, id)) STRICT",
+    "CREATE TABLE moved (ring TEXT NOT NULL REFERENCES ring (name), \
+     part INTEGER NOT NULL, hour INTEGER NOT NULL, PRIMARY KEY (ring, part)) STRICT",
+    "CREATE TABLE published (ring TEXT NOT NULL REFERENCES ring (name), \
+     version INTEGER NOT NULL, body TEXT NOT NULL, \
+     PRIMARY KEY (ring, version)) STRICT",
+    "CREATE TABLE request (caller TEXT NOT NULL, number INTEGER NOT NULL, \
+     place INTEGER NOT NULL, hour INTEGER NOT NULL, command TEXT NOT NULL, \
+     reply TEXT NOT NULL, PRIMARY KEY (caller, number), UNIQUE (place)) STRICT",
+];
+
+/// What they hold once a moved partition's hour has come: of four partitions the last one has gone
+/// to device 2.
+const OLD_ROWS: [&str; 8] = [
+    "INSERT INTO meta VALUES (1, 1, 24)",
+    "INSERT INTO ring VALUES ('object', 2, 1, 24, 3, 6)",
+    "INSERT INTO device VALUES ('object', 0, 1, 1, '10.0.0.1', 6200, 'd0', 10000, 0), \
+     ('object', 1, 1, 1, '10.0.0.2', 6200, 'd1', 10000, 0), \
+     ('object', 2, 1, 1, '10.0.0.3', 6200, 'd2', 10000, 0)",
+    "INSERT INTO seat VALUES ('object', 0, 0, 0), ('object', 1, 0, 1), \
+     ('object', 2, 0, 0), ('object', 3, 0, 2)",
+    "INSERT INTO moved VALUES ('object', 0, 0), ('object', 1, 0), \
+     ('object', 2, 0), ('object', 3, 24)",
+    "INSERT INTO request VALUES \
+     ('ops', 1, 0, 0, '{\"do\":\"create\",\"min_hours\":24,\"power\":2,\"replicas\":1,\"ring\":\"object\"}', \
+     '{\"done\":\"create\",\"version\":0}'), \
+     ('ops', 2, 1, 0, '{\"address\":\"10.0.0.1\",\"do\":\"add\",\"name\":\"d0\",\"port\":6200,\"region\":1,\"ring\":\"object\",\"weight\":\"100.00\",\"zone\":1}', \
+     '{\"done\":\"add\",\"id\":0,\"version\":1}'), \
+     ('ops', 3, 2, 0, '{\"address\":\"10.0.0.2\",\"do\":\"add\",\"name\":\"d1\",\"port\":6200,\"region\":1,\"ring\":\"object\",\"weight\":\"100.00\",\"zone\":1}', \
+     '{\"done\":\"add\",\"id\":1,\"version\":2}'), \
+     ('ops', 4, 3, 0, '{\"do\":\"rebalance\",\"ring\":\"object\",\"seed\":7}', \
+     '{\"balance\":0,\"changed\":4,\"dispersion\":0,\"done\":\"rebalance\",\"version\":3}')",
+    "INSERT INTO request VALUES \
+     ('ops', 5, 4, 1, '{\"address\":\"10.0.0.3\",\"do\":\"add\",\"name\":\"d2\",\"port\":6200,\"region\":1,\"ring\":\"object\",\"weight\":\"100.00\",\"zone\":1}', \
+     '{\"done\":\"add\",\"id\":2,\"version\":4}'), \
+     ('ops', 6, 5, 23, '{\"do\":\"rebalance\",\"ring\":\"object\",\"seed\":7}', \
+     '{\"balance\":10000,\"changed\":0,\"dispersion\":0,\"done\":\"rebalance\",\"version\":5}')",
+    "INSERT INTO request VALUES \
+     ('ops', 7, 6, 24, '{\"do\":\"rebalance\",\"ring\":\"object\",\"seed\":7}', \
+     '{\"balance\":5000,\"changed\":1,\"dispersion\":0,\"done\":\"rebalance\",\"version\":6}')",
+];
+
+/// What comes then.
+const LATER: [Row; 1] = [(
+    24,
+    8,
+    "'do':'rebalance','seed':7",
+    "200 {'balance':5000,'changed':0,'dispersion':0,'done':'rebalance','version':7}",
+)];
+
+/// Changes of one of which no store is left.
+const BREAKS: [&str; 14] = [
+    "UPDATE meta SET schema = 3",
+    "UPDATE meta SET hour = 23",
+    "DELETE FROM meta",
+    "DELETE FROM seat WHERE part = 3",
+    "INSERT INTO seat VALUES ('object', 4, 0, 0)",
+    "INSERT INTO moved VALUES ('object', 4, 0)",
+    "UPDATE request SET place = 9 WHERE number = 7",
+    "UPDATE request SET command = '{\"ring\":\"object\",\"do\":\"rebalance\",\"seed\":7}' WHERE number = 7",
+    "UPDATE request SET command = '{}' WHERE number = 7",
+    "UPDATE request SET reply = '{\"done\":\"rebalance\"}' WHERE number = 7",
+    "UPDATE ring SET next_id = 2",
+    "UPDATE device SET weight = -1 WHERE id = 0",
+    "INSERT INTO ring VALUES ('Upper', 2, 1, 24, 0, 0)",
+    "UPDATE device SET removed = 2 WHERE id = 0",
+];
+
+/// A connection with a store of schema 1.
+fn old_store(alloc: Global) -> Result<Connection<MemStore>, Error> {
+    let mut conn = Connection::open_in_memory(alloc)?;
+    for text in TABLES {
+        conn.execute(text, &[])?;
+    }
+    for text in OLD_ROWS {
+        conn.execute(text, &[])?;
+    }
+    Ok(conn)
+}
+
+/// Whether rows over a connection are answered so, and the connection then.
+fn runs_over(
+    alloc: Global,
+    conn: Connection<MemStore>,
+    rows: &[&[Row<'_>]],
+) -> Result<(bool, Connection<MemStore>), Fail> {
+    let keeper = match SqlKeeper::adopt(alloc, conn, Limits::full()) {
+        Ok(keeper) => keeper,
+        Err((fault, _)) => return Err(Fail::new(format_args!("{fault:?}"))),
+    };
+    let mut book = book_of(alloc, keeper);
+    for some in rows {
+        if !answers_all(alloc, &mut book, some)? {
+            return Err(Fail::new(format_args!("another answer")));
+        }
+    }
+    Ok((true, book.into_keeper().close()))
+}
+
+#[test]
+fn a_store_of_schema_1_goes_on_as_one_of_schema_2(rt: HostRuntime) -> Result<(), Fail> {
+    let alloc = rt.alloc();
+    let kept: [&[Row]; 3] = [&FIRST, &LOCKED, &AT_THE_HOUR];
+    let (same, conn) = runs_over(alloc, old_store(alloc)?, &kept)?;
+    assert!(rt; same);
+    // Opened a second time it is the same, and goes on.
+    let (again, conn) = runs_over(alloc, conn, &kept)?;
+    assert!(rt; again);
+    let (on, _) = runs_over(alloc, conn, &[&LATER])?;
+    assert!(rt; on);
+    Ok(())
+}
+
+/// Why a store of schema 1 isn't opened after a change, if it isn't.
+fn refused_after(alloc: Global, text: &str) -> Result<Option<OpenFault>, Error> {
+    let mut conn = old_store(alloc)?;
+    conn.execute(text, &[])?;
+    match SqlKeeper::adopt(alloc, conn, Limits::full()) {
+        Ok(_) => Ok(None),
+        Err((fault, _)) => Ok(Some(fault)),
+    }
+}
+
+#[test]
+fn broken_rows_are_refused(rt: HostRuntime) -> Result<(), Fail> {
+    for text in BREAKS {
+        let fault = refused_after(rt.alloc(), text)?;
+        assert!(rt; fault == Some(OpenFault::BadRows), "{text} {fault:?}");
+    }
+    Ok(())
+}
+
+#[test]
+fn other_tables_are_refused(rt: HostRuntime) -> Result<(), Fail> {
+    let text = "CREATE TABLE other (one INTEGER NOT NULL) STRICT";
+    let fault = refused_after(rt.alloc(), text)?;
+    assert!(rt; fault == Some(OpenFault::BadTables), "{fault:?}");
+    Ok(())
+}

@@ -1,0 +1,233 @@
+//! Deliveries with their answers. The texts are written with `'` for `"`.
+
+/// The hour of a delivery, its number, what it asks of its ring, and its answer.
+pub type Row<'a> = (u32, u32, &'a str, &'a str);
+
+const CREATE: &str = "'do':'create','power':2,'replicas':1,'min_hours':24";
+
+const CREATE_PAIRS: &str = "'do':'create','power':2,'replicas':2,'min_hours':24";
+
+const ADD_D0: &str =
+    "'do':'add','region':1,'zone':1,'address':'10.0.0.1','port':6200,'name':'d0','weight':'100.00'";
+
+const ADD_D1: &str =
+    "'do':'add','region':1,'zone':1,'address':'10.0.0.2','port':6200,'name':'d1','weight':'100.00'";
+
+const ADD_D2: &str =
+    "'do':'add','region':1,'zone':1,'address':'10.0.0.3','port':6200,'name':'d2','weight':'100.00'";
+
+const ADD_HEAVY: &str =
+    "'do':'add','region':1,'zone':1,'address':'10.0.0.1','port':6200,'name':'d0','weight':'300.00'";
+
+const ADD_FAR: &str =
+    "'do':'add','region':2,'zone':1,'address':'10.0.0.3','port':6200,'name':'d2','weight':'200.00'";
+
+const REBALANCE: &str = "'do':'rebalance','seed':7";
+
+const PRETEND: &str = "'do':'pretend_passed'";
+
+const CREATED: &str = "200 {'done':'create','version':0}";
+
+const ADDED_D0: &str = "200 {'done':'add','id':0,'version':1}";
+
+const ADDED_D1: &str = "200 {'done':'add','id':1,'version':2}";
+
+const TOO_FEW: &str = "422 {'refused':'TooFewDevices','rule':9}";
+
+/// Four partitions of one replica are assigned to devices 0 and 1, and stay for 24 hours.
+pub const FIRST: [Row; 4] = [
+    (0, 1, CREATE, CREATED),
+    (0, 2, ADD_D0, ADDED_D0),
+    (0, 3, ADD_D1, ADDED_D1),
+    (
+        0,
+        4,
+        REBALANCE,
+        "200 {'balance':0,'changed':4,'dispersion':0,'done':'rebalance','version':3}",
+    ),
+];
+
+/// A number that comes again, and one that comes with another command.
+const REPEATED: [Row; 3] = [
+    (
+        9,
+        4,
+        REBALANCE,
+        "200 {'balance':0,'changed':4,'dispersion':0,'done':'rebalance','version':3}",
+    ),
+    (
+        9,
+        4,
+        "'do':'rebalance','seed':8",
+        "409 {'fault':'NumberReused','rule':21}",
+    ),
+    (
+        9,
+        4,
+        REBALANCE,
+        "200 {'balance':0,'changed':4,'dispersion':0,'done':'rebalance','version':3}",
+    ),
+];
+
+/// Device 2 comes, and is to wait for the 24th hour.
+pub const LOCKED: [Row; 2] = [
+    (1, 5, ADD_D2, "200 {'done':'add','id':2,'version':4}"),
+    (
+        23,
+        6,
+        REBALANCE,
+        "200 {'balance':10000,'changed':0,'dispersion':0,'done':'rebalance','version':5}",
+    ),
+];
+
+/// The hour comes.
+pub const AT_THE_HOUR: [Row; 1] = [(
+    24,
+    7,
+    REBALANCE,
+    "200 {'balance':5000,'changed':1,'dispersion':0,'done':'rebalance','version':6}",
+)];
+
+/// The hours are set aside.
+const SET_ASIDE: [Row; 2] = [
+    (23, 7, PRETEND, "200 {'done':'pretend_passed','version':6}"),
+    (
+        23,
+        8,
+        REBALANCE,
+        "200 {'balance':5000,'changed':1,'dispersion':0,'done':'rebalance','version':7}",
+    ),
+];
+
+/// A removed device gives its seats away at once.
+const REMOVAL: [Row; 3] = [
+    (1, 5, ADD_D2, "200 {'done':'add','id':2,'version':4}"),
+    (
+        1,
+        6,
+        "'do':'remove','id':0",
+        "200 {'done':'remove','version':5}",
+    ),
+    (
+        1,
+        7,
+        REBALANCE,
+        "200 {'balance':0,'changed':2,'dispersion':0,'done':'rebalance','version':6}",
+    ),
+];
+
+/// A want that no seats can meet.
+const UNREACHABLE: [Row; 5] = [
+    (0, 1, CREATE_PAIRS, CREATED),
+    (0, 2, ADD_HEAVY, ADDED_D0),
+    (0, 3, ADD_D1, ADDED_D1),
+    (
+        0,
+        4,
+        REBALANCE,
+        "200 {'balance':10000,'changed':8,'dispersion':0,'done':'rebalance','version':3}",
+    ),
+    (
+        24,
+        5,
+        REBALANCE,
+        "200 {'balance':10000,'changed':0,'dispersion':0,'done':'rebalance','version':4}",
+    ),
+];
+
+/// A device in another region takes a seat of each partition.
+const FAR: [Row; 5] = [
+    (
+        0,
+        1,
+        "'do':'create','power':1,'replicas':2,'min_hours':0",
+        CREATED,
+    ),
+    (0, 2, ADD_D0, ADDED_D0),
+    (0, 3, ADD_D1, ADDED_D1),
+    (
+        0,
+        4,
+        REBALANCE,
+        "200 {'balance':0,'changed':4,'dispersion':0,'done':'rebalance','version':3}",
+    ),
+    (0, 5, ADD_FAR, "200 {'done':'add','id':2,'version':4}"),
+];
+
+/// A refusal is kept, though the command could be done later.
+const FEW: [Row; 7] = [
+    (
+        0,
+        1,
+        "'do':'create','power':1,'replicas':3,'min_hours':0",
+        CREATED,
+    ),
+    (0, 2, ADD_D0, ADDED_D0),
+    (0, 3, ADD_D1, ADDED_D1),
+    (0, 4, REBALANCE, TOO_FEW),
+    (0, 5, ADD_D2, "200 {'done':'add','id':2,'version':3}"),
+    (0, 4, REBALANCE, TOO_FEW),
+    (
+        0,
+        6,
+        REBALANCE,
+        "200 {'balance':0,'changed':6,'dispersion':0,'done':'rebalance','version':4}",
+    ),
+];
+
+/// Requests that come in another order.
+const REORDERED: [Row; 4] = [
+    (0, 2, ADD_D0, "422 {'refused':'NoRing','rule':1}"),
+    (0, 1, CREATE, CREATED),
+    (0, 2, ADD_D0, "422 {'refused':'NoRing','rule':1}"),
+    (0, 3, ADD_D0, ADDED_D0),
+];
+
+/// A clock that goes back.
+const CLOCK_BACK: [Row; 8] = [
+    (0, 1, CREATE, CREATED),
+    (0, 2, ADD_D0, ADDED_D0),
+    (0, 3, ADD_D1, ADDED_D1),
+    (30, 4, PRETEND, "200 {'done':'pretend_passed','version':3}"),
+    (
+        5,
+        5,
+        REBALANCE,
+        "200 {'balance':0,'changed':4,'dispersion':0,'done':'rebalance','version':4}",
+    ),
+    (31, 6, ADD_D2, "200 {'done':'add','id':2,'version':5}"),
+    (
+        53,
+        7,
+        REBALANCE,
+        "200 {'balance':10000,'changed':0,'dispersion':0,'done':'rebalance','version':6}",
+    ),
+    (
+        54,
+        8,
+        REBALANCE,
+        "200 {'balance':5000,'changed':1,'dispersion':0,'done':'rebalance','version':7}",
+    ),
+];
+
+/// A book with room for two numbers.
+pub const FULL: [Row; 5] = [
+    (0, 1, CREATE, CREATED),
+    (0, 2, ADD_D0, ADDED_D0),
+    (0, 3, ADD_D1, "507 {'fault':'BookFull','rule':22}"),
+    (0, 1, CREATE, CREATED),
+    (0, 2, ADD_D0, ADDED_D0),
+];
+
+/// Each run begins with nothing.
+pub const RUNS: [&[&[Row]]; 9] = [
+    &[&FIRST, &REPEATED],
+    &[&FIRST, &LOCKED, &AT_THE_HOUR],
+    &[&FIRST, &LOCKED, &SET_ASIDE],
+    &[&FIRST, &REMOVAL],
+    &[&UNREACHABLE],
+    &[&FAR],
+    &[&FEW],
+    &[&REORDERED],
+    &[&CLOCK_BACK],
+];

@@ -1,0 +1,15 @@
+pub mod Maps
+pub mod RequestKeys
+pub mod BookGains
+pub mod Ordered
+pub mod OneRings
+pub mod OneBook
+pub mod Sameness
+pub mod Blocks
+pub mod Steps
+pub mod Applied
+pub mod Changing
+pub mod BookRows
+pub mod FoundRows
+pub mod KeptRings
+pub mod Counting

@@ -1,0 +1,6 @@
+use Rattle.std.proofs.Common.{◌≡◌, ◌++◌, map}
+use Rattle.store_tables.specs.declared.changes.RowChange.TheVariants.{AddDevice}
+use Rattle.store_rows.proofs.change.push_devices.Given as goal
+
+abbrev pub invariant-loop-row : goal.invariant-loop-row
+invariant-loop-row l = l.into.items ≡ l.fn.into.items ++ map AddDevice l.yielded

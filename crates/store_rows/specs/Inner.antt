@@ -1,0 +1,5 @@
+-- Words of contracts of private functions and of proofs. No public contract rests on them.
+pub mod Numbers
+pub mod Lacking
+pub mod Books
+pub mod Sayings

@@ -1,0 +1,41 @@
+-- What is found of the rows of a store.
+use Rattle.std.specs.Prelude.{◌≡◌, ℕ, pos, map, length, Result, IfOk, MatchOption}
+use Rattle.std.specs.FinMap.{entries}
+use Rattle.ring_words.specs.declared.spelling.SpellingFault.{SpellingFault}
+use Rattle.store_tables.specs.declared.rows.MetaRow.{MetaRow}
+use Rattle.store_tables.specs.Contents.{Contents, meta_of, ring_of, device_of, seat_of, moved_of}
+use Rattle.store_tables.specs.Contents.{published_of, request_of, part_of}
+use Rattle.store_tables.specs.Changes.{prepared}
+use Rattle.store_rows.specs.Stands.{RingContent, IsHoldable, contents_for, first_contents_for}
+use Rattle.store_rows.specs.declared.judging.StoreRows.{StoreRows}
+use Rattle.store_rows.specs.declared.judging.Judged.{Judged}
+
+-- These are all rows of the tables, by rising keys.
+pub record AreRowsOf (rows : StoreRows) (c : Contents) : Type 0 where
+  pub meta : map meta_of rows.meta.items ≡ entries c.meta
+  pub rings : map ring_of rows.rings.items ≡ entries c.rings
+  pub devices : map device_of rows.devices.items ≡ entries c.devices
+  pub seats : map seat_of rows.seats.items ≡ entries c.seats
+  pub moved : map moved_of rows.moved.items ≡ entries c.moved
+  pub published : map published_of rows.published.items ≡ entries c.published
+  pub requests : map request_of rows.requests.items ≡ entries c.requests
+  pub parts : map part_of rows.parts.items ≡ entries c.parts
+
+-- The row on the whole store where the greatest hour is this.
+abbrev pub meta_now : ℕ → MetaRow
+meta_now hour = record { one = pos 1; schema = pos 2; hour = pos hour }
+
+-- This content was found in the tables. Where they are of schema 1, they are to be migrated by
+-- these changes, and then they stand for the same content.
+pub record IsFoundIn (c : Contents) (content : RingContent) (found : Judged) : Type 0 where
+  pub holdable : IsHoldable content
+  pub rings : found.rings ≡ content.state
+  pub count : found.count ≡ length content.book
+  pub hour : found.hour ≡ content.hour
+  pub stands : MatchOption found.migration (c ≡ contents_for content)
+      (λ changes. (c ≡ first_contents_for content) ×
+      (prepared c changes.items (meta_now content.hour) ≡ contents_for content))
+
+-- A content is found where the answer is Ok.
+abbrev pub Judges : Contents → Result Judged SpellingFault → Type 0
+Judges c result = IfOk result (λ found. (content : RingContent) × IsFoundIn c content found)

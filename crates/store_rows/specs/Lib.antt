@@ -1,0 +1,6 @@
+pub mod RingRows
+pub mod FirstRows
+pub mod Stands
+pub mod Differences
+pub mod Judging
+pub mod Inner

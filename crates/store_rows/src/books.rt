@@ -1,0 +1,87 @@
+//! The book, read from the rows of decided requests.
+ghost use Rattle.std.specs.Prelude.{◌≡◌, ◌<◌, ◌≤◌, IfOk, IsTrue, List, length, map};
+ghost use Rattle.std.specs.FinMap.{FinMap, entries, from_entries};
+ghost use Rattle.request_book.specs.Run.{last_hour};
+ghost use Rattle.store_rows.specs.Stands.{DecidedRequest, IsBook, request_entries};
+ghost use Rattle.store_tables.specs.Contents.{request_of};
+ghost use Rattle.store_tables.specs.Entries.{Request, name_number_cmp};
+ghost use Rattle.store_rows.specs.Inner.Books.{IsSaid, SaysRequest};
+
+use crate::numbers::number32;
+use request_book::Entry;
+use ring_messages::{read_command, read_reply};
+use ring_words::{Command, Hour, Key, Reply, SpellingFault, read_name};
+use std::alloc::Global;
+use store_tables::RequestRow;
+
+/// The decided request of a row, which is the `place`-th from 0.
+fn read_request(
+    alloc: Global,
+    row: &RequestRow,
+    place: u32,
+) -> Result<Entry<Command, Reply>, SpellingFault>
+    ensures { IfOk result (λ e. SaysRequest place row.now e) }
+{
+    if row.place != i64::from(place) {
+        return Err(SpellingFault::Bad);
+    }
+    Ok(Entry {
+        key: Key {
+            caller: read_name(alloc, row.caller.as_str())?,
+            number: number32(row.number)?,
+        },
+        hour: number32(row.hour)?,
+        command: read_command(alloc, row.command.as_str())?,
+        reply: read_reply(alloc, row.reply.as_str())?,
+    })
+}
+
+/// Judges the rows of a book in the order of their places: the hour of the last request, 0 without
+/// any. Bad where a row is no request's, where a place is missing, and where an hour is before that
+/// of an earlier request.
+fn judge_in_order(alloc: Global, rows: &[RequestRow]) -> Result<Hour, SpellingFault>
+    requires { length rows.now ≤ 100000 }
+    ensures { IfOk result (λ hour. (book : List DecidedRequest) × IsSaid rows.now book ×
+        (last_hour 0 book ≡ hour)) }
+{
+    let mut hour = 0;
+    for (place, row) in rows.iter().enumerate() {
+        let entry = read_request(alloc, row, place as u32)?;
+        if entry.hour < hour {
+            return Err(SpellingFault::Bad);
+        }
+        hour = entry.hour;
+    }
+    Ok(hour)
+}
+
+/// Whether an hour is that of the last of so many requests, if there is one.
+fn is_last(count: usize, last: Hour, hour: Hour) -> bool
+    ensures { IsTrue result → 0 < count → last ≡ hour }
+{
+    count == 0 || last == hour
+}
+
+/// Judges the rows of a book whose greatest hour is this, and counts them. Bad where they are no
+/// book's.
+pub(crate) fn judge_book(
+    alloc: Global,
+    rows: Vec<RequestRow>,
+    hour: Hour,
+) -> Result<usize, SpellingFault>
+    ensures { IfOk result (λ count. (requests : FinMap name_number_cmp Request) →
+        map request_of rows.items ≡ entries requests
+        → (book : List DecidedRequest) × IsBook book × (requests ≡ from_entries (request_entries book))
+        × (last_hour hour book ≡ hour) × (length book ≡ count)) }
+{
+    if rows.len() > 100_000 {
+        return Err(SpellingFault::Bad);
+    }
+    let mut rows = rows;
+    rows.sort_unstable_by_key(|row| row.place);
+    let last = judge_in_order(alloc, &rows)?;
+    if !is_last(rows.len(), last, hour) {
+        return Err(SpellingFault::Bad);
+    }
+    Ok(rows.len())
+}

@@ -1,0 +1,387 @@
+//! The rows that a change of rings writes.
+ghost use Rattle.std.specs.Prelude.{[], ◌∷◌, ◌≡◌, ◌++◌, ◌*◌, ◌<◌, ◌≤◌, ◌==◌, ◌↔◌, IfOk, IsTrue};
+ghost use Rattle.std.specs.Prelude.{OnOk, count_by, drop, is_none, length, find, map, slice_get};
+ghost use Rattle.std.specs.Prelude.{slice_index_or, take, None};
+ghost use Rattle.std.specs.Option.{option_copied, option_map};
+ghost use Rattle.std.specs.Rc.{rc_str_bytes};
+ghost use Rattle.ring_model.specs.Ring.{partition_count};
+ghost use Rattle.ring_words.specs.Texts.{address_limit};
+ghost use Rattle.store_tables.specs.Entries.{name_cmp, name_number_cmp};
+ghost use Rattle.store_tables.specs.Contents.{device_of, part_of, published_of, ring_of};
+ghost use Rattle.store_rows.specs.Differences.{has_same, is_same_device, is_same_part};
+ghost use Rattle.store_rows.specs.Differences.{is_same_ring, is_same_text};
+ghost use Rattle.store_rows.specs.Inner.Lacking.{device_in, device_value, gone, lacking};
+ghost use Rattle.store_rows.specs.Inner.Lacking.{added_ring, part_in, part_value, ring_value};
+ghost use Rattle.store_rows.specs.Inner.Lacking.{rows_at, text_entries_of, text_in};
+ghost use Rattle.store_rows.specs.RingRows.{device_entries, device_entry, part_entries};
+ghost use Rattle.store_rows.specs.RingRows.{part_entries_of, part_entry, published_entries};
+ghost use Rattle.store_rows.specs.RingRows.{published_entry, ring_entries};
+
+use crate::ring_rows::{device_row, part_row, partition_seats, published_row, ring_row};
+use ring_model::{Ring, Rings};
+use ring_words::{Device, DeviceId, RingName};
+use std::alloc::{AllocError, Global};
+use std::rc::RcStr;
+use store_tables::{DeviceRow, PartRow, PublishedRow, RingRow};
+
+// ---- rings
+
+/// Whether two rings have the same row.
+fn is_same_row(one: &Ring, other: &Ring) -> bool
+    ensures { result ≡ is_same_ring (ring_value one.now) (ring_value other.now) }
+{
+    one.power() == other.power()
+        && one.replicas() == other.replicas()
+        && one.min_hours() == other.min_hours()
+        && one.next_id() == other.next_id()
+        && one.version() == other.version()
+}
+
+/// Whether an old ring has the same row.
+fn has_ring(old: Option<&Ring>, ring: &Ring) -> bool
+    ensures { result ≡ has_same is_same_ring (option_map (λ ring. ring_value ring.now) old.entry)
+        (ring_value ring.now) }
+{
+    match old {
+        Some(before) => is_same_row(before, ring),
+        None => false,
+    }
+}
+
+/// Adds the row of a ring if the old ring has it not.
+fn push_new_ring(
+    alloc: Global,
+    into: &mut Vec<RingRow>,
+    name: &RingName,
+    old: Option<&Ring>,
+    ring: &Ring,
+) -> Result<(), AllocError>
+    ensures { OnOk result (map ring_of into.new.items ≡ map ring_of into.old.items
+        ++ added_ring (option_map (λ ring. ring.now) old.entry) (name.now, ring.now)) }
+{
+    if has_ring(old, ring) {
+        return Ok(());
+    }
+    into.push(ring_row(alloc, name, ring)?)?;
+    Ok(())
+}
+
+/// The rows of `ring` that the new rings have and the old ones have not.
+pub(crate) fn new_rings(alloc: Global, old: &Rings, new: &Rings) -> Result<Vec<RingRow>, AllocError>
+    ensures { IfOk result (λ rows. map ring_of rows.items ≡ lacking name_cmp is_same_ring
+        (ring_entries old.now) (ring_entries new.now)) }
+{
+    let _known = old.list();
+    let mut rows = Vec::new(alloc);
+    for entry in new.list() {
+        push_new_ring(
+            alloc,
+            &mut rows,
+            &entry.0,
+            old.get(&entry.0),
+            entry.1.as_ref(),
+        )?;
+    }
+    Ok(rows)
+}
+
+// ---- devices
+
+/// The devices of a ring, none where there is no ring.
+fn devices_of(ring: Option<&Ring>) -> &[Device]
+    ensures { result.now ≡ rows_at (λ e. e.1.devices) [] (option_map (λ ring. ring.now) ring.entry) }
+{
+    match ring {
+        Some(ring) => ring.devices(),
+        None => &[],
+    }
+}
+
+/// Whether two devices of one number have the same row.
+fn is_same_device(one: &Device, other: &Device) -> bool
+    ensures same { IsTrue result ↔ (one.now.row ≡ other.now.row) ×
+        (one.now.removed ≡ other.now.removed) }
+    ensures addresses { (one.now.row.address < address_limit) ×
+        (other.now.row.address < address_limit) }
+{
+    let (_one, _other) = (one.row.address.bits(), other.row.address.bits());
+    one.row == other.row && one.removed == other.removed
+}
+
+/// The device of a number.
+fn find_device(devices: &[Device], id: DeviceId) -> Option<&Device>
+    ensures { option_copied result ≡ find (λ device. device.id == id) devices.now }
+{
+    devices.iter().find(|device| device.id == id)
+}
+
+/// Whether a device is among others, with the same row.
+fn has_device(others: &[Device], device: &Device) -> bool
+    ensures { result ≡ has_same is_same_device (device_in device.now.id others.now)
+        (device_value device.now) }
+{
+    match find_device(others, device.id) {
+        Some(other) => is_same_device(other, device),
+        None => false,
+    }
+}
+
+/// Adds the row of a device that is not among others.
+fn push_new_device(
+    alloc: Global,
+    into: &mut Vec<DeviceRow>,
+    name: &RingName,
+    others: &[Device],
+    device: &Device,
+) -> Result<(), AllocError>
+    ensures { OnOk result (map device_of into.new.items ≡ map device_of into.old.items
+        ++ lacking name_number_cmp is_same_device (map (device_entry name.now) others.now) (device_entry name.now device.now ∷ [])) }
+{
+    if has_device(others, device) {
+        return Ok(());
+    }
+    into.push(device_row(alloc, name, device)?)?;
+    Ok(())
+}
+
+/// Adds the rows of a ring's devices that are not among others.
+fn push_devices(
+    alloc: Global,
+    into: &mut Vec<DeviceRow>,
+    name: &RingName,
+    others: &[Device],
+    devices: &[Device],
+) -> Result<(), AllocError>
+    ensures { OnOk result (map device_of into.new.items ≡ map device_of into.old.items ++
+        lacking name_number_cmp is_same_device (map (device_entry name.now) others.now)
+        (map (device_entry name.now) devices.now)) }
+{
+    for device in devices {
+        push_new_device(alloc, into, name, others, device)?;
+    }
+    Ok(())
+}
+
+/// The rows of `device` that the new rings have and the old ones have not.
+pub(crate) fn new_devices(
+    alloc: Global,
+    old: &Rings,
+    new: &Rings,
+) -> Result<Vec<DeviceRow>, AllocError>
+    ensures { IfOk result (λ rows. map device_of rows.items ≡ lacking name_number_cmp is_same_device
+        (device_entries old.now) (device_entries new.now)) }
+{
+    let _known = old.list();
+    let mut rows = Vec::new(alloc);
+    for entry in new.list() {
+        let others = devices_of(old.get(&entry.0));
+        push_devices(alloc, &mut rows, &entry.0, others, entry.1.devices())?;
+    }
+    Ok(rows)
+}
+
+/// Whether a device has a number that is not among others.
+fn is_gone(others: &[Device], device: &Device) -> bool
+    ensures { result ≡ is_none (device_in device.now.id others.now) }
+{
+    find_device(others, device.id).is_none()
+}
+
+/// How many devices of a ring have a number that is not among others.
+fn count_gone(others: &[Device], devices: &[Device]) -> usize
+    ensures value { result ≡ count_by (λ device. is_none (device_in device.id others.now))
+        devices.now }
+    ensures small { result ≤ length devices.now }
+{
+    devices
+        .iter()
+        .filter(|device| is_gone(others, device))
+        .count()
+}
+
+/// How many devices the old rings have that the new ones have not, neither so nor otherwise.
+pub(crate) fn gone_devices(old: &Rings, new: &Rings) -> usize
+    ensures value { result ≡ length (gone name_number_cmp (device_entries old.now)
+        (device_entries new.now)) }
+    ensures small { result ≤ 4096 }
+{
+    let _known = new.list();
+    let mut count = 0;
+    for entry in old.list() {
+        let others = devices_of(new.get(&entry.0));
+        count += count_gone(others, entry.1.devices());
+    }
+    count
+}
+
+// ---- partitions
+
+/// Whether two rings have the same row of a partition that both have.
+fn is_same_part(one: &Ring, other: &Ring, partition: usize) -> bool
+    requires one { partition < partition_count one.now }
+    requires other { partition < partition_count other.now }
+    ensures { IsTrue result ↔ (take one.now.replicas (drop (partition * one.now.replicas)
+        one.now.seats)
+        ≡ take other.now.replicas (drop (partition * other.now.replicas) other.now.seats))
+        × (slice_index_or one.now.moved partition None ≡ slice_index_or other.now.moved partition None) }
+{
+    partition_seats(one, partition) == partition_seats(other, partition)
+        && one.moves()[partition] == other.moves()[partition]
+}
+
+/// Whether a ring has a partition, with the same row as another's.
+fn has_part_of(one: &Ring, other: &Ring, partition: usize) -> bool
+    requires { partition < partition_count other.now }
+    ensures { result ≡ has_same is_same_part
+        (option_map (part_value one.now partition) (slice_get one.now.moved partition))
+        (part_value other.now partition (slice_index_or other.now.moved partition None)) }
+{
+    if partition >= one.moves().len() {
+        return false;
+    }
+    is_same_part(one, other, partition)
+}
+
+/// Whether an old ring has the same row of a partition.
+fn has_part(old: Option<&Ring>, ring: &Ring, partition: usize) -> bool
+    requires { partition < partition_count ring.now }
+    ensures { result ≡ has_same is_same_part (part_in (option_map (λ ring. ring.now) old.entry)
+        partition) (part_value ring.now partition (slice_index_or ring.now.moved partition None)) }
+{
+    match old {
+        Some(before) => has_part_of(before, ring, partition),
+        None => false,
+    }
+}
+
+/// Adds the row of a partition that the old ring has not.
+fn push_new_part(
+    alloc: Global,
+    into: &mut Vec<PartRow>,
+    name: &RingName,
+    old: Option<&Ring>,
+    ring: &Ring,
+    partition: usize,
+) -> Result<(), AllocError>
+    requires { partition < partition_count ring.now }
+    ensures { OnOk result (map part_of into.new.items ≡ map part_of into.old.items
+        ++ lacking name_number_cmp is_same_part (rows_at part_entries_of name.now (option_map (λ ring. ring.now) old.entry))
+        (part_entry name.now ring.now.replicas ring.now.seats (partition, slice_index_or ring.now.moved partition None) ∷ [])) }
+{
+    if has_part(old, ring, partition) {
+        return Ok(());
+    }
+    into.push(part_row(alloc, name, ring, partition)?)?;
+    Ok(())
+}
+
+/// Adds the rows of a ring's partitions that the old ring has not.
+fn push_parts(
+    alloc: Global,
+    into: &mut Vec<PartRow>,
+    name: &RingName,
+    old: Option<&Ring>,
+    ring: &Ring,
+) -> Result<(), AllocError>
+    ensures { OnOk result (map part_of into.new.items ≡ map part_of into.old.items ++
+        lacking name_number_cmp is_same_part (rows_at part_entries_of name.now
+        (option_map (λ ring. ring.now) old.entry)) (part_entries_of (name.now, ring.now))) }
+{
+    for partition in 0..ring.moves().len() {
+        push_new_part(alloc, into, name, old, ring, partition)?;
+    }
+    Ok(())
+}
+
+/// The rows of `part` that the new rings have and the old ones have not.
+pub(crate) fn new_parts(alloc: Global, old: &Rings, new: &Rings) -> Result<Vec<PartRow>, AllocError>
+    ensures { IfOk result (λ rows. map part_of rows.items ≡ lacking name_number_cmp is_same_part
+        (part_entries old.now) (part_entries new.now)) }
+{
+    let _known = old.list();
+    let mut rows = Vec::new(alloc);
+    for entry in new.list() {
+        push_parts(
+            alloc,
+            &mut rows,
+            &entry.0,
+            old.get(&entry.0),
+            entry.1.as_ref(),
+        )?;
+    }
+    Ok(rows)
+}
+
+// ---- published texts
+
+/// Whether an old ring has published this text under this version.
+fn has_text(old: Option<&Ring>, text: &(u32, RcStr)) -> bool
+    ensures { result ≡ has_same is_same_text (text_in (option_map (λ ring. ring.now) old.entry)
+        text.now.0) (rc_str_bytes text.now.1) }
+{
+    match old {
+        Some(before) => before.published(text.0) == Some(text.1.as_str()),
+        None => false,
+    }
+}
+
+/// Adds the row of a published text that the old ring has not.
+fn push_new_text(
+    alloc: Global,
+    into: &mut Vec<PublishedRow>,
+    name: &RingName,
+    old: Option<&Ring>,
+    text: &(u32, RcStr),
+) -> Result<(), AllocError>
+    ensures { OnOk result (map published_of into.new.items ≡ map published_of into.old.items
+        ++ lacking name_number_cmp is_same_text (rows_at text_entries_of name.now (option_map (λ ring. ring.now) old.entry))
+        (published_entry name.now (text.now.0, rc_str_bytes text.now.1) ∷ [])) }
+{
+    if has_text(old, text) {
+        return Ok(());
+    }
+    into.push(published_row(alloc, name, text)?)?;
+    Ok(())
+}
+
+/// Adds the rows of a ring's published texts that the old ring has not.
+fn push_texts(
+    alloc: Global,
+    into: &mut Vec<PublishedRow>,
+    name: &RingName,
+    old: Option<&Ring>,
+    ring: &Ring,
+) -> Result<(), AllocError>
+    ensures { OnOk result (map published_of into.new.items ≡ map published_of into.old.items ++
+        lacking name_number_cmp is_same_text (rows_at text_entries_of name.now
+        (option_map (λ ring. ring.now) old.entry)) (map (published_entry name.now)
+        ring.now.published)) }
+{
+    for text in ring.published_list() {
+        push_new_text(alloc, into, name, old, text)?;
+    }
+    Ok(())
+}
+
+/// The rows of `published` that the new rings have and the old ones have not.
+pub(crate) fn new_texts(
+    alloc: Global,
+    old: &Rings,
+    new: &Rings,
+) -> Result<Vec<PublishedRow>, AllocError>
+    ensures { IfOk result (λ rows. map published_of rows.items ≡ lacking name_number_cmp
+        is_same_text (published_entries old.now) (published_entries new.now)) }
+{
+    let _known = old.list();
+    let mut rows = Vec::new(alloc);
+    for entry in new.list() {
+        push_texts(
+            alloc,
+            &mut rows,
+            &entry.0,
+            old.get(&entry.0),
+            entry.1.as_ref(),
+        )?;
+    }
+    Ok(rows)
+}

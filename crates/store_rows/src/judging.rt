@@ -1,0 +1,198 @@
+//! What the rows of a store that is opened say.
+ghost use Rattle.std.specs.Prelude.{◌≡◌, ◌∷◌, [], IfOk, IsTrue, List, MatchOption, cond, false};
+ghost use Rattle.std.specs.Prelude.{map, pos, true};
+ghost use Rattle.store_tables.specs.Contents.{meta_of, part_of};
+ghost use Rattle.store_tables.specs.declared.changes.RowChange.TheVariants.{PutPart};
+ghost use Rattle.store_tables.specs.declared.rows.PartRow.{PartRow};
+ghost use Rattle.store_rows.specs.Stands.{meta_value};
+ghost use Rattle.store_rows.specs.RingRows.{part_entries};
+ghost use Rattle.store_rows.specs.Inner.Sayings.{SayPlaces, SayRings};
+ghost use Rattle.store_tables.specs.Contents.{Contents};
+ghost use Rattle.store_rows.specs.Judging.{AreRowsOf, Judges};
+
+use crate::books::judge_book;
+use crate::change::push_parts;
+use crate::comparing::are_alike;
+use crate::differences::{new_devices, new_parts, new_rings, new_texts};
+use crate::first_rows::{moved_rows, seat_rows};
+use crate::naming::RingTables;
+use crate::numbers::number32;
+use crate::proper::rings_are_proper;
+use crate::rings_reading::read_rings;
+use ring_model::Rings;
+use ring_words::{Hour, SpellingFault};
+use std::alloc::{AllocError, Global};
+use store_tables::{
+    DeviceRow, MetaRow, MovedRow, PartRow, PublishedRow, RequestRow, RingRow, RowChange, SeatRow,
+};
+
+/// All rows of a store, each table's by rising keys.
+#[derive(Debug, Drop)]
+pub struct StoreRows {
+    pub meta: Vec<MetaRow>,
+    pub rings: Vec<RingRow>,
+    pub devices: Vec<DeviceRow>,
+    pub seats: Vec<SeatRow>,
+    pub moved: Vec<MovedRow>,
+    pub published: Vec<PublishedRow>,
+    pub requests: Vec<RequestRow>,
+    pub parts: Vec<PartRow>,
+}
+
+/// What a store holds.
+#[derive(Drop)]
+pub struct Judged {
+    /// The rings.
+    pub rings: Rings,
+    /// How many requests are in the book.
+    pub count: usize,
+    /// The greatest hour.
+    pub hour: Hour,
+    /// The changes that make a store of schema 1 one of schema 2, and none where it is one already.
+    pub migration: Option<Vec<RowChange>>,
+}
+
+/// Whether the rows of `meta` are those of schema 1, else of schema 2, and the greatest hour that
+/// they say.
+fn read_meta(rows: &[MetaRow]) -> Result<(bool, Hour), SpellingFault>
+    ensures { IfOk result (λ meta. map meta_of rows.now ≡ (
+      pos 1,
+      meta_value (cond meta.0 1 2) meta.1,
+    ) ∷ []) }
+{
+    let [row] = rows else {
+        return Err(SpellingFault::Bad);
+    };
+    if row.one != 1 {
+        return Err(SpellingFault::Bad);
+    }
+    let hour = number32(row.hour)?;
+    match row.schema {
+        1 => Ok((true, hour)),
+        2 => Ok((false, hour)),
+        _ => Err(SpellingFault::Bad),
+    }
+}
+
+/// Whether the rows of seats, moves and partitions are those of rings in a store of schema 1.
+fn are_first_places(alloc: Global, rows: &StoreRows, rings: &Rings) -> Result<bool, AllocError>
+    ensures { IfOk result (λ same. IsTrue same → SayPlaces true rows.now rings.now) }
+{
+    let seats = seat_rows(alloc, rings)?;
+    let moved = moved_rows(alloc, rings)?;
+    if !rows.parts.is_empty() {
+        return Ok(false);
+    }
+    if !are_alike(rows.seats.as_slice(), seats.as_slice()) {
+        return Ok(false);
+    }
+    Ok(are_alike(rows.moved.as_slice(), moved.as_slice()))
+}
+
+/// Whether the rows of seats, moves and partitions are those of rings in a store of schema 2.
+fn are_parts(alloc: Global, rows: &StoreRows, rings: &Rings) -> Result<bool, AllocError>
+    ensures { IfOk result (λ same. IsTrue same → SayPlaces false rows.now rings.now) }
+{
+    let none = Rings::new(alloc);
+    let parts = new_parts(alloc, &none, rings)?;
+    if !rows.seats.is_empty() || !rows.moved.is_empty() {
+        return Ok(false);
+    }
+    Ok(are_alike(rows.parts.as_slice(), parts.as_slice()))
+}
+
+/// Whether the rows of seats, moves and partitions are those of rings.
+fn are_places(
+    alloc: Global,
+    is_first: bool,
+    rows: &StoreRows,
+    rings: &Rings,
+) -> Result<bool, AllocError>
+    ensures { IfOk result (λ same. IsTrue same → SayPlaces is_first rows.now rings.now) }
+{
+    if is_first {
+        are_first_places(alloc, rows, rings)
+    } else {
+        are_parts(alloc, rows, rings)
+    }
+}
+
+/// Whether all rows but those of `meta` and `request` are those of rings.
+fn are_rings(
+    alloc: Global,
+    is_first: bool,
+    rows: &StoreRows,
+    rings: &Rings,
+) -> Result<bool, AllocError>
+    ensures { IfOk result (λ same. IsTrue same → SayRings is_first rows.now rings.now) }
+{
+    let none = Rings::new(alloc);
+    let made = new_rings(alloc, &none, rings)?;
+    let devices = new_devices(alloc, &none, rings)?;
+    let texts = new_texts(alloc, &none, rings)?;
+    if !are_alike(rows.rings.as_slice(), made.as_slice()) {
+        return Ok(false);
+    }
+    if !are_alike(rows.devices.as_slice(), devices.as_slice()) {
+        return Ok(false);
+    }
+    if !are_alike(rows.published.as_slice(), texts.as_slice()) {
+        return Ok(false);
+    }
+    are_places(alloc, is_first, rows, rings)
+}
+
+/// The rings that rows say, in a store of schema 1 or of schema 2.
+fn judge_rings(alloc: Global, is_first: bool, rows: &StoreRows) -> Result<Rings, SpellingFault>
+    ensures { IfOk result (λ rings. SayRings is_first rows.now rings) }
+{
+    let tables = RingTables {
+        devices: &rows.devices,
+        published: &rows.published,
+        seats: &rows.seats,
+        moved: &rows.moved,
+        parts: &rows.parts,
+    };
+    let rings = read_rings(alloc, is_first, &rows.rings, tables)?;
+    if !are_rings(alloc, is_first, rows, &rings)? {
+        return Err(SpellingFault::Bad);
+    }
+    Ok(rings)
+}
+
+/// The changes that make a store of schema 1 one of schema 2: a row for each partition. None where
+/// it is one already.
+fn migration(
+    alloc: Global,
+    is_first: bool,
+    rings: &Rings,
+) -> Result<Option<Vec<RowChange>>, AllocError>
+    ensures { IfOk result (λ migration. MatchOption migration (is_first ≡ false)
+        (λ changes. (is_first ≡ true) × ((rows : List PartRow) × (changes.items ≡ map PutPart rows) × (map part_of rows ≡ part_entries rings.now)))) }
+{
+    if !is_first {
+        return Ok(None);
+    }
+    let mut changes = Vec::new(alloc);
+    let none = Rings::new(alloc);
+    let parts = new_parts(alloc, &none, rings)?;
+    push_parts(&mut changes, parts)?;
+    Ok(Some(changes))
+}
+
+/// What a store with these rows holds. Bad where they are not those of rings and a book.
+pub fn judge(alloc: Global, rows: StoreRows) -> Result<Judged, SpellingFault>
+    ensures { (c : Contents) → AreRowsOf rows c → Judges c result }
+{
+    let (is_first, hour) = read_meta(&rows.meta)?;
+    let rings = judge_rings(alloc, is_first, &rows)?;
+    rings_are_proper(&rings);
+    let count = judge_book(alloc, rows.requests, hour)?;
+    let migration = migration(alloc, is_first, &rings)?;
+    Ok(Judged {
+        rings,
+        count,
+        hour,
+        migration,
+    })
+}

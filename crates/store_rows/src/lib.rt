@@ -1,0 +1,28 @@
+//! Which rows of the store stand for rings and a book: the rows that a change writes, those of a
+//! decided request, and what the rows of a store that is opened say.
+//!
+//! No SQL is here. Rows come from the crate `store_tables` and go to it, and contracts speak of the
+//! contents of its tables. `contents_for` in `specs/Stands.antt` says what the tables contain where
+//! the store holds a content.
+#![tactic(auto)]
+
+mod books;
+mod change;
+mod comparing;
+mod differences;
+mod first_rows;
+mod growing;
+mod judging;
+pub mod laws;
+mod naming;
+mod numbers;
+mod proper;
+mod requests;
+mod ring_reading;
+mod ring_rows;
+mod rings_reading;
+
+pub use change::Change;
+pub use growing::grows;
+pub use judging::{Judged, StoreRows, judge};
+pub use requests::{DecidedRows, decided_rows, meta_row, read_found};

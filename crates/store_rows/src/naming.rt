@@ -1,0 +1,108 @@
+//! Rows of several rings, which stand by ring.
+ghost use Rattle.std.specs.Prelude.{◌≡◌, ℕ, List, string_bytes};
+
+use store_tables::{DeviceRow, MovedRow, PartRow, PublishedRow, SeatRow};
+
+/// A row that says of which ring it is.
+pub(crate) trait OfRing {
+    /// The name of the ring.
+    ghost ring_name: { Self → List ℕ };
+
+    /// The name of the ring.
+    fn ring(&self) -> &str
+        ensures { result.now ≡ ring_name self.now };
+}
+
+impl OfRing for DeviceRow {
+    ghost ring_name = { λ row. string_bytes row.ring };
+
+    fn ring(&self) -> &str {
+        self.ring.as_str()
+    }
+}
+
+impl OfRing for PublishedRow {
+    ghost ring_name = { λ row. string_bytes row.ring };
+
+    fn ring(&self) -> &str {
+        self.ring.as_str()
+    }
+}
+
+impl OfRing for PartRow {
+    ghost ring_name = { λ row. string_bytes row.ring };
+
+    fn ring(&self) -> &str {
+        self.ring.as_str()
+    }
+}
+
+impl OfRing for SeatRow {
+    ghost ring_name = { λ row. string_bytes row.ring };
+
+    fn ring(&self) -> &str {
+        self.ring.as_str()
+    }
+}
+
+impl OfRing for MovedRow {
+    ghost ring_name = { λ row. string_bytes row.ring };
+
+    fn ring(&self) -> &str {
+        self.ring.as_str()
+    }
+}
+
+/// The rows of a ring at the front, and those behind them.
+pub(crate) fn split_named<'a, T: OfRing>(rows: &'a [T], name: &str) -> (&'a [T], &'a [T]) {
+    let front = rows
+        .iter()
+        .position(|row| row.ring() != name)
+        .unwrap_or(rows.len());
+    rows.split_at(front)
+}
+
+/// Rows of rings in the tables beside `ring`, by ring.
+#[derive(Clone, Copy)]
+pub(crate) struct RingTables<'a> {
+    pub(crate) devices: &'a [DeviceRow],
+    pub(crate) published: &'a [PublishedRow],
+    pub(crate) seats: &'a [SeatRow],
+    pub(crate) moved: &'a [MovedRow],
+    pub(crate) parts: &'a [PartRow],
+}
+
+impl<'a> RingTables<'a> {
+    /// The rows of a ring at the front, and those behind them.
+    pub(crate) fn split(self, name: &str) -> (RingTables<'a>, RingTables<'a>) {
+        let devices = split_named(self.devices, name);
+        let published = split_named(self.published, name);
+        let seats = split_named(self.seats, name);
+        let moved = split_named(self.moved, name);
+        let parts = split_named(self.parts, name);
+        let front = RingTables {
+            devices: devices.0,
+            published: published.0,
+            seats: seats.0,
+            moved: moved.0,
+            parts: parts.0,
+        };
+        let behind = RingTables {
+            devices: devices.1,
+            published: published.1,
+            seats: seats.1,
+            moved: moved.1,
+            parts: parts.1,
+        };
+        (front, behind)
+    }
+
+    /// Whether there are no rows.
+    pub(crate) fn is_empty(self) -> bool {
+        self.devices.is_empty()
+            && self.published.is_empty()
+            && self.seats.is_empty()
+            && self.moved.is_empty()
+            && self.parts.is_empty()
+    }
+}
