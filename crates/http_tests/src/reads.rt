@@ -187,8 +187,6 @@ fn tables_are_read(rt: HostRuntime) -> Result<(), Fail> {
             &plain(alloc, balance)?
         )?
     );
-    let devices =
-        "   id region  zone address          port     weight state   name\n    0      1     1 10.0.0.1         6200     100.00 open    d0\n    1      1     1 10.0.0.2         6200     100.00 open    d1\n";
     assert!(rt;
         reads(
             alloc,
@@ -260,47 +258,58 @@ fn a_table_with_a_row_too_many_is_refused_whole(rt: HostRuntime) -> Result<(), F
     Ok(())
 }
 
+/// What an import of a table asks for, and what it is answered, where nothing is decided.
+const IMPORT: &str = "/v1/import/object?number=5&caller=ops";
+
 #[test]
-fn a_table_that_is_none_is_not_decided(rt: HostRuntime) -> Result<(), Fail> {
+fn a_table_with_a_wrong_field_is_not_decided(rt: HostRuntime) -> Result<(), Fail> {
     let alloc = rt.alloc();
     let mut book = open(alloc, Limits::full());
     assert!(rt; posts(alloc, &mut book, 0, &OBJECT)?);
-    let target = "/v1/import/object?number=5&caller=ops";
     let bad_field = format!(in alloc; "{HEADER}1,1,10.0.0.256,6200,d0,5.00\n")?;
+    let told = "{\"column\":3,\"fault\":\"BadField\",\"row\":1,\"rule\":42}";
     assert!(rt;
         imports(
             alloc,
             &mut book,
-            target,
+            IMPORT,
             &bad_field,
-            (
-                "400 Bad Request",
-                "{\"column\":3,\"fault\":\"BadField\",\"row\":1,\"rule\":42}"
-            )
+            ("400 Bad Request", told)
         )?
     );
+    let told = "{\"added\":0,\"done\":\"import\",\"reweighted\":0,\"version\":4}";
+    assert!(rt; imports(alloc, &mut book, IMPORT, HEADER, ("200 OK", told))?);
+    Ok(())
+}
+
+#[test]
+fn a_table_with_a_short_row_is_not_decided(rt: HostRuntime) -> Result<(), Fail> {
+    let alloc = rt.alloc();
+    let mut book = open(alloc, Limits::full());
+    assert!(rt; posts(alloc, &mut book, 0, &OBJECT)?);
     let bad_row = format!(in alloc; "{HEADER}1,1,10.0.0.9,6200,d9,5.00\n1,1,10.0.0.9,6200,d9\n")?;
+    let told = "{\"fault\":\"BadRow\",\"row\":2,\"rule\":41}";
     assert!(rt;
         imports(
             alloc,
             &mut book,
-            target,
+            IMPORT,
             &bad_row,
-            (
-                "400 Bad Request",
-                "{\"fault\":\"BadRow\",\"row\":2,\"rule\":41}"
-            )
+            ("400 Bad Request", told)
         )?
     );
-    assert!(rt;
-        imports(
-            alloc,
-            &mut book,
-            target,
-            "",
-            ("400 Bad Request", "{\"fault\":\"BadHeader\",\"rule\":40}")
-        )?
-    );
+    let told = "{\"fault\":\"BadHeader\",\"rule\":40}";
+    assert!(rt; imports(alloc, &mut book, IMPORT, "", ("400 Bad Request", told))?);
+    let told = "{\"added\":0,\"done\":\"import\",\"reweighted\":0,\"version\":4}";
+    assert!(rt; imports(alloc, &mut book, IMPORT, HEADER, ("200 OK", told))?);
+    Ok(())
+}
+
+#[test]
+fn an_import_without_its_number_is_not_decided(rt: HostRuntime) -> Result<(), Fail> {
+    let alloc = rt.alloc();
+    let mut book = open(alloc, Limits::full());
+    assert!(rt; posts(alloc, &mut book, 0, &OBJECT)?);
     let unreadable = ("400 Bad Request", "{\"fault\":\"Unreadable\",\"rule\":20}");
     for target in [
         "/v1/import/object",
@@ -314,6 +323,6 @@ fn a_table_that_is_none_is_not_decided(rt: HostRuntime) -> Result<(), Fail> {
         assert!(rt; imports(alloc, &mut book, target, HEADER, unreadable)?);
     }
     let told = "{\"added\":0,\"done\":\"import\",\"reweighted\":0,\"version\":4}";
-    assert!(rt; imports(alloc, &mut book, target, HEADER, ("200 OK", told))?);
+    assert!(rt; imports(alloc, &mut book, IMPORT, HEADER, ("200 OK", told))?);
     Ok(())
 }

@@ -1,0 +1,54 @@
+-- What serving connections, one after another, does to a clock and a book.
+use Rattle.std.specs.Prelude.{◌≡◌, ◌≤◌, ℕ, List, All, flat_map, length, MatchResult, Result}
+use Rattle.builder.specs.Step.{State}
+use Rattle.http_api.specs.Served.{HttpFront, ServesHttp}
+use Rattle.http_sockets.specs.declared.fault.ServeFault.{ServeFault}
+use Rattle.http_sockets.specs.declared.fault.ServeFault.TheVariants.{NetFailed}
+use Rattle.http_stream.specs.Streams.{BeginWith, Item}
+use Rattle.request_book.specs.Content.{Content}
+use Rattle.ring_words.specs.declared.command.Command.{Command}
+use Rattle.ring_words.specs.declared.command.Reply.{Reply}
+
+-- the bytes that came over a connection, the requests that were answered, and their answers
+pub record Connection : Type 0 where
+  pub bytes : List ℕ
+  pub items : List Item
+  pub texts : List (List ℕ)
+
+-- the requests that were answered, of one connection after another
+abbrev pub items_of : List Connection → List Item
+items_of connections = flat_map (λ connection. connection.items) connections
+
+-- the answers, of one connection after another
+abbrev pub texts_of : List Connection → List (List ℕ)
+texts_of connections = flat_map (λ connection. connection.texts) connections
+
+-- What was answered are the first requests of what came.
+abbrev pub AnswersFirst : Connection → Type 0
+AnswersFirst connection = BeginWith connection.bytes connection.items
+
+module _ {K C : Type 0} (content : K → Content State Command Reply) (sound : K → Type 0)
+    (limit : K → ℕ) (faults : K → ℕ)
+    (tells : C → ℕ → C → Type 0) (prefix suffix : List ℕ) where
+  -- a clock and a book of the builder
+  abbrev pub Front : Type 0
+  Front = HttpFront {C = C} content sound limit faults tells prefix suffix
+
+  -- So many connections were served, and their requests, one connection after another, as those of
+  -- one stream: the calls that they lead to are one run.
+  pub record ConnectionsServed (count : ℕ) (old new : Front) : Type 0 where
+    pub connections : List Connection
+    pub count_is : length connections ≡ count
+    pub first : All AnswersFirst connections
+    pub serves : ServesHttp content sound limit faults tells prefix suffix old
+        (items_of connections) (texts_of connections) new
+
+  -- So many connections were served, or fewer.
+  abbrev pub ServedAtMost : ℕ → Front → Front → Type 0
+  ServedAtMost count old new = (served : ℕ) × (served ≤ count) × ConnectionsServed served old new
+
+  -- So many connections were served, or the net failed before as many were.
+  abbrev pub ServedUpTo : ℕ → Front → Front → Result (Unit {0}) ServeFault → Type 0
+  ServedUpTo count old new result =
+      MatchResult result (λ _. ConnectionsServed count old new)
+      (λ fault. (fault ≡ NetFailed) × ServedAtMost count old new)

@@ -1,0 +1,4 @@
+pub mod Hours
+pub mod Listening
+pub mod Connections
+pub mod Inner

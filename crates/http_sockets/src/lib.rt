@@ -1,0 +1,18 @@
+//! The service over HTTP/1.1 on sockets of this machine, 127.0.0.1, one connection after another.
+//!
+//! `serve_connections` serves a port, and `loop_over` the bytes of a file by way of a socket. That
+//! the requests of all connections are one run of the book stands in `specs/Connections.antt`.
+//! `HourClock` tells the hour of the machine, or a given one.
+#![tactic(auto)]
+
+mod fault;
+mod hours;
+mod looping;
+mod server;
+mod serving;
+
+pub use fault::ServeFault;
+pub use hours::HourClock;
+pub use looping::loop_over;
+pub use server::Server;
+pub use serving::serve_connections;

@@ -1,0 +1,208 @@
+//! Bytes that are served by way of a socket of this machine.
+ghost use Rattle.std.specs.Prelude.{◌≡◌, ◌≤◌, ◌⊎◌, ℕ, List, IfErr, IfOk, MatchResult, OnOk, length};
+ghost use Rattle.std.specs.Io.KnownBytes.{Appends};
+ghost use Rattle.builder.specs.Safety.{IsSafeRun};
+ghost use Rattle.byte_streams.specs.Counted.{Counts, IsFlushed, one_more, write_faults, writer_of};
+ghost use Rattle.byte_streams.specs.declared.fault.StreamFault.TheVariants.{WriteFailed};
+ghost use Rattle.http_sockets.specs.Connections.{ConnectionsServed, ServedAtMost};
+ghost use Rattle.http_sockets.specs.Inner.One.{OneServed};
+ghost use Rattle.http_sockets.specs.declared.fault.ServeFault.TheVariants.{NetFailed, Stream};
+
+use crate::fault::ServeFault;
+use crate::server::Server;
+use crate::serving::{close, converse};
+use builder::RingMachine;
+use byte_streams::{CountedWriter, StreamFault, write_text};
+use http_api::Clock;
+use request_book::{Book, Keeper};
+use std::alloc::Global;
+use std::io::{self, Read, Write};
+use std::net::{Net, OpenStream, Shutdown, SocketAddr};
+use std::time;
+use timed_streams::{CappedWriter, Pace, Patience, TimedReader, TimedWriter, fill_within};
+
+/// How many bytes of answers there may be.
+const MOST_ANSWERED: usize = 32768;
+
+/// How many other peers may come before the program's own.
+const MOST_STRANGERS: u32 = 128;
+
+/// The two ends of a connection of this machine with itself. The end that is served has two
+/// handles.
+#[derive(Drop)]
+struct Ends<S> {
+    client: S,
+    served: S,
+    twin: S,
+}
+
+/// Connects, sends these bytes, and ends the sending side.
+fn send<R: Net + time::Clock>(rt: &R, address: SocketAddr, input: &[u8]) -> io::Result<R::Stream> {
+    let pace = Pace::new(rt, Patience::usual());
+    let mut writer = TimedWriter::new(rt.connect(address)?, &pace);
+    writer.write_all(input)?;
+    let stream = writer.into_inner();
+    stream.shutdown(Shutdown::Write)?;
+    Ok(stream)
+}
+
+/// The connection of the client at this address. Other peers are turned away.
+fn accept_from<R: Net>(
+    server: &mut Server<'_, R>,
+    client: SocketAddr,
+) -> Result<R::Stream, ServeFault>
+    ensures { IfErr result (λ fault. fault ≡ NetFailed) }
+{
+    for _ in 0..MOST_STRANGERS {
+        let stream = server.accept()?;
+        if stream.peer_addr().ok() == Some(client) {
+            return Ok(stream);
+        }
+    }
+    Err(ServeFault::NetFailed)
+}
+
+/// Both ends of a connection over which these bytes were sent.
+fn join_ends<R: Net + time::Clock>(rt: &R, input: &[u8]) -> Result<Ends<R::Stream>, ServeFault>
+    ensures { IfErr result (λ fault. fault ≡ NetFailed) }
+{
+    let mut server = Server::bind(rt, 0, Patience::usual())?;
+    let Ok(client) = send(rt, server.address()?, input) else {
+        return Err(ServeFault::NetFailed);
+    };
+    let Ok(address) = client.local_addr() else {
+        return Err(ServeFault::NetFailed);
+    };
+    let served = accept_from(&mut server, address)?;
+    let Ok(twin) = served.try_clone() else {
+        return Err(ServeFault::NetFailed);
+    };
+    Ok(Ends {
+        client,
+        served,
+        twin,
+    })
+}
+
+/// Serves a stream to its end and closes it. Answers past 32768 bytes are not written.
+fn serve_capped<
+    T: time::Clock,
+    S: Read + Write + OpenStream + Drop,
+    C: Clock,
+    K: Keeper<RingMachine>,
+>(
+    alloc: Global,
+    time: &T,
+    stream: S,
+    twin: S,
+    clock: &mut C,
+    book: &mut Book<RingMachine, K>,
+    prefix: &[u8],
+    suffix: &[u8],
+) -> Result<u32, StreamFault>
+    ensures { OneServed K.content K.sound K.limit K.fault_count C.tells prefix.now suffix.now
+        (clock.old, book.old) (clock.new, book.new) }
+{
+    let pace = Pace::new(time, Patience::usual());
+    let reader = TimedReader::new(stream, &pace);
+    let writer = CappedWriter::new(TimedWriter::new(twin, &pace), MOST_ANSWERED);
+    let (result, stream) = converse(alloc, reader, writer, clock, book, prefix, suffix);
+    close(stream, time, Patience::usual());
+    result
+}
+
+/// Serves the bytes, and puts the answers in the room. Tells how many bytes they have, and what the
+/// serving ended with.
+fn answer_into<R: AllocGlobal + Net + time::Clock, C: Clock, K: Keeper<RingMachine>>(
+    rt: &R,
+    input: &[u8],
+    room: &mut [u8],
+    clock: &mut C,
+    book: &mut Book<RingMachine, K>,
+    prefix: &[u8],
+    suffix: &[u8],
+) -> Result<(usize, Result<u32, StreamFault>), ServeFault>
+    ensures bound { IfOk result (λ told. told.0 ≤ length room.new) }
+    ensures same { length room.new ≡ length room.old }
+    ensures served { MatchResult result
+        (λ _. ConnectionsServed K.content K.sound K.limit K.fault_count C.tells prefix.now
+        suffix.now 1 (clock.old, book.old) (clock.new, book.new))
+        (λ fault. (fault ≡ NetFailed)
+        × ServedAtMost K.content K.sound K.limit K.fault_count C.tells prefix.now suffix.now 1
+        (clock.old, book.old) (clock.new, book.new)) }
+    ensures safe { K.sound book.new.keeper → IsSafeRun book.old.machine.limits
+        (K.content book.old.keeper) (K.content book.new.keeper) }
+{
+    let Ok(ends) = join_ends(rt, input) else {
+        return Err(ServeFault::NetFailed);
+    };
+    let Ends {
+        mut client,
+        served,
+        twin,
+    } = ends;
+    let alloc = rt.alloc();
+    let result = serve_capped(alloc, rt, served, twin, clock, book, prefix, suffix);
+    match fill_within(&mut client, rt, Patience::usual().between, room) {
+        Ok(count) => Ok((count, result)),
+        Err(_) => Err(ServeFault::NetFailed),
+    }
+}
+
+/// Writes all of a text of 32768 bytes at most, and flushes the writer. Where that fails, a
+/// beginning of it was written.
+fn write_few<W: Write>(writer: &mut CountedWriter<W>, text: &[u8]) -> Result<(), StreamFault>
+    requires { length text.now ≤ 32768 }
+    ensures few { (answers : List ℕ) × (length answers ≤ 32768)
+        × Appends (W.contents (writer_of writer.old)) (W.contents (writer_of writer.new)) answers }
+    ensures fault { IfErr result (λ fault. fault ≡ WriteFailed) }
+    ensures cause { Counts (write_faults writer.old) (write_faults writer.new) result }
+    ensures flushed { OnOk result (IsFlushed writer.new) }
+{
+    write_text(writer, text)
+}
+
+/// Serves these bytes by way of a socket of 127.0.0.1, and writes the answers.
+///
+/// The program connects to a port of its own, sends the bytes and ends its sending side; it
+/// accepts, serves, reads away what was left unread, and closes; then it reads the answers and
+/// writes them.
+/// All this takes place in one thread, so that both the bytes and the answers have to fit the
+/// machine's socket buffers. 32768 bytes do.
+///
+/// `NetFailed` says that the machine's sockets failed: a port, the connection, or bytes that had no
+/// room. A fault of the stream that is served comes once the answers so far are written. Answers
+/// past 32768 bytes end the stream with `WriteFailed`; so does a failed write of the answers.
+/// `NoMemory` comes before anything was done, or from the stream.
+pub fn loop_over<R: AllocGlobal + Net + time::Clock, W: Write, C: Clock, K: Keeper<RingMachine>>(
+    rt: &R,
+    input: &[u8],
+    writer: &mut CountedWriter<W>,
+    clock: &mut C,
+    book: &mut Book<RingMachine, K>,
+    prefix: &[u8],
+    suffix: &[u8],
+) -> Result<(), ServeFault>
+    ensures served { MatchResult result
+        (λ _. ConnectionsServed K.content K.sound K.limit K.fault_count C.tells prefix.now
+        suffix.now 1 (clock.old, book.old) (clock.new, book.new))
+        (λ _. ServedAtMost K.content K.sound K.limit K.fault_count C.tells prefix.now suffix.now 1
+        (clock.old, book.old) (clock.new, book.new)) }
+    ensures few { (answers : List ℕ) × (length answers ≤ 32768)
+        × Appends (W.contents (writer_of writer.old)) (W.contents (writer_of writer.new)) answers }
+    ensures cause { MatchResult result (λ _. write_faults writer.new ≡ write_faults writer.old)
+        (λ fault. (write_faults writer.new ≡ write_faults writer.old)
+        ⊎ ((fault ≡ Stream WriteFailed)
+        × (write_faults writer.new ≡ one_more (write_faults writer.old)))) }
+    ensures flushed { OnOk result (IsFlushed writer.new) }
+    ensures safe { K.sound book.new.keeper → IsSafeRun book.old.machine.limits
+        (K.content book.old.keeper) (K.content book.new.keeper) }
+{
+    let Ok(mut room) = vec![in rt.alloc(); 0u8; MOST_ANSWERED] else {
+        return Err(ServeFault::Stream(StreamFault::NoMemory));
+    };
+    let (count, result) = answer_into(rt, input, &mut room, clock, book, prefix, suffix)?;
+    write_few(writer, &room[..count])?;
+    result?;
+    Ok(())
+}
