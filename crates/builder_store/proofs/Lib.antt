@@ -7,3 +7,4 @@ pub mod Empty
 pub mod Found
 pub mod Gained
 pub mod Keeping
+pub mod Rising

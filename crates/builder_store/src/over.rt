@@ -61,8 +61,8 @@ pub fn open_from<S: Start>(
         Ok(conn) => conn,
         Err((error, _)) => return Err(file_fault(&error)),
     };
-    match SqlKeeper::adopt(rt.alloc(), conn, limits) {
+    match SqlKeeper::over(rt.alloc(), conn, limits) {
         Ok(keeper) => Ok(keeper),
-        Err((fault, _)) => Err(FileFault::Opening(fault)),
+        Err(fault) => Err(FileFault::Opening(fault)),
     }
 }

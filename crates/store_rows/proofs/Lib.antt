@@ -13,3 +13,7 @@ pub mod BookRows
 pub mod FoundRows
 pub mod KeptRings
 pub mod Counting
+pub mod Reading
+pub mod Places
+pub mod RingParts
+pub mod Parting

@@ -29,7 +29,7 @@ tied_to_itself : (k : Key) → eq_by_cmp rows.name_number_cmp (key_of_request k)
 tied_to_itself k = ap is_eq (tied_itself name_number_total (key_of_request k))
 
 -- an element of a list has what holds of all
-of_all : {X : Type 0} (P : X → Type 0) (xs : List X) (i : ℕ) (x : X) → AllByRecursion P xs →
+pub of_all : {X : Type 0} (P : X → Type 0) (xs : List X) (i : ℕ) (x : X) → AllByRecursion P xs →
     slice_get xs i ≡ Some x → P x
 of_all P [] i x all at = cc
 of_all P (y ∷ ys) zero x all at = let same : y ≡ x = cc in subst P same all.0

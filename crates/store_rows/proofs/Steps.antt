@@ -2,7 +2,7 @@
 use Rattle.std.proofs.Common.{◌≡◌, ◌⊎◌, inl, inr, ℕ, zero, suc, ◌+◌, ◌<◌, ◌≤◌, ◌==◌, ◌&&◌, pos}
 use Rattle.std.proofs.Common.{Bool, true, false, not, cond, List, [], ◌∷◌, ◌++◌, map, filter}
 use Rattle.std.proofs.Common.{length, take, get_or, Option, Some, None, Ordering, refl, sym, ap}
-use Rattle.std.proofs.Common.{subst, ◌∙◌, arith, append_assoc, append-nil, nat_eq}
+use Rattle.std.proofs.Common.{IsTrue, ◌↔◌, subst, ◌∙◌, arith, append_assoc, append-nil, nat_eq}
 use Rattle.std.proofs.Common as std
 use Rattle.std.specs.List.{AllZip, flat_map, enumerate_from, slice_get}
 use Rattle.std.specs.Option.{option_map}
@@ -290,6 +290,17 @@ alike_map of [] (y ∷ ys) all = absurd all
 alike_map of (x ∷ xs) [] all = absurd all
 alike_map of (x ∷ xs) (y ∷ ys) all = λ i. all.0 i ∷ alike_map of xs ys all.1 i
 
+-- and rows that stand for the same are alike
+pub alike_by : {X Y : Type 0} (of : X → Y) (xs ys : List X) → map of xs ≡ map of ys →
+    AllZip (λ a b. of a ≡ of b) xs ys
+alike_by of [] [] is = tt
+alike_by of [] (y ∷ ys) is = cc
+alike_by of (x ∷ xs) [] is = cc
+alike_by of (x ∷ xs) (y ∷ ys) is =
+    let head : of x ≡ of y = cc in
+    let tail : map of xs ≡ map of ys = cc in
+    (head, alike_by of xs ys tail)
+
 -- the same over elements with their places
 pub placed_step : {A E : Type 0} (f : List (ℕ × A) → List E) (g : ℕ × A → List E) →
     ((xs : List (ℕ × A)) (x : ℕ × A) → f (xs ++ x ∷ []) ≡ f xs ++ g x)
@@ -325,3 +336,9 @@ pub lacking_nothing : {K V : Type 0} (R : K → K → Ordering) (same : V → V 
     Bool) (es : List (K × V)) → lacking R same [] es ≡ es
 lacking_nothing R same [] = refl
 lacking_nothing R same (e ∷ es) = ap (λ xs. e ∷ xs) (lacking_nothing R same es)
+
+-- What is found unlike does not say the same.
+pub unlike : (Alike Says : Type 0) (b : Bool) → b ≡ false → (IsTrue b ↔ Alike) → (Says → Alike) →
+    IsTrue false ↔ Says
+unlike Alike Says b is decides gives =
+    (λ t. cc, λ says. subst IsTrue is (decides.1 (gives says)))

@@ -2,4 +2,6 @@
 pub mod Numbers
 pub mod Lacking
 pub mod Books
+pub mod Found
+pub mod Parted
 pub mod Sayings

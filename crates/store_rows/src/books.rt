@@ -2,6 +2,7 @@
 ghost use Rattle.std.specs.Prelude.{◌≡◌, ◌<◌, ◌≤◌, IfOk, IsTrue, List, length, map};
 ghost use Rattle.std.specs.FinMap.{FinMap, entries, from_entries};
 ghost use Rattle.request_book.specs.Run.{last_hour};
+ghost use Rattle.ring_words.specs.Spelling.{Reads};
 ghost use Rattle.store_rows.specs.Stands.{DecidedRequest, IsBook, request_entries};
 ghost use Rattle.store_tables.specs.Contents.{request_of};
 ghost use Rattle.store_tables.specs.Entries.{Request, name_number_cmp};
@@ -20,7 +21,7 @@ fn read_request(
     row: &RequestRow,
     place: u32,
 ) -> Result<Entry<Command, Reply>, SpellingFault>
-    ensures { IfOk result (λ e. SaysRequest place row.now e) }
+    ensures { Reads (SaysRequest place row.now) result }
 {
     if row.place != i64::from(place) {
         return Err(SpellingFault::Bad);

@@ -1,5 +1,5 @@
 //! Rows of the store beside rows that stand for rings.
-ghost use Rattle.std.specs.Prelude.{◌≡◌, IsTrue};
+ghost use Rattle.std.specs.Prelude.{◌≡◌, ◌↔◌, IsTrue};
 ghost use Rattle.std.specs.List.{AllZip};
 ghost use Rattle.store_tables.specs.Contents.{device_of, moved_of, part_of, published_of, ring_of};
 ghost use Rattle.store_tables.specs.Contents.{seat_of};
@@ -13,7 +13,7 @@ pub(crate) trait Comparable {
 
     /// Whether the two stand for the same.
     fn is_alike(&self, other: &Self) -> bool
-        ensures { IsTrue result → is_alike self.now other.now };
+        ensures { IsTrue result ↔ is_alike self.now other.now };
 }
 
 impl Comparable for RingRow {
@@ -85,7 +85,7 @@ impl Comparable for MovedRow {
 
 /// Whether rows stand for the same as others, each for the same as the other at its place.
 pub(crate) fn are_alike<T: Comparable>(some: &[T], others: &[T]) -> bool
-    ensures { IsTrue result → AllZip T.is_alike some.now others.now }
+    ensures { IsTrue result ↔ AllZip T.is_alike some.now others.now }
 {
     if some.len() != others.len() {
         return false;

@@ -1,5 +1,9 @@
 //! What the rows of a store that is opened say.
-ghost use Rattle.std.specs.Prelude.{◌≡◌, ◌∷◌, [], IfOk, IsTrue, List, MatchOption, cond, false};
+ghost use Rattle.std.specs.Prelude.{◌≡◌, ◌↔◌, ◌<◌, ◌^◌, ◌∷◌, [], IfOk, IsTrue, List, MatchOption};
+ghost use Rattle.std.specs.Prelude.{cond, false};
+ghost use Rattle.ring_words.specs.Spelling.{Reads};
+ghost use Rattle.store_rows.specs.Stands.{AreRings};
+ghost use Rattle.store_rows.specs.Inner.Found.{Finds};
 ghost use Rattle.std.specs.Prelude.{map, pos, true};
 ghost use Rattle.store_tables.specs.Contents.{meta_of, part_of};
 ghost use Rattle.store_tables.specs.declared.changes.RowChange.TheVariants.{PutPart};
@@ -55,10 +59,8 @@ pub struct Judged {
 /// Whether the rows of `meta` are those of schema 1, else of schema 2, and the greatest hour that
 /// they say.
 fn read_meta(rows: &[MetaRow]) -> Result<(bool, Hour), SpellingFault>
-    ensures { IfOk result (λ meta. map meta_of rows.now ≡ (
-      pos 1,
-      meta_value (cond meta.0 1 2) meta.1,
-    ) ∷ []) }
+    ensures { Reads (λ meta. (map meta_of rows.now ≡ (pos 1, meta_value (cond meta.0 1 2) meta.1) ∷
+        []) × (meta.1 < 2 ^ 32)) result }
 {
     let [row] = rows else {
         return Err(SpellingFault::Bad);
@@ -76,7 +78,7 @@ fn read_meta(rows: &[MetaRow]) -> Result<(bool, Hour), SpellingFault>
 
 /// Whether the rows of seats, moves and partitions are those of rings in a store of schema 1.
 fn are_first_places(alloc: Global, rows: &StoreRows, rings: &Rings) -> Result<bool, AllocError>
-    ensures { IfOk result (λ same. IsTrue same → SayPlaces true rows.now rings.now) }
+    ensures { IfOk result (λ same. IsTrue same ↔ SayPlaces true rows.now rings.now) }
 {
     let seats = seat_rows(alloc, rings)?;
     let moved = moved_rows(alloc, rings)?;
@@ -91,7 +93,7 @@ fn are_first_places(alloc: Global, rows: &StoreRows, rings: &Rings) -> Result<bo
 
 /// Whether the rows of seats, moves and partitions are those of rings in a store of schema 2.
 fn are_parts(alloc: Global, rows: &StoreRows, rings: &Rings) -> Result<bool, AllocError>
-    ensures { IfOk result (λ same. IsTrue same → SayPlaces false rows.now rings.now) }
+    ensures { IfOk result (λ same. IsTrue same ↔ SayPlaces false rows.now rings.now) }
 {
     let none = Rings::new(alloc);
     let parts = new_parts(alloc, &none, rings)?;
@@ -108,7 +110,7 @@ fn are_places(
     rows: &StoreRows,
     rings: &Rings,
 ) -> Result<bool, AllocError>
-    ensures { IfOk result (λ same. IsTrue same → SayPlaces is_first rows.now rings.now) }
+    ensures { IfOk result (λ same. IsTrue same ↔ SayPlaces is_first rows.now rings.now) }
 {
     if is_first {
         are_first_places(alloc, rows, rings)
@@ -124,7 +126,7 @@ fn are_rings(
     rows: &StoreRows,
     rings: &Rings,
 ) -> Result<bool, AllocError>
-    ensures { IfOk result (λ same. IsTrue same → SayRings is_first rows.now rings.now) }
+    ensures { IfOk result (λ same. IsTrue same ↔ SayRings is_first rows.now rings.now) }
 {
     let none = Rings::new(alloc);
     let made = new_rings(alloc, &none, rings)?;
@@ -144,7 +146,9 @@ fn are_rings(
 
 /// The rings that rows say, in a store of schema 1 or of schema 2.
 fn judge_rings(alloc: Global, is_first: bool, rows: &StoreRows) -> Result<Rings, SpellingFault>
-    ensures { IfOk result (λ rings. SayRings is_first rows.now rings) }
+    ensures says { IfOk result (λ rings. SayRings is_first rows.now rings) }
+    ensures finds { Finds (λ rings. rings) (λ rings. AreRings rings × SayRings is_first rows.now
+        rings) result }
 {
     let tables = RingTables {
         devices: &rows.devices,

@@ -21,6 +21,7 @@ mod requests;
 mod ring_reading;
 mod ring_rows;
 mod rings_reading;
+mod row_reading;
 
 pub use change::Change;
 pub use growing::grows;

@@ -1,5 +1,6 @@
 //! Rows of several rings, which stand by ring.
-ghost use Rattle.std.specs.Prelude.{◌≡◌, ℕ, List, string_bytes};
+ghost use Rattle.std.specs.Prelude.{◌≡◌, ◌≤◌, ◌++◌, ℕ, List, drop, length, string_bytes, take};
+ghost use Rattle.store_rows.specs.Inner.Parted.{ArePartedAt};
 
 use store_tables::{DeviceRow, MovedRow, PartRow, PublishedRow, SeatRow};
 
@@ -53,13 +54,25 @@ impl OfRing for MovedRow {
     }
 }
 
+/// How many rows at the front are of a ring.
+fn count_named<T: OfRing>(rows: &[T], name: &str) -> usize
+    ensures within { result ≤ length rows.now }
+    ensures parted { ArePartedAt T.ring_name name.now (take result rows.now) (drop result rows.now) }
+{
+    for (place, row) in rows.iter().enumerate() {
+        if row.ring() != name {
+            return place;
+        }
+    }
+    rows.len()
+}
+
 /// The rows of a ring at the front, and those behind them.
-pub(crate) fn split_named<'a, T: OfRing>(rows: &'a [T], name: &str) -> (&'a [T], &'a [T]) {
-    let front = rows
-        .iter()
-        .position(|row| row.ring() != name)
-        .unwrap_or(rows.len());
-    rows.split_at(front)
+pub(crate) fn split_named<'a, T: OfRing>(rows: &'a [T], name: &str) -> (&'a [T], &'a [T])
+    ensures whole { result.0.now ++ result.1.now ≡ rows.now }
+    ensures parted { ArePartedAt T.ring_name name.now result.0.now result.1.now }
+{
+    rows.split_at(count_named(rows, name))
 }
 
 /// Rows of rings in the tables beside `ring`, by ring.
@@ -73,8 +86,18 @@ pub(crate) struct RingTables<'a> {
 }
 
 impl<'a> RingTables<'a> {
+    ghost use Rattle.std.specs.Prelude.{◌∷◌, [], Bool, true};
+    ghost use Rattle.ring_model.specs.Ring.{RingRecord};
+    ghost use Rattle.ring_model.specs.Rings.{AreByName};
+    ghost use Rattle.store_rows.specs.RingRows.{NamedRings};
+    ghost use Rattle.store_rows.specs.Inner.Parted.{SayRest};
+
     /// The rows of a ring at the front, and those behind them.
-    pub(crate) fn split(self, name: &str) -> (RingTables<'a>, RingTables<'a>) {
+    pub(crate) fn split(self, name: &str) -> (RingTables<'a>, RingTables<'a>)
+        ensures { (is_first : Bool) (e : List ℕ × RingRecord) (rings : NamedRings)
+            → AreByName (e ∷ rings) → e.0 ≡ name.now → SayRest is_first self.entry (e ∷ rings)
+            → SayRest is_first result.0 (e ∷ []) × SayRest is_first result.1 rings }
+    {
         let devices = split_named(self.devices, name);
         let published = split_named(self.published, name);
         let seats = split_named(self.seats, name);
@@ -98,7 +121,9 @@ impl<'a> RingTables<'a> {
     }
 
     /// Whether there are no rows.
-    pub(crate) fn is_empty(self) -> bool {
+    pub(crate) fn is_empty(self) -> bool
+        ensures { (is_first : Bool) → SayRest is_first self.entry [] → result ≡ true }
+    {
         self.devices.is_empty()
             && self.published.is_empty()
             && self.seats.is_empty()

@@ -1,46 +1,19 @@
 //! A ring, read from its rows.
+ghost use Rattle.std.specs.Prelude.{◌≡◌, ◌++◌, ◌<◌, ◌^◌, All, List, OnOk, ℕ, map, true};
+ghost use Rattle.std.specs.List.{flat_map};
+ghost use Rattle.ring_model.specs.Parts.{record_of};
+ghost use Rattle.store_tables.specs.Contents.{moved_of};
+ghost use Rattle.store_rows.specs.RingRows.{two_bytes};
+ghost use Rattle.store_rows.specs.Inner.Found.{Finds, StandForMoves, StandForParts, StandForPlaces};
+ghost use Rattle.store_rows.specs.Inner.Found.{StandForMove, StandForRing};
+
 use crate::naming::RingTables;
-use crate::numbers::{bounded, last_move, mark, number16, number32, weight};
+use crate::numbers::{bounded, last_move, number16, number32};
+use crate::row_reading::read_each;
 use ring_model::{BuildFault, Ring, RingParts};
-use ring_words::{Device, DeviceId, Hour, Power, Row, SpellingFault, read_address, read_name};
-use std::alloc::Global;
-use std::rc::RcStr;
-use store_tables::{DeviceRow, MovedRow, PartRow, PublishedRow, RingRow, SeatRow};
-
-/// The device of a row.
-fn read_device(alloc: Global, row: &DeviceRow) -> Result<Device, SpellingFault> {
-    Ok(Device {
-        id: number16(row.id)?,
-        row: Row {
-            region: number16(row.region)?,
-            zone: number16(row.zone)?,
-            address: read_address(row.address.as_str())?,
-            port: bounded(row.port)?,
-            name: read_name(alloc, row.name.as_str())?,
-            weight: weight(row.weight)?,
-        },
-        removed: mark(row.removed)?,
-    })
-}
-
-/// The devices of rows.
-fn read_devices(alloc: Global, rows: &[DeviceRow]) -> Result<Vec<Device>, SpellingFault> {
-    let mut devices = Vec::new(alloc);
-    for row in rows {
-        devices.push(read_device(alloc, row)?)?;
-    }
-    Ok(devices)
-}
-
-/// The published texts of rows, each under its version.
-fn read_texts(alloc: Global, rows: &[PublishedRow]) -> Result<Vec<(u32, RcStr)>, SpellingFault> {
-    let mut texts = Vec::new(alloc);
-    for row in rows {
-        let version = number32(row.version)?;
-        texts.push((version, RcStr::from_str(alloc, row.body.as_str())?))?;
-    }
-    Ok(texts)
-}
+use ring_words::{DeviceId, Hour, Power, SpellingFault, partition_count};
+use std::alloc::{AllocError, Global};
+use store_tables::{MovedRow, PartRow, RingRow};
 
 /// The seats of a ring, and the hours at which its partitions were moved last.
 #[derive(Debug, Drop)]
@@ -50,7 +23,10 @@ struct Assignment {
 }
 
 /// Adds the devices that bytes name, two a device, the greater first.
-fn push_seats(into: &mut Vec<DeviceId>, bytes: &[u8]) -> Result<(), SpellingFault> {
+fn push_seats(into: &mut Vec<DeviceId>, bytes: &[u8]) -> Result<(), AllocError>
+    ensures { (ids : List ℕ) → bytes.now ≡ flat_map two_bytes ids → All (λ id. id < 2 ^ 16) ids
+        → OnOk result (into.new.items ≡ into.old.items ++ ids) }
+{
     for place in 0..bytes.len() / 2 {
         let greater = u16::from(bytes[2 * place]);
         into.push(greater * 256 + u16::from(bytes[2 * place + 1]))?;
@@ -59,7 +35,9 @@ fn push_seats(into: &mut Vec<DeviceId>, bytes: &[u8]) -> Result<(), SpellingFaul
 }
 
 /// The seats and moves of a ring, from the rows of its partitions.
-fn read_parts(alloc: Global, rows: &[PartRow]) -> Result<Assignment, SpellingFault> {
+fn read_parts(alloc: Global, rows: &[PartRow]) -> Result<Assignment, SpellingFault>
+    ensures { Finds (λ a. (a.seats.items, a.moved.items)) (StandForParts rows.now) result }
+{
     let mut seats = Vec::new(alloc);
     let mut moved = Vec::new(alloc);
     for row in rows {
@@ -69,25 +47,39 @@ fn read_parts(alloc: Global, rows: &[PartRow]) -> Result<Assignment, SpellingFau
     Ok(Assignment { seats, moved })
 }
 
-/// The seats of a ring, from a row for each seat.
-fn read_seats(alloc: Global, rows: &[SeatRow]) -> Result<Vec<DeviceId>, SpellingFault> {
-    let mut seats = Vec::new(alloc);
-    for row in rows {
-        seats.push(number16(row.device)?)?;
+/// The hour of a partition's last move, where the first row is that partition's, and the rows
+/// behind it.
+fn split_move(
+    rows: &[MovedRow],
+    partition: u32,
+) -> Result<(Option<Hour>, &[MovedRow]), SpellingFault>
+    ensures { Finds (λ found. (found.0, map moved_of found.1.now)) (StandForMove rows.now partition)
+        result }
+{
+    match rows.split_first() {
+        Some((row, rest)) if row.part == i64::from(partition) => {
+            Ok((Some(number32(row.hour)?), rest))
+        }
+        _ => Ok((None, rows)),
     }
-    Ok(seats)
 }
 
-/// Sets the hour of the last move of each partition that has a row.
-fn set_moves(moved: &mut Vec<Option<Hour>>, rows: &[MovedRow]) -> Result<(), SpellingFault> {
-    for row in rows {
-        let part = number16(row.part)?;
-        let Some(hour) = moved.get_mut(usize::from(part)) else {
-            return Err(SpellingFault::Bad);
-        };
-        *hour = Some(number32(row.hour)?);
+/// The hours of the last moves of so many partitions, from a row for each partition that was moved.
+fn read_moves(
+    alloc: Global,
+    rows: &[MovedRow],
+    partitions: u32,
+) -> Result<Vec<Option<Hour>>, SpellingFault>
+    ensures { Finds (λ moved. moved.items) (StandForMoves rows.now partitions) result }
+{
+    let mut moved = Vec::new(alloc);
+    let mut rest = rows;
+    for partition in 0..partitions {
+        let (hour, behind) = split_move(rest, partition)?;
+        moved.push(hour)?;
+        rest = behind;
     }
-    Ok(())
+    Ok(moved)
 }
 
 /// The seats and moves of a ring, from the rows of schema 1.
@@ -95,12 +87,13 @@ fn read_first(
     alloc: Global,
     tables: &RingTables<'_>,
     power: Power,
-) -> Result<Assignment, SpellingFault> {
-    let mut moved = vec![in alloc; None; 1usize << power.get()]?;
-    set_moves(&mut moved, tables.moved)?;
+) -> Result<Assignment, SpellingFault>
+    ensures { Finds (λ a. (a.seats.items, a.moved.items)) (StandForPlaces true tables.now (2 ^ power))
+        result }
+{
     Ok(Assignment {
-        seats: read_seats(alloc, tables.seats)?,
-        moved,
+        seats: read_each(alloc, tables.seats)?,
+        moved: read_moves(alloc, tables.moved, partition_count(power) as u32)?,
     })
 }
 
@@ -110,7 +103,10 @@ fn read_assignment(
     is_first: bool,
     tables: &RingTables<'_>,
     power: Power,
-) -> Result<Assignment, SpellingFault> {
+) -> Result<Assignment, SpellingFault>
+    ensures { Finds (λ a. (a.seats.items, a.moved.items))
+        (StandForPlaces is_first tables.now (2 ^ power)) result }
+{
     if is_first {
         read_first(alloc, tables, power)
     } else {
@@ -124,7 +120,9 @@ fn read_ring_parts(
     is_first: bool,
     row: &RingRow,
     tables: &RingTables<'_>,
-) -> Result<RingParts, SpellingFault> {
+) -> Result<RingParts, SpellingFault>
+    ensures { Finds record_of (StandForRing is_first row.now tables.now) result }
+{
     let power = bounded(row.power)?;
     let replicas = bounded(row.replicas)?;
     let assignment = read_assignment(alloc, is_first, tables, power)?;
@@ -134,10 +132,10 @@ fn read_ring_parts(
         min_hours: number16(row.min_hours)?,
         next_id: number32(row.next_id)?,
         version: number32(row.version)?,
-        devices: read_devices(alloc, tables.devices)?,
+        devices: read_each(alloc, tables.devices)?,
         seats: assignment.seats,
         moved: assignment.moved,
-        published: read_texts(alloc, tables.published)?,
+        published: read_each(alloc, tables.published)?,
     })
 }
 
@@ -147,7 +145,9 @@ pub(crate) fn read_ring(
     is_first: bool,
     row: &RingRow,
     tables: &RingTables<'_>,
-) -> Result<Ring, SpellingFault> {
+) -> Result<Ring, SpellingFault>
+    ensures { Finds (λ ring. ring) (StandForRing is_first row.now tables.now) result }
+{
     let parts = read_ring_parts(alloc, is_first, row, tables)?;
     match Ring::build(alloc, parts) {
         Ok(ring) => Ok(ring),

@@ -1,4 +1,10 @@
 //! All rings, read from their rows.
+ghost use Rattle.std.specs.Prelude.{◌≡◌, ◌<◌, ◌++◌, ◌∷◌, [], All, IfErr, IfOk, length, true};
+ghost use Rattle.ring_model.specs.Rings.{is_before};
+ghost use Rattle.ring_words.specs.declared.spelling.SpellingFault.TheVariants.{NoMemory};
+ghost use Rattle.store_rows.specs.Inner.Found.{Finds};
+ghost use Rattle.store_rows.specs.Inner.Parted.{SayTables};
+
 use crate::naming::RingTables;
 use crate::ring_reading::read_ring;
 use ring_model::{Ring, Rings};
@@ -7,7 +13,9 @@ use std::alloc::Global;
 use store_tables::RingRow;
 
 /// Whether a name comes after all names of rings.
-fn comes_last(rings: &Rings, name: &RingName) -> bool {
+fn comes_last(rings: &Rings, name: &RingName) -> bool
+    ensures { All (λ e. is_before e.0 name.now ≡ true) rings.now → result ≡ true }
+{
     match rings.list().last() {
         Some(last) => last.0 < *name,
         None => true,
@@ -16,7 +24,12 @@ fn comes_last(rings: &Rings, name: &RingName) -> bool {
 
 /// The rings and one more behind them. Bad where there are 16, or where its name does not come
 /// last.
-fn with_last(rings: &Rings, name: RingName, ring: Ring) -> Result<Rings, SpellingFault> {
+fn with_last(rings: &Rings, name: RingName, ring: Ring) -> Result<Rings, SpellingFault>
+    ensures last { IfOk result (λ new. All (λ e. is_before e.0 name ≡ true) rings.now
+        → new ≡ rings.now ++ (name, ring) ∷ []) }
+    ensures memory { IfErr result (λ fault. length rings.now < 16
+        → All (λ e. is_before e.0 name ≡ true) rings.now → fault ≡ NoMemory) }
+{
     if rings.list().len() >= 16 || !comes_last(rings, &name) {
         return Err(SpellingFault::Bad);
     }
@@ -29,7 +42,9 @@ pub(crate) fn read_rings(
     is_first: bool,
     rows: &[RingRow],
     tables: RingTables<'_>,
-) -> Result<Rings, SpellingFault> {
+) -> Result<Rings, SpellingFault>
+    ensures { Finds (λ rings. rings) (SayTables is_first rows.now tables.entry) result }
+{
     let mut rings = Rings::new(alloc);
     let mut rest = tables;
     for row in rows {

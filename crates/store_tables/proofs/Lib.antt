@@ -5,5 +5,6 @@ pub mod Living
 pub mod Steps
 pub mod Creates
 pub mod Reading
+pub mod Writing
 pub mod Inside
 pub mod Orders

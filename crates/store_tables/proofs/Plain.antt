@@ -11,3 +11,4 @@ pub mod Queries
 pub mod Drops
 pub mod Unchanged
 pub mod Creates
+pub mod Updates

@@ -1,6 +1,7 @@
 -- From what a query shows to what a reading call promises.
-use Rattle.std.proofs.Common.{◌≡◌, ℕ, List, Ok, Err, Result, IfOk, arith}
+use Rattle.std.proofs.Common.{◌≡◌, ◌∙◌, ℕ, List, Ok, Err, Result, IfOk, ap, arith, map}
 use Rattle.std.specs.Prelude.{OnOk}
+use Rattle.std.proofs.lemmas.Result.{IfOk-weaker}
 use Rattle.sqlite_value.specs.Order.{Row}
 use Rattle.sqlite.specs.declared.error.Error.{Error}
 use Rattle.sqlite.specs.Listing.{understood}
@@ -8,7 +9,7 @@ use Rattle.sqlite.specs.State.{State, HasCleanDisk, Shown, Survives, CommitsShow
 use Rattle.sqlite.proofs.Callers.{IsPlain}
 use Rattle.store_tables.specs.Tables.{store_schema}
 use Rattle.store_tables.specs.Contents.{Contents, contents_of}
-use Rattle.store_tables.specs.Store.{ReadsTables, SeesStore}
+use Rattle.store_tables.specs.Store.{IsStore, ReadsTables, SeesStore}
 use Rattle.store_tables.proofs.Living.{lives_in}
 use Rattle.store_tables.proofs.Plain.Unchanged.{shown_unchanged, commits_nothing}
 
@@ -35,6 +36,21 @@ module _ (sql : List ℕ) (plain : IsPlain (understood store_schema sql)) (param
         (ok clean));
     survives = kept;
   }
+
+  -- the query was answered with all rows of a table, and each was read from its columns
+  pub reads_rows : {A B : Type 0} (result : Result A Error) (rows_of : A → List B) (entry : Row → B)
+      (all : Contents → List B) (seen shown : List Row) → seen ≡ shown
+      → (HasCleanDisk new → Shown sql params old new shown)
+      → IfOk result (λ rows. rows_of rows ≡ map entry seen)
+      → ((rows : List Row) → IsStore old.now → Shown sql params old new rows →
+      map entry rows ≡ all (contents_of old.now.trees))
+      → ReadsTables old new result (λ c rows. rows_of rows ≡ all c)
+  reads_rows result rows_of entry all seen shown same ok read lists = reads_shown result
+      (λ c rows. rows_of rows ≡ all c) shown ok
+      (λ clean. IfOk-weaker result (λ rows. rows_of rows ≡ map entry seen)
+      (λ rows. rows_of rows ≡ all (contents_of old.now.trees))
+      (λ rows is. is ∙ ap (map entry) same
+      ∙ lists shown (sees (omega (arith, survives.clean, clean))) (ok clean)) read)
 
   -- the query failed
   pub reads_nothing : {A : Type 0} (result : Result A Error) (IsSo : Contents → A

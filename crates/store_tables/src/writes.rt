@@ -1,15 +1,16 @@
 //! The statements that write.
 
-ghost use Rattle.std.specs.Prelude.{◌≡◌, OnOk, ℕ, Ok};
+ghost use Rattle.std.specs.Prelude.{◌≡◌, ◌<◌, IfOk, OnOk, ℕ, Ok};
 ghost use Rattle.sqlite.specs.Held.{state};
 ghost use Rattle.sqlite.specs.State.{Executes, HasCleanDisk, KeepsCommit, Survives};
 ghost use Rattle.sqlite.specs.Values.{bound};
+ghost use Rattle.store_tables.specs.Contents.{contents_of};
 ghost use Rattle.store_tables.specs.Contents.{device_key, device_of, meta_of, moved_of, part_of};
 ghost use Rattle.store_tables.specs.Contents.{published_of, request_of, ring_of, seat_of};
 ghost use Rattle.store_tables.specs.Contents.{with_device, with_meta, with_moved, with_part};
 ghost use Rattle.store_tables.specs.Contents.{with_published, with_request, with_ring, with_seat};
 ghost use Rattle.store_tables.specs.Contents.{without_device, without_moved, without_seats};
-ghost use Rattle.store_tables.specs.Store.{SeesStore, Writes};
+ghost use Rattle.store_tables.specs.Store.{Becomes, SeesStore, Writes};
 
 use crate::rows::{
     DeviceKey, DeviceRow, MetaRow, MovedRow, PartRow, PublishedRow, RequestRow, RingRow, SeatRow,
@@ -38,8 +39,55 @@ pub(crate) fn run<S: Alter>(
     Ok(())
 }
 
-/// Puts the row on the whole store, in place of the one with its key.
-pub fn put_meta<S: Alter>(tx: &mut Transaction<'_, S>, row: &MetaRow) -> Result<(), Error>
+/// Runs a statement within the transaction, and tells how many rows it wrote.
+fn count<S: Alter>(
+    tx: &mut Transaction<'_, S>,
+    sql: &str,
+    params: &[ValueRef<'_>],
+) -> Result<usize, Error>
+    ensures same_reference { tx.new.conn.ghost_name ≡ tx.old.conn.ghost_name }
+    ensures done { HasCleanDisk (state S.Store tx.new.conn.now) → IfOk result (λ count.
+        Executes sql.now (bound params.now) (state S.Store tx.old.conn.now)
+        (state S.Store tx.new.conn.now) (Ok count)) }
+    ensures inside { HasCleanDisk (state S.Store tx.new.conn.now)
+        → OnOk result ((state S.Store tx.new.conn.now).in_transaction
+        ≡ (state S.Store tx.old.conn.now).in_transaction) }
+    ensures kept { HasCleanDisk (state S.Store tx.new.conn.now)
+        → KeepsCommit (state S.Store tx.old.conn.now) (state S.Store tx.new.conn.now) }
+    ensures survives { Survives (state S.Store tx.old.conn.now) (state S.Store tx.new.conn.now)
+        (λ _. ⊥) }
+{
+    tx.execute(sql, params)
+}
+
+/// Writes the row on the whole store over the row with its key, and tells how many rows that were: 1, or 0 where there
+/// is none, and then nothing changed.
+fn set_meta<S: Alter>(tx: &mut Transaction<'_, S>, row: &MetaRow) -> Result<usize, Error>
+    requires { SeesStore (state S.Store tx.old.conn.now) }
+    ensures same_reference { tx.new.conn.ghost_name ≡ tx.old.conn.ghost_name }
+    ensures none { HasCleanDisk (state S.Store tx.new.conn.now) → IfOk result (λ count. count ≡ 0
+        → Becomes (state S.Store tx.new.conn.now).now
+        (contents_of (state S.Store tx.old.conn.now).now.trees)) }
+    ensures set { HasCleanDisk (state S.Store tx.new.conn.now) → IfOk result (λ count. 0 < count
+        → Becomes (state S.Store tx.new.conn.now).now
+        (with_meta (contents_of (state S.Store tx.old.conn.now).now.trees) (meta_of row.now).0 (meta_of row.now).1)) }
+    ensures inside { HasCleanDisk (state S.Store tx.new.conn.now)
+        → OnOk result ((state S.Store tx.new.conn.now).in_transaction
+        ≡ (state S.Store tx.old.conn.now).in_transaction) }
+    ensures kept { HasCleanDisk (state S.Store tx.new.conn.now)
+        → KeepsCommit (state S.Store tx.old.conn.now) (state S.Store tx.new.conn.now) }
+    ensures survives { Survives (state S.Store tx.old.conn.now) (state S.Store tx.new.conn.now)
+        (λ _. ⊥) }
+{
+    count(
+        tx,
+        "UPDATE meta SET schema = ?2, hour = ?3 WHERE one = ?1",
+        params![&row.one, &row.schema, &row.hour],
+    )
+}
+
+/// Puts the row on the whole store beside those that are there, in place of the row with its key.
+fn replace_meta<S: Alter>(tx: &mut Transaction<'_, S>, row: &MetaRow) -> Result<(), Error>
     requires { SeesStore (state S.Store tx.old.conn.now) }
     ensures same_reference { tx.new.conn.ghost_name ≡ tx.old.conn.ghost_name }
     ensures writes { Writes (state S.Store tx.old.conn.now) (state S.Store tx.new.conn.now) result
@@ -52,8 +100,56 @@ pub fn put_meta<S: Alter>(tx: &mut Transaction<'_, S>, row: &MetaRow) -> Result<
     )
 }
 
-/// Puts a ring, in place of the one with its name.
-pub fn put_ring<S: Alter>(tx: &mut Transaction<'_, S>, row: &RingRow) -> Result<(), Error>
+/// Puts the row on the whole store, in place of the one with its key.
+pub fn put_meta<S: Alter>(tx: &mut Transaction<'_, S>, row: &MetaRow) -> Result<(), Error>
+    requires { SeesStore (state S.Store tx.old.conn.now) }
+    ensures same_reference { tx.new.conn.ghost_name ≡ tx.old.conn.ghost_name }
+    ensures writes { Writes (state S.Store tx.old.conn.now) (state S.Store tx.new.conn.now) result
+        (λ c. with_meta c (meta_of row.now).0 (meta_of row.now).1) }
+{
+    let set = set_meta(tx, row)?;
+    if set > 0 {
+        return Ok(());
+    }
+    replace_meta(tx, row)
+}
+
+/// Writes a ring over the row with its key, and tells how many rows that were: 1, or 0 where there
+/// is none, and then nothing changed.
+fn set_ring<S: Alter>(tx: &mut Transaction<'_, S>, row: &RingRow) -> Result<usize, Error>
+    requires { SeesStore (state S.Store tx.old.conn.now) }
+    ensures same_reference { tx.new.conn.ghost_name ≡ tx.old.conn.ghost_name }
+    ensures none { HasCleanDisk (state S.Store tx.new.conn.now) → IfOk result (λ count. count ≡ 0
+        → Becomes (state S.Store tx.new.conn.now).now
+        (contents_of (state S.Store tx.old.conn.now).now.trees)) }
+    ensures set { HasCleanDisk (state S.Store tx.new.conn.now) → IfOk result (λ count. 0 < count
+        → Becomes (state S.Store tx.new.conn.now).now
+        (with_ring (contents_of (state S.Store tx.old.conn.now).now.trees) (ring_of row.now).0 (ring_of row.now).1)) }
+    ensures inside { HasCleanDisk (state S.Store tx.new.conn.now)
+        → OnOk result ((state S.Store tx.new.conn.now).in_transaction
+        ≡ (state S.Store tx.old.conn.now).in_transaction) }
+    ensures kept { HasCleanDisk (state S.Store tx.new.conn.now)
+        → KeepsCommit (state S.Store tx.old.conn.now) (state S.Store tx.new.conn.now) }
+    ensures survives { Survives (state S.Store tx.old.conn.now) (state S.Store tx.new.conn.now)
+        (λ _. ⊥) }
+{
+    count(
+        tx,
+        "UPDATE ring SET power = ?2, replicas = ?3, min_hours = ?4, next_id = ?5, version = ?6 \
+         WHERE name = ?1",
+        params![
+            &row.name,
+            &row.power,
+            &row.replicas,
+            &row.min_hours,
+            &row.next_id,
+            &row.version
+        ],
+    )
+}
+
+/// Puts a ring beside those that are there, in place of the row with its key.
+fn replace_ring<S: Alter>(tx: &mut Transaction<'_, S>, row: &RingRow) -> Result<(), Error>
     requires { SeesStore (state S.Store tx.old.conn.now) }
     ensures same_reference { tx.new.conn.ghost_name ≡ tx.old.conn.ghost_name }
     ensures writes { Writes (state S.Store tx.old.conn.now) (state S.Store tx.new.conn.now) result
@@ -73,6 +169,20 @@ pub fn put_ring<S: Alter>(tx: &mut Transaction<'_, S>, row: &RingRow) -> Result<
     )
 }
 
+/// Puts a ring, in place of the one with its name.
+pub fn put_ring<S: Alter>(tx: &mut Transaction<'_, S>, row: &RingRow) -> Result<(), Error>
+    requires { SeesStore (state S.Store tx.old.conn.now) }
+    ensures same_reference { tx.new.conn.ghost_name ≡ tx.old.conn.ghost_name }
+    ensures writes { Writes (state S.Store tx.old.conn.now) (state S.Store tx.new.conn.now) result
+        (λ c. with_ring c (ring_of row.now).0 (ring_of row.now).1) }
+{
+    let set = set_ring(tx, row)?;
+    if set > 0 {
+        return Ok(());
+    }
+    replace_ring(tx, row)
+}
+
 /// Puts a published text, in place of the one with its key. Its ring has to be there.
 pub fn put_published<S: Alter>(tx: &mut Transaction<'_, S>, row: &PublishedRow) -> Result<(), Error>
     requires { SeesStore (state S.Store tx.old.conn.now) }
@@ -87,8 +197,34 @@ pub fn put_published<S: Alter>(tx: &mut Transaction<'_, S>, row: &PublishedRow) 
     )
 }
 
-/// Puts a partition, in place of the one with its key. Its ring has to be there.
-pub fn put_part<S: Alter>(tx: &mut Transaction<'_, S>, row: &PartRow) -> Result<(), Error>
+/// Writes a partition over the row with its key, and tells how many rows that were: 1, or 0 where
+/// there is none, and then nothing changed.
+fn set_part<S: Alter>(tx: &mut Transaction<'_, S>, row: &PartRow) -> Result<usize, Error>
+    requires { SeesStore (state S.Store tx.old.conn.now) }
+    ensures same_reference { tx.new.conn.ghost_name ≡ tx.old.conn.ghost_name }
+    ensures none { HasCleanDisk (state S.Store tx.new.conn.now) → IfOk result (λ count. count ≡ 0
+        → Becomes (state S.Store tx.new.conn.now).now
+        (contents_of (state S.Store tx.old.conn.now).now.trees)) }
+    ensures set { HasCleanDisk (state S.Store tx.new.conn.now) → IfOk result (λ count. 0 < count
+        → Becomes (state S.Store tx.new.conn.now).now
+        (with_part (contents_of (state S.Store tx.old.conn.now).now.trees) (part_of row.now).0 (part_of row.now).1)) }
+    ensures inside { HasCleanDisk (state S.Store tx.new.conn.now)
+        → OnOk result ((state S.Store tx.new.conn.now).in_transaction
+        ≡ (state S.Store tx.old.conn.now).in_transaction) }
+    ensures kept { HasCleanDisk (state S.Store tx.new.conn.now)
+        → KeepsCommit (state S.Store tx.old.conn.now) (state S.Store tx.new.conn.now) }
+    ensures survives { Survives (state S.Store tx.old.conn.now) (state S.Store tx.new.conn.now)
+        (λ _. ⊥) }
+{
+    count(
+        tx,
+        "UPDATE part SET devices = ?3, hour = ?4 WHERE ring = ?1 AND part = ?2",
+        params![&row.ring, &row.part, &row.devices, &row.hour],
+    )
+}
+
+/// Adds a partition. Its ring has to be there, and no row may have its key, else it is refused.
+fn add_part<S: Alter>(tx: &mut Transaction<'_, S>, row: &PartRow) -> Result<(), Error>
     requires { SeesStore (state S.Store tx.old.conn.now) }
     ensures same_reference { tx.new.conn.ghost_name ≡ tx.old.conn.ghost_name }
     ensures writes { Writes (state S.Store tx.old.conn.now) (state S.Store tx.new.conn.now) result
@@ -96,9 +232,26 @@ pub fn put_part<S: Alter>(tx: &mut Transaction<'_, S>, row: &PartRow) -> Result<
 {
     run(
         tx,
-        "INSERT OR REPLACE INTO part VALUES (?1, ?2, ?3, ?4)",
+        "INSERT INTO part VALUES (?1, ?2, ?3, ?4)",
         params![&row.ring, &row.part, &row.devices, &row.hour],
     )
+}
+
+/// Puts a partition, in place of the one with its key. Its ring has to be there.
+///
+/// A row that is there is written over: to take it out and put another in its place would change
+/// its entry in the index too.
+pub fn put_part<S: Alter>(tx: &mut Transaction<'_, S>, row: &PartRow) -> Result<(), Error>
+    requires { SeesStore (state S.Store tx.old.conn.now) }
+    ensures same_reference { tx.new.conn.ghost_name ≡ tx.old.conn.ghost_name }
+    ensures writes { Writes (state S.Store tx.old.conn.now) (state S.Store tx.new.conn.now) result
+        (λ c. with_part c (part_of row.now).0 (part_of row.now).1) }
+{
+    let set = set_part(tx, row)?;
+    if set > 0 {
+        return Ok(());
+    }
+    add_part(tx, row)
 }
 
 /// Adds a device. Its ring has to be there. No row may have its key, nor its address, port and

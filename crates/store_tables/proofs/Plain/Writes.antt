@@ -183,6 +183,29 @@ module _ (schema : Schema) (p : Plain) where
         subst (Replaced db (row_of db source)) (sym (ap (λ (x : Written). x.trees) (same_value last)
         ∙ same_value next)) it
 
+  pub concluded : (limit : Option ℕ) (params : Row) (mode : Mode) (w : Written) (tally : Tally)
+      (after : Database)
+      → Concludes (record {
+        limit = limit;
+        keys = Enforced;
+        schema = schema;
+        table = table;
+        params =
+            params;
+      }) mode None w (Ok (tally, after)) → (after ≡ record {
+        schema = schema;
+        trees =
+            w.trees;
+      }) × (tally.rows ≡ Some (length w.rows))
+  concluded limit params mode w tally after h =
+      let tested = went h in
+      let returned = went tested.2 in
+      let ok : ◌≡◌ {A = Result (Tally × Database) (Option Error)} (Ok (tally, after)) (Ok _) =
+      returned.2 in (
+        ap (λ (p : Tally × Database). p.1) (same_value ok),
+        ap (λ (p : Tally × Database). p.0.rows) (same_value ok),
+      )
+
   pub concludes : (limit : Option ℕ) (params : Row) (mode : Mode) (w : Written) (tally : Tally)
       (after : Database)
       → Concludes (record {
@@ -302,7 +325,7 @@ module _ (schema : Schema) (p : Plain) where
 
   -- ---- rowids still rise
 
-  still_shaped : (old new : Trees) → AreShaped schema old → Spares old new
+  pub still_shaped : (old new : Trees) → AreShaped schema old → Spares old new
       → IsShaped shape.Table (new p.tree) → AreShaped schema new
   still_shaped old new shaped spares here t h = elim (cases_Bool (t.tree == p.tree)) [
     | inl same ↦ subst (λ at. IsShaped shape.Table (new at)) (sym (eqb-true t.tree p.tree same))

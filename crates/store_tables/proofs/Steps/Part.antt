@@ -1,5 +1,5 @@
 -- What the statements on `part` make of the store, and show of it.
-use Rattle.std.proofs.Common.{◌≡◌, ℕ, List, [], ◌∷◌, map, Ok}
+use Rattle.std.proofs.Common.{◌≡◌, ◌<◌, ℕ, List, [], ◌∷◌, map, Ok}
 use Rattle.std.specs.FinMap.{FinMap, entries}
 use Rattle.sqlite_value.specs.declared.value.Value.TheVariants.{Null}
 use Rattle.sqlite_value.specs.Order.{Row}
@@ -11,11 +11,13 @@ use Rattle.store_tables.specs.Entries.{seat_rows, moved_rows, published_rows, re
 use Rattle.store_tables.specs.Entries.{part_rows}
 use Rattle.store_tables.specs.Contents.{contents_of, with_part}
 use Rattle.store_tables.specs.Store.{IsStore, Becomes}
-use Rattle.store_tables.specs.Inner.Texts.{put_part, list_part}
+use Rattle.store_tables.specs.Inner.Texts.{add_part, set_part, list_part}
 use Rattle.store_tables.proofs.Plain.Writes.{Spares}
-use Rattle.store_tables.proofs.Plain.Puts.{puts_row}
+use Rattle.store_tables.proofs.Plain.Adds.{adds_row}
+use Rattle.store_tables.proofs.Plain.Updates.{sets_row}
 use Rattle.store_tables.proofs.Plain.Queries.{lists_all}
-use Rattle.store_tables.proofs.Tables.Part.{part_facts, part_params, part_puts, part_lists as lists}
+use Rattle.store_tables.proofs.Tables.Part.{part_facts, part_params, part_adds, part_sets}
+use Rattle.store_tables.proofs.Tables.Part.{part_lists as lists}
 use Rattle.store_tables.proofs.Living.{lives_in, store_from}
 
 -- only this table changed
@@ -33,17 +35,35 @@ part_only old new h m is = λ j. record {
   parts = is j;
 }
 
-pub puts_part : (old new : State) (key : NameNumber) (value : Part) (count : ℕ)
-    → IsStore old.now → Executes put_part (part_params key value) old new (Ok count)
+pub adds_part : (old new : State) (key : NameNumber) (value : Part) (count : ℕ)
+    → IsStore old.now → Executes add_part (part_params key value) old new (Ok count)
     → Becomes new.now (with_part (contents_of old.now.trees) key value)
-puts_part old new key value count is h =
-    let it = puts_row store_schema part_rows part_facts put_part part_params part_puts key value old
+adds_part old new key value count is h =
+    let it = adds_row store_schema part_rows part_facts add_part part_params part_adds key value old
     new count (lives_in old.now is) h in
     record {
       store = store_from new.now it.0;
       contents = part_only old.now.trees new.now.trees it.1
           _ it.2;
     }
+
+-- one row was written over, or none
+pub sets_part : (old new : State) (key : NameNumber) (value : Part) (count : ℕ)
+    → IsStore old.now → Executes set_part (part_params key value) old new (Ok count)
+    → (count ≡ 0 → Becomes new.now (contents_of old.now.trees))
+    × (0 < count → Becomes new.now (with_part (contents_of old.now.trees) key value))
+sets_part old new key value count is h =
+    let it = sets_row store_schema part_rows part_facts set_part part_params part_sets key value old
+    new count (lives_in old.now is) h in (
+      λ none. record {
+        store = store_from new.now it.0;
+        contents = part_only old.now.trees new.now.trees it.1 _ (it.2 none);
+      },
+      λ some. record {
+        store = store_from new.now it.0;
+        contents = part_only old.now.trees new.now.trees it.1 _ (it.3 some);
+      },
+    )
 
 pub lists_part : (old new : State) (rows : List Row) → IsStore old.now
     → Shown list_part [] old new rows

@@ -1,5 +1,5 @@
 -- What the statements on `ring` make of the store, and show of it.
-use Rattle.std.proofs.Common.{◌≡◌, ℕ, List, [], ◌∷◌, map, Ok}
+use Rattle.std.proofs.Common.{◌≡◌, ◌<◌, ℕ, List, [], ◌∷◌, map, Ok}
 use Rattle.std.specs.FinMap.{FinMap, entries}
 use Rattle.sqlite_value.specs.declared.value.Value.TheVariants.{Null}
 use Rattle.sqlite_value.specs.Order.{Row}
@@ -10,10 +10,12 @@ use Rattle.store_tables.specs.Entries.{map_of, Ring, meta_rows, ring_rows, devic
 use Rattle.store_tables.specs.Entries.{moved_rows, published_rows, request_rows, part_rows}
 use Rattle.store_tables.specs.Contents.{contents_of, with_ring}
 use Rattle.store_tables.specs.Store.{IsStore, Becomes}
-use Rattle.store_tables.specs.Inner.Texts.{put_ring, list_ring}
+use Rattle.store_tables.specs.Inner.Texts.{put_ring, set_ring, list_ring}
 use Rattle.store_tables.proofs.Plain.Writes.{Spares}
 use Rattle.store_tables.proofs.Plain.Puts.{puts_row}
+use Rattle.store_tables.proofs.Plain.Updates.{sets_row}
 use Rattle.store_tables.proofs.Plain.Queries.{lists_all}
+use Rattle.store_tables.proofs.Tables.Ring.{ring_sets}
 use Rattle.store_tables.proofs.Tables.Ring.{ring_facts, ring_params, ring_puts, ring_lists as lists}
 use Rattle.store_tables.proofs.Living.{lives_in, store_from}
 
@@ -43,6 +45,24 @@ puts_ring old new key value count is h =
       contents = ring_only old.now.trees new.now.trees it.1
           _ it.2;
     }
+
+-- one row was written over, or none
+pub sets_ring : (old new : State) (key : List ℕ) (value : Ring) (count : ℕ)
+    → IsStore old.now → Executes set_ring (ring_params key value) old new (Ok count)
+    → (count ≡ 0 → Becomes new.now (contents_of old.now.trees))
+    × (0 < count → Becomes new.now (with_ring (contents_of old.now.trees) key value))
+sets_ring old new key value count is h =
+    let it = sets_row store_schema ring_rows ring_facts set_ring ring_params ring_sets key value old
+    new count (lives_in old.now is) h in (
+      λ none. record {
+        store = store_from new.now it.0;
+        contents = ring_only old.now.trees new.now.trees it.1 _ (it.2 none);
+      },
+      λ some. record {
+        store = store_from new.now it.0;
+        contents = ring_only old.now.trees new.now.trees it.1 _ (it.3 some);
+      },
+    )
 
 pub lists_ring : (old new : State) (rows : List Row) → IsStore old.now
     → Shown list_ring [] old new rows

@@ -1,4 +1,5 @@
 -- The rows of `meta`, and what the statements on it mean.
+use Rattle.std.proofs.Common.{length, ◌==◌}
 use Rattle.std.proofs.Common.{◌≡◌, inl, inr, ℕ, ℤ, List, [], ◌∷◌, codes, Some, false, refl, ◌&&◌}
 use Rattle.std.specs.Ordering.{int_cmp, eq_by_cmp}
 use Rattle.std.specs.Cmp.{int_cmp_total}
@@ -9,9 +10,11 @@ use Rattle.sqlite_value.proofs.OrderLemmas.{value_cmp-Int}
 use Rattle.sqlite_value.specs.Keys.{ascending, first_key}
 use Rattle.sqlite_value.specs.declared.keys.Collation.TheVariants.{Binary}
 use Rattle.sqlite_value.specs.declared.keys.Key.{Key}
-use Rattle.sqlite.specs.Term.{Term, lit, col}
+use Rattle.sqlite_sql.specs.declared.ops.BinaryOp.TheVariants.{Compare}
+use Rattle.sqlite_sql.specs.declared.ops.CompareOp.TheVariants.{Eq}
+use Rattle.sqlite.specs.Term.{Term, lit, col, op2}
 use Rattle.sqlite.specs.Source.TheVariants.{Values}
-use Rattle.sqlite.specs.Command.TheVariants.{Select, InsertOr}
+use Rattle.sqlite.specs.Command.TheVariants.{Select, InsertOr, Update}
 use Rattle.sqlite_schema.specs.declared.command.Conflict.TheVariants.{Replace}
 use Rattle.sqlite_schema.specs.Rules.{agree}
 use Rattle.sqlite_tied.specs.Compute.{everything}
@@ -19,14 +22,15 @@ use Rattle.sqlite.specs.Listing.{understood, reads_listing}
 use Rattle.sqlite.proofs.Callers.{IsPlain, command_of}
 use Rattle.store_tables.specs.Tables.{store_schema}
 use Rattle.store_tables.specs.Entries.{Meta, meta_rows}
-use Rattle.store_tables.specs.Inner.Texts.{put_meta, list_meta}
+use Rattle.store_tables.specs.Inner.Texts.{put_meta, set_meta, list_meta}
 use Rattle.store_tables.proofs.Plain.Values.{cast_null, cast_int, equal_ints, alone}
 use Rattle.store_tables.proofs.Plain.Shapes.{present, shape_of}
 use Rattle.store_tables.proofs.Plain.Facts.{Facts}
 use Rattle.store_tables.proofs.Plain.Puts.{PutText}
-use Rattle.store_tables.proofs.Plain.Queries.{ListText, of_table}
+use Rattle.store_tables.proofs.Plain.Updates.{SetText}
+use Rattle.store_tables.proofs.Plain.Queries.{ListText, of_table, passes}
 use Rattle.store_tables.proofs.Keys.{first_of, or_false}
-use Rattle.std.proofs.lemmas.Bool.{and_parts}
+use Rattle.std.proofs.lemmas.Bool.{and_parts, cases_Bool}
 
 pub agrees : (id : ℤ) (k : ℤ) (v : Meta) (id′ : ℤ) (k′ : ℤ) (v′ : Meta)
     → agree Rattle.sqlite_value.specs.Keys.plain meta_rows.key (meta_rows.row id k v) meta_rows.key
@@ -90,6 +94,43 @@ meta_puts = record {
   again = λ id key value. rw (cast_int id, cast_int key, cast_int value.schema, cast_int value.hour)
       refl;
   clash = clash;
+}
+
+abbrev test : List Term
+test = op2 (Compare Eq Binary) (col 1 1) (col 0 0) ∷ []
+
+abbrev sets : List Term
+sets = col 1 0 ∷ col 1 0 ∷ col 1 1 ∷ col 0 1 ∷ col 0 2 ∷ []
+
+set_is : command_of (understood store_schema set_meta)
+    ≡ Update 0 (record { lets = []; body = of_table meta_rows.plain.tree test sets [] })
+unfolding understood everything
+set_is = refl
+
+set_plain : IsPlain (understood store_schema set_meta)
+unfolding understood everything
+set_plain = (refl, refl)
+
+by_key : (id : ℤ) (k key : ℤ) (v value : Meta)
+    → passes test (meta_params key value) (meta_rows.row id k v)
+    ≡ eq_by_cmp meta_rows.cmp k key
+by_key id k key v value = rw (equal_ints k key) (alone _)
+
+pub meta_sets : SetText store_schema meta_rows set_meta meta_params
+meta_sets = record {
+  at = 0;
+  test = test;
+  project = sets;
+  placed = refl;
+  still = λ olds news. elim (cases_Bool (length news == 0)) [
+    | inl none ↦ rw none refl
+    | inr some ↦ rw some refl
+  ];
+  is = set_is;
+  plain = set_plain;
+  by_key = by_key;
+  numbers = λ key value r. refl;
+  stored = λ id k key v value. rw (cast_int id, cast_int k, cast_int value.schema, cast_int value.hour) refl;
 }
 
 abbrev project : List Term

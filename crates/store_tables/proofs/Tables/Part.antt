@@ -1,4 +1,5 @@
 -- The rows of `part`, and what the statements on it mean.
+use Rattle.std.proofs.Common.{length, ◌==◌}
 use Rattle.std.proofs.Common.{◌≡◌, inl, inr, ℕ, ℤ, List, [], ◌∷◌, codes, Some, false, refl, ◌&&◌}
 use Rattle.std.specs.Ordering.{int_cmp, eq_by_cmp}
 use Rattle.std.specs.Cmp.{int_cmp_total}
@@ -9,25 +10,27 @@ use Rattle.sqlite_value.proofs.OrderLemmas.{value_cmp-Int, value_cmp-Text}
 use Rattle.sqlite_value.specs.Keys.{ascending, first_key}
 use Rattle.sqlite_value.specs.declared.keys.Collation.TheVariants.{Binary}
 use Rattle.sqlite_value.specs.declared.keys.Key.{Key}
-use Rattle.sqlite.specs.Term.{Term, lit, col}
+use Rattle.sqlite_sql.specs.declared.ops.BinaryOp.TheVariants.{Compare}
+use Rattle.sqlite_sql.specs.declared.ops.CompareOp.TheVariants.{Eq}
+use Rattle.sqlite.specs.Term.{Term, lit, col, op2}
 use Rattle.sqlite.specs.Source.TheVariants.{Values}
-use Rattle.sqlite.specs.Command.TheVariants.{Select, InsertOr}
-use Rattle.sqlite_schema.specs.declared.command.Conflict.TheVariants.{Replace}
+use Rattle.sqlite.specs.Command.TheVariants.{Select, Insert, Update}
 use Rattle.sqlite_schema.specs.Rules.{agree}
 use Rattle.sqlite_tied.specs.Compute.{everything}
 use Rattle.sqlite.specs.Listing.{understood, reads_listing}
 use Rattle.sqlite.proofs.Callers.{IsPlain, command_of}
 use Rattle.store_tables.specs.Tables.{store_schema}
 use Rattle.store_tables.specs.Entries.{NameNumber, name_cmp, Part, part_rows}
-use Rattle.store_tables.specs.Inner.Texts.{put_part, list_part}
+use Rattle.store_tables.specs.Inner.Texts.{add_part, set_part, list_part}
 use Rattle.store_tables.proofs.Plain.Values.{cast_null, cast_int, equal_ints, equal_texts}
 use Rattle.store_tables.proofs.Plain.Values.{both_equal}
 use Rattle.store_tables.proofs.Plain.Shapes.{present, shape_of}
 use Rattle.store_tables.proofs.Plain.Facts.{Facts}
-use Rattle.store_tables.proofs.Plain.Puts.{PutText}
-use Rattle.store_tables.proofs.Plain.Queries.{ListText, of_table}
+use Rattle.store_tables.proofs.Plain.Adds.{AddText}
+use Rattle.store_tables.proofs.Plain.Updates.{SetText}
+use Rattle.store_tables.proofs.Plain.Queries.{ListText, of_table, passes}
 use Rattle.store_tables.proofs.Keys.{name_number_total, name_number_exact, then_equal, or_false}
-use Rattle.std.proofs.lemmas.Bool.{and_parts}
+use Rattle.std.proofs.lemmas.Bool.{and_parts, cases_Bool}
 
 pub agrees : (id : ℤ) (k : NameNumber) (v : Part) (id′ : ℤ) (k′ : NameNumber) (v′ : Part)
     → agree Rattle.sqlite_value.specs.Keys.plain part_rows.key (part_rows.row id k v) part_rows.key
@@ -60,41 +63,63 @@ part_params = λ key value. Text key.0 ∷ Int key.1 ∷ Blob value.devices ∷ 
 abbrev terms : List Term
 terms = lit Null ∷ col 0 0 ∷ col 0 1 ∷ col 0 2 ∷ col 0 3 ∷ []
 
-put_is : command_of (understood store_schema put_part) ≡ InsertOr 7 Replace (Values terms 5) []
+add_is : command_of (understood store_schema add_part) ≡ Insert 7 (Values terms 5)
 unfolding understood everything
-put_is = refl
+add_is = refl
 
-put_plain : IsPlain (understood store_schema put_part)
+add_plain : IsPlain (understood store_schema add_part)
 unfolding understood everything
-put_plain = (refl, refl)
+add_plain = (refl, refl)
 
-clash : (id new : ℤ) (k key : NameNumber) (v value : Part)
-    → Rattle.std.specs.Ordering.is_eq (int_cmp id new) ≡ false
-    → Rattle.sqlite_rules.specs.Keys.conflicts Rattle.std.proofs.Common.None store_schema.indexes
-    (Rattle.store_tables.specs.Plain.table_of part_rows.plain) (part_rows.row new key value)
-    (part_rows.row id k v) ≡ eq_by_cmp part_rows.cmp k key
-unfolding first_key
-clash id new k key v value free = rw (
-  equal_ints id new,
-  free,
-  equal_texts k.0 key.0,
-  equal_ints k.1 key.1,
-  both_equal (name_cmp k.0 key.0) (int_cmp k.1 key.1),
-) (or_false _)
-
-pub part_puts : PutText store_schema part_rows put_part part_params
-part_puts = record {
+pub part_adds : AddText store_schema part_rows add_part part_params
+part_adds = record {
   at = 7;
   terms = terms;
   width = 5;
   placed = refl;
-  quiet = λ _. refl;
-  is = put_is;
-  plain = put_plain;
+  is = add_is;
+  plain = add_plain;
   one = λ key value. refl;
   stored = λ rows key value. rw (cast_null, cast_int key.1, cast_int value.hour) refl;
-  again = λ id key value. rw (cast_int id, cast_int key.1, cast_int value.hour) refl;
-  clash = clash;
+}
+
+abbrev test : List Term
+test = op2 (Compare Eq Binary) (col 1 1) (col 0 0) ∷ op2 (Compare Eq Binary) (col 1 2) (col 0 1) ∷
+    []
+
+abbrev sets : List Term
+sets = col 1 0 ∷ col 1 0 ∷ col 1 1 ∷ col 1 2 ∷ col 0 2 ∷ col 0 3 ∷ []
+
+set_is : command_of (understood store_schema set_part)
+    ≡ Update 7 (record { lets = []; body = of_table part_rows.plain.tree test sets [] })
+unfolding understood everything
+set_is = refl
+
+set_plain : IsPlain (understood store_schema set_part)
+unfolding understood everything
+set_plain = (refl, refl)
+
+by_key : (id : ℤ) (k key : NameNumber) (v value : Part)
+    → passes test (part_params key value) (part_rows.row id k v)
+    ≡ eq_by_cmp part_rows.cmp k key
+by_key id k key v value = rw (equal_texts k.0 key.0, equal_ints k.1 key.1)
+    (both_equal (name_cmp k.0 key.0) (int_cmp k.1 key.1))
+
+pub part_sets : SetText store_schema part_rows set_part part_params
+part_sets = record {
+  at = 7;
+  test = test;
+  project = sets;
+  placed = refl;
+  still = λ olds news. elim (cases_Bool (length news == 0)) [
+    | inl none ↦ rw none refl
+    | inr some ↦ rw some refl
+  ];
+  is = set_is;
+  plain = set_plain;
+  by_key = by_key;
+  numbers = λ key value r. refl;
+  stored = λ id k key v value. rw (cast_int id, cast_int k.1, cast_int value.hour) refl;
 }
 
 abbrev project : List Term

@@ -5,12 +5,21 @@ abbrev pub put_meta : List ℕ
 put_meta =
     codes "INSERT OR REPLACE INTO meta VALUES (?1, ?2, ?3)"
 
+abbrev pub set_meta : List ℕ
+set_meta =
+    codes "UPDATE meta SET schema = ?2, hour = ?3 WHERE one = ?1"
+
 abbrev pub list_meta : List ℕ
 list_meta = codes "SELECT * FROM meta ORDER BY one"
 
 abbrev pub put_ring : List ℕ
 put_ring =
     codes "INSERT OR REPLACE INTO ring VALUES (?1, ?2, ?3, ?4, ?5, ?6)"
+
+abbrev pub set_ring : List ℕ
+set_ring =
+    codes "UPDATE ring SET power = ?2, replicas = ?3, min_hours = ?4, next_id = ?5, version = ?6 "
+    ++ codes "WHERE name = ?1"
 
 abbrev pub list_ring : List ℕ
 list_ring = codes "SELECT * FROM ring ORDER BY name"
@@ -50,9 +59,13 @@ put_request =
 abbrev pub list_request : List ℕ
 list_request = codes "SELECT * FROM request ORDER BY caller, number"
 
-abbrev pub put_part : List ℕ
-put_part =
-    codes "INSERT OR REPLACE INTO part VALUES (?1, ?2, ?3, ?4)"
+abbrev pub set_part : List ℕ
+set_part =
+    codes "UPDATE part SET devices = ?3, hour = ?4 WHERE ring = ?1 AND part = ?2"
+
+abbrev pub add_part : List ℕ
+add_part =
+    codes "INSERT INTO part VALUES (?1, ?2, ?3, ?4)"
 
 abbrev pub list_part : List ℕ
 list_part = codes "SELECT * FROM part ORDER BY ring, part"

@@ -7,4 +7,4 @@ loop-place-preserved g c =
     alike_more g.T.Comparable.is_alike c.args.some.now c.args.others.now c.loop-place.place
     c.index-some-place.result c.index-others-place.result c.loop-place-test.true (omega arith)
     c.index-some-place.is c.index-others-place.is
-    c.loop-place.invariant (c.is_alike.ensures c.if-not-is_alike.false)
+    c.loop-place.invariant (c.is_alike.ensures.0 c.if-not-is_alike.false)

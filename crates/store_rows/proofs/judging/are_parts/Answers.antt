@@ -6,19 +6,27 @@ use Rattle.store_tables.specs.Entries.{name_number_cmp}
 use Rattle.store_rows.specs.RingRows.{part_entries}
 use Rattle.store_rows.specs.Differences.{is_same_part}
 use Rattle.store_rows.specs.Inner.Lacking.{lacking}
-use Rattle.store_rows.proofs.Steps.{alike_map, lacking_nothing}
+use Rattle.store_rows.proofs.Steps.{alike_by, alike_map, lacking_nothing}
 use Rattle.store_rows.proofs.FoundRows.{empty_of}
 use Rattle.store_rows.proofs.judging.are_parts.Goals as goal
 
 pub returns : goal.returns
-returns c = λ same. record {
-  seats = ap (map seat_of) (empty_of c.args.rows.now.seats.items (vec_len c.args.rows.now.seats)
-      (omega arith) (sym c.is_empty.ensures ∙ c.if-not-is_empty.false));
-  moved = ap (map moved_of) (empty_of c.args.rows.now.moved.items (vec_len c.args.rows.now.moved)
-      (omega arith) (sym c.is_empty-else-not-is_empty.ensures ∙ c.if-not-is_empty-2.false));
-  parts = ap (map part_of) (sym c.as_slice.ensures.value) ∙ alike_map part_of c.as_slice.result.now
-      c.as_slice-2.result.now (c.are_alike.ensures same) ∙ ap (map part_of)
-      c.as_slice-2.ensures.value ∙ (c.in_ok-parts.ensures ∙ ap (λ rs. lacking name_number_cmp
-      is_same_part (part_entries rs) (part_entries c.args.rings.now)) c.new-none.ensures ∙
-      lacking_nothing name_number_cmp is_same_part (part_entries c.args.rings.now));
-}
+returns c = (
+  λ same. record {
+    seats = ap (map seat_of) (empty_of c.args.rows.now.seats.items (vec_len c.args.rows.now.seats)
+        (omega arith) (sym c.is_empty.ensures ∙ c.if-not-is_empty.false));
+    moved = ap (map moved_of) (empty_of c.args.rows.now.moved.items (vec_len c.args.rows.now.moved)
+        (omega arith) (sym c.is_empty-else-not-is_empty.ensures ∙ c.if-not-is_empty-2.false));
+    parts = ap (map part_of) (sym c.as_slice.ensures.value) ∙ alike_map part_of c.as_slice.result.now
+        c.as_slice-2.result.now (c.are_alike.ensures.0 same) ∙ ap (map part_of)
+        c.as_slice-2.ensures.value ∙ (c.in_ok-parts.ensures ∙ ap (λ rs. lacking name_number_cmp
+        is_same_part (part_entries rs) (part_entries c.args.rings.now)) c.new-none.ensures ∙
+        lacking_nothing name_number_cmp is_same_part (part_entries c.args.rings.now));
+  },
+  λ says. c.are_alike.ensures.1 (alike_by part_of c.as_slice.result.now c.as_slice-2.result.now
+      (ap (map part_of) c.as_slice.ensures.value ∙ says.parts
+      ∙ sym (c.in_ok-parts.ensures ∙ ap (λ rs. lacking name_number_cmp is_same_part (part_entries rs)
+      (part_entries c.args.rings.now)) c.new-none.ensures ∙ lacking_nothing name_number_cmp
+      is_same_part (part_entries c.args.rings.now)) ∙ ap (map part_of)
+      (sym c.as_slice-2.ensures.value))),
+)

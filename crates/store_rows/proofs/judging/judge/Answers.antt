@@ -13,9 +13,9 @@ returns c = λ t all.
       hour =
           c.in_ok-is_first.hour;
     } in
-    let meta = ap (map meta_of) (sym c.deref.ensures.value) ∙ c.in_ok-is_first.ensures in
+    let meta = ap (map meta_of) (sym c.deref.ensures.value) ∙ c.in_ok-is_first.ensures.0 in
     let are = stands c.in_ok-is_first.is_first c.args.rows c.in_ok-rings.rings c.in_ok-is_first.hour
-    found.0 t all c.in_ok-rings.ensures meta found.2 in (
+    found.0 t all c.in_ok-rings.ensures.says meta found.2 in (
       held,
       record {
         holdable = record {

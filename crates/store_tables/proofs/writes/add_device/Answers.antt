@@ -1,31 +1,24 @@
-use Rattle.std.proofs.Common.{arith}
 use Rattle.sqlite.specs.Held.{state}
-use Rattle.std.proofs.lemmas.Result.{on_ok_weaker}
 use Rattle.store_tables.specs.Contents.{device_of}
 use Rattle.store_tables.proofs.Steps.Device.{adds_device}
+use Rattle.store_tables.proofs.Writing.{writes_so}
 use Rattle.store_tables.proofs.writes.add_device.Goals as goal
 
 pub returns-clause-writes : goal.returns-clause-writes
 returns-clause-writes g c =
     let old = state g.S.Store c.args.tx.now.conn.now in
     let new = state g.S.Store c.run.new.tx.conn.now in
-    record {
-      done = λ clean. on_ok_weaker c.run.result (λ ran.
-          adds_device old new (device_of c.args.row.now).0 (device_of c.args.row.now).1 ran.0
-          (c.requires (omega (arith, c.run.ensures.survives.clean, clean))) ran.1)
-          (rw (
-            c.params-to_sql.ensures,
-            c.params-to_sql-2.ensures,
-            c.params-to_sql-3.ensures,
-            c.params-to_sql-4.ensures,
-            c.params-to_sql-5.ensures,
-            c.params-to_sql-6.ensures,
-            c.params-to_sql-7.ensures,
-            c.params-to_sql-8.ensures,
-            c.params-to_sql-9.ensures,
-          ) at
-          (c.run.ensures.done clean));
-      inside = c.run.ensures.inside;
-      kept = c.run.ensures.kept;
-      survives = c.run.ensures.survives;
-    }
+    let row = device_of c.args.row.now in
+    writes_so _ _ old new _ (adds_device old new row.0 row.1) c.requires c.run.result
+    (λ clean. rw (
+      c.params-to_sql.ensures,
+      c.params-to_sql-2.ensures,
+      c.params-to_sql-3.ensures,
+      c.params-to_sql-4.ensures,
+      c.params-to_sql-5.ensures,
+      c.params-to_sql-6.ensures,
+      c.params-to_sql-7.ensures,
+      c.params-to_sql-8.ensures,
+      c.params-to_sql-9.ensures,
+    ) at (c.run.ensures.done clean))
+    c.run.ensures.inside c.run.ensures.kept c.run.ensures.survives

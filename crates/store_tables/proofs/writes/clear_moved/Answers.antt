@@ -1,22 +1,12 @@
-use Rattle.std.proofs.Common.{arith}
 use Rattle.sqlite.specs.Held.{state}
-use Rattle.std.proofs.lemmas.Result.{on_ok_weaker}
 use Rattle.store_tables.proofs.Steps.Moved.{clears_moved}
+use Rattle.store_tables.proofs.Writing.{writes_so}
 use Rattle.store_tables.proofs.writes.clear_moved.Goals as goal
 
 pub returns-clause-writes : goal.returns-clause-writes
 returns-clause-writes g c =
     let old = state g.S.Store c.args.tx.now.conn.now in
     let new = state g.S.Store c.run.new.tx.conn.now in
-    record {
-      done = λ clean. on_ok_weaker c.run.result (λ ran.
-          clears_moved old new ran.0 (c.requires (omega (
-            arith,
-            c.run.ensures.survives.clean,
-            clean,
-          ))) ran.1)
-          (c.run.ensures.done clean);
-      inside = c.run.ensures.inside;
-      kept = c.run.ensures.kept;
-      survives = c.run.ensures.survives;
-    }
+    writes_so _ _ old new _ (clears_moved old new) c.requires c.run.result
+    c.run.ensures.done
+    c.run.ensures.inside c.run.ensures.kept c.run.ensures.survives
