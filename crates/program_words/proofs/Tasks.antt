@@ -1,9 +1,6 @@
 -- The task that words ask for, from what `clap` says of them.
-use Rattle.std.proofs.Common.{◌≡◌, ℕ, List, [], true, Option, Some, None, codes, refl, sym, ap}
-use Rattle.std.proofs.Common.{subst, ◌∙◌, ⊎_elim, arith, false, ◌==◌, ◌+◌, ◌*◌, length}
-use Rattle.std.specs.Prelude.{slice_index_or}
-use Rattle.std.proofs.lemmas.Bool.{eqb-false}
-use Rattle.std.specs.Borrow.{Bor}
+use Rattle.std.proofs.Common.{◌≡◌, List, [], true, Option, Some, None, refl, sym, ap}
+use Rattle.std.proofs.Common.{subst, ◌∙◌, ⊎_elim}
 use Rattle.std.specs.Option.{option_map}
 use Rattle.std.proofs.lemmas.Option.{none-some, same_Some}
 use Rattle.clap.specs.Faults.{fault_of, is_simple_and_free}
@@ -17,13 +14,10 @@ use Rattle.clap.specs.declared.error.kind.ErrorKind.TheVariants.{OutOfMemory}
 use Rattle.clap.specs.declared.parser.matches.ArgMatches.{ArgMatches}
 use Rattle.program_words.specs.Shapes.{programs}
 use Rattle.program_words.specs.Tasks.{AskFor, AskForNothing, HasArguments, IfBad, program_of}
-use Rattle.program_words.specs.Inner.Reading.{IsNumber, IsTask}
+use Rattle.program_words.specs.Inner.Reading.{IsTask}
 use Rattle.program_words.specs.declared.task.ArgsFault.{ArgsFault}
 use Rattle.program_words.specs.declared.task.ArgsFault.TheVariants.{Bad, NoMemory}
 use Rattle.program_words.specs.declared.task.Task.{Task}
-use Rattle.program_words.specs.declared.task.Task.TheVariants.{Run, Serve, Loop, Import, Table}
-use Rattle.program_words.specs.declared.task.Task.TheVariants.{Nodes, Export, Renew}
-use Rattle.program_words.specs.declared.task.HashNames.{HashNames}
 
 -- words that were read have nothing wrong
 pub right : (app : App) (words : List Text) → app ≡ programs →
@@ -77,45 +71,6 @@ not_asked app words m name rows is has one two no_task task asks =
     no_task task (ap (λ (p : Text × List Row). p.0) same)
     (subst (λ (r : List Row). HasArguments r task) (ap (λ (p : Text × List Row). p.1) same)
     asks.arguments)
-
--- two names of programs with another length or another first letter are not one
-abbrev mark : Text → ℕ
-mark name = length name * 256 + slice_index_or name 0 0
-
-apart : (one other : Text) → (mark one == mark other) ≡ false → one ≡ other → ⊥
-apart one other differ same =
-    eqb-false (mark one) (mark other) differ (ap mark same)
-
--- only a task of `serve` has its name
-pub only_serve : (rows : List Row) (P : Task → Type 0) →
-    ((file : Bor Text) (port count : ℕ) (hour : Option ℕ) (names : HashNames) →
-    P (Serve file port count hour names)) →
-    (task : Task) → program_of task ≡ codes "serve" → P task
-only_serve rows P serves (Serve file port count hour names) is = serves file port count hour names
-only_serve rows P serves (Run file) is = absurd (apart (codes "run") (codes "serve") refl is)
-only_serve rows P serves (Loop file input hour names) is =
-    absurd (apart (codes "loop") (codes "serve") refl is)
-only_serve rows P serves (Import file ring caller number csv hour) is =
-    absurd (apart (codes "import") (codes "serve") refl is)
-only_serve rows P serves (Table file ring) is =
-    absurd (apart (codes "table") (codes "serve") refl is)
-only_serve rows P serves (Nodes file ring account container object names) is =
-    absurd (apart (codes "nodes") (codes "serve") refl is)
-only_serve rows P serves (Export file ring version) is =
-    absurd (apart (codes "export") (codes "serve") refl is)
-only_serve rows P serves (Renew file new) is =
-    absurd (apart (codes "renew") (codes "serve") refl is)
-
--- where an argument is no number, no task of `serve` has these arguments
-pub no_port : (rows : List Row) → IsNumber rows (codes "PORT") 1 65535 None →
-    IsTask (codes "serve") rows None
-no_port rows none task is = only_serve rows (λ (t : Task). HasArguments rows t → ⊥)
-    (λ file port count hour names has. none port has.1) task is
-
-pub no_count : (rows : List Row) → IsNumber rows (codes "COUNT") 0 65535 None →
-    IsTask (codes "serve") rows None
-no_count rows none task is = only_serve rows (λ (t : Task). HasArguments rows t → ⊥)
-    (λ file port count hour names has. none count has.2) task is
 
 -- words that `clap` refuses, not for want of memory, ask for nothing
 pub refused : (app : App) (words : List Text) (error : Error) → app ≡ programs →

@@ -24,17 +24,6 @@ hash_names = optional (codes "prefix") ∷ optional (codes "suffix") ∷ []
 abbrev pub run : Shape
 run = program (codes "run") (optional (codes "file") ∷ [])
 
--- Serves connections of HTTP.
-abbrev pub serve : Shape
-serve = program (codes "serve")
-    (needed (codes "FILE") ∷ needed (codes "PORT") ∷ needed (codes "COUNT") ∷
-    optional (codes "hour") ∷ hash_names)
-
--- Answers the bytes of a file as those of a connection.
-abbrev pub loop_over : Shape
-loop_over = program (codes "loop")
-    (needed (codes "FILE") ∷ needed (codes "INPUT") ∷ optional (codes "hour") ∷ hash_names)
-
 -- Imports the rows of a CSV file.
 abbrev pub import_rows : Shape
 import_rows = program (codes "import")
@@ -56,19 +45,13 @@ abbrev pub export : Shape
 export = program (codes "export")
     (needed (codes "FILE") ∷ needed (codes "RING") ∷ needed (codes "VERSION") ∷ [])
 
--- Makes a file with the rings of another.
-abbrev pub renew : Shape
-renew = program (codes "renew") (needed (codes "FILE") ∷ needed (codes "NEW") ∷ [])
-
 -- The programs that answer requests.
 abbrev pub with_services : App → App
-with_services app = with_subcommand (with_subcommand (with_subcommand (with_subcommand app
-    run) serve) loop_over) import_rows
+with_services app = with_subcommand (with_subcommand app run) import_rows
 
--- The programs that read what is kept, or copy it.
+-- The programs that read what is kept.
 abbrev pub with_readers : App → App
-with_readers app = with_subcommand (with_subcommand (with_subcommand (with_subcommand app
-    table) nodes) export) renew
+with_readers app = with_subcommand (with_subcommand (with_subcommand app table) nodes) export
 
 -- All that may be written: the name of a program, and its arguments.
 abbrev pub programs : App

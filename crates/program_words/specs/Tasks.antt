@@ -11,7 +11,7 @@ use Rattle.program_words.specs.declared.task.ArgsFault.{ArgsFault}
 use Rattle.program_words.specs.declared.task.ArgsFault.TheVariants.{Bad, NoMemory}
 use Rattle.program_words.specs.declared.task.HashNames.{HashNames}
 use Rattle.program_words.specs.declared.task.Task.{Task}
-use Rattle.program_words.specs.declared.task.Task.TheVariants.{Run, Serve, Loop, Import, Table, Nodes, Export, Renew}
+use Rattle.program_words.specs.declared.task.Task.TheVariants.{Run, Import, Table, Nodes, Export}
 
 -- ---- one argument
 
@@ -43,23 +43,14 @@ pub record HaveNames (rows : List Row) (names : HashNames) : Type 0 where
 -- the name of a task's program
 abbrev pub program_of : Task → Text
 program_of (Run file) = codes "run"
-program_of (Serve file port count hour names) = codes "serve"
-program_of (Loop file input hour names) = codes "loop"
 program_of (Import file ring caller number csv hour) = codes "import"
 program_of (Table file ring) = codes "table"
 program_of (Nodes file ring account container object names) = codes "nodes"
 program_of (Export file ring version) = codes "export"
-program_of (Renew file new) = codes "renew"
 
 -- The arguments of a program are those of the task.
 abbrev pub HasArguments : List Row → Task → Type 0
 HasArguments rows (Run file) = MayHaveText rows (codes "file") file
-HasArguments rows (Serve file port count hour names) =
-    HasText rows (codes "FILE") file × HasNumber rows (codes "PORT") 1 65535 port
-    × HasNumber rows (codes "COUNT") 0 65535 count × HasHour rows hour × HaveNames rows names
-HasArguments rows (Loop file input hour names) =
-    HasText rows (codes "FILE") file × HasText rows (codes "INPUT") input × HasHour rows hour
-    × HaveNames rows names
 HasArguments rows (Import file ring caller number csv hour) =
     HasText rows (codes "FILE") file × HasText rows (codes "RING") ring
     × HasText rows (codes "CALLER") caller × HasText rows (codes "NUMBER") number
@@ -73,8 +64,6 @@ HasArguments rows (Nodes file ring account container object names) =
 HasArguments rows (Export file ring version) =
     HasText rows (codes "FILE") file × HasText rows (codes "RING") ring
     × HasText rows (codes "VERSION") version
-HasArguments rows (Renew file new) =
-    HasText rows (codes "FILE") file × HasText rows (codes "NEW") new
 
 -- The words, of which the first is the program's own name, ask for this task: nothing is wrong with
 -- them, they name its program, and each of its arguments is there as they say.

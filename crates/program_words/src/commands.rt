@@ -3,8 +3,8 @@ ghost use Rattle.std.specs.Prelude.{◌≡◌, IfOk, false};
 ghost use Rattle.clap.specs.Simple.{app_of, shape_of, with_rule, with_subcommand};
 ghost use Rattle.clap.specs.Walk.{rule_of};
 ghost use Rattle.clap.specs.declared.builder.command.Command.TheViews.{out-Command};
-ghost use Rattle.program_words.specs.Shapes.{export, import_rows, loop_over, needed, nodes};
-ghost use Rattle.program_words.specs.Shapes.{optional, programs, renew, run, serve, table};
+ghost use Rattle.program_words.specs.Shapes.{export, import_rows, needed, nodes};
+ghost use Rattle.program_words.specs.Shapes.{optional, programs, run, table};
 ghost use Rattle.program_words.specs.Shapes.{with_readers, with_services};
 
 use crate::help::{ABOUT, RUN};
@@ -79,43 +79,6 @@ fn run_command<'a>(alloc: Global) -> Result<Command<'a>, AllocError>
     with_arg(command, optional(alloc, "file"))
 }
 
-fn serve_command<'a>(alloc: Global) -> Result<Command<'a>, AllocError>
-    ensures shape { IfOk result (λ c. shape_of c ≡ serve) }
-    ensures alone { IfOk result (λ c. (out-Command c).has_globals ≡ false) }
-{
-    let command = Command::new(alloc, "serve").about(
-        "Serves connections of HTTP on 127.0.0.1, one after another",
-    );
-    let command = with_three(
-        command,
-        needed(alloc, "FILE"),
-        needed(alloc, "PORT"),
-        needed(alloc, "COUNT"),
-    )?;
-    with_three(
-        command,
-        optional(alloc, "hour"),
-        optional(alloc, "prefix"),
-        optional(alloc, "suffix"),
-    )
-}
-
-fn loop_over_command<'a>(alloc: Global) -> Result<Command<'a>, AllocError>
-    ensures shape { IfOk result (λ c. shape_of c ≡ loop_over) }
-    ensures alone { IfOk result (λ c. (out-Command c).has_globals ≡ false) }
-{
-    let command = Command::new(alloc, "loop").about(
-        "Answers the bytes of a file as those of a connection",
-    );
-    let command = with_two(command, needed(alloc, "FILE"), needed(alloc, "INPUT"))?;
-    with_three(
-        command,
-        optional(alloc, "hour"),
-        optional(alloc, "prefix"),
-        optional(alloc, "suffix"),
-    )
-}
-
 fn import_rows_command<'a>(alloc: Global) -> Result<Command<'a>, AllocError>
     ensures shape { IfOk result (λ c. shape_of c ≡ import_rows) }
     ensures alone { IfOk result (λ c. (out-Command c).has_globals ≡ false) }
@@ -181,16 +144,6 @@ fn export_command<'a>(alloc: Global) -> Result<Command<'a>, AllocError>
     )
 }
 
-fn renew_command<'a>(alloc: Global) -> Result<Command<'a>, AllocError>
-    ensures shape { IfOk result (λ c. shape_of c ≡ renew) }
-    ensures alone { IfOk result (λ c. (out-Command c).has_globals ≡ false) }
-{
-    let command = Command::new(alloc, "renew").about(
-        "Makes a new file with the rings of another, and no requests",
-    );
-    with_two(command, needed(alloc, "FILE"), needed(alloc, "NEW"))
-}
-
 /// The command with two more programs.
 fn with_programs<'a>(
     command: Command<'a>,
@@ -210,12 +163,7 @@ fn with_programs<'a>(
 fn with_services<'a>(alloc: Global, command: Command<'a>) -> Result<Command<'a>, AllocError>
     ensures { IfOk result (λ c. app_of c ≡ with_services (app_of command.entry)) }
 {
-    let command = with_programs(command, run_command(alloc)?, serve_command(alloc)?)?;
-    with_programs(
-        command,
-        loop_over_command(alloc)?,
-        import_rows_command(alloc)?,
-    )
+    with_programs(command, run_command(alloc)?, import_rows_command(alloc)?)
 }
 
 /// The programs that read what is kept.
@@ -223,7 +171,7 @@ fn with_readers<'a>(alloc: Global, command: Command<'a>) -> Result<Command<'a>, 
     ensures { IfOk result (λ c. app_of c ≡ with_readers (app_of command.entry)) }
 {
     let command = with_programs(command, table_command(alloc)?, nodes_command(alloc)?)?;
-    with_programs(command, export_command(alloc)?, renew_command(alloc)?)
+    command.subcommand(export_command(alloc)?)
 }
 
 /// The programs.

@@ -49,4 +49,6 @@ After the three requests above, the second is answered by
     0      50.00     48      0  100.00
 balance 100.00 dispersion 0.00 version 2
 
-Rings are kept in memory, and are gone when the program ends.";
+With --file FILE, rings and the answers that were given are kept in FILE, which is made if it is missing, and in FILE-wal
+beside it: each request is on the disk before it is answered. Without it they are kept in memory, and are gone when the
+program ends.";

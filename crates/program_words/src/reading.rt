@@ -5,14 +5,14 @@ ghost use Rattle.clap.specs.Values.{kind_of};
 ghost use Rattle.clap.specs.Walk.{first_of, rows_of};
 ghost use Rattle.clap.specs.declared.error.kind.ErrorKind.{ErrorKind};
 ghost use Rattle.program_words.specs.Tasks.{AskFor, AskForNothing, HaveNames, IfBad};
-ghost use Rattle.program_words.specs.Inner.Reading.{IsHour, IsNumber, IsTask};
+ghost use Rattle.program_words.specs.Inner.Reading.{IsHour, IsTask};
 
 use crate::commands::command;
 use crate::help::ABOUT;
 use crate::task::{ArgsFault, HashNames, Task};
 use clap::error::ErrorKind;
 use clap::{ArgMatches, Error};
-use ring_words::{Hour, Port, read_bounded, read_number, read_number16};
+use ring_words::{Hour, read_number};
 use std::alloc::{AllocError, Global};
 use std::fmt::Display;
 
@@ -73,15 +73,6 @@ fn export<'a>(matches: &ArgMatches<'a>) -> Option<Task<'a>>
     })
 }
 
-fn renew<'a>(matches: &ArgMatches<'a>) -> Option<Task<'a>>
-    ensures { IsTask (codes "renew") (rows_of (found_of matches.now)) result }
-{
-    Some(Task::Renew {
-        file: text_of(matches, "FILE")?,
-        new: text_of(matches, "NEW")?,
-    })
-}
-
 fn nodes<'a>(matches: &ArgMatches<'a>) -> Option<Task<'a>>
     ensures { IsTask (codes "nodes") (rows_of (found_of matches.now)) result }
 {
@@ -91,17 +82,6 @@ fn nodes<'a>(matches: &ArgMatches<'a>) -> Option<Task<'a>>
         account: text_of(matches, "ACCOUNT")?,
         container: text_of(matches, "container"),
         object: text_of(matches, "object"),
-        names: names_of(matches),
-    })
-}
-
-fn loop_over<'a>(matches: &ArgMatches<'a>) -> Option<Task<'a>>
-    ensures { IsTask (codes "loop") (rows_of (found_of matches.now)) result }
-{
-    Some(Task::Loop {
-        file: text_of(matches, "FILE")?,
-        input: text_of(matches, "INPUT")?,
-        hour: hour_of(matches)?,
         names: names_of(matches),
     })
 }
@@ -119,51 +99,16 @@ fn import_rows<'a>(matches: &ArgMatches<'a>) -> Option<Task<'a>>
     })
 }
 
-/// The port of `serve`, `None` where it is none.
-fn port_of(matches: &ArgMatches<'_>) -> Option<Port>
-    ensures { IsNumber (rows_of (found_of matches.now)) (codes "PORT") 1 65535 result }
-{
-    read_bounded(text_of(matches, "PORT")?).ok()
-}
-
-/// How many connections `serve` serves, `None` where it is no number.
-fn count_of(matches: &ArgMatches<'_>) -> Option<u16>
-    ensures { IsNumber (rows_of (found_of matches.now)) (codes "COUNT") 0 65535 result }
-{
-    read_number16(text_of(matches, "COUNT")?).ok()
-}
-
-fn serve<'a>(matches: &ArgMatches<'a>) -> Option<Task<'a>>
-    ensures { IsTask (codes "serve") (rows_of (found_of matches.now)) result }
-{
-    let Some(port) = port_of(matches) else {
-        return None;
-    };
-    let Some(count) = count_of(matches) else {
-        return None;
-    };
-    Some(Task::Serve {
-        file: text_of(matches, "FILE")?,
-        port,
-        count,
-        hour: hour_of(matches)?,
-        names: names_of(matches),
-    })
-}
-
 /// The task of a program of this name.
 fn task_named<'a>(name: &str, matches: &ArgMatches<'a>) -> Option<Task<'a>>
     ensures { IsTask name.now (rows_of (found_of matches.now)) result }
 {
     match name {
         "run" => run(matches),
-        "serve" => serve(matches),
-        "loop" => loop_over(matches),
         "import" => import_rows(matches),
         "table" => table(matches),
         "nodes" => nodes(matches),
         "export" => export(matches),
-        "renew" => renew(matches),
         _ => None,
     }
 }

@@ -2,7 +2,7 @@
 ghost use Rattle.std.specs.Prelude.{◌≡◌};
 ghost use Rattle.program_words.specs.declared.task.ArgsFault.TheVariants.{NoMemory};
 
-use ring_words::{Hour, Port};
+use ring_words::Hour;
 use std::alloc::AllocError;
 
 /// What is hashed before and after each path.
@@ -18,22 +18,6 @@ pub enum Task<'a> {
     /// To answer requests and questions, a line each, over this file or over memory.
     Run {
         file: Option<&'a str>,
-    },
-    /// To serve so many connections on a port, one after another.
-    Serve {
-        file: &'a str,
-        port: Port,
-        count: u16,
-        /// The hour that the clock tells always. Without it, it tells the time.
-        hour: Option<Hour>,
-        names: HashNames<'a>,
-    },
-    /// To answer the bytes of a file as if they came over a connection.
-    Loop {
-        file: &'a str,
-        input: &'a str,
-        hour: Option<Hour>,
-        names: HashNames<'a>,
     },
     /// To import the rows of a CSV file, under a caller's number.
     Import {
@@ -63,11 +47,6 @@ pub enum Task<'a> {
         file: &'a str,
         ring: &'a str,
         version: &'a str,
-    },
-    /// To make a new file with the rings of an old one, and no requests.
-    Renew {
-        file: &'a str,
-        new: &'a str,
     },
 }
 

@@ -53,10 +53,6 @@ fn each_program_gets_its_arguments(rt: HostRuntime) -> Result<(), Fail> {
         "Export { file: \"F\", ring: \"object\", version: \"7\" }"
     );
     assert_eq!(rt;
-        told(alloc, "renew F G")?.as_str(),
-        "Renew { file: \"F\", new: \"G\" }"
-    );
-    assert_eq!(rt;
         told(alloc, "import F object ops 5 rows.csv --hour 9")?.as_str(),
         "Import { file: \"F\", ring: \"object\", caller: \"ops\", number: \"5\", csv: \"rows.csv\", hour: Some(9) }"
     );
@@ -82,26 +78,16 @@ fn a_path_and_what_is_hashed_with_it_are_texts(rt: HostRuntime) -> Result<(), Fa
 }
 
 #[test]
-fn ports_counts_and_hours_are_numbers_in_their_ranges(rt: HostRuntime) -> Result<(), Fail> {
+fn an_hour_is_a_number_in_its_range(rt: HostRuntime) -> Result<(), Fail> {
     let alloc = rt.alloc();
     assert_eq!(rt;
-        told(alloc, "serve F 65535 0 --hour 4294967295")?.as_str(),
-        "Serve { file: \"F\", port: Bounded { number: 65535 }, count: 0, hour: Some(4294967295), names: HashNames { prefix: \"\", suffix: \"\" } }"
-    );
-    assert_eq!(rt;
-        told(alloc, "loop F INPUT --prefix x")?.as_str(),
-        "Loop { file: \"F\", input: \"INPUT\", hour: None, names: HashNames { prefix: \"x\", suffix: \"\" } }"
+        told(alloc, "import F object ops 5 rows.csv --hour 4294967295")?.as_str(),
+        "Import { file: \"F\", ring: \"object\", caller: \"ops\", number: \"5\", csv: \"rows.csv\", hour: Some(4294967295) }"
     );
     for line in [
-        "serve F 0 1",
-        "serve F 65536 1",
-        "serve F 080 1",
-        "serve F +80 1",
-        "serve F 80 65536",
-        "serve F 80 one",
-        "serve F 80 1 --hour 4294967296",
-        "loop F INPUT --hour now",
+        "import F object ops 5 rows.csv --hour 4294967296",
         "import F object ops 5 rows.csv --hour 1.5",
+        "import F object ops 5 rows.csv --hour now",
     ] {
         assert!(rt; is_bad(alloc, line)?);
     }
@@ -122,16 +108,14 @@ fn other_words_and_calls_for_help_ask_for_nothing(rt: HostRuntime) -> Result<(),
         "table F object more",
         "nodes F tiny",
         "export F object",
-        "renew F",
-        "serve F 80",
-        "loop F",
+        "serve F 80 1",
         "import F object ops 5",
         "run --file F --file G",
         "table F object --hour 1",
         "help",
         "help run",
         "--help",
-        "serve --help",
+        "import --help",
         "-h",
         "--version",
     ] {

@@ -1,2 +1,5 @@
-pub mod Stopping
-pub mod Tasks
+pub mod BadTables
+pub mod Endings
+pub mod Kept
+pub mod Runs
+pub mod Stores

@@ -1,2 +1,8 @@
-pub mod Programs
+pub mod Faults
+pub mod Opened
+pub mod Running
+pub mod Importing
 pub mod Performed
+pub mod Showing
+pub mod Tables
+pub mod Inner

@@ -1,83 +1,109 @@
--- What a program does to its streams.
-use Rattle.std.specs.Prelude.{◌≡◌, ◌⊎◌, ℕ, List, [], ◌∷◌, ◌++◌, Option, codes, decimal}
-use Rattle.std.specs.Io.KnownBytes.{Appends}
-use Rattle.byte_streams.specs.Counted.{IsFlushed, one_more, write_faults, writer_of}
-use Rattle.byte_streams.specs.StreamFault.{fault_name}
-use Rattle.byte_streams.specs.Writing.{WritesBeginning}
+-- What a program does that words ask for.
+use Rattle.std.specs.Prelude.{◌≡◌, ◌≢◌, ◌⊎◌, ℕ, List, Option, None, Some, IfSome}
+use Rattle.std.specs.Borrow.{Bor}
+use Rattle.byte_streams.specs.declared.counted.CountedReader.{CountedReader}
 use Rattle.byte_streams.specs.declared.counted.CountedWriter.{CountedWriter}
 use Rattle.byte_streams.specs.declared.fault.StreamFault.{StreamFault}
-use Rattle.byte_streams.specs.declared.fault.StreamFault.TheVariants.{ReadFailed, WriteFailed}
-use Rattle.byte_streams.specs.declared.fault.StreamFault.TheVariants.{NoMemory}
-use Rattle.ring_words.specs.declared.command.Command.{Command}
-use Rattle.ring_words.specs.declared.command.Reply.{Reply}
-use Rattle.request_book.specs.Book.{Parts}
-use Rattle.request_book.specs.Content.{Content}
-use Rattle.builder.specs.Safety.{IsSafeRun}
-use Rattle.builder.specs.Step.{State}
-use Rattle.builder.specs.declared.machine.RingMachine.{RingMachine}
-use Rattle.line_stream.specs.Serving.{LinesServed, LinesStopped}
-use Rattle.line_api.specs.Served.{ServesLines}
+use Rattle.program_words.specs.declared.task.Task.{Task}
+use Rattle.program_words.specs.declared.task.Task.TheVariants as task
+use Rattle.sqlite_wal.specs.Recovery.{Image}
+use Rattle.programs.specs.Faults.{stream_fault}
+use Rattle.programs.specs.Importing.{AnswersImport, AsksImport, FailsToImport}
+use Rattle.programs.specs.Opened.{IsKept, IsNew, Keeping}
+use Rattle.programs.specs.Running.{AnswersLines, FailsLines, StopsLines}
+use Rattle.programs.specs.Showing.{AsksShown, FailsToShow, IsFormFault, IsMalformed, IsPathless}
+use Rattle.programs.specs.Showing.{Shows}
+use Rattle.programs.specs.declared.faults.ProgramFault.{ProgramFault}
+use Rattle.programs.specs.declared.faults.ProgramFault.TheVariants as fault
+use Rattle.programs.specs.declared.importing.ImportAsk.{ImportAsk}
+use Rattle.programs.specs.declared.performing.Ending.{Ending}
+use Rattle.programs.specs.declared.performing.Ending.TheVariants.{Done, Refused}
+use Rattle.programs.specs.declared.showing.Question.{Question}
 
--- The lines of a stream were answered by a book that was opened for them, over any keeper, and what
--- the book was led to is a safe run.
-module _ {K : Type 0} (content : K → Content State Command Reply) (sound : K → Type 0) (limit : K →
-    ℕ) (faults : K → ℕ)
-    (IsOpened : Parts RingMachine K → Type 0) where
-  -- All lines were answered, and so many there were.
-  abbrev pub RanOver : Option (List ℕ) → Option (List ℕ) → Option (List ℕ) → ℕ → Type 0
-  RanOver known before after count = (old new : Parts RingMachine K) × IsOpened old
-      × LinesServed (ServesLines content sound limit faults) known before after old new count
-      × (sound new.keeper → IsSafeRun old.machine.limits (content old.keeper) (content new.keeper))
+-- Keepers of stores in files are these, the files hold what the image says, and the writer is this,
+-- before and after.
+module _ {K W : Type 0} (files : Keeping K) (image : Image) (contents : W → Option (List ℕ))
+    (writer later : CountedWriter W) where
+  -- What is asked for was shown of the rings in a file.
+  abbrev pub ShowsFile : (Question → Type 0) → Type 0
+  ShowsFile Asks = (question : Question) × Asks question
+      × Shows files (IsKept files image) contents writer later question
 
-  -- What a fault leaves; where there was no memory, nothing was touched.
-  abbrev pub StoppedOver : Option (List ℕ) → Option (List ℕ) → Option (List ℕ) → Option (List ℕ) →
-      Type 0 → StreamFault → Type 0
-  StoppedOver known left before after untouched fault = (old new : Parts RingMachine K) ×
-      IsOpened old
-      × LinesStopped (ServesLines content sound limit faults) known left before after old new
-      (untouched × (new ≡ old)) fault
-      × (sound new.keeper → IsSafeRun old.machine.limits (content old.keeper) (content new.keeper))
+  -- This fault came of it.
+  abbrev pub FailsToShowFile : (Question → Type 0) → ProgramFault → Type 0
+  FailsToShowFile Asks why = (question : Question) × Asks question
+      × FailsToShow files (IsKept files image) contents writer later question why
 
--- a book over memory: what it holds, and how many requests it keeps at most
-abbrev pub MemoryBook : Type 0
-MemoryBook = Parts RingMachine (Content State Command Reply × ℕ)
+  -- The table in a CSV file was imported as one request, at the hour that was given or any other,
+  -- and the status that was written ends it so.
+  abbrev pub ImportsFile : (ImportAsk → Type 0) → Option ℕ → (ℕ → Type 0) → Type 0
+  ImportsFile Asks given Ends = (ask : ImportAsk) × (hour : ℕ) × (status : ℕ) × Asks ask
+      × IfSome given (λ h. hour ≡ h) × Ends status
+      × AnswersImport files (IsKept files image) contents writer later None ask hour status
 
--- A book over memory as the program opens it: under the full limits, with no ring, no request, and
--- hour 0.
-pub record IsOpened (book : MemoryBook) : Type 0 where
-  pub rings : book.machine.limits.rings ≡ 16
-  pub devices : book.machine.limits.devices ≡ 256
-  pub ids : book.machine.limits.ids ≡ 65536
-  pub versions : book.machine.limits.versions ≡ 1000
-  pub keeper : book.keeper ≡ (record { state = []; book = []; hour = 0 }, 100000)
+  -- This fault came of it: the CSV file can't be opened, or it is one of the import.
+  abbrev pub FailsToImportFile : (ImportAsk → Type 0) → Option ℕ → ProgramFault → Type 0
+  FailsToImportFile Asks given why = (ask : ImportAsk) × Asks ask
+      × (((why ≡ fault.NoFile) × (later ≡ writer))
+      ⊎ ((hour : ℕ) × IfSome given (λ h. hour ≡ h)
+      × FailsToImport files (IsKept files image) contents writer later None ask hour why))
 
--- All lines were served by a book over memory, which always tells what it was given and whose store
--- never fails.
-abbrev pub RanOverMemory : Option (List ℕ) → Option (List ℕ) → Option (List ℕ) → ℕ → Type 0
-RanOverMemory = RanOver (λ keeper. keeper.0) (λ _. Unit {0}) (λ keeper. keeper.1) (λ _. 0) IsOpened
+-- The status of an import ends it so: 200 where it was done.
+abbrev pub EndsBy : Ending → ℕ → Type 0
+EndsBy Done status = status ≡ 200
+EndsBy Refused status = status ≢ 200
 
--- What a fault leaves where a book over memory was opened for the lines.
-abbrev pub StoppedOverMemory : Option (List ℕ) → Option (List ℕ) → Option (List ℕ) →
-    Option (List ℕ) → Type 0 → StreamFault → Type 0
-StoppedOverMemory = StoppedOver (λ keeper. keeper.0) (λ _. Unit {0}) (λ keeper. keeper.1) (λ _. 0)
-    IsOpened
+-- Keepers over memory and of stores in files are these, the files hold what the image says, and the
+-- streams are these, before and after.
+module _ {M K R W : Type 0} (memory : Keeping M) (files : Keeping K) (image : Image)
+    (remaining : R → Option (List ℕ)) (contents : W → Option (List ℕ))
+    (reader late_reader : CountedReader R) (writer later : CountedWriter W) where
+  -- The lines of the reader were answered, over memory or over the store in a file.
+  abbrev pub Runs : Option (Bor (List ℕ)) → Type 0
+  Runs None = AnswersLines memory (IsNew memory) remaining contents reader late_reader writer later
+  Runs (Some file) = AnswersLines files (IsKept files image) remaining contents reader late_reader
+      writer later
 
--- the number of a fault
-abbrev pub fault_number : StreamFault → ℕ
-fault_number ReadFailed = 50
-fault_number WriteFailed = 51
-fault_number NoMemory = 23
+  -- This fault came of it.
+  abbrev pub FailsToRun : Option (Bor (List ℕ)) → ProgramFault → Type 0
+  FailsToRun None why = (cause : StreamFault) × (why ≡ stream_fault cause)
+      × StopsLines memory (IsNew memory) remaining contents reader late_reader writer later cause
+  FailsToRun (Some file) why = FailsLines files (IsKept files image) remaining contents reader
+      late_reader writer later why
 
--- the line that tells a fault: its name and its number
-abbrev pub fault_line : StreamFault → List ℕ
-fault_line fault = codes "ringd: " ++ fault_name fault ++ 32 ∷ decimal (fault_number fault) ++ 10 ∷
-    []
+  -- A task had no fault and ended so: what it asks for was done, or an import was refused. Only
+  -- `run` touches the reader.
+  abbrev pub EndsSo : Task → Ending → Type 0
+  EndsSo (task.Run file) Done = Runs file
+  EndsSo (task.Table file ring) Done = (late_reader ≡ reader)
+      × ShowsFile files image contents writer later (AsksShown (task.Table file ring))
+  EndsSo (task.Export file ring version) Done = (late_reader ≡ reader)
+      × ShowsFile files image contents writer later (AsksShown (task.Export file ring version))
+  EndsSo (task.Nodes file ring account container object names) Done = (late_reader ≡ reader)
+      × ShowsFile files image contents writer later
+      (AsksShown (task.Nodes file ring account container object names))
+  EndsSo (task.Import file ring caller number csv given) ending = (late_reader ≡ reader)
+      × ImportsFile files image contents writer later (AsksImport ring.now caller.now number.now)
+      given (EndsBy ending)
+  EndsSo _ _ = ⊥
 
--- The writer got this text: it took all of it and was flushed, or it failed and took a beginning.
-abbrev pub GetsText : {E : Type 0} → (E → Option (List ℕ)) → CountedWriter E → CountedWriter E →
-    List ℕ → Type 0
-GetsText contents old new text =
-    ((write_faults new ≡ write_faults old) × Appends (contents (writer_of old))
-    (contents (writer_of new)) text × IsFlushed new)
-    ⊎ ((write_faults new ≡ one_more (write_faults old)) × WritesBeginning (contents (writer_of old))
-    (contents (writer_of new)) text)
+  -- This fault came of the work of a task.
+  abbrev pub FailsToDo : Task → ProgramFault → Type 0
+  FailsToDo (task.Run file) why = FailsToRun file why
+  FailsToDo (task.Table file ring) why = (late_reader ≡ reader)
+      × FailsToShowFile files image contents writer later (AsksShown (task.Table file ring)) why
+  FailsToDo (task.Export file ring version) why = (late_reader ≡ reader)
+      × FailsToShowFile files image contents writer later (AsksShown (task.Export file ring
+      version)) why
+  FailsToDo (task.Nodes file ring account container object names) why = (late_reader ≡ reader)
+      × FailsToShowFile files image contents writer later
+      (AsksShown (task.Nodes file ring account container object names)) why
+  FailsToDo (task.Import file ring caller number csv given) why = (late_reader ≡ reader)
+      × FailsToImportFile files image contents writer later (AsksImport ring.now caller.now
+      number.now) given why
+
+  -- This fault came of a task: of its words, and then neither stream was touched, or of its work.
+  abbrev pub FailsSo : Task → ProgramFault → Type 0
+  FailsSo t why =
+      (IsFormFault (IsMalformed t) (IsPathless t) why × (late_reader ≡ reader) × (later ≡ writer))
+      ⊎ FailsToDo t why

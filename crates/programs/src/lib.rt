@@ -1,13 +1,18 @@
-//! The programs of `ringd`: what the words of the command line ask for, and what is then done over
-//! three streams.
+//! The programs of `ringd`: what the words of the command line ask for is done over three streams
+//! and the files that they name.
 //!
-//! `perform` is what `main` calls. That its standard output is the answers to its standard input's
-//! lines, from no rings, and what a fault leaves, stands in `specs/Performed.antt`; which words ask
-//! for which program, in `specs/Programs.antt`.
+//! `perform` is what `main` calls. What a program that is done has done, and what a fault leaves,
+//! stands in `specs/Performed.antt`, a case for each program.
 #![tactic(auto)]
 
+mod faults;
+mod hours;
+mod importing;
+mod lines;
+mod opening;
 mod performing;
-mod words;
+mod showing;
+mod table;
 
+pub use faults::ProgramFault;
 pub use performing::perform;
-pub use words::{ArgsFault, Task, task_of};

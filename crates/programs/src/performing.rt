@@ -1,105 +1,225 @@
 //! What the program does over three streams.
-ghost use Rattle.std.specs.Prelude.{◌≡◌, ◌≤◌, ◌⊎◌, ℕ, IfErr, IfOk, map, string_bytes};
-ghost use Rattle.byte_streams.specs.Counted.{FailsWithCause, IsCaused, IsFlushed, LeavesFlushed};
-ghost use Rattle.byte_streams.specs.Counted.{NoneFailed, reader_of, writer_of};
-ghost use Rattle.byte_streams.specs.declared.fault.StreamFault.{StreamFault};
-ghost use Rattle.byte_streams.specs.declared.fault.StreamFault.TheVariants.{NoMemory, ReadFailed};
-ghost use Rattle.programs.specs.Performed.{GetsText, RanOverMemory, StoppedOverMemory, fault_line};
-ghost use Rattle.programs.specs.Programs.{AskFor, AskForNothing};
-ghost use Rattle.programs.specs.declared.words.Task.{Task};
+ghost use Rattle.std.specs.Prelude.{◌≡◌, ◌⊎◌, ◌≤◌, Err, IfErr, IfOk, Ok, OnOk, map};
+ghost use Rattle.std.specs.Prelude.{string_bytes};
+ghost use Rattle.program_words.specs.Tasks.{AskFor, AskForNothing};
+ghost use Rattle.program_words.specs.declared.task.Task.{Task};
+ghost use Rattle.sqlite_wal.specs.Files.{image_at};
+ghost use Rattle.programs.specs.Faults.{GetsText, fault_line};
+ghost use Rattle.programs.specs.Performed.{EndsBy, EndsSo, FailsSo, FailsToImportFile};
+ghost use Rattle.programs.specs.Performed.{FailsToRun, FailsToShowFile, ImportsFile, Runs};
+ghost use Rattle.programs.specs.Performed.{ShowsFile};
+ghost use Rattle.programs.specs.declared.faults.ProgramFault.{ProgramFault};
+ghost use Rattle.programs.specs.declared.faults.ProgramFault.TheVariants.{NoMemory};
+ghost use Rattle.programs.specs.declared.performing.Ending.TheVariants.{Done, Refused};
 
-use crate::words::{ArgsFault, Task, task_of};
+use crate::faults::{ProgramFault, tell_fault};
+use crate::hours::hour_of;
+use crate::importing::{ImportAsk, ask_import, import_table};
+use crate::lines::{MemoryKeeper, run_over_file, run_over_memory};
+use crate::opening::FileKeeper;
+use crate::showing::{Question, ask_nodes, ask_tables, ask_text, show};
 use builder::RingMachine;
-use byte_streams::{CountedReader, CountedWriter, StreamFault, write_text};
-use line_api::run_lines;
-use request_book::{Book, MemKeeper};
-use ring_model::Rings;
-use ring_words::Limits;
-use std::alloc::Global;
+use byte_streams::{CountedReader, CountedWriter, write_text};
+use program_words::{ArgsFault, Task, task_of};
+use request_book::Keeper;
+use ring_words::Hour;
+use sqlite::Start;
+use std::fs::File;
 use std::io::{Read, Write};
 
-/// The line that tells a fault: the program, the fault's name and its number.
-fn fault_line(fault: StreamFault) -> &'static str
-    ensures { result.now ≡ fault_line fault }
+/// The status of what was done.
+const DONE: u16 = 200;
+
+/// How a task ended that had no fault.
+#[derive(Clone, Copy, Debug, PartialEq, Eq)]
+pub enum Ending {
+    /// It was done.
+    Done,
+    /// An import was answered with another status than 200.
+    Refused,
+}
+
+/// Answers the lines of a reader, over the store in a file or over memory.
+fn run<S: Start, R: Read, W: Write>(
+    rt: &HostRuntime,
+    file: Option<&str>,
+    reader: &mut CountedReader<R>,
+    writer: &mut CountedWriter<W>,
+    start: S,
+) -> Result<u32, ProgramFault>
+    ensures done { OnOk result (Runs ⟦<MemoryKeeper as Keeper<RingMachine>>⟧
+        ⟦<FileKeeper<S> as Keeper<RingMachine>>⟧ (image_at S.Start) R.remaining W.contents
+        reader.old reader.new writer.old writer.new file.entry) }
+    ensures failed { IfErr result (FailsToRun ⟦<MemoryKeeper as Keeper<RingMachine>>⟧
+        ⟦<FileKeeper<S> as Keeper<RingMachine>>⟧ (image_at S.Start) R.remaining W.contents
+        reader.old reader.new writer.old writer.new file.entry) }
 {
-    match fault {
-        StreamFault::ReadFailed => "ringd: ReadFailed 50\n",
-        StreamFault::WriteFailed => "ringd: WriteFailed 51\n",
-        StreamFault::NoMemory => "ringd: NoMemory 23\n",
+    match file {
+        Some(file) => run_over_file(rt, file, reader, writer, start),
+        None => match run_over_memory(rt.alloc(), reader, writer) {
+            Ok(count) => Ok(count),
+            Err(fault) => Err(ProgramFault::from(fault)),
+        },
     }
 }
 
-/// Tells a fault in one line. Where even that can't be written, the exit status alone tells it.
-fn tell_fault<E: Write>(errors: &mut CountedWriter<E>, fault: StreamFault)
-    ensures { GetsText E.contents errors.old errors.new (fault_line fault) }
+/// Shows what is asked for of the store in a file.
+fn show_asked<S: Start, W: Write>(
+    rt: &HostRuntime,
+    file: &str,
+    asked: Result<Question<'_>, ProgramFault>,
+    writer: &mut CountedWriter<W>,
+    start: S,
+) -> Result<Ending, ProgramFault>
+    ensures done { IfOk result (λ ending. (ending ≡ Done)
+        × ShowsFile ⟦<FileKeeper<S> as Keeper<RingMachine>>⟧ (image_at S.Start)
+        W.contents writer.old writer.new (λ question. asked.entry ≡ Ok question)) }
+    ensures failed { IfErr result (λ why. ((asked.entry ≡ Err why) × (writer.new ≡ writer.old))
+        ⊎ FailsToShowFile ⟦<FileKeeper<S> as Keeper<RingMachine>>⟧ (image_at S.Start)
+        W.contents writer.old writer.new (λ question. asked.entry ≡ Ok question) why) }
 {
-    let _ = write_text(errors, fault_line(fault).as_bytes());
+    let question = match asked {
+        Ok(question) => question,
+        Err(fault) => return Err(fault),
+    };
+    match show(rt, file, &question, writer, start) {
+        Ok(()) => Ok(Ending::Done),
+        Err(fault) => Err(fault),
+    }
 }
 
-/// Answers the lines of a reader from no rings, over memory.
-fn run_over_memory<R: Read, W: Write>(
-    alloc: Global,
+/// Imports the table in a CSV file into a ring of the store in a file.
+fn import<S: Start, W: Write>(
+    rt: &HostRuntime,
+    file: &str,
+    csv: &str,
+    asked: Result<ImportAsk, ProgramFault>,
+    given: Option<Hour>,
+    writer: &mut CountedWriter<W>,
+    start: S,
+) -> Result<Ending, ProgramFault>
+    ensures ended { IfOk result (λ ending. ImportsFile
+        ⟦<FileKeeper<S> as Keeper<RingMachine>>⟧ (image_at S.Start)
+        W.contents writer.old writer.new
+        (λ ask. asked ≡ Ok ask) given (EndsBy ending)) }
+    ensures failed { IfErr result (λ why. ((asked ≡ Err why) × (writer.new ≡ writer.old))
+        ⊎ FailsToImportFile ⟦<FileKeeper<S> as Keeper<RingMachine>>⟧ (image_at S.Start)
+        W.contents writer.old writer.new (λ ask. asked ≡ Ok ask) given why) }
+{
+    let ask = match asked {
+        Ok(ask) => ask,
+        Err(fault) => return Err(fault),
+    };
+    let Ok(table) = File::open(rt, csv) else {
+        return Err(ProgramFault::NoFile);
+    };
+    let hour = hour_of(rt, given);
+    match import_table(rt, file, table, ask, hour, writer, start) {
+        Ok(status) if status == DONE => Ok(Ending::Done),
+        Ok(_) => Ok(Ending::Refused),
+        Err(fault) => Err(fault),
+    }
+}
+
+/// Does a task.
+fn perform_task<S: Start, R: Read, W: Write>(
+    rt: &HostRuntime,
+    task: &Task<'_>,
     reader: &mut CountedReader<R>,
     writer: &mut CountedWriter<W>,
-) -> Result<u32, StreamFault>
-    ensures served { IfOk result (RanOverMemory (R.remaining (reader_of reader.old))
-        (W.contents (writer_of writer.old)) (W.contents (writer_of writer.new))) }
-    ensures stopped { IfErr result (StoppedOverMemory (R.remaining (reader_of reader.old))
-        (R.remaining (reader_of reader.new)) (W.contents (writer_of writer.old)) (W.contents (writer_of writer.new))
-        ((reader.new ≡ reader.old) × (writer.new ≡ writer.old))) }
-    ensures cause { FailsWithCause reader.old reader.new writer.old writer.new result }
-    ensures flushed { LeavesFlushed writer.new result }
+    start: S,
+) -> Result<Ending, ProgramFault>
+    ensures ended { IfOk result (EndsSo ⟦<MemoryKeeper as Keeper<RingMachine>>⟧
+        ⟦<FileKeeper<S> as Keeper<RingMachine>>⟧ (image_at S.Start) R.remaining W.contents
+        reader.old reader.new writer.old writer.new task.now) }
+    ensures failed { IfErr result (FailsSo ⟦<MemoryKeeper as Keeper<RingMachine>>⟧
+        ⟦<FileKeeper<S> as Keeper<RingMachine>>⟧ (image_at S.Start) R.remaining W.contents
+        reader.old reader.new writer.old writer.new task.now) }
 {
-    let machine = RingMachine {
-        limits: Limits::full(),
-    };
-    let keeper = MemKeeper::new(alloc, Rings::new(alloc), machine.limits);
-    let mut book = Book::open(alloc, machine, keeper);
-    run_lines(alloc, reader, writer, &mut book)
+    let alloc = rt.alloc();
+    match task {
+        Task::Run { file } => match run(rt, *file, reader, writer, start) {
+            Ok(_) => Ok(Ending::Done),
+            Err(fault) => Err(fault),
+        },
+        Task::Table { file, ring } => {
+            show_asked(rt, *file, ask_tables(alloc, *ring), writer, start)
+        }
+        Task::Nodes {
+            file,
+            ring,
+            account,
+            container,
+            object,
+            names,
+        } => {
+            let asked = ask_nodes(alloc, *ring, *account, *container, *object, *names);
+            show_asked(rt, *file, asked, writer, start)
+        }
+        Task::Export {
+            file,
+            ring,
+            version,
+        } => show_asked(rt, *file, ask_text(alloc, *ring, *version), writer, start),
+        Task::Import {
+            file,
+            ring,
+            caller,
+            number,
+            csv,
+            hour,
+        } => {
+            let asked = ask_import(alloc, *ring, *caller, *number);
+            import(rt, *file, *csv, asked, *hour, writer, start)
+        }
+    }
 }
 
-/// Does what the words ask for over three streams, and answers the exit status: 0 when it is done,
-/// 1 after a fault, and 2 where the words ask for nothing, or for help. The first word is the
-/// program's own name.
+/// Does what the words ask for over three streams and the files that they name, and answers the
+/// exit status: 0 when it is done, 1 after a fault or where an import is refused, and 2 where the
+/// words ask for nothing, or for help. The first word is the program's own name. `start` stands for
+/// what the files of a store hold.
 ///
-/// Done means that every line of the reader was answered on the writer, and that nothing failed.
-/// Status 1 means that the words asked for the program and a fault came of it, or that there was no
-/// memory to read the words; the fault is told on `errors`, as one line with its name and its
-/// number. With status 2 `clap` tells there what may be written.
-pub fn perform<X: AllocGlobal, R: Read, W: Write, E: Write>(
-    rt: &X,
+/// A fault is told on `errors`, as one line with its name and its number, and nothing else is
+/// written there with status 0 or 1. With status 2 `clap` tells there what may be written.
+pub fn perform<S: Start, R: Read, W: Write, E: Write>(
+    rt: &HostRuntime,
     words: &[String],
     reader: &mut CountedReader<R>,
     writer: &mut CountedWriter<W>,
     errors: &mut CountedWriter<E>,
+    start: S,
 ) -> u8
     ensures status { result ≤ 2 }
-    ensures done { result ≡ 0 → AskFor (map string_bytes words.now) Task.Run
-        × ((count : ℕ) × RanOverMemory (R.remaining (reader_of reader.old)) (W.contents (writer_of writer.old))
-        (W.contents (writer_of writer.new)) count)
-        × NoneFailed reader.old reader.new writer.old writer.new × IsFlushed writer.new × (errors.new ≡ errors.old) }
-    ensures fault { result ≡ 1 → (fault : StreamFault)
-        × ((AskFor (map string_bytes words.now) Task.Run
-        × StoppedOverMemory (R.remaining (reader_of reader.old)) (R.remaining (reader_of reader.new))
-        (W.contents (writer_of writer.old)) (W.contents (writer_of writer.new))
-        ((reader.new ≡ reader.old) × (writer.new ≡ writer.old)) fault
-        × IsCaused reader.old reader.new writer.old writer.new fault × (fault ≡ ReadFailed → IsFlushed writer.new))
-        ⊎ ((fault ≡ NoMemory) × (reader.new ≡ reader.old) × (writer.new ≡ writer.old)))
-        × GetsText E.contents errors.old errors.new (fault_line fault) }
+    ensures done { result ≡ 0 → (task : Task) × AskFor (map string_bytes words.now) task
+        × EndsSo ⟦<MemoryKeeper as Keeper<RingMachine>>⟧
+        ⟦<FileKeeper<S> as Keeper<RingMachine>>⟧ (image_at S.Start) R.remaining W.contents
+        reader.old reader.new writer.old writer.new task Done × (errors.new ≡ errors.old) }
+    // A fault came of a task, an import was refused, or there was no memory to read the words.
+    ensures fault { result ≡ 1 → ((task : Task) × AskFor (map string_bytes words.now) task
+        × (((why : ProgramFault) × FailsSo ⟦<MemoryKeeper as Keeper<RingMachine>>⟧
+        ⟦<FileKeeper<S> as Keeper<RingMachine>>⟧ (image_at S.Start) R.remaining W.contents
+        reader.old reader.new writer.old writer.new task why
+        × GetsText E.contents errors.old errors.new (fault_line why))
+        ⊎ (EndsSo ⟦<MemoryKeeper as Keeper<RingMachine>>⟧
+        ⟦<FileKeeper<S> as Keeper<RingMachine>>⟧ (image_at S.Start) R.remaining W.contents
+        reader.old reader.new writer.old writer.new task Refused × (errors.new ≡ errors.old))))
+        ⊎ ((reader.new ≡ reader.old) × (writer.new ≡ writer.old)
+        × GetsText E.contents errors.old errors.new (fault_line NoMemory)) }
     ensures nothing { result ≡ 2 → AskForNothing (map string_bytes words.now)
         × (reader.new ≡ reader.old) × (writer.new ≡ writer.old) }
 {
-    let alloc = rt.alloc();
-    match task_of(alloc, words) {
-        Ok(Task::Run) => match run_over_memory(alloc, reader, writer) {
-            Ok(_) => 0,
+    match task_of(rt.alloc(), words) {
+        Ok(task) => match perform_task(rt, &task, reader, writer, start) {
+            Ok(Ending::Done) => 0,
+            Ok(Ending::Refused) => 1,
             Err(fault) => {
                 tell_fault(errors, fault);
                 1
             }
         },
         Err(ArgsFault::NoMemory) => {
-            tell_fault(errors, StreamFault::NoMemory);
+            tell_fault(errors, ProgramFault::NoMemory);
             1
         }
         Err(ArgsFault::Bad(text)) => {

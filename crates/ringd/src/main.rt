@@ -7,6 +7,7 @@ mod tests;
 
 use byte_streams::{CountedReader, CountedWriter};
 use programs::perform;
+use sqlite::Unknown;
 use std::alloc::AllocError;
 use std::env;
 use std::io::ErrorKind;
@@ -25,6 +26,6 @@ fn main(rt: HostRuntime) -> ExitCode {
     let mut reader = CountedReader::new(rt.reader());
     let mut writer = CountedWriter::new(rt.stdout());
     let mut errors = CountedWriter::new(rt.stderr());
-    let status = perform(&rt, &words, &mut reader, &mut writer, &mut errors);
+    let status = perform(&rt, &words, &mut reader, &mut writer, &mut errors, Unknown);
     ExitCode::from(status)
 }

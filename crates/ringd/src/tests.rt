@@ -1,6 +1,7 @@
 //! The program on lines, as an operator sends them.
 mod changes;
 mod failing;
+mod faults;
 mod questions;
 mod rebalancing;
 
@@ -11,6 +12,7 @@ use programs::perform;
 use request_book::{Book, Keeper, MemKeeper};
 use ring_model::Rings;
 use ring_words::{Command, Delivery, Done, Hour, Limits, Refusal, Reply};
+use sqlite::Unknown;
 use std::alloc::{AllocError, Global};
 use std::test::Fail;
 use test_streams::{Giver, Taker};
@@ -330,7 +332,7 @@ fn performed(
     let mut taker = Taker::new(rt.alloc(), 1000, writes);
     let mut writer = CountedWriter::new(&mut taker);
     let mut errors = CountedWriter::new(Vec::new(rt.alloc()));
-    let status = perform(rt, &owned, &mut reader, &mut writer, &mut errors);
+    let status = perform(rt, &owned, &mut reader, &mut writer, &mut errors, Unknown);
     Ok((status, taker.taken, errors.into_inner()))
 }
 
@@ -369,7 +371,7 @@ fn other_words_and_calls_for_help_touch_nothing(rt: HostRuntime) -> Result<(), F
     assert!(rt; are_refused(&rt, &["ringd", "help", "run"])?);
     assert!(rt; are_refused(&rt, &["ringd", "serve"])?);
     assert!(rt; are_refused(&rt, &["ringd", "run", "more"])?);
-    assert!(rt; are_refused(&rt, &["ringd", "run", "--file", "x"])?);
+    assert!(rt; are_refused(&rt, &["ringd", "run", "--files", "x"])?);
     assert!(rt; are_refused(&rt, &["ringd"])?);
     assert!(rt; are_refused(&rt, &[])?);
     Ok(())

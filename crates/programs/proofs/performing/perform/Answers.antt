@@ -1,12 +1,9 @@
-use Rattle.std.proofs.Common.{inl}
-use Rattle.programs.proofs.Tasks.{only_run}
+use Rattle.std.proofs.Common.{inl, inr, refl}
 use Rattle.programs.proofs.performing.perform.Goals as goal
 
-pub returns-in-Err-clause-fault : goal.returns-in-Err-clause-fault
-returns-in-Err-clause-fault g c = λ is.
-    let failed = c.in-Err.ensures in
-    let asked = only_run _ _ (rw c.in-Ok-Run.is at c.task_of.ensures.task) in (
-      c.in-Err.fault,
-      inl (asked, failed.stopped, failed.cause, failed.flushed),
-      c.tell_fault.ensures,
-    )
+pub returns-in-Ok-Refused-clause-fault : goal.returns-in-Ok-Refused-clause-fault
+returns-in-Ok-Refused-clause-fault g c = λ one. inl (
+  c.in-Ok.task,
+  c.in-Ok.ensures.task,
+  inr (rw c.in-Ok-Refused.field-0-is at c.in-Ok-Refused.ensures.ended, refl),
+)

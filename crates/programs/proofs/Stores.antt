@@ -1,0 +1,15 @@
+-- Faults of stores.
+use Rattle.builder_store.specs.declared.fault.FileFault.{FileFault}
+use Rattle.builder_store.specs.declared.fault.FileFault.TheVariants as file
+use Rattle.builder_store.specs.declared.fault.OpenFault.TheVariants as opening
+use Rattle.programs.specs.Opened.{IsStoreFault, open_fault}
+
+-- why a store isn't opened is told as a fault of the store
+pub store_fault : (cause : FileFault) → IsStoreFault (open_fault cause)
+store_fault file.Busy = tt
+store_fault file.CannotOpen = tt
+store_fault file.NoDatabase = tt
+store_fault (file.Opening opening.NoMemory) = tt
+store_fault (file.Opening opening.Store) = tt
+store_fault (file.Opening opening.BadRows) = tt
+store_fault (file.Opening opening.BadTables) = tt

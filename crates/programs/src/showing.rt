@@ -1,0 +1,267 @@
+//! The programs `table`, `nodes` and `export`: what a store's rings show.
+ghost use Rattle.std.specs.Prelude.{◌≡◌, ◌≢◌, ◌⊎◌, ◌<◌, IfErr, IfOk, MatchResult, OnErr, OnOk};
+ghost use Rattle.std.specs.Prelude.{string_bytes, true};
+ghost use Rattle.path_lookup.specs.Names.{is_path};
+ghost use Rattle.ring_model.specs.Ring.{published_at};
+ghost use Rattle.sqlite_wal.specs.Files.{image_at};
+ghost use Rattle.programs.specs.Opened.{IsKept, IsStoreFault};
+ghost use Rattle.programs.specs.Showing.{AreNodesTold, AreTables, AsksNodes, AsksTables, AsksText};
+ghost use Rattle.programs.specs.Showing.{FailsToShow, HidesOf, IsAsked, IsFormFault, IsHidden};
+ghost use Rattle.programs.specs.Showing.{IsNoName, IsNoNumber, IsShown, Shows, ShowsOf};
+ghost use Rattle.programs.specs.Showing.{names_given};
+ghost use Rattle.programs.specs.Inner.Forms.{form_fault};
+
+use crate::faults::ProgramFault;
+use crate::opening::{FileKeeper, close_store, open_store};
+use builder::RingMachine;
+use byte_streams::{CountedWriter, write_text};
+use node_text::nodes_text;
+use path_lookup::{NodesFault, Path, PathFault, hash_path, nodes, partition_of};
+use program_words::HashNames;
+use request_book::{KeepFault, Keeper};
+use ring_model::{Ring, Rings};
+use ring_tables::{balance_table, device_table};
+use ring_words::{RingName, SpellingFault, read_name, read_number};
+use sqlite::Start;
+use std::alloc::{AllocError, Global};
+use std::io::Write;
+
+/// What is shown of a ring.
+#[derive(Drop)]
+pub enum View<'a> {
+    /// Its devices, and then its balance.
+    Tables,
+    /// The nodes of a path, which is hashed between these names.
+    Nodes(Path, HashNames<'a>),
+    /// Its text that is published under this version.
+    Text(u32),
+}
+
+/// What is shown of which ring.
+#[derive(Drop)]
+pub struct Question<'a> {
+    pub ring: RingName,
+    pub view: View<'a>,
+}
+
+/// What a word that isn't of its form comes to.
+pub(crate) fn form_fault(fault: SpellingFault) -> ProgramFault
+    ensures { result ≡ form_fault fault }
+{
+    match fault {
+        SpellingFault::Bad => ProgramFault::Unreadable,
+        SpellingFault::NoMemory => ProgramFault::NoMemory,
+    }
+}
+
+/// What `table` shows.
+pub(crate) fn ask_tables<'a>(alloc: Global, ring: &str) -> Result<Question<'a>, ProgramFault>
+    ensures asked { IfOk result (AsksTables ring.now) }
+    ensures fault { IfErr result (IsFormFault (IsNoName ring.now) ⊥) }
+{
+    match read_name(alloc, ring) {
+        Ok(ring) => Ok(Question {
+            ring,
+            view: View::Tables,
+        }),
+        Err(fault) => Err(form_fault(fault)),
+    }
+}
+
+/// What `export` shows.
+pub(crate) fn ask_text<'a>(
+    alloc: Global,
+    ring: &str,
+    version: &str,
+) -> Result<Question<'a>, ProgramFault>
+    ensures asked { IfOk result (AsksText ring.now version.now) }
+    ensures fault { IfErr result (IsFormFault (IsNoName ring.now ⊎ IsNoNumber version.now) ⊥) }
+{
+    let ring = match read_name(alloc, ring) {
+        Ok(ring) => ring,
+        Err(fault) => return Err(form_fault(fault)),
+    };
+    match read_number(version, u32::MAX) {
+        Ok(version) => Ok(Question {
+            ring,
+            view: View::Text(version),
+        }),
+        Err(fault) => Err(form_fault(fault)),
+    }
+}
+
+/// What `nodes` shows.
+pub(crate) fn ask_nodes<'a>(
+    alloc: Global,
+    ring: &str,
+    account: &str,
+    container: Option<&str>,
+    object: Option<&str>,
+    names: HashNames<'a>,
+) -> Result<Question<'a>, ProgramFault>
+    ensures asked { IfOk result (AsksNodes ring.now
+        (names_given account.entry container.entry object.entry) names.entry) }
+    ensures fault { IfErr result (IsFormFault (IsNoName ring.now)
+        (is_path (names_given account.entry container.entry object.entry) ≢ true)) }
+{
+    let ring = match read_name(alloc, ring) {
+        Ok(ring) => ring,
+        Err(fault) => return Err(form_fault(fault)),
+    };
+    let container = container.map(str::as_bytes);
+    let object = object.map(str::as_bytes);
+    match Path::new(alloc, account.as_bytes(), container, object) {
+        Ok(path) => Ok(Question {
+            ring,
+            view: View::Nodes(path, names),
+        }),
+        Err(PathFault::BadPath) => Err(ProgramFault::BadPath),
+        Err(PathFault::NoMemory) => Err(ProgramFault::NoMemory),
+    }
+}
+
+/// The device table of a ring, and then its balance table.
+fn tables_text(alloc: Global, ring: &Ring) -> Result<String, AllocError>
+    ensures { IfOk result (λ text. AreTables ring.now (string_bytes text)) }
+{
+    let mut text = device_table(alloc, ring)?;
+    let balance = balance_table(alloc, ring)?;
+    text.push_str(&balance)?;
+    Ok(text)
+}
+
+/// The nodes of a path in a ring, and a line feed.
+fn nodes_line(
+    alloc: Global,
+    ring: &Ring,
+    path: &Path,
+    names: HashNames<'_>,
+) -> Result<String, ProgramFault>
+    ensures told { IfOk result (λ text. AreNodesTold ring.now path.now names.entry
+        (string_bytes text)) }
+    ensures fault { IfErr result (λ why. IsStoreFault why ⊎ IsHidden (View.Nodes path.now
+        names.entry) ring.now why) }
+{
+    let hash = hash_path(names.prefix.as_bytes(), path, names.suffix.as_bytes());
+    let partition = partition_of(hash, ring.power());
+    match nodes(alloc, ring, partition) {
+        Ok(ids) => {
+            let mut text = nodes_text(alloc, ring, partition, &ids)?;
+            text.push('\n')?;
+            Ok(text)
+        }
+        Err(NodesFault::NotAssigned) => Err(ProgramFault::NotAssigned),
+        Err(NodesFault::NoMemory) => Err(ProgramFault::NoMemory),
+    }
+}
+
+/// The text of a ring that is published under a version.
+fn published_text(alloc: Global, ring: &Ring, version: u32) -> Result<String, ProgramFault>
+    ensures told { IfOk result (λ text. IsShown (View.Text version) ring.now (string_bytes text)) }
+    ensures fault { IfErr result (λ why. IsStoreFault why ⊎ IsHidden (View.Text version)
+        ring.now why) }
+{
+    match ring.published(version) {
+        Some(text) => Ok(String::from_str(alloc, text)?),
+        None => Err(ProgramFault::NoVersion),
+    }
+}
+
+/// What is shown of a ring.
+fn view_text(alloc: Global, ring: &Ring, view: &View<'_>) -> Result<String, ProgramFault>
+    ensures shown { IfOk result (λ text. IsShown view.now ring.now (string_bytes text)) }
+    ensures fault { IfErr result (λ why. IsStoreFault why ⊎ IsHidden view.now ring.now why) }
+{
+    match view {
+        View::Tables => Ok(tables_text(alloc, ring)?),
+        View::Nodes(path, names) => nodes_line(alloc, ring, path, *names),
+        View::Text(version) => published_text(alloc, ring, *version),
+    }
+}
+
+/// What is shown of these rings.
+fn shown_text(alloc: Global, rings: &Rings, question: &Question<'_>) -> Result<String, ProgramFault>
+    ensures shown { IfOk result (λ text. ShowsOf rings.now question.now (string_bytes text)) }
+    ensures fault { IfErr result (λ why. IsStoreFault why ⊎ HidesOf rings.now question.now why) }
+{
+    match rings.get(&question.ring) {
+        Some(ring) => view_text(alloc, ring, &question.view),
+        None => Err(ProgramFault::NoRing),
+    }
+}
+
+/// What is shown of the rings that a keeper holds.
+fn kept_text<K: Keeper<RingMachine>>(
+    alloc: Global,
+    keeper: &mut K,
+    question: &Question<'_>,
+) -> Result<String, ProgramFault>
+    requires { K.fault_count keeper.old ≡ 0 }
+    ensures shown { IfOk result (λ text. K.sound keeper.new
+        → ShowsOf (K.content keeper.old).state question.now (string_bytes text)) }
+    ensures fault { IfErr result (λ why. IsStoreFault why ⊎ (K.sound keeper.new
+        → HidesOf (K.content keeper.old).state question.now why)) }
+    ensures sound { K.sound keeper.new → K.sound keeper.old }
+    ensures content { K.sound keeper.new → K.content keeper.new ≡ K.content keeper.old }
+{
+    match keeper.load() {
+        Ok(()) => shown_text(alloc, keeper.state(), question),
+        Err(KeepFault::NoMemory) => Err(ProgramFault::NoMemory),
+        Err(KeepFault::Store) => Err(ProgramFault::StoreFault),
+    }
+}
+
+/// What is shown of the rings in a file, which is closed then.
+fn file_text<S: Start>(
+    rt: &HostRuntime,
+    file: &str,
+    question: &Question<'_>,
+    start: S,
+) -> Result<String, ProgramFault>
+    ensures shown { IfOk result (λ text. IsAsked ⟦<FileKeeper<S> as Keeper<RingMachine>>⟧
+        (IsKept ⟦<FileKeeper<S> as Keeper<RingMachine>>⟧ (image_at S.Start))
+        (λ rings. ShowsOf rings question.now (string_bytes text))) }
+    ensures fault { IfErr result (λ why. IsStoreFault why
+        ⊎ IsAsked ⟦<FileKeeper<S> as Keeper<RingMachine>>⟧
+        (IsKept ⟦<FileKeeper<S> as Keeper<RingMachine>>⟧ (image_at S.Start))
+        (λ rings. HidesOf rings question.now why)) }
+{
+    let mut keeper = match open_store(rt, file, start) {
+        Ok(keeper) => keeper,
+        Err(fault) => return Err(fault),
+    };
+    let text = kept_text(rt.alloc(), &mut keeper, question);
+    let closed = close_store(keeper);
+    match text {
+        Ok(text) => match closed {
+            Ok(()) => Ok(text),
+            Err(fault) => Err(fault),
+        },
+        Err(fault) => Err(fault),
+    }
+}
+
+/// Shows what is asked for of the store in a file.
+pub(crate) fn show<S: Start, W: Write>(
+    rt: &HostRuntime,
+    file: &str,
+    question: &Question<'_>,
+    writer: &mut CountedWriter<W>,
+    start: S,
+) -> Result<(), ProgramFault>
+    ensures shown { OnOk result (Shows ⟦<FileKeeper<S> as Keeper<RingMachine>>⟧
+        (IsKept ⟦<FileKeeper<S> as Keeper<RingMachine>>⟧ (image_at S.Start))
+        W.contents writer.old writer.new question.now) }
+    ensures fault { IfErr result (FailsToShow ⟦<FileKeeper<S> as Keeper<RingMachine>>⟧
+        (IsKept ⟦<FileKeeper<S> as Keeper<RingMachine>>⟧ (image_at S.Start))
+        W.contents writer.old writer.new question.now) }
+{
+    let text = match file_text(rt, file, question, start) {
+        Ok(text) => text,
+        Err(fault) => return Err(fault),
+    };
+    match write_text(writer, text.as_bytes()) {
+        Ok(()) => Ok(()),
+        Err(fault) => Err(ProgramFault::from(fault)),
+    }
+}
