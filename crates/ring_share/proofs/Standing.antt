@@ -1,13 +1,13 @@
 -- The places of devices.
 use Rattle.std.proofs.Common.{◌≡◌, ◌==◌, ℕ, ◌+◌, ◌<◌, ◌≤◌, Bool, true, false, List, [], ◌∷◌, length}
-use Rattle.std.proofs.Common.{get_or, map, Some, refl, sym, ap, ◌∙◌, ⊎_elim, arith}
+use Rattle.std.proofs.Common.{get_or, map, Some, refl, sym, ap, ◌∙◌, ⊎_elim, arith, zero, suc}
 use Rattle.std.specs.Prelude.{slice_get}
 use Rattle.std.specs.List.{position_or_len}
 use Rattle.std.specs.List.Sorted.{IsStrictlyIncreasing}
 use Rattle.std.proofs.lemmas.Bool.{cases_lt, cases_eq, eqb-true}
 use Rattle.std.proofs.lemmas.List.Sums.{position_or_len_is}
 use Rattle.std.proofs.lemmas.List.Folds.{Any-from_list_any}
-use Rattle.std.proofs.lemmas.Option.{slice_get-get_or, same_Some}
+use Rattle.std.proofs.lemmas.Option.{slice_get-get_or, slice_get_within, same_Some}
 use Rattle.ring_model.specs.Ring.{has_device}
 use Rattle.ring_words.specs.declared.device.Device.{Device}
 use Rattle.ring_share.specs.Near.{StandsAt}
@@ -81,3 +81,33 @@ stands_there devices id low known between =
     let there = between found.place s.device s.at s.named in
     let same : found.place ≡ low = omega (arith, there) in
     record { device = s.device; at = ap (slice_get devices) (sym same) ∙ s.at; named = s.named }
+
+-- numbers rise by one at least from place to place
+pub gap_between : (devices : List Device)
+    → IsStrictlyIncreasing (map (λ device. device.id) devices)
+    → (gap k j : ℕ) (first last : Device) → k + gap ≡ j
+    → slice_get devices k ≡ Some first → slice_get devices j ≡ Some last
+    → first.id + gap ≤ last.id
+gap_between devices rise zero k j first last far at end =
+    let one : k ≡ j = omega (arith, far) in
+    let same : first ≡ last = same_Some first last (sym at ∙ ap (slice_get devices) one ∙ end) in
+    let ids = ap (λ (d : Device). d.id) same in
+    omega (arith, ids)
+gap_between devices rise (suc gap) k j first last far at end =
+    let within = slice_get_within devices j last end in
+    let middle = get_or devices (k + gap) first in
+    let there = slice_get-get_or devices (k + gap) first (omega (arith, within, far)) in
+    let before = gap_between devices rise gap k (k + gap) first middle refl at there in
+    let less = ids_rise devices rise (k + gap) j middle last (omega (arith, far)) there end in
+    omega (arith, before, less)
+
+-- a device stands at most at the place of its number
+pub at_most_number : (devices : List Device)
+    → IsStrictlyIncreasing (map (λ device. device.id) devices) → (k : ℕ) (device : Device)
+    → slice_get devices k ≡ Some device → k ≤ device.id
+at_most_number devices rise k device at =
+    let within = slice_get_within devices k device at in
+    let first = get_or devices 0 device in
+    let there = slice_get-get_or devices 0 device (omega (arith, within)) in
+    let gap = gap_between devices rise k 0 k first device (omega arith) there at in
+    omega (arith, gap)

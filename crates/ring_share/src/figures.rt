@@ -83,6 +83,15 @@ pub fn balance_of(ring: &Ring, device: DeviceId) -> Option<u32>
     Some(device_balance(ring, total, found, have(ring, found.id)))
 }
 
+/// The balance of a device that has so many of a ring's seats, as `balance_of` tells it.
+pub fn balance_with(ring: &Ring, device: &Device, seats: u32) -> u32
+    requires { seats ≡ have ring.now device.now.id }
+    ensures { result ≡ device_balance ring.now device.now }
+{
+    let total = total_weight(ring.devices());
+    device_balance(ring, total, device, seats)
+}
+
 /// How many seats the device at each place has. Behind the last device it is left open what stands.
 pub fn counts_of(ring: &Ring) -> [u32; 256]
     ensures { (place : ℕ) (device : DeviceModel) → slice_get ring.now.devices place ≡ Some device →

@@ -19,7 +19,7 @@ mod wants;
 
 pub use apart::stand_apart;
 pub use crowds::{crowd, in_region, in_zone, on_server, shared_tiers};
-pub use figures::{balance, balance_of, counts_of, dispersion};
+pub use figures::{balance, balance_of, balance_with, counts_of, dispersion};
 pub use places::place_in;
 pub use rooms::{has_room, have};
 pub use tiers::{Tier, one_each};

@@ -1,25 +1,39 @@
 //! The places of devices among those of a ring.
-ghost use Rattle.std.specs.Prelude.{◌≡◌, ◌<◌, ◌≤◌, ℕ, true, All, length, map, slice_index, Some};
+ghost use Rattle.std.specs.Prelude.{◌≡◌, ◌<◌, ◌≤◌, ℕ, true, All, length, map, slice_get};
+ghost use Rattle.std.specs.Prelude.{slice_index, Some};
 ghost use Rattle.std.specs.List.Sorted.{IsStrictlyIncreasing};
 ghost use Rattle.ring_model.specs.Ring.{has_device};
 ghost use Rattle.ring_share.specs.Near.{StandsAt};
+ghost use Rattle.ring_words.specs.declared.device.Device.{Device as DeviceModel};
 
 use ring_words::{Device, DeviceId};
 
+/// The places between which the device of a number stands, the second one left out: numbers rise,
+/// so no more devices stand before it than there are numbers below its own, and no more behind it
+/// than there are numbers from its own up to the last.
+fn span_of(devices: &[Device], id: DeviceId) -> (usize, usize)
+    requires rise { IsStrictlyIncreasing (map (λ device. device.id) devices.now) }
+    requires known { has_device id devices.now ≡ true }
+    ensures some { result.0 < result.1 }
+    ensures within { result.1 ≤ length devices.now }
+    ensures between { (k : ℕ) (device : DeviceModel) → slice_get devices.now k ≡ Some device →
+        device.id ≡ id → (result.0 ≤ k) × (k < result.1) }
+{
+    let end = devices.len() - 1;
+    let behind = usize::from(devices[end].id.saturating_sub(id));
+    let past = devices.len().min(usize::from(id) + 1);
+    (end.saturating_sub(behind), past)
+}
+
 /// The place of the device of a number among the devices of a ring, which stand by rising number.
-/// It is looked for at the place that it has while no device was dropped, and then by halving.
+/// It is looked for by halving, and at once where no device was dropped.
 pub fn place_in(devices: &[Device], id: DeviceId) -> usize
     requires rise { IsStrictlyIncreasing (map (λ device. device.id) devices.now) }
     requires known { has_device id devices.now ≡ true }
     ensures stands { StandsAt devices.now id result }
     ensures within { result < length devices.now }
 {
-    let guess = usize::from(id);
-    if guess < devices.len() && devices[guess].id == id {
-        return guess;
-    }
-    let mut low = 0;
-    let mut high = devices.len();
+    let (mut low, mut high) = span_of(devices, id);
     while high - low > 1 {
         let middle = low + (high - low) / 2;
         if devices[middle].id <= id {

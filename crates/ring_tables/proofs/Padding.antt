@@ -1,9 +1,8 @@
 -- Spaces up to a width.
-use Rattle.std.proofs.Common.{◌≡◌, ℕ, zero, suc, List, [], ◌∷◌, refl, ap}
+use Rattle.std.proofs.Common.{◌≡◌, ℕ, ◌+◌, List, [], ◌∷◌, ◌++◌, ap, sym, ◌∙◌}
 use Rattle.std.specs.Prelude.{replicate}
-use Rattle.std.specs.List.{repeat}
+use Rattle.std.proofs.lemmas.List.{replicate-append-replicate}
 
--- one byte repeated
-pub repeat_one : (n c : ℕ) → repeat n (c ∷ []) ≡ replicate n c
-repeat_one zero c = refl
-repeat_one (suc n) c = ap (λ (rest : List ℕ). c ∷ rest) (repeat_one n c)
+-- one more at the end
+pub one_more : (n c : ℕ) → replicate (n + 1) c ≡ replicate n c ++ c ∷ []
+one_more n c = sym (replicate-append-replicate n 1 c)

@@ -40,25 +40,49 @@ next_row columns titles texts xs i x before after text lt at so_far is grown =
     ∙ sym (ap (table columns titles) (texts_more texts xs i x lt at) ∙ table_more columns titles
     (map texts (take i xs)) (texts x))
 
--- five cells as a line
-pub five : (text a b c d e a' b' c' d' e' : List ℕ) → a ≡ a' → b ≡ b' → c ≡ c' → d ≡ d' → e ≡ e'
-    → text ≡ a ++ 32 ∷ (b ++ 32 ∷ (c ++ 32 ∷ (d ++ 32 ∷ (e ++ 10 ∷ [])))) →
-    text ≡ join_with_byte 32 (a' ∷ b' ∷ c' ∷ d' ∷ e' ∷ []) ++ 10 ∷ []
-five text a b c d e a' b' c' d' e' ha hb hc hd he is = rw (
-  ← ha,
-  ← hb,
-  ← hc,
-  ← hd,
-  ← he,
-) (is ∙ simp append_assoc)
+-- four cells that were added one by one, each with a space behind it
+pub four : (t0 t1 t2 t3 t4 a b c d : List ℕ) → t1 ≡ t0 ++ (a ++ 32 ∷ [])
+    → t2 ≡ t1 ++ (b ++ 32 ∷ []) → t3 ≡ t2 ++ (c ++ 32 ∷ []) → t4 ≡ t3 ++ (d ++ 32 ∷ [])
+    → t4 ≡ t0 ++ ((a ++ 32 ∷ (b ++ 32 ∷ (c ++ 32 ∷ d))) ++ 32 ∷ [])
+four t0 t1 t2 t3 t4 a b c d e1 e2 e3 e4 = e4 ∙ rw (e3, e2, e1) (simp append_assoc)
 
--- eight cells as a line, the second to the fifth as one text
-pub eight : (text a p f g h a' b' c' d' e' f' g' h' : List ℕ) → a ≡ a' → p ≡ b' ++ 32 ∷
-    (c' ++ 32 ∷ (d' ++ 32 ∷ e')) → f ≡ f' → g ≡ g' → h ≡ h'
-    → text ≡ a ++ 32 ∷ (p ++ 32 ∷ (f ++ 32 ∷ (g ++ 32 ∷ (h ++ 10 ∷ []))))
-    → text ≡ join_with_byte 32 (a' ∷ b' ∷ c' ∷ d' ∷ e' ∷ f' ∷ g' ∷ h' ∷ []) ++ 10 ∷ []
-eight text a p f g h a' b' c' d' e' f' g' h' ha hp hf hg hh is =
-    rw (← ha, ← hf, ← hg, ← hh) (is ∙ rw hp (simp append_assoc))
+-- five cells as a line
+pub five : (t0 t1 t2 t3 t4 t5 a b c d e : List ℕ) → t1 ≡ t0 ++ (a ++ 32 ∷ [])
+    → t2 ≡ t1 ++ (b ++ 32 ∷ []) → t3 ≡ t2 ++ (c ++ 32 ∷ []) → t4 ≡ t3 ++ (d ++ 32 ∷ [])
+    → t5 ≡ t4 ++ (e ++ 10 ∷ [])
+    → t5 ≡ t0 ++ (join_with_byte 32 (a ∷ b ∷ c ∷ d ∷ e ∷ []) ++ 10 ∷ [])
+five t0 t1 t2 t3 t4 t5 a b c d e e1 e2 e3 e4 e5 = e5 ∙ rw (e4, e3, e2, e1) (simp append_assoc)
+
+-- a line whose cells were added one by one, the last without a space behind it
+line : (t0 t1 t2 t3 t4 t5 t6 a p f g h : List ℕ) → t1 ≡ t0 ++ (a ++ 32 ∷ [])
+    → t2 ≡ t1 ++ (p ++ 32 ∷ []) → t3 ≡ t2 ++ (f ++ 32 ∷ []) → t4 ≡ t3 ++ (g ++ 32 ∷ [])
+    → t5 ≡ t4 ++ h → t6 ≡ t5 ++ 10 ∷ []
+    → t6 ≡ t0 ++ (a ++ 32 ∷ (p ++ 32 ∷ (f ++ 32 ∷ (g ++ 32 ∷ (h ++ 10 ∷ [])))))
+line t0 t1 t2 t3 t4 t5 t6 a p f g h e1 e2 e3 e4 e5 e6 =
+    e6 ∙ rw (e5, e4, e3, e2, e1) (simp append_assoc)
+
+-- what stands behind four cells stands behind the last of them
+behind_four : (b c d e rest : List ℕ) → (b ++ 32 ∷ (c ++ 32 ∷ (d ++ 32 ∷ e))) ++ rest
+    ≡ b ++ 32 ∷ (c ++ 32 ∷ (d ++ 32 ∷ (e ++ rest)))
+behind_four b c d e rest = simp append_assoc
+
+-- what stands behind eight cells stands behind the last of them
+behind_eight : (a b c d e f g h rest : List ℕ)
+    → (a ++ 32 ∷ (b ++ 32 ∷ (c ++ 32 ∷ (d ++ 32 ∷ (e ++ 32 ∷ (f ++ 32 ∷ (g ++ 32 ∷ h))))))) ++ rest
+    ≡ a ++ 32 ∷ (b ++ 32 ∷ (c ++ 32 ∷ (d ++ 32 ∷ (e ++ 32 ∷ (f ++ 32 ∷ (g ++ 32 ∷ (h ++ rest)))))))
+behind_eight a b c d e f g h rest = simp append_assoc
+
+-- eight cells as a line, the second to the fifth added as one text
+pub eight : (t0 t1 t2 t3 t4 t5 t6 a b c d e f g h : List ℕ) → t1 ≡ t0 ++ (a ++ 32 ∷ [])
+    → t2 ≡ t1 ++ ((b ++ 32 ∷ (c ++ 32 ∷ (d ++ 32 ∷ e))) ++ 32 ∷ [])
+    → t3 ≡ t2 ++ (f ++ 32 ∷ []) → t4 ≡ t3 ++ (g ++ 32 ∷ []) → t5 ≡ t4 ++ h
+    → t6 ≡ t5 ++ 10 ∷ []
+    → t6 ≡ t0 ++ (join_with_byte 32 (a ∷ b ∷ c ∷ d ∷ e ∷ f ∷ g ∷ h ∷ []) ++ 10 ∷ [])
+eight t0 t1 t2 t3 t4 t5 t6 a b c d e f g h e1 e2 e3 e4 e5 e6 =
+    let rest : List ℕ = 32 ∷ (f ++ 32 ∷ (g ++ 32 ∷ (h ++ 10 ∷ []))) in
+    line t0 t1 t2 t3 t4 t5 t6 a (b ++ 32 ∷ (c ++ 32 ∷ (d ++ 32 ∷ e))) f g h e1 e2 e3 e4 e5 e6
+    ∙ ap (λ (l : List ℕ). t0 ++ (a ++ 32 ∷ l)) (behind_four b c d e rest)
+    ∙ ap (λ (l : List ℕ). t0 ++ l) (sym (behind_eight a b c d e f g h (10 ∷ [])))
 
 -- an element beside that at the same place of another list
 pub pair_at : {X Y : Type 0} (xs : List X) (ys : List Y) (i : ℕ) (x : X) (y : Y) → i < length xs →

@@ -1,39 +1,65 @@
-//! Texts of cells.
-ghost use Rattle.std.specs.Prelude.{◌≡◌, ℕ, IfOk, replicate, decimal, string_bytes};
+//! Cells of a row, each added behind what a text has.
+ghost use Rattle.std.specs.Prelude.{◌≡◌, ◌++◌, ℕ, IfOk, OnOk, replicate, decimal, string_bytes};
 ghost use Rattle.ring_words.specs.Texts.{hundredths_text};
 ghost use Rattle.ring_tables.specs.Layout.{at_left, at_right};
 
+use itoa::Buffer;
 use std::alloc::{AllocError, Global};
 
-/// So many spaces.
-fn spaces(alloc: Global, count: usize) -> Result<String, AllocError>
-    ensures { IfOk result (λ text. string_bytes text ≡ replicate count 32) }
+/// Adds so many spaces.
+fn push_spaces(into: &mut String, count: usize) -> Result<(), AllocError>
+    ensures { OnOk result (string_bytes into.new ≡ string_bytes into.old ++ replicate count 32) }
 {
-    " ".repeat(alloc, count)
+    for _space in 0..count {
+        into.push_str(" ")?;
+    }
+    Ok(())
 }
 
-/// A text at the left of a column.
-pub(crate) fn at_left(alloc: Global, width: usize, text: &str) -> Result<String, AllocError>
-    ensures { IfOk result (λ cell. string_bytes cell ≡ at_left width text.now) }
+/// Adds a text at the left of a column, and what stands behind the column.
+pub(crate) fn push_left(
+    into: &mut String,
+    width: usize,
+    text: &str,
+    end: &str,
+) -> Result<(), AllocError>
+    ensures { OnOk result (string_bytes into.new ≡ string_bytes into.old ++
+        (at_left width text.now ++ end.now)) }
 {
-    let padding = spaces(alloc, width.saturating_sub(text.len()))?;
-    format!(in alloc; "{text}{padding}")
+    into.push_str(text)?;
+    push_spaces(into, width.saturating_sub(text.len()))?;
+    into.push_str(end)?;
+    Ok(())
 }
 
-/// A text at the right of a column.
-pub(crate) fn at_right(alloc: Global, width: usize, text: &str) -> Result<String, AllocError>
-    ensures { IfOk result (λ cell. string_bytes cell ≡ at_right width text.now) }
+/// Adds a text at the right of a column, and what stands behind the column.
+pub(crate) fn push_right(
+    into: &mut String,
+    width: usize,
+    text: &str,
+    end: &str,
+) -> Result<(), AllocError>
+    ensures { OnOk result (string_bytes into.new ≡ string_bytes into.old ++
+        (at_right width text.now ++ end.now)) }
 {
-    let padding = spaces(alloc, width.saturating_sub(text.len()))?;
-    format!(in alloc; "{padding}{text}")
+    push_spaces(into, width.saturating_sub(text.len()))?;
+    into.push_str(text)?;
+    into.push_str(end)?;
+    Ok(())
 }
 
-/// A number at the right of a column.
-pub(crate) fn number_cell(alloc: Global, width: usize, number: u32) -> Result<String, AllocError>
-    ensures { IfOk result (λ cell. string_bytes cell ≡ at_right width (decimal number)) }
+/// Adds a number at the right of a column, and what stands behind the column.
+pub(crate) fn push_number(
+    into: &mut String,
+    width: usize,
+    number: u32,
+    end: &str,
+) -> Result<(), AllocError>
+    ensures { OnOk result (string_bytes into.new ≡ string_bytes into.old ++
+        (at_right width (decimal number) ++ end.now)) }
 {
-    let text = format!(in alloc; "{number}")?;
-    at_right(alloc, width, text.as_str())
+    let mut buffer = Buffer::new();
+    push_right(into, width, buffer.format(number), end)
 }
 
 /// Hundredths as whole ones, a point and two digits.
@@ -43,14 +69,17 @@ pub(crate) fn hundredths_text(alloc: Global, hundredths: u32) -> Result<String, 
     format!(in alloc; "{}.{:02}", hundredths / 100, hundredths % 100)
 }
 
-/// Hundredths at the right of a column.
-pub(crate) fn hundredths_cell(
+/// Adds hundredths at the right of a column, and what stands behind the column.
+pub(crate) fn push_hundredths(
     alloc: Global,
+    into: &mut String,
     width: usize,
     hundredths: u32,
-) -> Result<String, AllocError>
-    ensures { IfOk result (λ cell. string_bytes cell ≡ at_right width (hundredths_text hundredths)) }
+    end: &str,
+) -> Result<(), AllocError>
+    ensures { OnOk result (string_bytes into.new ≡ string_bytes into.old ++
+        (at_right width (hundredths_text hundredths) ++ end.now)) }
 {
     let text = hundredths_text(alloc, hundredths)?;
-    at_right(alloc, width, text.as_str())
+    push_right(into, width, text.as_str(), end)
 }

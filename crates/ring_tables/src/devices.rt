@@ -1,10 +1,10 @@
 //! The table of devices.
-ghost use Rattle.std.specs.Prelude.{◌≡◌, ℕ, IfOk, string_bytes};
+ghost use Rattle.std.specs.Prelude.{◌≡◌, ◌++◌, ◌∷◌, [], ℕ, IfOk, OnOk, string_bytes};
 ghost use Rattle.ring_tables.specs.Layout.{cells, row};
 ghost use Rattle.ring_tables.specs.Tables.{state_text, place_columns, place_texts, device_columns};
 ghost use Rattle.ring_tables.specs.Tables.{device_titles, device_texts, device_table};
 
-use crate::cells::{at_left, hundredths_cell, number_cell};
+use crate::cells::{push_hundredths, push_left, push_number};
 use ring_model::Ring;
 use ring_words::Device;
 use std::alloc::{AllocError, Global};
@@ -32,29 +32,31 @@ fn titles(alloc: Global) -> Result<String, AllocError>
     )
 }
 
-/// Where a device stands, as cells.
-fn place_cells(alloc: Global, device: &Device) -> Result<String, AllocError>
-    ensures { IfOk result (λ text. string_bytes text ≡ cells place_columns (place_texts device.now)) }
+/// Adds where a device stands, as cells, and a space.
+fn push_place(alloc: Global, into: &mut String, device: &Device) -> Result<(), AllocError>
+    ensures { OnOk result (string_bytes into.new ≡ string_bytes into.old ++
+        (cells place_columns (place_texts device.now) ++ 32 ∷ [])) }
 {
     let row = &device.row;
-    let region = number_cell(alloc, 6, u32::from(row.region))?;
-    let zone = number_cell(alloc, 5, u32::from(row.zone))?;
-    let address_text = format!(in alloc; "{}", row.address)?;
-    let address = at_left(alloc, 15, address_text.as_str())?;
-    let port = number_cell(alloc, 5, u32::from(row.port.get()))?;
-    format!(in alloc; "{region} {zone} {address} {port}")
+    let address = row.address.to_string(alloc)?;
+    push_number(into, 6, u32::from(row.region), " ")?;
+    push_number(into, 5, u32::from(row.zone), " ")?;
+    push_left(into, 15, address.as_str(), " ")?;
+    push_number(into, 5, u32::from(row.port.get()), " ")
 }
 
-/// A device as a row.
-fn device_row(alloc: Global, device: &Device) -> Result<String, AllocError>
-    ensures { IfOk result (λ text. string_bytes text ≡ row device_columns (device_texts device.now)) }
+/// Adds a device as a row.
+fn push_device(alloc: Global, into: &mut String, device: &Device) -> Result<(), AllocError>
+    ensures { OnOk result (string_bytes into.new ≡ string_bytes into.old ++
+        row device_columns (device_texts device.now)) }
 {
-    let id = number_cell(alloc, 5, u32::from(device.id))?;
-    let place = place_cells(alloc, device)?;
-    let weight = hundredths_cell(alloc, 10, device.row.weight.hundredths())?;
-    let state = at_left(alloc, 7, state_text(device))?;
-    let name = device.row.name.as_str();
-    format!(in alloc; "{id} {place} {weight} {state} {name}\n")
+    push_number(into, 5, u32::from(device.id), " ")?;
+    push_place(alloc, into, device)?;
+    push_hundredths(alloc, into, 10, device.row.weight.hundredths(), " ")?;
+    push_left(into, 7, state_text(device), " ")?;
+    into.push_str(device.row.name.as_str())?;
+    into.push_str("\n")?;
+    Ok(())
 }
 
 /// Where each device of a ring stands, what it weighs, and its state, which is `open`, `drained`
@@ -66,8 +68,7 @@ pub fn device_table(alloc: Global, ring: &Ring) -> Result<String, AllocError>
     let devices = ring.devices();
     let mut table = titles(alloc)?;
     for device in devices {
-        let row = device_row(alloc, device)?;
-        table.push_str(row.as_str())?;
+        push_device(alloc, &mut table, device)?;
     }
     Ok(table)
 }

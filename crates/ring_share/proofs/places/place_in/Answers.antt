@@ -5,14 +5,11 @@ use Rattle.ring_share.proofs.Standing.{found_device, not_before, is_before, read
 use Rattle.ring_share.proofs.places.place_in.Goals as goal
 
 pub loop-high-init : goal.loop-high-init
-loop-high-init c =
-    let found = found_device c.args.devices.now c.args.id c.requires.known in
-    let lt = slice_get_within c.args.devices.now found.place found.stands.device found.stands.at in
-    record {
-      some = omega (arith, lt);
-      within = omega arith;
-      between = λ k device at named. (omega arith, slice_get_within c.args.devices.now k device at);
-    }
+loop-high-init c = record {
+  some = c.span_of-low.ensures.some;
+  within = c.span_of-low.ensures.within;
+  between = c.span_of-low.ensures.between;
+}
 
 pub loop-high-preserved-then-devices-middle : goal.loop-high-preserved-then-devices-middle
 loop-high-preserved-then-devices-middle c =

@@ -1,6 +1,7 @@
-use Rattle.std.proofs.Common.{rules, take, ◌∙◌, ◌≡◌, ◌++◌, List, ℕ, ◌<◌, Some, length, ap, sym}
+use Rattle.std.proofs.Common.{rules, refl, take, ◌∙◌, ◌≡◌, ◌++◌, List, ℕ, ◌<◌, Some, length, ap, sym}
 use Rattle.std.proofs.Common.{subst, map, string_bytes, arith}
 use Rattle.std.specs.List.{zip}
+use Rattle.std.specs.Prelude.{slice_get}
 use Rattle.std.specs.List.Sorted.{IsStrictlyIncreasing}
 use Rattle.ring_words.specs.declared.device.Device.{Device}
 use Rattle.ring_share.specs.Want.{AreWanted}
@@ -15,16 +16,14 @@ use Rattle.ring_tables.specs.Tables.{balance_columns, balance_titles, balance_te
 use Rattle.ring_tables.proofs.RowByRow.{next_row, pair_at, pair_below}
 use Rattle.ring_tables.proofs.balances.balance_table.Goals as goal
 
-pub balance_row-requires : goal.balance_row-requires
-balance_row-requires c =
+pub push_balance-requires : goal.push_balance-requires
+push_balance-requires c =
     let devices = c.devices-device-items.result.now in
-    let same = c.devices-device-items.ensures.value in
-    let rise = subst (λ (all : List Device). IsStrictlyIncreasing (map (λ device. device.id) all))
-    (sym same) c.devices-device-items.ensures.valid.devices.rise in
     let read = read_at devices c.loop-place.place c.device-item.result (omega arith)
     c.device-item.is in
-    subst (λ (all : List Device). device_of c.device-item.result.id all ≡ Some c.device-item.result)
-    same (device_of_at devices rise c.loop-place.place c.device-item.result read)
+    c.counts_of-counts.ensures c.loop-place.place c.device-item.result
+    (ap (λ (all : List Device). slice_get all c.loop-place.place)
+    (sym c.devices-device-items.ensures.value) ∙ read)
 
 pub loop-place-preserved : goal.loop-place-preserved
 loop-place-preserved c =
@@ -38,17 +37,16 @@ loop-place-preserved c =
     let same = ap (λ (all : List Device). length all) c.devices-device-items.ensures.value in
     let below : c.loop-place.place < length devices = omega arith in
     let under : c.loop-place.place < length wants = omega (arith, many, same) in
-    let is : string_bytes c.in_ok-row.row ≡ row balance_columns (balance_texts c.args.ring.now
-    device want) = search rules in
-    let grown : string_bytes c.push_str.new.self ≡ string_bytes c.loop-place.table ++
-    string_bytes c.in_ok-row.row = search rules in
+    let text = row balance_columns (balance_texts c.args.ring.now device want) in
+    let grown : string_bytes c.push_balance.new.into ≡ string_bytes c.loop-place.table ++ text =
+    search rules in
     next_row balance_columns balance_titles texts (zip devices wants) c.loop-place.place (
       device,
       want,
-    ) _ _ (string_bytes c.in_ok-row.row)
+    ) _ _ text
     (pair_below devices wants c.loop-place.place below under)
     (pair_at devices wants c.loop-place.place device want below under c.device-item.is
-    c.index.ensures) c.loop-place.invariant is grown
+    c.index.ensures) c.loop-place.invariant refl grown
 
 pub returns-clause-wanted : goal.returns-clause-wanted
 returns-clause-wanted c = let wanted : AreWanted c.args.ring.now c.in_ok-wants.wants.items =
@@ -61,7 +59,7 @@ returns-clause-text c = λ wants are.
     let texts = λ (e : Device × ℕ). balance_texts c.args.ring.now e.0 e.1 in
     let wanted : AreWanted c.args.ring.now found = search rules in
     let last : string_bytes c.in_ok-last.last ≡ figures_line c.args.ring.now = search rules in
-    let grown : string_bytes c.push_str-2.new.self ≡ string_bytes c.loop-place.table ++
+    let grown : string_bytes c.push_str.new.self ≡ string_bytes c.loop-place.table ++
     string_bytes c.in_ok-last.last = search rules in
     let long = length-zip devices found in
     let all : take c.loop-place.place (zip devices found) ≡ zip c.args.ring.now.devices wants =
