@@ -1,12 +1,20 @@
 #!/usr/bin/env python3
-"""Refuses each allocation of a run of the built program, one in each run: bench/refused_allocations.py [FILE ..]
+"""Refuses each allocation of a run of the built program, one in each run:
+bench/refused_allocations.py [--store] [--every N] [FILE ..]
 
 Each line of the files (examples/rebalance.jsonl and bench/more.jsonl where none are named) is sent twice. Whichever
 allocation is refused, at most one answer may be lost, `503 {"fault":"NoMemory","rule":23}` stands in its place, and every
 other answer is that of an unharmed run, the repeat's too; or the program says `ringd: NoMemory 23` before the first line
-and ends with status 1. The C compiler `cc` makes the library that refuses.
+and ends with status 1.
+
+With --store the runs are over a new file each. There the store may also be told as failed, and the book is closed from then
+on, or the file is not opened. Whichever it was, a second run over the file, unharmed, answers every line as the second run
+of an unharmed file does: each number was decided once, and the rings are right. --every takes every Nth allocation alone.
+
+RINGD names the program, as for checks/. The C compiler `cc` makes the library that refuses.
 """
 import collections
+import itertools
 import os
 import subprocess
 import sys
@@ -14,8 +22,11 @@ import tempfile
 from pathlib import Path
 
 TOP = Path(__file__).resolve().parent.parent
-PROGRAM = TOP / "crates" / "ringd" / "out" / "ringd"
+sys.path.append(str(TOP / "checks"))
+from common import program  # noqa: E402
+
 LOST = '503 {"fault":"NoMemory","rule":23}'
+FAILED = ('503 {"fault":"StoreFault","rule":24}', '503 {"fault":"Closed","rule":25}')
 REFUSING = r"""
 #include <errno.h>
 #include <stdio.h>
@@ -50,7 +61,7 @@ def answers(output):
 
 
 def judged(run, want):
-    """What became of a run with a refused allocation."""
+    """What became of a run in memory with a refused allocation."""
     got = answers(run.stdout)
     differing = [one for one, other in zip(got, want) if one != other]
     if run.returncode == 0 and len(got) == len(want) and differing in ([], [LOST]):
@@ -60,26 +71,59 @@ def judged(run, want):
     return "WRONG"
 
 
+def judged_over_store(run, again, want, want_again):
+    """What became of a run over a file with a refused allocation, and of an unharmed one after it."""
+    got = answers(run.stdout)
+    differing = [one for one, other in zip(got, want) if one != other]
+    if again.returncode or answers(again.stdout) != want_again:
+        return "WRONG after it"
+    if run.returncode == 1 and run.stderr in (b"ringd: NoMemory 23\n", b"ringd: StoreFault 24\n") and len(got) in (0, len(want)):
+        return f"told as {run.stderr.decode().split()[1]}, " + ("at the end" if got else "before the first line")
+    if run.returncode or len(got) != len(want):
+        return "WRONG"
+    if differing in ([], [LOST]):
+        return "one answer lost, its repeat right" if differing else "no difference"
+    if differing[0] == FAILED[0] and all(one in FAILED for one in differing):
+        return "the store told as failed, and closed from then on"
+    return "WRONG"
+
+
 def main():
-    files = sys.argv[1:] or [TOP / "examples" / "rebalance.jsonl", TOP / "bench" / "more.jsonl"]
+    named = [word for word in sys.argv[1:] if word.endswith(".jsonl")]
+    every = int(sys.argv[sys.argv.index("--every") + 1]) if "--every" in sys.argv else 1
+    files = named or [TOP / "examples" / "rebalance.jsonl", TOP / "bench" / "more.jsonl"]
     lines = [line for file in files for line in Path(file).read_text().splitlines()]
     text = "".join(f"{line}\n{line}\n" for line in lines).encode()
     with tempfile.TemporaryDirectory() as room:
         source, library, count = (f"{room}/{name}" for name in ("refusing.c", "refusing.so", "count"))
         Path(source).write_text(REFUSING)
         subprocess.run(["cc", "-shared", "-fPIC", "-O1", "-o", library, source], check=True)
+        numbers = itertools.count()
 
-        def run(at):
+        def run(at, *over):
             settings = {**os.environ, "LD_PRELOAD": library, "REFUSE": str(at), "COUNT": count}
-            return subprocess.run([PROGRAM, "run"], input=text, capture_output=True, env=settings)
+            return subprocess.run([*program(), "run", *over], input=text, capture_output=True, env=settings)
 
-        want = answers(run(0).stdout)
+        def outcome(at):
+            """What became of it where this allocation is refused."""
+            if not over_store:
+                return judged(run(at), want)
+            file = f"{room}/{next(numbers)}.db"
+            told = judged_over_store(run(at, "--file", file), run(0, "--file", file), want, want_again)
+            for end in ("", "-wal"):
+                Path(file + end).unlink(missing_ok=True)
+            return told
+
+        over_store = "--store" in sys.argv
+        over = ("--file", f"{room}/unharmed.db") if over_store else ()
+        want = answers(run(0, *over).stdout)
         total = int(Path(count).read_text())
-        seen = collections.Counter(judged(run(at), want) for at in range(1, total + 1))
-    print(f"{len(lines)} lines, each twice; {total} allocations, each refused in a run of its own")
+        want_again = answers(run(0, *over).stdout)
+        seen = collections.Counter(outcome(at) for at in range(1, total + 1, every))
+    print(f"{len(lines)} lines, each twice; {total} allocations, {seen.total()} of them refused, each in a run of its own")
     for what, times in sorted(seen.items()):
         print(f"{times:>6} {what}")
-    return 1 if seen["WRONG"] else 0
+    return 1 if any(what.startswith("WRONG") for what in seen) else 0
 
 
 if __name__ == "__main__":

@@ -1,0 +1,178 @@
+#!/usr/bin/env python3
+"""Times the store in a real file: bench/store.py [--small] [--write] [FOLDER]
+
+Commits a second of `run --file`, beside Python's sqlite3, which commits the same rows in WAL mode with synchronous=FULL
+on the same disk in turns with it; rebalances of the largest ring, decided and stored; opening a file with 100,000 numbers
+and such a ring, its time and memory; a delivery where the file has few numbers and where it has many. FOLDER is where the
+files lie (the current one where none is given). --small takes small sizes, --write puts the tables into docs/speed.md.
+"""
+import json
+import os
+import sqlite3
+import statistics
+import sys
+import tempfile
+import time
+
+from program import ask, message, most_memory, rows, start, tell, timed_run
+
+SMALL = "--small" in sys.argv
+COMMITS, ROUNDS = (200, 2) if SMALL else (3000, 5)
+POWER, REPLICAS, DEVICES = (8, 3, 32) if SMALL else (14, 5, 256)
+NUMBERS = 2000 if SMALL else 100000
+AT = [200, 1000] if SMALL else [1000, 10000, 90000]
+MILLI = 1000
+
+
+def refused(number):
+    """A request that is decided, and changes no ring: its request and the hour are the rows that are written."""
+    return message(number, "remove", id=60000)
+
+
+def hours(number):
+    """A request that changes one row of a ring too."""
+    return message(number, "set_hours", min_hours=number % 1000)
+
+
+def commits_of_ringd(room, line):
+    """Commits a second of a run over a new file, its opening and closing aside."""
+    file = f"{room}/ringd.db"
+    for end in ("", "-wal"):
+        if os.path.exists(file + end):
+            os.remove(file + end)
+    timed_run("run", "--file", file, given=message(0, "create", power=4, replicas=2, min_hours=0).encode())
+    _, idle = timed_run("run", "--file", file)
+    given = "".join(line(number) for number in range(1, COMMITS + 1)).encode()
+    told, took = timed_run("run", "--file", file, given=given)
+    if told.count(b"\n") != COMMITS or b"fault" in told:
+        raise SystemExit(f"not each of them was decided: {told[-200:]}")
+    return COMMITS / (took - idle)
+
+
+def commits_of_sqlite(room, with_ring):
+    """Commits a second of Python's sqlite3: a request, the hour, and perhaps the row of a ring."""
+    file = f"{room}/sqlite.db"
+    for end in ("", "-wal", "-shm"):
+        if os.path.exists(file + end):
+            os.remove(file + end)
+    held = sqlite3.connect(file, isolation_level=None)
+    held.execute("PRAGMA journal_mode = WAL")
+    held.execute("PRAGMA synchronous = FULL")
+    held.execute("PRAGMA locking_mode = EXCLUSIVE")
+    held.execute("CREATE TABLE meta (one INTEGER NOT NULL, schema INTEGER NOT NULL, hour INTEGER NOT NULL, UNIQUE (one)) STRICT")
+    held.execute("CREATE TABLE ring (name TEXT NOT NULL, power INTEGER NOT NULL, replicas INTEGER NOT NULL, min_hours INTEGER NOT NULL, "
+                 "next_id INTEGER NOT NULL, version INTEGER NOT NULL, PRIMARY KEY (name)) STRICT")
+    held.execute("CREATE TABLE request (caller TEXT NOT NULL, number INTEGER NOT NULL, place INTEGER NOT NULL, hour INTEGER NOT NULL, "
+                 "command TEXT NOT NULL, reply TEXT NOT NULL, PRIMARY KEY (caller, number), UNIQUE (place)) STRICT")
+    held.execute("INSERT INTO meta VALUES (1, 2, 0)")
+    held.execute("INSERT INTO ring VALUES ('object', 4, 2, 0, 0, 0)")
+    command, reply = '{"do":"set_hours","min_hours":7,"ring":"object"}', '{"done":"set_hours","version":7}'
+    begun = time.perf_counter()
+    for number in range(1, COMMITS + 1):
+        held.execute("BEGIN")
+        if with_ring:
+            held.execute("UPDATE ring SET min_hours = ?, version = ? WHERE name = 'object'", (number % 1000, number))
+        held.execute("INSERT INTO request VALUES ('bench', ?, ?, 0, ?, ?)", (number, number, command, reply))
+        held.execute("UPDATE meta SET hour = 0 WHERE one = 1")
+        held.execute("COMMIT")
+    took = time.perf_counter() - begun
+    held.close()
+    return COMMITS / took
+
+
+def commits(room):
+    """Both sides in turns, so that what else the disk does meets both."""
+    told = []
+    for what, line, with_ring in [("a request and the hour", refused, False), ("these and the row of a ring", hours, True)]:
+        ours, theirs = [], []
+        for _ in range(ROUNDS):
+            ours.append(commits_of_ringd(room, line))
+            theirs.append(commits_of_sqlite(room, with_ring))
+        mine, other = statistics.median(ours), statistics.median(theirs)
+        told.append([what, f"{mine:.0f}", f"{other:.0f}", f"{mine / other:.2f}", f"{min(ours):.0f} to {max(ours):.0f}", f"{min(theirs):.0f} to {max(theirs):.0f}"])
+    tell("Commits a second", "bench/store.py",
+         ["rows of a commit", "`run --file`", "Python's sqlite3", "of it", "`run --file` varied", "sqlite3 varied"], told)
+
+
+def rebalances(room):
+    """The largest ring, over a file and over memory, a line at a time."""
+    told = []
+    for where, file in [("a file", f"{room}/large.db"), ("memory", None)]:
+        with start(file) as running:
+            ask(running, message(1, "create", power=POWER, replicas=REPLICAS, min_hours=24))
+            ask(running, message(2, "import", rows=rows(range(DEVICES))))
+            first, seconds = ask(running, message(3, "rebalance", seed=1))
+            told.append([where, "a first one", json.loads(first[4:])["changed"], f"{MILLI * seconds:.0f} ms"])
+            for number, id in enumerate((DEVICES // 2, DEVICES // 3, DEVICES // 5)):
+                ask(running, message(10 + 2 * number, "remove", id=id))
+                answer, seconds = ask(running, message(11 + 2 * number, "rebalance", seed=2))
+                told.append([where, "one device gone", json.loads(answer[4:])["changed"], f"{MILLI * seconds:.1f} ms"])
+            running.stdin.close()
+    tell(f"Rebalances of power {POWER} with {REPLICAS} replicas and {DEVICES} devices", "bench/store.py",
+         ["over", "rebalance", "seats that changed", "until the answer"], told)
+
+
+def filled(file, count):
+    """A store with the largest ring and so many numbers, the most of them put there by sqlite3."""
+    lines = [message(1, "create", power=POWER, replicas=REPLICAS, min_hours=24), message(2, "import", rows=rows(range(DEVICES))),
+             message(3, "rebalance", seed=1), refused(4)]
+    timed_run("run", "--file", file, given="".join(lines).encode())
+    held = sqlite3.connect(file)
+    held.execute("PRAGMA journal_mode = DELETE")
+    command, reply = held.execute("SELECT command, reply FROM request WHERE number = 4").fetchone()
+    held.executemany("INSERT INTO request VALUES ('bench', ?, ?, 0, ?, ?)", ((place + 1, place, command, reply) for place in range(4, count)))
+    held.commit()
+    held.close()
+
+
+def opening(file):
+    """The seconds until a run over a file has answered a question, its memory then, and the seconds to its end."""
+    begun = time.perf_counter()
+    with start(file) as running:
+        ask(running, "? devices nothing\n")
+        opened, memory = time.perf_counter() - begun, most_memory(running)
+        begun = time.perf_counter()
+        running.stdin.close()
+        running.wait()
+    return opened, memory, time.perf_counter() - begun
+
+
+def openings(room):
+    """Opening a file with many numbers."""
+    told = []
+    for count in (5, NUMBERS // 10, NUMBERS):
+        file = f"{room}/open{count}.db"
+        filled(file, count)
+        size = os.path.getsize(file) / 1e6
+        found = [opening(file) for _ in range(ROUNDS)]
+        opened, closed = (MILLI * statistics.median(it[at] for it in found) for at in (0, 2))
+        told.append([count, f"{size:.1f} MB", f"{opened:.0f} ms", f"{max(it[1] for it in found):.0f} MB", f"{closed:.0f} ms"])
+    tell(f"Opening a file with a ring of power {POWER}", "bench/store.py", ["numbers", "file", "until the first answer", "memory", "closing"], told)
+
+
+def deliveries(room):
+    """A delivery where few numbers are kept, and where many are."""
+    told = []
+    for count in AT:
+        file = f"{room}/at{count}.db"
+        filled(file, count)
+        with start(file) as running:
+            ask(running, refused(count + 1))
+            new = [ask(running, refused(count + 2 + it))[1] for it in range(50 if SMALL else 500)]
+            old = [ask(running, refused(5 + it * 7 % (count - 5)))[1] for it in range(50 if SMALL else 500)]
+            running.stdin.close()
+        told.append([count, f"{1e6 * statistics.median(new):.0f} µs", f"{1e6 * statistics.median(old):.0f} µs"])
+    tell("A delivery by the numbers that are kept", "bench/store.py", ["numbers", "a new number, stored", "a repeat"], told)
+
+
+def main():
+    folder = next((word for word in sys.argv[1:] if not word.startswith("--")), ".")
+    with tempfile.TemporaryDirectory(prefix="ringd-bench-", dir=folder) as room:
+        commits(room)
+        rebalances(room)
+        openings(room)
+        deliveries(room)
+
+
+if __name__ == "__main__":
+    main()

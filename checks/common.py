@@ -1,0 +1,253 @@
+"""What the checks of the built program share: where it lies, its requests, and the count of what was shown.
+
+The program is what the environment variable RINGD names, a path or a command; else what ./ringd runs.
+"""
+import json
+import os
+import re
+import shlex
+import signal
+import subprocess
+import sys
+import tempfile
+import time
+from pathlib import Path
+
+TOP = Path(__file__).resolve().parent.parent
+NOBODY = 65534
+
+
+def program():
+    """The words that start the built program."""
+    named = os.environ.get("RINGD")
+    if named:
+        return shlex.split(named)
+    lies = re.search(r"^program=\$top/(\S+)$", (TOP / "ringd").read_text(), re.M)
+    return [str(TOP / lies.group(1))]
+
+
+def need_program():
+    """Ends with status 2 where there is no program to check."""
+    first = program()[0]
+    if not os.access(first, os.X_OK):
+        print(f"{first} is not there: ./ringd proves and builds it, or RINGD names another one")
+        sys.exit(2)
+
+
+class TookTooLong(Exception):
+    """A check was not done within its time."""
+
+
+class Checks:
+    """Counts what was shown, and prints each of it."""
+
+    def __init__(self, name, seconds):
+        need_program()
+        self.name, self.passed, self.failed, self.begun = name, 0, 0, time.monotonic()
+        signal.signal(signal.SIGALRM, self.stop)
+        signal.alarm(seconds)
+
+    def stop(self, _number, _frame):
+        raise TookTooLong(f"{self.name} was not done within its time")
+
+    def show(self, what, held, told=""):
+        self.passed, self.failed = self.passed + bool(held), self.failed + (not held)
+        print(f"{'ok     ' if held else 'FAILED '} {what}" + ("" if held or not told else f": {told}"), flush=True)
+        return bool(held)
+
+    def same(self, what, got, want):
+        """Shows that two values are one."""
+        return self.show(what, got == want, f"\n    got  {shown(got)}\n    want {shown(want)}")
+
+    def skip(self, what, why):
+        print(f"skipped {what}: {why}", flush=True)
+
+    def run(self, *parts):
+        """Runs the parts, prints the count, and answers the exit status."""
+        try:
+            for part in parts:
+                print(f"== {(part.__doc__ or part.__name__).splitlines()[0]}", flush=True)
+                try:
+                    part(self)
+                except TookTooLong:
+                    raise
+                except Exception as error:  # a check that breaks has failed, and the others go on
+                    self.show(part.__name__, False, repr(error))
+        except TookTooLong as error:
+            self.show(str(error), False)
+        signal.alarm(0)
+        print(f"{self.name}: {time.monotonic() - self.begun:.0f} seconds")
+        print(f"{self.passed} passed, {self.failed} failed")
+        return 1 if self.failed or not self.passed else 0
+
+
+def shown(value):
+    text = repr(value)
+    return text if len(text) < 1500 else text[:1500] + " .."
+
+
+def scratch():
+    """A new folder, which goes with its context."""
+    return tempfile.TemporaryDirectory(prefix="ringd-check-")
+
+
+def run(*words, given=b"", seconds=60, **more):
+    """Runs the program to its end: its status, standard output and standard error."""
+    done = subprocess.run([*program(), *map(str, words)], input=given, capture_output=True, timeout=seconds, **more)
+    return done.returncode, done.stdout, done.stderr
+
+
+def has(name):
+    """Whether the program has a program of this name."""
+    return re.search(rf"(?m)^ +{name}\b", run("--help")[2].decode(errors="replace")) is not None
+
+
+def fault(name, number):
+    """What a program does that ends with this fault and has written nothing."""
+    return 1, b"", f"ringd: {name} {number}\n".encode()
+
+
+def compact(value):
+    return json.dumps(value, separators=(",", ":"), sort_keys=True)
+
+
+def message(number, do, caller="ops", ring="object", **fields):
+    """The message of a numbered request."""
+    return compact({"caller": caller, "number": number, "do": do, "ring": ring, **fields})
+
+
+def add(number, place, weight="100.00", **fields):
+    """The message that adds device `d<place>`."""
+    row = {"address": f"10.0.0.{place + 1}", "name": f"d{place}", "port": 6200, "region": 1, "weight": weight, "zone": 1}
+    return message(number, "add", **{**row, **fields})
+
+
+def lines(*deliveries):
+    """The lines of deliveries, each a pair of hour and message, or a question."""
+    texts = (it if isinstance(it, str) else f"{it[0]} {it[1]}" for it in deliveries)
+    return "".join(f"{text}\n" for text in texts).encode()
+
+
+# Two devices of one replica: what becomes of these requests does not hang on the draw of a seed.
+FIRST = [
+    (0, message(1, "create", power=2, replicas=1, min_hours=24)),
+    (0, add(2, 0)),
+    (0, add(3, 1)),
+    (0, message(4, "rebalance", seed=7)),
+]
+FIRST_REPLIES = [
+    '{"done":"create","version":0}',
+    '{"done":"add","id":0,"version":1}',
+    '{"done":"add","id":1,"version":2}',
+    '{"balance":0,"changed":4,"dispersion":0,"done":"rebalance","version":3}',
+]
+FIRST_ANSWERS = "".join(f"200 {reply}\n" for reply in FIRST_REPLIES).encode()
+FIRST_DEVICES = b"""   id region  zone address          port     weight state   name
+    0      1     1 10.0.0.1         6200     100.00 open    d0
+    1      1     1 10.0.0.2         6200     100.00 open    d1
+"""
+FIRST_BALANCE = b"""   id     weight wanted    has balance
+    0     100.00      2      2    0.00
+    1     100.00      2      2    0.00
+balance 0.00 dispersion 0.00 version 3
+"""
+
+# One device, which has every seat: its published text and its nodes are known whole.
+TINY = [
+    (0, message(1, "create", ring="tiny", power=1, replicas=1, min_hours=0)),
+    (0, add(2, 0, ring="tiny")),
+    (0, message(3, "rebalance", ring="tiny", seed=1)),
+    (0, message(4, "publish", ring="tiny")),
+]
+TINY_TEXT = b"""swift-ring-text 1
+ring tiny
+version 2
+power 1
+replicas 1
+devices 1
+0 1 1 10.0.0.1 6200 100.00 present d0
+seats
+0
+0
+end
+"""
+
+
+def tiny_nodes(partition):
+    """The nodes of a path of this partition in the ring `tiny`, without a line feed."""
+    device = {"address": "10.0.0.1", "device": "d0", "id": 0, "port": 6200, "region": 1, "zone": 1}
+    return compact({"nodes": [device], "partition": partition}).encode()
+
+
+# Ten commands, two rebalances that move seats, refusals, a repeat and a number that is used again.
+MANY = [
+    (10, message(1, "create", power=4, replicas=2, min_hours=1)),
+    (10, message(2, "import", rows=[[1, place % 3, f"10.0.1.{place + 1}", 6200, f"disk{place}", "100.00"] for place in range(6)])),
+    (10, message(3, "rebalance", seed=1)),
+    (10, message(4, "publish")),
+    (10, add(5, 9, zone=3, weight="250.00")),
+    (10, message(6, "rebalance", seed=2)),
+    (11, message(7, "rebalance", seed=3)),
+    (11, message(7, "rebalance", seed=3)),
+    (11, message(8, "set_weight", id=1, weight="12.50")),
+    (11, message(9, "remove", id=0)),
+    (11, message(10, "rebalance", seed=4)),
+    (11, message(10, "rebalance", seed=5)),
+    (11, message(11, "set_hours", min_hours=2)),
+    (12, message(12, "pretend_passed")),
+    (12, message(13, "raise_power")),
+    (12, message(14, "rebalance", seed=5)),
+    (12, message(15, "remove", id=77)),
+    (12, message(16, "publish")),
+]
+
+
+def rows_of(file):
+    """Every row of every table of a closed store, by table, read from a copy."""
+    import shutil
+    import sqlite3
+
+    with scratch() as room:
+        for end in ("", "-wal"):
+            if os.path.exists(f"{file}{end}"):
+                shutil.copyfile(f"{file}{end}", f"{room}/copy{end}")
+        with_rows = sqlite3.connect(f"{room}/copy")
+        try:
+            names = [name for (name,) in with_rows.execute("SELECT name FROM sqlite_schema WHERE type = 'table' ORDER BY name")]
+            return {name: sorted(with_rows.execute(f'SELECT * FROM "{name}"')) for name in names}
+        finally:
+            with_rows.close()
+
+
+def files_of(file):
+    """The bytes of a store's file and of its log."""
+    return {end: Path(f"{file}{end}").read_bytes() if os.path.exists(f"{file}{end}") else None for end in ("", "-wal")}
+
+
+def free_port():
+    """A port of 127.0.0.1 that nobody listens on now."""
+    import socket
+
+    with socket.socket() as probe:
+        probe.setsockopt(socket.SOL_SOCKET, socket.SO_REUSEADDR, 1)
+        probe.bind(("127.0.0.1", 0))
+        return probe.getsockname()[1]
+
+
+def is_listening(port):
+    """Whether somebody listens on this port of 127.0.0.1. No connection is made."""
+    for line in Path("/proc/net/tcp").read_text().splitlines()[1:]:
+        fields = line.split()
+        if fields[3] == "0A" and fields[1] in (f"0100007F:{port:04X}", f"00000000:{port:04X}"):
+            return True
+    return False
+
+
+def wait_until(holds, seconds=10):
+    """Waits until something holds, and answers whether it did."""
+    end = time.monotonic() + seconds
+    while time.monotonic() < end:
+        if holds():
+            return True
+        time.sleep(0.01)
+    return holds()

@@ -1,0 +1,283 @@
+#!/usr/bin/env python3
+"""The program killed at every step that reaches the disk: checks/kills.py [POINTS]
+
+A run of 18 deliveries over a file is stopped by SIGKILL at each system call that writes, syncs, truncates, renames or
+removes, in turn: once before the call and once after it. The calls are met by ptrace. After each kill the file is
+opened again, every delivery is sent again, and the replies, both tables and every row are compared with those of a run
+that nobody killed. What was answered before the kill must be in the file by then. A store of the older schema, which the
+program migrates as it opens it, is stopped in the same way, and so is `renew`.
+
+Where there are more than POINTS points (400 where none is given), an even choice of them is taken. Several runs go side
+by side. Nothing but Python's standard library is used; Linux on x86-64 or aarch64.
+"""
+import ctypes
+import fcntl
+import json
+import os
+import platform
+import shutil
+import signal
+import sys
+from concurrent.futures import ProcessPoolExecutor
+from pathlib import Path
+
+import common
+from common import MANY, Checks, has, lines, message, run, rows_of, scratch
+from tables import OLDER, make_older
+
+# The numbers of the system calls, by the machine's kind.
+CALLS = {
+    "x86_64": {
+        "write": 1, "pwrite64": 18, "writev": 20, "pwritev": 296, "pwritev2": 328, "fsync": 74, "fdatasync": 75, "sync": 162,
+        "syncfs": 306, "sync_file_range": 277, "truncate": 76, "ftruncate": 77, "fallocate": 285, "rename": 82, "renameat": 264,
+        "renameat2": 316, "unlink": 87, "unlinkat": 263, "sendfile": 40, "copy_file_range": 326,
+    },
+    "aarch64": {
+        "write": 64, "pwrite64": 68, "writev": 66, "pwritev": 70, "pwritev2": 287, "fsync": 82, "fdatasync": 83, "sync": 81,
+        "syncfs": 267, "sync_file_range": 84, "truncate": 45, "ftruncate": 46, "fallocate": 47, "renameat": 38, "renameat2": 276,
+        "unlinkat": 35, "sendfile": 71, "copy_file_range": 285,
+    },
+}
+# Where the number of the call stands among the registers of PTRACE_GETREGSET, in words of 8 bytes.
+NUMBER_AT = {"x86_64": 15, "aarch64": 8}
+TRACEME, SYSCALL, SETOPTIONS, GETREGSET = 0, 24, 0x4200, 0x4204
+GENERAL_REGISTERS = 1
+SYSGOOD, EXITKILL = 1, 0x100000
+SET_PIPE_SIZE = 1031
+MACHINE = platform.machine()
+
+
+class Span(ctypes.Structure):
+    _fields_ = [("base", ctypes.c_void_p), ("length", ctypes.c_size_t)]
+
+
+LIBRARY = ctypes.CDLL(None, use_errno=True)
+LIBRARY.ptrace.restype = ctypes.c_long
+LIBRARY.ptrace.argtypes = [ctypes.c_long, ctypes.c_long, ctypes.c_void_p, ctypes.c_void_p]
+
+
+def ptrace(request, process, address=0, data=0):
+    if LIBRARY.ptrace(request, process, address, data) < 0:
+        number = ctypes.get_errno()
+        raise OSError(number, f"ptrace {request}: {os.strerror(number)}")
+
+
+def call_number(process):
+    """The number of the system call at which a process stands."""
+    words = (ctypes.c_ulong * 64)()
+    span = Span(ctypes.addressof(words), ctypes.sizeof(words))
+    ptrace(GETREGSET, process, GENERAL_REGISTERS, ctypes.addressof(span))
+    return words[NUMBER_AT[MACHINE]]
+
+
+# What is sent, by whether the file is one of the older schema.
+SENT = {False: MANY, True: [*OLDER, (24, message(7, "rebalance", seed=7)), (24, message(8, "publish"))]}
+
+
+def start(words, answers, sent):
+    """Starts the program with these words, stopped at its first step. Each read of its input gives one delivery."""
+    given, giving = os.pipe2(os.O_DIRECT)
+    fcntl.fcntl(giving, SET_PIPE_SIZE, 1 << 20)
+    for delivery in sent:
+        os.write(giving, lines(delivery))
+    os.close(giving)
+    told = os.open(answers, os.O_WRONLY | os.O_CREAT | os.O_TRUNC)
+    words = [*common.program(), *words]
+    process = os.fork()
+    if not process:
+        try:
+            os.dup2(given, 0)
+            os.dup2(told, 1)
+            os.closerange(3, 64)
+            ptrace(TRACEME, 0)
+            os.execvp(words[0], words)
+        finally:
+            os._exit(127)
+    os.close(given)
+    os.close(told)
+    os.waitpid(process, 0)
+    ptrace(SETOPTIONS, process, 0, SYSGOOD | EXITKILL)
+    return process
+
+
+def traced(words, answers, sent, stop=None):
+    """Runs the program. Without `stop` to its end: the names of the calls that it makes. `stop` is the place of one of
+    these calls, and whether it is killed before it or after it: then answers None."""
+    names = {number: name for name, number in CALLS[MACHINE].items()}
+    process, seen, is_inside, is_met, passing = start(words, answers, sent), [], False, False, 0
+    while True:
+        ptrace(SYSCALL, process, 0, passing)
+        _, status = os.waitpid(process, 0)
+        passing = 0
+        if os.WIFEXITED(status):
+            return seen if os.WEXITSTATUS(status) == 0 else None
+        if os.WIFSIGNALED(status):
+            return None
+        if os.WSTOPSIG(status) != signal.SIGTRAP | 0x80:
+            passing = 0 if os.WSTOPSIG(status) == signal.SIGTRAP else os.WSTOPSIG(status)
+            continue
+        is_inside = not is_inside
+        if is_inside:
+            name = names.get(call_number(process))
+            is_met = name is not None
+            if is_met:
+                seen.append(name)
+        is_here = stop is not None and is_met and len(seen) - 1 == stop[0] and is_inside == stop[1]
+        if is_here:
+            os.kill(process, signal.SIGKILL)
+            os.waitpid(process, 0)
+            return None
+
+
+def state(file):
+    """What is kept: both tables and every row."""
+    return run("table", file, "object"), rows_of(file)
+
+
+def killed(task):
+    """Kills one run, and looks at what is left of it: why it is wrong, or nothing, and how many requests were kept."""
+    is_older, stop, want, whole = task
+    sent = lines(*SENT[is_older])
+    with scratch() as room:
+        file, answers = f"{room}/rings.db", f"{room}/answers"
+        if is_older:
+            make_older(file)
+        traced(["run", "--file", file], answers, SENT[is_older], stop)
+        told = Path(answers).read_bytes()
+        if not want.startswith(told):
+            return f"it was answered {told!r}", 0
+        kept = count_kept(file, room)
+        answered = len(numbers_of(SENT[is_older][:told.count(b"\n")]))
+        if kept < answered:
+            return f"{answered} requests were answered and {kept} kept", kept
+        again = run("run", "--file", file, given=sent)
+        if again != (0, want, b""):
+            return f"sent again, it was answered {again}", kept
+        if state(file) != whole:
+            return "the tables or the rows differ", kept
+        return None, kept
+
+
+def numbers_of(deliveries):
+    """The numbers that are decided of these deliveries."""
+    return {json.loads(text)["number"] for _, text in deliveries}
+
+
+def count_kept(file, room):
+    """How many requests sqlite3 finds in what a kill left."""
+    if not os.path.exists(file):
+        return 0
+    os.mkdir(f"{room}/left")
+    for end in ("", "-wal"):
+        if os.path.exists(f"{file}{end}"):
+            shutil.copyfile(f"{file}{end}", f"{room}/left/rings.db{end}")
+    # opening makes the tables where the kill came before they were there
+    run("table", f"{room}/left/rings.db", "object")
+    return len(rows_of(f"{room}/left/rings.db").get("request", []))
+
+
+def chosen_of(calls, most):
+    """The points at which a run is killed: before and after each call, or an even choice of these."""
+    counts = {name: calls.count(name) for name in sorted(set(calls))}
+    print(f"        {len(calls)} calls: " + ", ".join(f"{count} {name}" for name, count in counts.items()))
+    points = [(place, is_before) for place in range(len(calls)) for is_before in (True, False)]
+    return points if len(points) <= most else [points[at * len(points) // most] for at in range(most)]
+
+
+def killed_at_each(checks, calls, chosen, look, tasks):
+    """Kills a run at each of the points, several side by side, and shows what became of them."""
+    wrong, found = 0, set()
+    with ProcessPoolExecutor(max(2, os.cpu_count() or 1)) as workers:
+        for point, (why, seen) in zip(chosen, workers.map(look, tasks)):
+            found.add(seen)
+            if why:
+                wrong += 1
+                when = "before" if point[1] else "after"
+                checks.show(f"killed {when} call {point[0]}, {calls[point[0]]}", False, why)
+    even = "" if len(chosen) == 2 * len(calls) else f", an even choice of {2 * len(calls)}"
+    checks.show(f"{len(chosen)} kills{even}, before and after each call: {wrong} went wrong", not wrong)
+    return found
+
+
+def kills(checks, is_older, most):
+    """SIGKILL at each call of a run that reaches the disk."""
+    sent = SENT[is_older]
+    with scratch() as room:
+        file, answers = f"{room}/rings.db", f"{room}/answers"
+        if is_older:
+            make_older(file)
+            make_older(f"{room}/plain.db")
+        calls = traced(["run", "--file", file], answers, sent)
+        want, whole = Path(answers).read_bytes(), state(file)
+        plain = run("run", "--file", f"{room}/plain.db", given=lines(*sent))
+    if not checks.show("a run that is traced ends well", calls is not None and want.count(b"\n") == len(sent), want):
+        return
+    checks.same("and answers as one that is not", plain, (0, want, b""))
+    moved = [line for line in want.splitlines() if b'"changed":' in line and b'"changed":0' not in line]
+    checks.show(f"{len(sent)} deliveries, {len(moved)} rebalances that move seats", len(moved) >= 2, want)
+    chosen = chosen_of(calls, most)
+    kept = killed_at_each(checks, calls, chosen, killed, [(is_older, point, want, whole) for point in chosen])
+    print(f"        what was kept at a kill: {min(kept)} to {max(kept)} requests")
+
+
+def new_file(checks):
+    """A run over a new file."""
+    kills(checks, False, MOST)
+
+
+def older_file(checks):
+    """A run over a file of the older schema, which is migrated."""
+    kills(checks, True, MOST // 2)
+
+
+def killed_renewal(task):
+    """Kills one `renew`, and looks at what is left of both files: why it is wrong, or nothing, and what NEW is."""
+    stop, before, after = task
+    with scratch() as room:
+        file, new = f"{room}/rings.db", f"{room}/new.db"
+        run("run", "--file", file, given=lines(*MANY))
+        traced(["renew", file, new], f"{room}/answers", [], stop)
+        if rows_of(file) != before:
+            return "the old file has other rows", "?"
+        left = rows_of(new) if os.path.exists(new) else {}
+        if left and left != after:
+            return f"the new file is a store, and has not all of it: {left}", "part"
+        for end in ("", "-wal"):
+            if os.path.exists(f"{new}{end}"):
+                os.remove(f"{new}{end}")
+        if run("renew", file, new) != (0, b"", b"") or rows_of(new) != after:
+            return "begun again, it does not make the same", "?"
+        return None, "whole" if left else "nothing"
+
+
+def renewal(checks):
+    """A file that is renewed: the new one is whole or nothing, and the old one as it was."""
+    if not has("renew"):
+        return checks.skip("renew", "the program has none")
+    with scratch() as room:
+        file, new = f"{room}/rings.db", f"{room}/new.db"
+        run("run", "--file", file, given=lines(*MANY))
+        before = rows_of(file)
+        calls = traced(["renew", file, new], f"{room}/answers", [])
+        after = rows_of(new)
+    if not checks.show("a renewal that is traced ends well", calls is not None and after.get("ring") == before["ring"], after):
+        return
+    chosen = chosen_of(calls, MOST // 4)
+    found = killed_at_each(checks, calls, chosen, killed_renewal, [(point, before, after) for point in chosen])
+    print(f"        what the new file was at a kill: {', '.join(sorted(found))}")
+
+
+MOST = int(sys.argv[1]) if len(sys.argv) > 1 else 400
+
+
+def main():
+    checks = Checks("kills.py", 600)
+    if MACHINE not in CALLS or sys.platform != "linux":
+        checks.skip("kills", f"no numbers of system calls for {sys.platform} on {MACHINE}")
+        print("0 passed, 0 failed")
+        return 0
+    return checks.run(new_file, older_file, renewal)
+
+
+if __name__ == "__main__":
+    sys.exit(main())

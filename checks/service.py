@@ -1,0 +1,554 @@
+#!/usr/bin/env python3
+"""The service over real connections: checks/service.py [--long]
+
+Starts the built program as `serve` on free ports and talks to it by curl, by Python's http.client and by plain sockets:
+each route, requests that are refused, repeats after a kill, clients that are silent, stop midway, read nothing or
+break off. What is slow goes side by side, so it takes under a minute; --long sends more random requests.
+"""
+import hashlib
+import http.client
+import json
+import os
+import random
+import shutil
+import signal
+import socket
+import struct
+import subprocess
+import sys
+import threading
+import time
+from concurrent.futures import ThreadPoolExecutor
+from pathlib import Path
+
+import common
+from common import FIRST, FIRST_BALANCE, FIRST_DEVICES, FIRST_REPLIES, TINY, TINY_TEXT
+from common import has  # noqa: E402
+from common import Checks, add, compact, fault, free_port, is_listening, lines, message, run, scratch, wait_until
+
+HEAD = "Host: a\r\n"
+CREATE = '{"caller":"ops","do":"create","min_hours":24,"number":1,"power":2,"replicas":1,"ring":"object"}'
+
+
+class Server:
+    """`serve` over a file, on a port of its own."""
+
+    def __init__(self, file, count=65535, hour=0, port=None):
+        self.port = port or free_port()
+        words = [*common.program(), "serve", file, str(self.port), str(count), "--hour", str(hour)]
+        self.process = subprocess.Popen(words, stdout=subprocess.PIPE, stderr=subprocess.PIPE)
+        self.is_up = wait_until(lambda: is_listening(self.port) or self.process.poll() is not None, 30)
+
+    def stop(self, number=signal.SIGKILL):
+        """Stops it by a signal, and answers its status."""
+        self.process.send_signal(number)
+        self.process.communicate(timeout=20)
+        return self.process.returncode
+
+    def __enter__(self):
+        return self
+
+    def __exit__(self, *_):
+        if self.process.poll() is None:
+            self.process.kill()
+        self.process.communicate()
+
+    def connect(self, seconds=30):
+        return socket.create_connection(("127.0.0.1", self.port), timeout=seconds)
+
+    def ask(self, method, target, body=None, seconds=30):
+        """The status and the body of one request on a connection of its own."""
+        connection = http.client.HTTPConnection("127.0.0.1", self.port, timeout=seconds)
+        try:
+            connection.request(method, target, body=body)
+            answer = connection.getresponse()
+            return answer.status, answer.read()
+        finally:
+            connection.close()
+
+    def post(self, text, seconds=30):
+        return self.ask("POST", "/v1/requests", text.encode(), seconds)
+
+    def raw(self, given, seconds=30):
+        """Sends bytes, ends the sending side, and answers all that comes back."""
+        with self.connect(seconds) as one:
+            one.sendall(given)
+            one.shutdown(socket.SHUT_WR)
+            return read_all(one)
+
+    def memory(self):
+        """How much memory it has, in kB."""
+        for line in Path(f"/proc/{self.process.pid}/status").read_text().splitlines():
+            if line.startswith("VmRSS:"):
+                return int(line.split()[1])
+        return 0
+
+
+def read_all(one):
+    told = b""
+    while True:
+        try:
+            more = one.recv(65536)
+        except ConnectionResetError:
+            return told
+        if not more:
+            return told
+        told += more
+
+
+def answer(status, phrase, body, kind="application/json", more=""):
+    """The bytes of an answer."""
+    body = body if isinstance(body, bytes) else body.encode()
+    head = f"HTTP/1.1 {status} {phrase}\r\nContent-Type: {kind}\r\nContent-Length: {len(body)}\r\n{more}\r\n"
+    return head.encode() + body
+
+
+def request(method, target, body=None, fields=HEAD, version="HTTP/1.1"):
+    """The bytes of a request."""
+    length = "" if body is None else f"Content-Length: {len(body)}\r\n"
+    return f"{method} {target} {version}\r\n{fields}{length}\r\n{body or ''}".encode()
+
+
+LAST = "Connection: close\r\n"
+
+
+def refused(status, phrase, name):
+    """The answer to a head that is refused, which is the last."""
+    return answer(status, phrase, f'{{"fault":"{name}","status":{status}}}', more=LAST)
+
+
+def ruled(status, phrase, kind, name, rule):
+    """The answer that tells a fault or a refusal by its number."""
+    return answer(status, phrase, f'{{"{kind}":"{name}","rule":{rule}}}')
+
+
+def routes(checks):
+    """Each route and its answer, byte for byte."""
+    with scratch() as room:
+        file = f"{room}/rings.db"
+        run("run", "--file", file, given=lines(*FIRST, *((hour, text.replace('"ops"', '"two"')) for hour, text in TINY)))
+        with Server(file) as server:
+            if not checks.show("serve listens", server.is_up and server.process.poll() is None, server.process.poll()):
+                return
+            partition = hashlib.md5(b"/a").digest()[0] >> 7
+            for what, given, want in [
+                ("the device table", request("GET", "/v1/rings/object/devices"), answer(200, "OK", FIRST_DEVICES, "text/plain")),
+                ("the balance table", request("GET", "/v1/rings/object/balance"), answer(200, "OK", FIRST_BALANCE, "text/plain")),
+                ("the nodes of a path", request("GET", "/v1/rings/tiny/nodes?account=a"), answer(200, "OK", common.tiny_nodes(partition))),
+                ("a published text", request("GET", "/v1/rings/tiny/text/2"), answer(200, "OK", TINY_TEXT, "text/plain")),
+                ("a repeat", request("POST", "/v1/requests", CREATE), answer(200, "OK", FIRST_REPLIES[0])),
+                ("the number with another command", request("POST", "/v1/requests", CREATE.replace("24", "25")),
+                 ruled(409, "Conflict", "fault", "NumberReused", 21)),
+                ("a refusal", request("POST", "/v1/requests", message(40, "create", power=1, replicas=1, min_hours=0)),
+                 ruled(422, "Unprocessable Entity", "refused", "RingExists", 2)),
+                ("no message", request("POST", "/v1/requests", "{}"), ruled(400, "Bad Request", "fault", "Unreadable", 20)),
+                ("no ring of this name", request("GET", "/v1/rings/none/devices"), ruled(422, "Unprocessable Entity", "refused", "NoRing", 1)),
+                ("no such version", request("GET", "/v1/rings/tiny/text/1"), ruled(422, "Unprocessable Entity", "refused", "NoVersion", 32)),
+                ("a version of another spelling", request("GET", "/v1/rings/tiny/text/02"), ruled(400, "Bad Request", "fault", "Unreadable", 20)),
+                ("a path that is none", request("GET", "/v1/rings/none/nodes?account=a&object=o"), ruled(400, "Bad Request", "refused", "BadPath", 30)),
+                ("an account with a slash", request("GET", "/v1/rings/tiny/nodes?account=a%2Fb"), ruled(400, "Bad Request", "refused", "BadPath", 30)),
+                ("two accounts", request("GET", "/v1/rings/tiny/nodes?account=a&account=a"), ruled(400, "Bad Request", "refused", "BadPath", 30)),
+                ("no route", request("GET", "/v2"), answer(404, "Not Found", '{"fault":"NoRoute","status":404}')),
+                ("a percent sign in a route", request("GET", "/v1/rings/%74iny/devices"), ruled(400, "Bad Request", "fault", "Unreadable", 20)),
+                ("a route by the other method", request("GET", "/v1/requests"),
+                 answer(405, "Method Not Allowed", '{"fault":"WrongMethod","status":405}', more="Allow: POST\r\n")),
+                ("a table by POST", request("POST", "/v1/rings/tiny/devices", ""),
+                 answer(405, "Method Not Allowed", '{"fault":"WrongMethod","status":405}', more="Allow: GET\r\n")),
+            ]:
+                checks.same(what, server.raw(given), want)
+            table = "region,zone,address,port,name,weight\n1,1,10.0.0.9,6200,d9,10.00\n1,1,10.0.0.9,6200,d9,20.00\n"
+            done = answer(200, "OK", '{"added":1,"done":"import","reweighted":1,"version":4}')
+            checks.same("an import", server.raw(request("POST", "/v1/import/object?caller=ops&number=5", table)), done)
+            rows = [[1, 1, "10.0.0.9", 6200, "d9", "10.00"], [1, 1, "10.0.0.9", 6200, "d9", "20.00"]]
+            checks.same("the same as a message gets the same reply", server.raw(request("POST", "/v1/requests", message(5, "import", rows=rows))), done)
+            bad = server.raw(request("POST", "/v1/import/object?caller=ops&number=6", table.replace("10.0.0.9", "10.0.0.256")))
+            checks.same("an import with a bad field", bad, answer(400, "Bad Request", '{"column":3,"fault":"BadField","row":1,"rule":42}'))
+            two = request("GET", "/v1/rings/tiny/text/2") + request("POST", "/v1/requests", CREATE)
+            want = answer(200, "OK", TINY_TEXT, "text/plain") + answer(200, "OK", FIRST_REPLIES[0])
+            checks.same("two requests in one write", server.raw(two), want)
+            closing = request("GET", "/v1/rings/tiny/text/2", fields=HEAD + LAST)
+            checks.same("nothing is answered behind the last one", server.raw(closing + two), answer(200, "OK", TINY_TEXT, "text/plain", LAST))
+
+
+def refusals(checks):
+    """Heads that are refused, and bodies that end too early."""
+    length = f"Content-Length: {len(CREATE)}\r\n"
+    with scratch() as room, Server(f"{room}/rings.db") as server:
+        bad_head = refused(400, "Bad Request", "BadHead")
+        for what, given, want in [
+            ("two Host fields", request("POST", "/v1/requests", CREATE, HEAD + HEAD), refused(400, "Bad Request", "BadHost")),
+            ("no Host field", request("POST", "/v1/requests", CREATE, ""), refused(400, "Bad Request", "BadHost")),
+            ("PUT", request("PUT", "/v1/requests", CREATE), b"HTTP/1.1 501 Not Implemented\r\nContent-Length: 0\r\nConnection: close\r\n\r\n"),
+            ("HEAD", request("HEAD", "/v2"), b"HTTP/1.1 501 Not Implemented\r\nContent-Length: 0\r\nConnection: close\r\n\r\n"),
+            ("HTTP/1.0", request("GET", "/v2", version="HTTP/1.0"), refused(505, "HTTP Version Not Supported", "WrongVersion")),
+            ("Transfer-Encoding", request("POST", "/v1/requests", CREATE, HEAD + "Transfer-Encoding: chunked\r\n"),
+             refused(501, "Not Implemented", "NoTransferCoding")),
+            ("two lengths", request("POST", "/v1/requests", CREATE, HEAD + length), refused(400, "Bad Request", "BadLength")),
+            ("a length of 11 digits", request("POST", "/v1/requests", None, HEAD + "Content-Length: 12345678901\r\n"),
+             refused(400, "Bad Request", "BadLength")),
+            ("a length of 65537", request("POST", "/v1/requests", None, HEAD + "Content-Length: 65537\r\n"),
+             refused(413, "Payload Too Large", "TooLarge")),
+            ("no length", request("POST", "/v1/requests"), refused(411, "Length Required", "LengthRequired")),
+            ("8192 bytes of head without an end", b"GET /v2 HTTP/1.1\r\nHost: a\r\nX: ".ljust(8192, b"x"), bad_head),
+            ("33 fields", request("GET", "/v2", fields=HEAD + "X: y\r\n" * 32), bad_head),
+            ("no head", b"hello\r\n\r\n", bad_head),
+            ("a body that ends too early", request("POST", "/v1/requests", CREATE)[:-1], b""),
+            ("a head that ends too early", request("POST", "/v1/requests", CREATE)[:60], b""),
+            ("no byte", b"", b""),
+        ]:
+            checks.same(what, server.raw(given), want)
+        checks.same("none of them was decided", server.ask("GET", "/v1/rings/object/devices")[0], 422)
+        padded = request("POST", "/v1/requests", None, HEAD + f"Content-Length: 00000000{len(CREATE)}\r\n") + CREATE.encode()
+        checks.same("a length with zeros before it", server.raw(padded), answer(200, "OK", FIRST_REPLIES[0]))
+        body = CREATE.ljust(65536)
+        checks.same("a body of 65536 bytes", server.raw(request("POST", "/v1/requests", body)), answer(200, "OK", FIRST_REPLIES[0]))
+
+
+def curl(*words):
+    """What curl prints, and its status."""
+    done = subprocess.run(["curl", "-s", "--max-time", "20", *words], capture_output=True, timeout=30)
+    return done.returncode, done.stdout
+
+
+def by_curl(checks):
+    """curl as people use it."""
+    if not shutil.which("curl"):
+        checks.skip("curl", "it is not there")
+        return
+    with scratch() as room, Server(f"{room}/rings.db") as server:
+        at = f"http://127.0.0.1:{server.port}"
+        for (_, text), reply in zip(FIRST, FIRST_REPLIES):
+            checks.same(f"curl -d, {json.loads(text)['do']}", curl("-d", text, f"{at}/v1/requests"), (0, reply.encode()))
+        checks.same("the table", curl(f"{at}/v1/rings/object/balance"), (0, FIRST_BALANCE))
+        both = curl(f"{at}/v1/rings/object/balance", f"{at}/v1/rings/object/devices")
+        checks.same("two URLs on one connection", both, (0, FIRST_BALANCE + FIRST_DEVICES))
+        many = compact([[1, 1, f"10.0.{place // 200}.{place % 200}", 6200, f"m{place}", "1.00"] for place in range(250)])
+        big = message(5, "import", rows=json.loads(many))
+        Path(f"{room}/big.json").write_text(big)
+        done = b'{"added":250,"done":"import","reweighted":0,"version":4}'
+        checks.same("Expect: 100-continue", curl("-H", "Expect: 100-continue", "--data-binary", f"@{room}/big.json", f"{at}/v1/requests"), (0, done))
+        status = ["-o", "/dev/null", "-w", "%{http_code}"]
+        chunked = curl(*status, "-H", "Transfer-Encoding: chunked", "-d", FIRST[0][1], f"{at}/v1/requests")
+        checks.same("a body by chunks is refused", chunked, (0, b"501"))
+        checks.same("--http1.0 is refused", curl(*status, "--http1.0", f"{at}/v1/rings/object/balance"), (0, b"505"))
+        checks.same("-I is refused", curl(*status, "-I", f"{at}/v2"), (0, b"501"))
+        Path(f"{room}/rows.csv").write_text("region,zone,address,port,name,weight\n1,1,10.0.0.1,6200,d0,50.00\n")
+        told = curl("--data-binary", f"@{room}/rows.csv", f"{at}/v1/import/object?caller=ops&number=6")
+        checks.same("a CSV file", told, (0, b'{"added":0,"done":"import","reweighted":1,"version":5}'))
+
+
+def by_http_client(checks):
+    """Python's http.client, on one connection and on several, one behind the other."""
+    with scratch() as room, Server(f"{room}/rings.db", count=4) as server:
+        connection = http.client.HTTPConnection("127.0.0.1", server.port, timeout=20)
+        told = []
+        for _, text in FIRST:
+            connection.request("POST", "/v1/requests", body=text)
+            told.append(connection.getresponse().read().decode())
+        checks.same("four requests on one connection", told, FIRST_REPLIES)
+        connection.close()
+        checks.same("a repeat on a second connection", server.post(FIRST[3][1]), (200, FIRST_REPLIES[3].encode()))
+        checks.same("a read on a third", server.ask("GET", "/v1/rings/object/balance"), (200, FIRST_BALANCE))
+        checks.same("a read on a fourth", server.ask("GET", "/v1/rings/object/devices"), (200, FIRST_DEVICES))
+        rest = server.process.communicate(timeout=20)
+        checks.same("after COUNT connections it ends, with status 0", (server.process.returncode, *rest), (0, b"", b""))
+
+
+def words(checks):
+    """Words of serve and loop, and what they cannot have."""
+    with scratch() as room:
+        file, given = f"{room}/rings.db", f"{room}/input"
+        checks.same("serve with COUNT 0", run("serve", file, free_port(), 0), (0, b"", b""))
+        with socket.socket() as taken:
+            taken.bind(("127.0.0.1", 0))
+            taken.listen()
+            checks.same("a port that is taken", run("serve", file, taken.getsockname()[1], 0), fault("NetFailed", 28))
+        for bad in (["0", "1"], ["65536", "1"], ["6200", "65536"], ["+80", "1"], ["6200", "1", "--hour", "x"]):
+            status, told, errors = run("serve", file, *bad)
+            checks.show(f"serve FILE {' '.join(bad)} ends with status 2", status == 2 and not told and errors, (status, told, errors))
+        checks.same("loop without INPUT", run("loop", file, f"{room}/none"), fault("NoFile", 27))
+        Path(given).write_bytes(b"x" * 32769)
+        checks.same("an INPUT of 32769 bytes", run("loop", file, given), fault("TooLong", 29))
+        stream = request("POST", "/v1/requests", CREATE) * 2 + request("GET", "/v1/rings/object/devices") + request("GET", "/v2", fields=HEAD + LAST)
+        Path(given).write_bytes(stream)
+        os.remove(file) if os.path.exists(file) else None
+        with Server(f"{room}/served.db") as server:
+            served = server.raw(stream)
+        checks.same("loop prints what serve answers", run("loop", file, given, "--hour", "0"), (0, served, b""))
+        checks.show("these are four answers", served.count(b"HTTP/1.1 ") == 4, served)
+        Path(given).write_bytes(request("GET", "/v1/rings/object/devices"))
+        told = run("loop", file, given)
+        checks.show("a second loop finds the ring", told[0] == 0 and told[1].startswith(b"HTTP/1.1 200 OK"), told)
+        Path(given).write_bytes(b"")
+        checks.same("an empty INPUT", run("loop", file, given), (0, b"", b""))
+
+
+def stopped_and_started(checks):
+    """SIGKILL and SIGTERM between requests: what was answered is kept."""
+    with scratch() as room:
+        file = f"{room}/rings.db"
+        with Server(file) as server:
+            for _, text in FIRST[:3]:
+                server.post(text)
+            checks.same("stopped by SIGKILL", server.stop(), -signal.SIGKILL)
+        with Server(file) as server:
+            checks.same("started again, a repeat gets its kept reply", server.post(FIRST[2][1]), (200, FIRST_REPLIES[2].encode()))
+            checks.same("and the next request goes on", server.post(FIRST[3][1]), (200, FIRST_REPLIES[3].encode()))
+            status = server.stop(signal.SIGTERM)
+            checks.show(f"stopped by SIGTERM (status {status})", status in (0, -signal.SIGTERM), status)
+        with Server(file) as server:
+            checks.same("started again, the repeat", server.post(FIRST[3][1]), (200, FIRST_REPLIES[3].encode()))
+            checks.same("and the table", server.ask("GET", "/v1/rings/object/balance"), (200, FIRST_BALANCE))
+
+
+def under_load(checks):
+    """Killed again and again while a client sends numbered requests: each acts once."""
+    draw, kills, count = random.Random(7), 0, 600
+    with scratch() as room:
+        file = f"{room}/rings.db"
+        server = Server(file)
+        server.post(CREATE)
+        done, replies, until = threading.Event(), {}, time.monotonic() + 25
+
+        def send():
+            for number in range(2, count + 2):
+                while not done.is_set() and time.monotonic() < until:
+                    try:
+                        replies[number] = server.post(message(number, "set_hours", min_hours=number), 3)
+                        break
+                    except (OSError, http.client.HTTPException):
+                        time.sleep(0.01)
+            done.set()
+
+        client = threading.Thread(target=send)
+        client.start()
+        while not done.wait(draw.uniform(0.02, 0.2)) and time.monotonic() < until:
+            server.stop(draw.choice([signal.SIGKILL, signal.SIGTERM]))
+            kills += 1
+            server = Server(file, port=server.port)
+        done.wait(5)
+        client.join()
+        numbers = range(2, max(replies, default=2) + 1)
+        want = {number: (200, compact({"done": "set_hours", "version": number - 1}).encode()) for number in numbers}
+        is_once = replies == want and len(replies) >= 20
+        checks.show(f"{len(replies)} requests under {kills} kills: the reply to each says that it acted once, in order",
+                    is_once, [it for it in replies.items() if it[1] != want[it[0]]][:3])
+        again = {number: server.post(message(number, "set_hours", min_hours=number)) for number in numbers}
+        checks.show("each repeat gets the same reply", again == want, [it for it in again.items() if it[1] != want[it[0]]][:3])
+        server.stop()
+
+
+def silent(checks):
+    """A client that sends nothing holds the others about 1 second."""
+    with scratch() as room, Server(f"{room}/rings.db") as server, server.connect():
+        time.sleep(0.05)
+        begun = time.monotonic()
+        told = server.post(CREATE)
+        took = time.monotonic() - begun
+        checks.same("the other is answered", told, (200, FIRST_REPLIES[0].encode()))
+        checks.show(f"after {took:.1f} seconds", 0.5 < took < 3, took)
+        with server.connect() as one:
+            one.sendall(request("GET", "/v2"))
+            first = one.recv(4096)
+            begun = time.monotonic()
+            told = server.ask("GET", "/v2")[0]
+            took = time.monotonic() - begun
+        is_soon = told == 404 and first and 0.5 < took < 3
+        checks.show(f"one that is silent after a request: the other is answered after {took:.1f} seconds", is_soon, took)
+
+
+def halfway(checks):
+    """A client that stops within a request holds the others about 10 seconds, and decides nothing."""
+    whole = request("POST", "/v1/requests", CREATE)
+    for what, part in [("within a head", whole[:30]), ("within a body", whole[:-5])]:
+        with scratch() as room, Server(f"{room}/rings.db") as server, server.connect() as one:
+            one.sendall(part)
+            time.sleep(0.05)
+            begun = time.monotonic()
+            told = server.ask("GET", "/v1/rings/object/devices")[0]
+            took = time.monotonic() - begun
+            checks.show(f"one that stops {what}: the other is answered after {took:.1f} seconds", told == 422 and 5 < took < 14, (told, took))
+
+
+def drop_by_drop(checks):
+    """A client that sends a byte a second holds the others about 10 seconds in all."""
+    with scratch() as room, Server(f"{room}/rings.db") as server, server.connect() as one:
+        stop = threading.Event()
+
+        def drip():
+            for byte in request("POST", "/v1/requests", CREATE):
+                try:
+                    one.sendall(bytes([byte]))
+                except OSError:
+                    return
+                if stop.wait(0.9):
+                    return
+
+        dripping = threading.Thread(target=drip)
+        dripping.start()
+        time.sleep(0.05)
+        begun = time.monotonic()
+        told = server.ask("GET", "/v2", seconds=45)[0]
+        took = time.monotonic() - begun
+        stop.set()
+        dripping.join()
+        checks.show(f"the other is answered after {took:.1f} seconds", told == 404 and took < 14, (told, took))
+
+
+def never_reads(checks):
+    """A client that does not read its answers holds the others about 10 seconds."""
+    with scratch() as room:
+        file = f"{room}/rings.db"
+        run("run", "--file", file, given=lines(*FIRST))
+        with Server(file) as server, server.connect() as one:
+            one.setsockopt(socket.SOL_SOCKET, socket.SO_RCVBUF, 4096)
+            one.settimeout(0.2)
+            asked, sent = request("GET", "/v1/rings/object/devices") * 2000, 0
+            begun = time.monotonic()
+            try:
+                while sent < 200 * len(asked) and time.monotonic() - begun < 3:
+                    sent += one.send(asked)
+            except OSError:
+                pass
+            told = server.ask("GET", "/v2", seconds=45)[0]
+            took = time.monotonic() - begun
+            checks.show(f"the other is answered after {took:.1f} seconds", told == 404 and took < 18, (told, took, sent))
+
+
+def broken_off(checks):
+    """Clients that reset their connection."""
+    whole = request("POST", "/v1/requests", CREATE)
+    with scratch() as room, Server(f"{room}/rings.db") as server:
+        for part in (b"", whole[:10], whole[:-1], whole, whole * 3):
+            one = server.connect()
+            one.setsockopt(socket.SOL_SOCKET, socket.SO_LINGER, struct.pack("ii", 1, 0))
+            if part:
+                one.sendall(part)
+            one.close()
+        told = server.post(CREATE)
+        checks.same("the service goes on, and the request acted once", told, (200, FIRST_REPLIES[0].encode()))
+        checks.show("it has not ended", server.process.poll() is None)
+
+
+def at_once(checks):
+    """32 clients at once, each answered."""
+    with scratch() as room, Server(f"{room}/rings.db") as server:
+        server.post(CREATE)
+        gate, told = threading.Barrier(32), {}
+
+        def one(place):
+            gate.wait()
+            told[place] = server.post(add(1, place).replace('"ops"', f'"c{place}"'), 50)
+
+        clients = [threading.Thread(target=one, args=(place,)) for place in range(32)]
+        begun = time.monotonic()
+        for client in clients:
+            client.start()
+        for client in clients:
+            client.join()
+        took = time.monotonic() - begun
+        ids = sorted(json.loads(body)["id"] for status, body in told.values() if status == 200)
+        checks.show(f"32 clients were answered in {took:.1f} seconds, each device once", ids == list(range(32)), told)
+
+
+def thousand_connections(checks):
+    """1,000 connections, one after another; memory stays flat."""
+    with scratch() as room, Server(f"{room}/rings.db") as server:
+        server.post(CREATE)
+        for _ in range(50):
+            server.ask("GET", "/v1/rings/object/devices")
+        before = server.memory()
+        statuses = {server.ask("GET", "/v1/rings/object/devices")[0] for _ in range(1000)}
+        after = server.memory()
+        checks.same("each was answered", statuses, {200})
+        checks.show(f"memory before {before} kB, after {after} kB", after <= before + 512, (before, after))
+
+
+def mutated(draw):
+    """A request that is changed at random, or random bytes."""
+    whole = bytearray(request("POST", "/v1/requests", message(draw.randrange(2, 9), "set_hours", min_hours=draw.randrange(9)))
+                      if draw.random() < 0.6 else request("GET", "/v1/rings/object/balance"))
+    for _ in range(draw.choice([0, 1, 1, 2, 5])):
+        kind, at = draw.randrange(4), draw.randrange(len(whole))
+        if kind == 0:
+            whole[at] = draw.randrange(256)
+        elif kind == 1:
+            del whole[at:at + draw.randrange(1, 9)]
+        elif kind == 2:
+            whole[at:at] = bytes(draw.randrange(256) for _ in range(draw.randrange(1, 9)))
+        else:
+            whole = whole[:at + 1]
+        if not whole:
+            whole = bytearray(b"\0")
+    return bytes(whole)
+
+
+KNOWN = {200, 400, 404, 405, 409, 411, 413, 422, 501, 505}
+
+
+def random_requests(checks):
+    """Random and changed requests: no wrong answer, and no ring changes without a number."""
+    draw, count = random.Random(11), 100000 if "--long" in sys.argv else 3000
+    with scratch() as room, Server(f"{room}/rings.db") as server:
+        server.post(CREATE)
+        strange, replies = [], {}
+        for _ in range(count // 10):
+            for part in server.raw(b"".join(mutated(draw) for _ in range(10))).split(b"HTTP/1.1 ")[1:]:
+                head, _, body = part.partition(b"\r\n\r\n")
+                if int(head[:3]) not in KNOWN or f"Content-Length: {len(body)}".encode() not in head:
+                    strange.append(part)
+                elif b'"done":"set_hours"' in body:
+                    replies[json.loads(body)["version"]] = replies.get(json.loads(body)["version"], 0) + 1
+        checks.show(f"{count} requests on {count // 10} connections: each answer is whole and known", not strange, strange[:3])
+        version = int(server.ask("GET", "/v1/rings/object/balance")[1].split()[-1])
+        is_once = sorted(replies) == list(range(1, version + 1))
+        checks.show(f"the version went up to {version}, once for each number that was decided", is_once, (version, replies))
+
+
+SLOW = [silent, halfway, drop_by_drop, never_reads, at_once, under_load]
+
+
+def slow_ones(checks):
+    """Clients that are slow, silent or many, side by side."""
+    def alone(part):
+        own = Quiet()
+        try:
+            part(own)
+        except Exception as error:
+            own.show(part.__name__, False, repr(error))
+        return part, own.seen
+
+    with ThreadPoolExecutor(len(SLOW)) as workers:
+        for part, seen in workers.map(alone, SLOW):
+            print(f"== {part.__doc__.splitlines()[0]}")
+            for what, held, told in seen:
+                checks.show(what, held, told)
+
+
+class Quiet:
+    """Keeps what was shown, to be told later."""
+
+    def __init__(self):
+        self.seen = []
+
+    def show(self, what, held, told=""):
+        self.seen.append((what, held, told))
+        return bool(held)
+
+    def same(self, what, got, want):
+        return self.show(what, got == want, f"\n    got  {common.shown(got)}\n    want {common.shown(want)}")
+
+
+def main():
+    checks = Checks("service.py", 1800 if "--long" in sys.argv else 120)
+    if not has("serve"):
+        checks.skip("the service", "the program has no serve")
+        print("0 passed, 0 failed")
+        return 0
+    return checks.run(
+        words, routes, refusals, by_curl, by_http_client, stopped_and_started, broken_off, thousand_connections,
+        random_requests, slow_ones)
+
+
+if __name__ == "__main__":
+    sys.exit(main())

@@ -1,0 +1,477 @@
+#!/usr/bin/env python3
+"""The store in real files: checks/store.py
+
+Runs the built program over files: requests that are repeated by a second run, files that cannot be opened, writes that
+fail at many sizes, stores that are none, a store of the older schema, and what Python's sqlite3 reads of a closed file.
+Nothing but Python's standard library is used. It takes some ten seconds.
+"""
+import hashlib
+import os
+import resource
+import shutil
+import signal
+import sqlite3
+import subprocess
+import sys
+from pathlib import Path
+
+import common
+from common import FIRST, FIRST_ANSWERS, FIRST_BALANCE, FIRST_DEVICES, FIRST_REPLIES, MANY, NOBODY, TINY, TINY_TEXT
+from common import has  # noqa: E402
+from common import Checks, fault, files_of, lines, message, run, rows_of, scratch
+from tables import OLDER, OLDER_REPLIES, TABLES, canonical, make_older
+
+
+def declared(open_file, name):
+    """What a database says of a table: columns, key, what else is unique, what refers to which rows, and strictness."""
+    info = list(open_file.execute(f"PRAGMA table_info('{name}')"))
+    columns = ", ".join(f"{column[1]} {column[2]}" for column in info)
+    key = [column[1] for column in sorted(info, key=lambda it: it[5]) if column[5]]
+    uniques = []
+    for index in open_file.execute(f"PRAGMA index_list('{name}')"):
+        if index[2] and index[3] == "u":
+            uniques.append([row[2] for row in open_file.execute(f"PRAGMA index_info('{index[1]}')")])
+    found = {}
+    for row in open_file.execute(f"PRAGMA foreign_key_list('{name}')"):
+        found.setdefault((row[0], row[2]), []).append((row[3], row[4]))
+    references = [(table, pairs) for (_, table), pairs in found.items()]
+    strict = [row[5] for row in open_file.execute("PRAGMA table_list") if row[1] == name]
+    has_null = any(not column[3] for column in info)
+    return (columns, key, uniques, references), strict == [1] and not has_null
+
+
+def open_copy(file, room):
+    """A copy of a closed store, opened by sqlite3."""
+    for end in ("", "-wal"):
+        if os.path.exists(f"{file}{end}"):
+            shutil.copyfile(f"{file}{end}", f"{room}/read{end}")
+    return sqlite3.connect(f"{room}/read")
+
+
+def first_run(checks):
+    """A run over a file, a second one that repeats, and the programs that read the file."""
+    with scratch() as room:
+        file = f"{room}/rings.db"
+        checks.same("four requests over a new file", run("run", "--file", file, given=lines(*FIRST)), (0, FIRST_ANSWERS, b""))
+        again = run("run", "--file", file, given=lines((9, message(4, "rebalance", seed=7))))
+        last = FIRST_ANSWERS.splitlines(keepends=True)[-1]
+        checks.same("a repeat in a second run gets the reply of the first", again, (0, last, b""))
+        other = run("run", "--file", file, given=lines((9, message(4, "rebalance", seed=8))))
+        reused = b'409 {"fault":"NumberReused","rule":21}\n'
+        checks.same("the number with another command in a third run", other, (0, reused, b""))
+        checks.same("table", run("table", file, "object"), (0, FIRST_DEVICES + FIRST_BALANCE, b""))
+        asked = run("run", "--file", file, given=lines("? balance object", "? devices object"))
+        checks.same("questions over the file", asked, (0, FIRST_BALANCE + FIRST_DEVICES, b""))
+        checks.same("table of a ring that is not there", run("table", file, "other"), fault("NoRing", 1))
+        checks.same("table of no ring's name", run("table", file, "Other"), fault("Unreadable", 20))
+        run("run", "--file", file, given=lines((0, message(9, "create", ring="empty", power=1, replicas=1, min_hours=0))))
+        checks.same("nodes of a ring without seats", run("nodes", file, "empty", "a"), fault("NotAssigned", 10))
+        checks.same("nodes of no path", run("nodes", file, "object", "a", "--object", "o"), fault("BadPath", 30))
+        checks.same("export of a version that is not published", run("export", file, "object", "3"), fault("NoVersion", 32))
+        checks.same("export of no version", run("export", file, "object", "03"), fault("Unreadable", 20))
+
+
+def one_device(checks):
+    """Nodes and the published text of a ring that is known whole."""
+    with scratch() as room:
+        file = f"{room}/rings.db"
+        made = run("run", "--file", file, given=lines(*TINY))
+        checks.show("a ring of one device is made, assigned and published", made[0] == 0 and made[1].count(b"200 ") == 4, made)
+        checks.same("export", run("export", file, "tiny", "2"), (0, TINY_TEXT, b""))
+        for words, hashed in [
+            (["a"], b"/a"),
+            (["a", "--container", "c"], b"/a/c"),
+            (["a", "--container", "c", "--object", "o/o"], b"/a/c/o/o"),
+            (["a", "--prefix", "x", "--suffix", "y"], b"x/ay"),
+        ]:
+            want = common.tiny_nodes(hashlib.md5(hashed).digest()[0] >> 7) + b"\n"
+            checks.same(f"nodes of {' '.join(words)}", run("nodes", file, "tiny", *words), (0, want, b""))
+
+
+def csv_import(checks):
+    """A CSV file is imported once under its number."""
+    with scratch() as room:
+        file, table = f"{room}/rings.db", f"{room}/rows.csv"
+        run("run", "--file", file, given=lines(*FIRST))
+        head = "region,zone,address,port,name,weight\n"
+        Path(table).write_text(head + "1,1,10.0.0.1,6200,d0,50.00\n1,1,10.0.0.9,6200,d9,10.00\n1,2,10.0.0.2,6200,d1,100.00\n")
+        words = ["import", file, "object", "ops", "5", table]
+        refused = b'422 {"cause":12,"refused":"RowRefused","row":3,"rule":13}\n'
+        checks.same("a row that is refused", run(*words, "--hour", "1"), (1, refused, b""))
+        Path(table).write_text(head + "1,1,10.0.0.1,6200,d0,50.00\n1,1,10.0.0.9,6200,d9,10.00\n")
+        words[4] = "6"
+        done = b'200 {"added":1,"done":"import","reweighted":1,"version":4}\n'
+        checks.same("rows that are taken", run(*words, "--hour", "1"), (0, done, b""))
+        checks.same("the same file again", run(*words, "--hour", "2"), (0, done, b""))
+        Path(table).write_text(head + "1,1,10.0.0.256,6200,d0,50.00\n")
+        field = b'400 {"column":3,"fault":"BadField","row":1,"rule":42}\n'
+        checks.same("a field that is none", run("import", file, "object", "ops", "7", table), (1, field, b""))
+        Path(table).write_bytes(b"")
+        header = b'400 {"fault":"BadHeader","rule":40}\n'
+        checks.same("an empty file", run("import", file, "object", "ops", "7", table), (1, header, b""))
+        checks.same("no file", run("import", file, "object", "ops", "7", f"{room}/none"), fault("NoFile", 27))
+        Path(table).write_bytes(head.encode() + b"x" * 65536)
+        checks.same("a file of over 65536 bytes", run("import", file, "object", "ops", "7", table), fault("TooLong", 29))
+
+
+def renewal(checks):
+    """A new store with the rings of an old one, where numbers begin anew."""
+    if not has("renew"):
+        return checks.skip("renew", "the program has none")
+    with scratch() as room:
+        file, new = f"{room}/rings.db", f"{room}/new.db"
+        run("run", "--file", file, given=lines(*FIRST, (30, message(5, "set_hours", min_hours=9))))
+        before = rows_of(file)
+        checks.same("renew", run("renew", file, new), (0, b"", b""))
+        after, old = rows_of(new), rows_of(file)
+        checks.same("the old store has the rows that it had", old, before)
+        kept = {name: rows for name, rows in before.items() if name != "request"}
+        checks.same("the new one has its rings and its hour", {name: after[name] for name in kept}, kept)
+        checks.same("and no request", after["request"], [])
+        status, told, _ = run("run", "--file", new, given=lines((0, message(1, "set_hours", min_hours=3))))
+        checks.same("number 1 is new there", (status, told), (0, b'200 {"done":"set_hours","version":5}\n'))
+        held = files_of(new)
+        status, told, errors = run("renew", file, new)
+        is_named = status == 1 and not told and errors.startswith(b"ringd: ") and errors.count(b"\n") == 1
+        checks.show(f"a new file that is there already is refused ({errors.decode().strip()})", is_named, (status, told, errors))
+        checks.same("and stays as it was", files_of(new), held)
+        status, _, errors = run("renew", f"{room}/nothing.db", f"{room}/newer.db")
+        print(f"        renew of a file that is missing: status {status}, {errors.decode().strip() or 'no fault'}")
+
+
+def two_programs(checks):
+    """A file that another program holds."""
+    with scratch() as room:
+        file = f"{room}/rings.db"
+        words = [*common.program(), "run", "--file", file]
+        with subprocess.Popen(words, stdin=subprocess.PIPE, stdout=subprocess.PIPE) as holder:
+            holder.stdin.write(lines(FIRST[0]))
+            holder.stdin.flush()
+            checks.same("the first is answered", holder.stdout.readline(), b'200 {"done":"create","version":0}\n')
+            held = files_of(file)
+            for task in (["run", "--file", file], ["table", file, "object"], ["nodes", file, "object", "a"],
+                         ["export", file, "object", "1"], *([["serve", file, str(common.free_port()), "1"]] if has("serve") else [])):
+                told = run(*task, given=lines(*FIRST))
+                checks.same(f"a second one, {task[0]}, is refused", told, fault("StoreFault", 24))
+            checks.same("the file and its log are as they were", files_of(file), held)
+            rest, _ = holder.communicate(lines(*FIRST))
+        checks.same("the first goes on", (holder.returncode, rest), (0, FIRST_ANSWERS))
+        checks.same("and then the file is free", run("table", file, "object")[0], 0)
+
+
+MOST_NUMBERS = 100000
+
+
+def full_file(checks):
+    """A file that holds as many numbers as it may, all but one of them put there by sqlite3."""
+    with scratch() as room:
+        file, new = f"{room}/rings.db", f"{room}/new.db"
+        refused = message(5, "remove", id=60000)
+        run("run", "--file", file, given=lines(*FIRST, (0, refused)))
+        with open_copy(file, room) as read:
+            reply = read.execute("SELECT reply FROM request WHERE number = 5").fetchone()[0]
+        read.close()
+        filled = sqlite3.connect(file)
+        filled.execute("PRAGMA journal_mode = DELETE")
+        rows = ((place + 1, place, 0, canonical(refused), reply) for place in range(5, MOST_NUMBERS - 1))
+        filled.executemany("INSERT INTO request VALUES ('ops', ?, ?, ?, ?, ?)", rows)
+        filled.commit()
+        filled.close()
+        last, over = (message(MOST_NUMBERS + more, "set_hours", min_hours=7) for more in (0, 1))
+        told = run("run", "--file", file, given=lines((0, last), (0, over), FIRST[3], (0, refused), (0, last)))
+        full = '507 {"fault":"BookFull","rule":22}\n'
+        done = '200 {"done":"set_hours","version":4}\n'
+        want = f"{done}{full}200 {FIRST_REPLIES[3]}\n422 {reply}\n{done}"
+        checks.same("the last number, one too many, and repeats", told, (0, want.encode(), b""))
+        if not has("renew"):
+            return checks.skip("renew of a full file", "the program has none")
+        checks.same("renew", run("renew", file, new), (0, b"", b""))
+        anew = run("run", "--file", new, given=lines((0, message(1, "set_hours", min_hours=8)), (0, over)))
+        want = '200 {"done":"set_hours","version":5}\n200 {"done":"set_hours","version":6}\n'
+        checks.same("in the new file numbers begin anew", anew, (0, want.encode(), b""))
+
+
+def broken_streams(checks):
+    """Standard streams that fail; what was decided stays decided."""
+    with scratch() as room, open("/dev/full", "wb") as full:
+        file = f"{room}/rings.db"
+        told = ended("run", "--file", file, given=lines(*FIRST), stdout=full)
+        checks.same("answers that find no room", told, fault("WriteFailed", 51)[::2])
+        reading, writing = os.pipe()
+        os.close(reading)
+        told = ended("run", "--file", file, given=lines(*FIRST), stdout=writing)
+        os.close(writing)
+        checks.same("answers that nobody reads", told, fault("WriteFailed", 51)[::2])
+        checks.same("each request has its reply", run("run", "--file", file, given=lines(*FIRST)), (0, FIRST_ANSWERS, b""))
+        checks.same("a table that finds no room", ended("table", file, "object", stdout=full), fault("WriteFailed", 51)[::2])
+        folder = os.open(room, os.O_RDONLY)
+        told = ended("run", "--file", file, stdin=folder, stdout=subprocess.DEVNULL)
+        os.close(folder)
+        checks.same("input that cannot be read", told, fault("ReadFailed", 50)[::2])
+        checks.same("a CSV that cannot be read", run("import", file, "object", "ops", "9", room),
+                    (1, b'503 {"fault":"ReadFailed","rule":43}\n', b""))
+        status, told, errors = run("--help")
+        checks.show("a call for help ends with status 2, and standard output stays empty", (status, told) == (2, b"") and errors, (status, told))
+
+
+def ended(*words, given=None, **streams):
+    """The status and standard error of a run whose other streams are given."""
+    if given is not None:
+        streams["input"] = given
+    done = subprocess.run([*common.program(), *words], stderr=subprocess.PIPE, timeout=60, **streams)
+    return done.returncode, done.stderr
+
+
+def no_places(checks):
+    """A folder that is missing, and names that are no files."""
+    with scratch() as room:
+        away = f"{room}/away/rings.db"
+        checks.same("a missing folder", run("run", "--file", away, given=lines(*FIRST)), fault("StoreFault", 24))
+        checks.show("nothing was made there", os.listdir(room) == [], os.listdir(room))
+        os.mkdir(f"{room}/folder")
+        checks.same("a folder", run("run", "--file", f"{room}/folder"), fault("StoreFault", 24))
+        checks.same("an empty name", run("run", "--file", ""), fault("StoreFault", 24))
+        run("run", "--file", f"{room}/rings.db", given=lines(*FIRST))
+        os.link(f"{room}/rings.db", f"{room}/second-name.db")
+        checks.same("a file with two names", run("table", f"{room}/second-name.db", "object"), fault("StoreFault", 24))
+
+
+def no_databases(checks):
+    """Files that are no database, and databases that are no store."""
+    with scratch() as room:
+        file = f"{room}/rings.db"
+        for what, held in [
+            ("a text", b"hello, I am a text and no database\n" * 200),
+            ("random bytes", hashlib.sha512(b"seed").digest() * 128),
+            ("the name of a database and nothing behind it", b"SQLite format 3\0" + bytes(4080)),
+        ]:
+            Path(file).write_bytes(held)
+            checks.same(f"{what}: refused", run("run", "--file", file, given=lines(*FIRST)), fault("BadStore", 26))
+            checks.show(f"{what}: as it was", Path(file).read_bytes() == held)
+            for end in ("", "-wal"):
+                if os.path.exists(file + end):
+                    os.remove(file + end)
+        with sqlite3.connect(file) as other:
+            other.execute("CREATE TABLE ring (name TEXT)")
+            other.execute("INSERT INTO ring VALUES ('mine')")
+        other.close()
+        before = rows_of(file)
+        checks.same("a database of something else: refused", run("run", "--file", file), fault("BadStore", 26))
+        checks.same("and its rows are as they were", rows_of(file), before)
+
+
+BAD_ROWS = {
+    "a schema that is not known": "UPDATE meta SET schema = 3",
+    "no row on the whole store": "DELETE FROM meta",
+    "an hour before a request's": "UPDATE meta SET hour = 11",
+    "a partition too few": "DELETE FROM part WHERE part = 31",
+    "a partition too many": "INSERT INTO part VALUES ('object', 32, x'00010002', 12)",
+    "a partition's devices cut short": "UPDATE part SET devices = substr(devices, 1, 3) WHERE part = 0",
+    "a device twice in a partition": "UPDATE part SET devices = x'00010001' WHERE part = 0",
+    "a device that is not there": "UPDATE part SET devices = x'00010063' WHERE part = 0",
+    "an hour of a move below -1": "UPDATE part SET hour = -2 WHERE part = 0",
+    "a gap between places": "UPDATE request SET place = 99 WHERE place = (SELECT max(place) FROM request)",
+    "a command with its keys out of order": 'UPDATE request SET command = \'{"ring":"object","do":"publish"}\' WHERE number = 4',
+    "a reply that is none": "UPDATE request SET reply = '{\"done\":\"published\"}' WHERE number = 4",
+    "a device of a number not yet given": "UPDATE ring SET next_id = 6",
+    "a ring's name in capitals": "UPDATE ring SET name = 'Object'",
+    "a seat of the older schema": "INSERT INTO seat VALUES ('object', 0, 0, 1)",
+    "a power of 15": "UPDATE ring SET power = 15",
+    "a weight above the greatest": "UPDATE device SET weight = 100000001 WHERE id = 1",
+    "a table that is missing": "DROP TABLE moved",
+    "a table more": "CREATE TABLE note (text TEXT) STRICT",
+}
+
+
+def bad_stores(checks):
+    """Stores whose rows stand for no rings and requests."""
+    with scratch() as room:
+        file, bad = f"{room}/rings.db", f"{room}/bad.db"
+        run("run", "--file", file, given=lines(*MANY))
+        with open_copy(file, room) as good:
+            good.execute("PRAGMA journal_mode = DELETE")
+        good.close()
+        good = f"{room}/read"
+        checks.same("a store that sqlite3 has read is opened again", run("table", good, "object")[0], 0)
+        for what, change in BAD_ROWS.items():
+            for end in ("", "-wal"):
+                if os.path.exists(f"{bad}{end}"):
+                    os.remove(f"{bad}{end}")
+            shutil.copyfile(file, bad)
+            if os.path.exists(f"{file}-wal"):
+                shutil.copyfile(f"{file}-wal", f"{bad}-wal")
+            with sqlite3.connect(bad) as edited:
+                edited.execute(change)
+            edited.close()
+            before = rows_of(bad)
+            told = run("run", "--file", bad, given=lines(*FIRST))
+            is_refused = told == fault("BadStore", 26)
+            checks.show(f"{what}: refused, its rows as they were", is_refused and rows_of(bad) == before, told)
+
+
+def older_schema(checks):
+    """A store of the older schema, with a seat and an hour a row, becomes one of this schema."""
+    with scratch() as room:
+        file = f"{room}/old.db"
+        make_older(file)
+        told = run("run", "--file", file, given=lines(*OLDER, (24, message(7, "rebalance", seed=7))))
+        want = "".join(f"200 {reply}\n" for reply in OLDER_REPLIES)
+        moved = '200 {"balance":5000,"changed":1,"dispersion":0,"done":"rebalance","version":5}\n'
+        checks.same("its replies are kept, and a rebalance goes on from it", told, (0, (want + moved).encode(), b""))
+        rows = rows_of(file)
+        checks.same("its schema is 2", rows["meta"], [(1, 2, 24)])
+        checks.same("the tables of seats and moves are empty", (rows["seat"], rows["moved"]), ([], []))
+        hours = sorted(hour for _, _, _, hour in rows["part"])
+        checks.same("three partitions kept the hour of their move", hours, [0, 0, 0, 24])
+
+
+def read_only(checks):
+    """Files and folders that may not be written."""
+    how, why = {}, None
+    with scratch() as room:
+        if os.geteuid() == 0:
+            os.chmod(room, 0o755)
+            os.chown(room, NOBODY, NOBODY)
+            how = {"user": NOBODY, "group": NOBODY, "extra_groups": []}
+            try:
+                subprocess.run([*common.program(), "run"], stdin=subprocess.DEVNULL, capture_output=True, check=True, timeout=60, **how)
+            except (OSError, subprocess.SubprocessError) as error:
+                why = f"the program does not start as another user: {error}"
+        if why:
+            checks.skip("files and folders that may not be written", why)
+            return
+        file, folder = f"{room}/rings.db", f"{room}/shut"
+        made = run("run", "--file", file, given=lines(*FIRST), **how)
+        checks.same("a store is made", made, (0, FIRST_ANSWERS, b""))
+        held = files_of(file)
+        os.chmod(file, 0o444)
+        checks.same("a file that may not be written", run("run", "--file", file, given=lines(*MANY), **how), fault("StoreFault", 24))
+        checks.same("table of it", run("table", file, "object", **how), fault("StoreFault", 24))
+        checks.same("the file is as it was", files_of(file), held)
+        os.mkdir(folder)
+        shutil.copyfile(file, f"{folder}/rings.db")
+        if how:
+            os.chown(f"{folder}/rings.db", NOBODY, NOBODY)
+        os.chmod(f"{folder}/rings.db", 0o644)
+        os.chmod(folder, 0o555)
+        told = run("run", "--file", f"{folder}/rings.db", given=lines(*FIRST), **how)
+        checks.same("a folder that may not be written, without the log", told, fault("StoreFault", 24))
+        told = run("run", "--file", f"{folder}/new.db", given=lines(*FIRST), **how)
+        checks.same("a new file in it", told, fault("StoreFault", 24))
+        checks.same("the folder holds what it held", os.listdir(folder), ["rings.db"])
+        os.chmod(folder, 0o755)
+        os.chmod(file, 0o644)
+        checks.same("once they may be written, all goes on", run("run", "--file", file, given=lines(*FIRST), **how), (0, FIRST_ANSWERS, b""))
+
+
+FAILED_STORE = b'503 {"fault":"StoreFault","rule":24}\n'
+CLOSED_STORE = b'503 {"fault":"Closed","rule":25}\n'
+
+
+def within(size):
+    """Lets no file of the next program grow past a size: a write that would gets an error, and no signal."""
+    def limit():
+        signal.signal(signal.SIGXFSZ, signal.SIG_IGN)
+        resource.setrlimit(resource.RLIMIT_FSIZE, (size, size))
+    return {"preexec_fn": limit, "restore_signals": False}
+
+
+def is_cut_off(told, want):
+    """Whether answers are as wanted up to a failure of the store, and tell it from there."""
+    got, whole = told.splitlines(keepends=True), want.splitlines(keepends=True)
+    good = next((at for at, (one, other) in enumerate(zip(got, whole)) if one != other), len(got))
+    rest = got[good:]
+    return rest in ([], [FAILED_STORE, *[CLOSED_STORE] * (len(whole) - good - 1)]) and len(got) in (0, len(whole))
+
+
+def failing_writes(checks):
+    """Writes that fail, at many sizes in turn."""
+    with scratch() as room:
+        file = f"{room}/whole.db"
+        status, want, errors = run("run", "--file", file, given=lines(*MANY))
+        checks.show("the run that no write fails in", status == 0 and not errors, (status, want, errors))
+        rows, tables = rows_of(file), run("table", file, "object")
+        # the log grows past what is left of it at the end: look for the size at which nothing fails
+        most = 1 << 12
+        while True:
+            probe = f"{room}/probe{most}.db"
+            if run("run", "--file", probe, given=lines(*MANY), **within(most)) == (0, want, b""):
+                break
+            most *= 2
+        sizes = sorted({0, 1, 24, 32, 55, 56, 100, 512, 4095, 4096, 4097, *range(0, most + 1, max(2048, most // 60))})
+        told, wrong = {}, 0
+        for size in sizes:
+            small = f"{room}/small.db"
+            for end in ("", "-wal"):
+                if os.path.exists(small + end):
+                    os.remove(small + end)
+            limited = run("run", "--file", small, given=lines(*MANY), **within(size))
+            again = run("run", "--file", small, given=lines(*MANY))
+            is_named = limited[2] in (b"", b"ringd: StoreFault 24\n") and limited[0] == (1 if limited[2] else 0)
+            is_right = is_named and is_cut_off(limited[1], want) and again == (0, want, b"")
+            is_right = is_right and rows_of(small) == rows and run("table", small, "object") == tables
+            kind = "refused" if not limited[1] else "failed midway" if FAILED_STORE in limited[1] else "not met"
+            told[kind] = told.get(kind, 0) + 1
+            if not is_right:
+                wrong += 1
+                checks.show(f"no file grows past {size} bytes", False, (limited, again))
+        seen = ", ".join(f"{count} {kind}" for kind, count in sorted(told.items()))
+        checks.show(f"{len(sizes)} sizes up to {most} bytes ({seen}); after each the file opens, and each delivery "
+                    f"gets its one reply", not wrong)
+        # a file that is there and may grow no more
+        for size in (0, os.path.getsize(file), os.path.getsize(file) + 4096):
+            more = (13, message(90, "set_hours", min_hours=7))
+            copy = f"{room}/copy{size}.db"
+            shutil.copyfile(file, copy)
+            limited = run("run", "--file", copy, given=lines(*MANY, more), **within(size))
+            again = run("run", "--file", copy, given=lines(*MANY, more))
+            right = (0, want + b'200 {"done":"set_hours","version":11}\n', b"")
+            is_right = again[0] == 0 and again[1].startswith(want) and again[2] == b""
+            checks.show(f"a store that is there, and {size} bytes: then each delivery gets its one reply", is_right, (limited, again, right))
+
+
+def read_by_sqlite(checks):
+    """What Python's sqlite3 reads of a closed file."""
+    if sqlite3.sqlite_version_info < (3, 37):
+        checks.skip("reading by sqlite3", f"version {sqlite3.sqlite_version} knows no strict tables")
+        return
+    with scratch() as room:
+        file = f"{room}/rings.db"
+        run("run", "--file", file, given=lines(*FIRST))
+        read = open_copy(file, room)
+        checks.same("PRAGMA integrity_check", read.execute("PRAGMA integrity_check").fetchall(), [("ok",)])
+        checks.same("PRAGMA foreign_key_check", read.execute("PRAGMA foreign_key_check").fetchall(), [])
+        names = [row[0] for row in read.execute("SELECT name FROM sqlite_schema WHERE type = 'table' ORDER BY name")]
+        checks.same("the tables", names, sorted(TABLES))
+        for name, want in TABLES.items():
+            got, is_strict = declared(read, name)
+            checks.same(f"the table {name}: columns, key, unique columns, references", got, want)
+            checks.show(f"the table {name} is strict and has no NULL", is_strict)
+        read.close()
+        rows = rows_of(file)
+        checks.same("the row on the whole store", rows["meta"], [(1, 2, 0)])
+        checks.same("the ring", rows["ring"], [("object", 2, 1, 24, 2, 3)])
+        devices = [("object", id, 1, 1, f"10.0.0.{id + 1}", 6200, f"d{id}", 10000, 0) for id in (0, 1)]
+        checks.same("its devices", rows["device"], devices)
+        parts = rows["part"]
+        checks.same("a row a partition, moved at hour 0", [(row[0], row[1], row[3]) for row in parts], [("object", part, 0) for part in range(4)])
+        seats = sorted(row[2] for row in parts)
+        checks.same("two seats on each device", seats, [b"\0\0", b"\0\0", b"\0\1", b"\0\1"])
+        checks.same("nothing in the tables of the older schema, nothing published", (rows["seat"], rows["moved"], rows["published"]), ([], [], []))
+        kept = [("ops", place + 1, place, hour, canonical(text), reply)
+                for place, ((hour, text), reply) in enumerate(zip(FIRST, common.FIRST_REPLIES))]
+        checks.same("each request with its command and its reply", rows["request"], kept)
+        os.mkdir(f"{room}/alone")
+        shutil.copyfile(file, f"{room}/alone/rings.db")
+        checks.same("after a clean end the file has all of it, also without its log", rows_of(f"{room}/alone/rings.db"), rows)
+
+
+def main():
+    checks = Checks("store.py", 300)
+    return checks.run(
+        first_run, one_device, csv_import, renewal, full_file, broken_streams, two_programs, no_places, no_databases, bad_stores, older_schema,
+        read_only, failing_writes, read_by_sqlite)
+
+
+if __name__ == "__main__":
+    sys.exit(main())
