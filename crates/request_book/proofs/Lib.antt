@@ -2,5 +2,4 @@ pub mod Alike
 pub mod Calls
 pub mod Once
 pub mod Runs
-pub mod Makes
 pub mod Places

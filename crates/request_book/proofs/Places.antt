@@ -2,7 +2,7 @@
 use Rattle.std.proofs.Common.{◌++◌, ◌<◌, ◌≡◌, ◌∙◌, ◌∷◌, BTreeMap, Bool, List, None, Option, Some}
 use Rattle.std.proofs.Common.{[], ap, ap₂, arith, cond, false, length, refl, subst, suc, sym, true}
 use Rattle.std.proofs.Common.{zero, ℕ}
-use Rattle.std.specs.Prelude.{◌&&◌, MatchOption, find}
+use Rattle.std.specs.Prelude.{◌&&◌, MatchOption}
 use Rattle.std.specs.declared.cmp.Ordering.{Ordering}
 use Rattle.std.specs.declared.cmp.Ordering.TheVariants.{Equal, Greater, Less}
 use Rattle.std.specs.BTreeMap.{IsEmpty, get, is_at}

@@ -1,13 +1,14 @@
 //! The book: each request decided once, whatever comes again.
-ghost use Rattle.std.specs.Prelude.{◌≡◌, ◌<◌, ◌↔◌, ◌∷◌, [], false, IfOk, IsErrOf, IsTrue, OnErr};
-ghost use Rattle.std.specs.Prelude.{OnOk, length, nat_lt};
+ghost use Rattle.std.specs.Prelude.{◌≡◌, ◌≤◌, ◌<◌, ◌↔◌, ◌∷◌, [], false, IfOk, IsErrOf, IsTrue, None};
+ghost use Rattle.std.specs.Prelude.{OnErr, OnOk, length, nat_lt};
 ghost use Rattle.request_book.specs.Book.{Parts};
 ghost use Rattle.request_book.specs.Call.{ClosesAfterFault, Deliver, FaultsTold, Load, calls_of};
 ghost use Rattle.request_book.specs.Called.{Called};
-ghost use Rattle.request_book.specs.Keeper.{CrashLeaves, LeavesOnly};
+ghost use Rattle.request_book.specs.Content.{entry_of};
+ghost use Rattle.request_book.specs.Inner.Deciding.{MayDecide};
+ghost use Rattle.request_book.specs.Keeper.{CrashLeaves, HasCause, LeavesOnly};
 ghost use Rattle.request_book.specs.Made.{Makes};
 ghost use Rattle.request_book.specs.Run.{AnswersAlike, Run};
-ghost use Rattle.request_book.specs.declared.book.Fault.TheVariants.{NoMemory};
 
 use crate::keeper::{Found, KeepFault, Keeper};
 use crate::machine::Machine;
@@ -43,14 +44,6 @@ impl From<KeepFault> for Fault {
             KeepFault::NoMemory => Fault::NoMemory,
             KeepFault::Store => Fault::StoreFault,
         }
-    }
-}
-
-impl From<AllocError> for Fault {
-    ghost from_gives = { λ _ f. f ≡ NoMemory };
-
-    fn from(_refused: AllocError) -> Fault {
-        Fault::NoMemory
     }
 }
 
@@ -91,6 +84,55 @@ impl<M: Machine, K: Keeper<M>> Book<M, K> {
         self.keeper.faults() > 0
     }
 
+    /// Decides a new key's command at an hour that is no less than those of all decided before, and
+    /// keeps its reply.
+    fn decide_at(
+        &mut self,
+        hour: Hour,
+        key: Key,
+        command: M::Command,
+    ) -> Result<M::Reply, KeepFault>
+        requires open { K.fault_count self.old.keeper ≡ 0 }
+        requires unknown { K.sound self.old.keeper →
+            entry_of key (K.content self.old.keeper).book ≡ None }
+        requires room { K.sound self.old.keeper →
+            length (K.content self.old.keeper).book < K.limit self.old.keeper }
+        requires latest { K.sound self.old.keeper → (K.content self.old.keeper).hour ≤ hour }
+        ensures may { K.sound self.new.keeper → MayDecide (M.step self.old.machine)
+            (K.content self.old.keeper) hour key command result (K.content self.new.keeper) }
+        ensures left { K.sound self.new.keeper → CrashLeaves (K.may_leave self.new.keeper)
+            (MayDecide (M.step self.old.machine) (K.content self.old.keeper) hour key command
+            result) }
+        ensures sound { K.sound self.new.keeper → K.sound self.old.keeper }
+        ensures limit { K.limit self.new.keeper ≡ K.limit self.old.keeper }
+        ensures machine { self.new.machine ≡ self.old.machine }
+        ensures cause { HasCause (K.fault_count self.old.keeper) (K.fault_count self.new.keeper)
+            result }
+    {
+        self.keeper.load()?;
+        let state = self.keeper.state();
+        let (state, reply) = self.machine.decide(self.alloc, state, hour, &command)?;
+        self.keeper.commit(key, hour, command, reply, state)?;
+        Ok(reply)
+    }
+
+    /// Answers a delivery of a key that has no entry: decides it where there is room.
+    fn answer_new(&mut self, delivery: Delivery<M::Command>) -> Answer<M::Reply>
+        requires open { K.fault_count self.old.keeper ≡ 0 }
+        requires unknown { K.sound self.old.keeper →
+            entry_of delivery.key (K.content self.old.keeper).book ≡ None }
+        ensures { Makes M.step K.content K.sound K.limit K.fault_count K.may_leave self.old self.new
+            (Deliver delivery result) }
+    {
+        if self.keeper.is_full()? {
+            return Err(Fault::BookFull);
+        }
+        let Delivery { hour, key, command } = delivery;
+        let hour = self.keeper.hour()?.max(hour);
+        let reply = self.decide_at(hour, key, command)?;
+        Ok(reply)
+    }
+
     /// Answers a delivery, as `deliver` does.
     fn answer(&mut self, delivery: Delivery<M::Command>) -> Answer<M::Reply>
         ensures { Makes M.step K.content K.sound K.limit K.fault_count K.may_leave self.old self.new
@@ -99,22 +141,11 @@ impl<M: Machine, K: Keeper<M>> Book<M, K> {
         if self.is_closed() {
             return Err(Fault::Closed);
         }
-        let Delivery { hour, key, command } = delivery;
-        match self.keeper.look(&key, &command)? {
-            Found::Same(reply) => return Ok(reply),
-            Found::Other => return Err(Fault::NumberReused),
-            Found::New => {}
+        match self.keeper.look(&delivery.key, &delivery.command)? {
+            Found::Same(reply) => Ok(reply),
+            Found::Other => Err(Fault::NumberReused),
+            Found::New => self.answer_new(delivery),
         }
-        if self.keeper.is_full()? {
-            return Err(Fault::BookFull);
-        }
-        let hour = hour.max(self.keeper.hour()?);
-        self.keeper.load()?;
-        let (state, reply) = self
-            .machine
-            .decide(self.alloc, self.keeper.state(), hour, &command)?;
-        self.keeper.commit(key, hour, command, reply, state)?;
-        Ok(reply)
     }
 
     /// Answers a delivery.

@@ -2,10 +2,12 @@
 ghost use Rattle.std.specs.Prelude.{◌≡◌, ◌≤◌, ◌<◌, ◌↔◌, None, IfOk, IsTrue, OnOk, Option, length};
 ghost use Rattle.std.specs.Prelude.{ℕ};
 ghost use Rattle.request_book.specs.Content.{Content, entry_of};
+ghost use Rattle.request_book.specs.declared.keeper.KeepFault.TheVariants.{NoMemory};
 ghost use Rattle.request_book.specs.Keeper.{Commits, CrashLeaves, HasCause, IsFound, LeavesOnly};
 
 use crate::machine::Machine;
 use ring_words::{Hour, Key};
+use std::alloc::AllocError;
 
 /// What a look finds of a key and a command.
 #[derive(Clone, Copy, Debug)]
@@ -25,6 +27,14 @@ pub enum KeepFault {
     NoMemory,
     /// The store failed. No call but `faults` may be made from then on.
     Store,
+}
+
+impl From<AllocError> for KeepFault {
+    ghost from_gives = { λ _ f. f ≡ NoMemory };
+
+    fn from(_refused: AllocError) -> KeepFault {
+        KeepFault::NoMemory
+    }
 }
 
 /// Keeps a machine's state beside the requests that were decided.

@@ -1,4 +1,4 @@
-use Rattle.std.proofs.Common.{◌≡◌, ◌<◌, ◌∙◌, ap, get_or, sym, subst, arith, None, Some}
+use Rattle.std.proofs.Common.{◌≡◌, ◌∙◌, ap, sym, subst, arith, None, Some}
 use Rattle.std.proofs.lemmas.Option.{slice_get-get_or}
 use Rattle.request_book.specs.Content.{entry_of}
 use Rattle.request_book.proofs.Places.{place_of, no_place}
