@@ -236,7 +236,7 @@ fn locks(alloc: Global, ring: &Ring, hour: Hour) -> Result<Vec<bool>, AllocError
     ensures { IfOk result (λ locked. locked.items ≡ map (is_recent ring.now.min_hours hour)
         ring.now.moved) }
 {
-    let mut locked = Vec::new(alloc);
+    let mut locked = Vec::with_capacity(alloc, ring.moves().len())?;
     for moved in ring.moves() {
         locked.push(is_recent(ring.min_hours(), hour, *moved))?;
     }
@@ -256,7 +256,7 @@ pub(crate) fn gathering(
 {
     let wanted = wanted(alloc, ring)?;
     let was = Room::of(alloc, ring, wanted.as_slice())?;
-    let mut kept = Room::of(alloc, ring, wanted.as_slice())?;
+    let mut kept = was.copy(alloc)?;
     let mut seats = Seats::of(alloc, ring)?;
     let locked = locks(alloc, ring, hour)?;
     gather(

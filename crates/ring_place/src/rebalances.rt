@@ -88,7 +88,7 @@ fn moves(
     ensures moved { IfOk result (λ done. done.0.items ≡ stamps hour ring.now.moved old.now new.now) }
     ensures changed { IfOk result (λ done. done.1 ≡ changed_over old.now new.now) }
 {
-    let mut moved = Vec::new(alloc);
+    let mut moved = Vec::with_capacity(alloc, ring.moves().len())?;
     let mut changed = 0;
     for (partition, before) in ring.moves().iter().enumerate() {
         let count = count_changed(old.row(partition), new.row(partition));

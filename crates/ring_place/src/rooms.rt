@@ -148,6 +148,22 @@ impl Room {
         })
     }
 
+    /// The same devices with the same seats.
+    pub(crate) fn copy(&self, alloc: Global) -> Result<Room, AllocError>
+        ensures { IfOk result (λ room. room ≡ self.now) }
+    {
+        Ok(Room {
+            devices: self.devices.to_vec(alloc)?,
+            wanted: Vec::from_slice(alloc, &self.wanted)?,
+            counts: Vec::from_slice(alloc, &self.counts)?,
+            roomy: Vec::from_slice(alloc, &self.roomy)?,
+            count: self.count,
+            regions: Vec::from_slice(alloc, &self.regions)?,
+            zones: Vec::from_slice(alloc, &self.zones)?,
+            servers: Vec::from_slice(alloc, &self.servers)?,
+        })
+    }
+
     /// The place of a device of the ring among its devices.
     pub(crate) fn place_of(&self, id: DeviceId) -> usize
         requires { has_device id self.now.devices ≡ true }

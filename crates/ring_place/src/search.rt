@@ -153,6 +153,10 @@ impl Room {
         requires few { length others.now ≤ 5 }
         ensures { IsFloor self.now (seats_at self.now.devices others.now) result }
     {
+        // some region has none of the others
+        if others.len() < self.regions.len() {
+            return (0, 0, 0);
+        }
         let floor = self.floor_by(Tier::Region, &self.regions, others, (0, 0, 0));
         let floor = self.floor_by(Tier::Zone, &self.zones, others, floor);
         self.floor_by(Tier::Server, &self.servers, others, floor)

@@ -70,7 +70,7 @@ impl Seats {
     {
         let partitions = partition_count(ring.power());
         let replicas = usize::from(ring.replicas().get());
-        let mut seats = Vec::new(alloc);
+        let mut seats = Vec::with_capacity(alloc, partitions * replicas)?;
         for place in 0..partitions * replicas {
             seats.push(seat_at(ring.seats(), place))?;
         }
@@ -104,7 +104,7 @@ impl Seats {
     pub(crate) fn devices(&self, alloc: Global) -> Result<Vec<DeviceId>, AllocError>
         ensures { IfOk result (λ devices. devices.items ≡ flat_map devices_on self.now) }
     {
-        let mut devices = Vec::new(alloc);
+        let mut devices = Vec::with_capacity(alloc, self.seats.len())?;
         for seat in &self.seats {
             if let Some(device) = *seat {
                 devices.push(device)?;
