@@ -2,38 +2,13 @@
 ghost use Rattle.std.specs.Prelude.{◌≡◌, IfOk};
 ghost use Rattle.builder.specs.Replies.{answer_status};
 ghost use Rattle.http_api.specs.Http.{refused_answer, shown_answer, told_answer, told_csv};
-ghost use Rattle.line_api.specs.Lines.{told_fault, told_of};
 
 use builder::{Told, status_of, told_text};
 use csv_import::CsvFault;
 use http::StatusCode;
 use http_answers::{AnswerHead, BodyKind, answer_bytes};
-use request_book::{Answer, Fault};
 use ring_words::{Refusal, Reply};
 use std::alloc::{AllocError, Global};
-
-/// What a fault of the book is told as.
-pub fn told_fault(fault: Fault) -> Told
-    ensures { result ≡ told_fault fault }
-{
-    match fault {
-        Fault::NumberReused => Told::NumberReused,
-        Fault::BookFull => Told::BookFull,
-        Fault::NoMemory => Told::NoMemory,
-        Fault::StoreFault => Told::StoreFault,
-        Fault::Closed => Told::Closed,
-    }
-}
-
-/// What a delivery's answer is told as.
-pub fn told_of(answer: Answer<Reply>) -> Told
-    ensures { result ≡ told_of answer }
-{
-    match answer {
-        Ok(reply) => Told::Reply(reply),
-        Err(fault) => told_fault(fault),
-    }
-}
 
 /// What a table that can't be read is told as.
 pub fn told_csv(fault: CsvFault) -> Told

@@ -10,5 +10,6 @@ mod clock;
 mod reads;
 mod service;
 
+pub use answers::told_csv;
 pub use clock::{Clock, KnownClock};
 pub use service::serve_stream;

@@ -11,7 +11,7 @@ ghost use Rattle.line_api.specs.Served.{Found, Made};
 ghost use Rattle.request_book.specs.Call.{Load};
 ghost use Rattle.request_book.specs.declared.book.Fault.{Fault};
 
-use crate::answers::{told_answer, told_csv, told_fault, told_of};
+use crate::answers::{told_answer, told_csv};
 use crate::clock::Clock;
 use crate::reads::{ReadWay, show_rings};
 use builder::{MessageFault, RingMachine, Told, read_delivery};
@@ -21,6 +21,7 @@ use http_answers::route_fault_text;
 use http_requests::Method;
 use http_routes::{RingRead, TargetAsk, TargetFault, read_target};
 use http_stream::{Service, serve_requests};
+use line_api::{told_fault, told_of};
 use request_book::{Book, Keeper};
 use ring_words::{Act, Command, Key, RingName, Rows};
 use std::alloc::{AllocError, Global};

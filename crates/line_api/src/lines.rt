@@ -61,7 +61,7 @@ fn read_request(alloc: Global, line: &[u8]) -> Result<Request, MessageFault>
 }
 
 /// What a fault of the book is told as.
-fn told_fault(fault: Fault) -> Told
+pub fn told_fault(fault: Fault) -> Told
     ensures { result ≡ told_fault fault }
 {
     match fault {
@@ -74,7 +74,7 @@ fn told_fault(fault: Fault) -> Told
 }
 
 /// What a delivery's answer is told as.
-fn told_of(answer: Answer<Reply>) -> Told
+pub fn told_of(answer: Answer<Reply>) -> Told
     ensures { result ≡ told_of answer }
 {
     match answer {
