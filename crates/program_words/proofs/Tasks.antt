@@ -1,6 +1,6 @@
 -- The task that words ask for, from what `clap` says of them.
 use Rattle.std.proofs.Common.{◌≡◌, List, [], true, Option, Some, None, refl, sym, ap}
-use Rattle.std.proofs.Common.{subst, ◌∙◌, ⊎_elim}
+use Rattle.std.proofs.Common.{subst, ◌∙◌, ⊎_elim, codes, ℕ, ◌∷◌, slice_index, arith}
 use Rattle.std.specs.Option.{option_map}
 use Rattle.std.proofs.lemmas.Option.{none-some, same_Some}
 use Rattle.clap.specs.Faults.{fault_of, is_simple_and_free}
@@ -13,11 +13,14 @@ use Rattle.clap.specs.declared.error.Error.{Error}
 use Rattle.clap.specs.declared.error.kind.ErrorKind.TheVariants.{OutOfMemory}
 use Rattle.clap.specs.declared.parser.matches.ArgMatches.{ArgMatches}
 use Rattle.program_words.specs.Shapes.{programs}
-use Rattle.program_words.specs.Tasks.{AskFor, AskForNothing, HasArguments, IfBad, program_of}
+use Rattle.program_words.specs.Tasks.{AskFor, AskForNothing, HasArguments, HasNumber, IfBad}
+use Rattle.program_words.specs.Tasks.{program_of}
 use Rattle.program_words.specs.Inner.Reading.{IsTask}
 use Rattle.program_words.specs.declared.task.ArgsFault.{ArgsFault}
 use Rattle.program_words.specs.declared.task.ArgsFault.TheVariants.{Bad, NoMemory}
 use Rattle.program_words.specs.declared.task.Task.{Task}
+use Rattle.program_words.specs.declared.task.Task.TheVariants.{Run, Serve, Loop, Import, Table}
+use Rattle.program_words.specs.declared.task.Task.TheVariants.{Nodes, Export, Renew}
 
 -- words that were read have nothing wrong
 pub right : (app : App) (words : List Text) → app ≡ programs →
@@ -89,3 +92,29 @@ bad_by NoMemory A B f h = tt
 pub bad_if : (fault : ArgsFault) (A : Type 0) → A → IfBad fault A
 bad_if (Bad text) A h = h
 bad_if NoMemory A h = tt
+
+-- words that begin with different letters are not the same
+other_word : (first second : ℕ) (one two : List ℕ) → first ∷ one ≡ second ∷ two →
+    (first ≡ second → ⊥) → ⊥
+other_word first second one two same differ = differ (ap (λ (t : List ℕ). slice_index t 0) same)
+
+-- where a service has no port or no count, no task is one
+pub no_service : (rows : List Row) →
+    ((port count : ℕ) → HasNumber rows (codes "PORT") 1 65535 port →
+    HasNumber rows (codes "COUNT") 0 65535 count → ⊥) → IsTask (codes "serve") rows None
+no_service rows none (Serve file port count hour names) is_named (file_is, port_is, count_is, hour_is, names_are) =
+    none port count port_is count_is
+no_service rows none (Run file) is_named has =
+    other_word 114 115 _ _ is_named (λ e. omega (arith, e))
+no_service rows none (Loop file input hour names) is_named has =
+    other_word 108 115 _ _ is_named (λ e. omega (arith, e))
+no_service rows none (Import file ring caller number csv hour) is_named has =
+    other_word 105 115 _ _ is_named (λ e. omega (arith, e))
+no_service rows none (Table file ring) is_named has =
+    other_word 116 115 _ _ is_named (λ e. omega (arith, e))
+no_service rows none (Nodes file ring account container object names) is_named has =
+    other_word 110 115 _ _ is_named (λ e. omega (arith, e))
+no_service rows none (Export file ring version written) is_named has =
+    other_word 101 115 _ _ is_named (λ e. omega (arith, e))
+no_service rows none (Renew file fresh) is_named has =
+    other_word 114 115 _ _ is_named (λ e. omega (arith, e))

@@ -1,5 +1,5 @@
 -- What may be written on the command line of `ringd`.
-use Rattle.std.specs.Prelude.{List, [], ◌∷◌, ◌++◌, Some, codes, true}
+use Rattle.std.specs.Prelude.{List, [], ◌∷◌, Some, codes, true}
 use Rattle.clap.specs.Simple.{App, Shape, new_app, new_rule, new_shape, on_top, with_subcommand}
 use Rattle.clap.specs.Walk.{Rule, Text}
 
@@ -24,6 +24,20 @@ hash_names = optional (codes "prefix") ∷ optional (codes "suffix") ∷ []
 abbrev pub run : Shape
 run = program (codes "run") (optional (codes "file") ∷ [])
 
+-- What the clock tells, and what is hashed before and after a path.
+abbrev pub service_options : List Rule
+service_options = optional (codes "hour") ∷ hash_names
+
+-- Serves connections of a port.
+abbrev pub serve : Shape
+serve = program (codes "serve")
+    (needed (codes "FILE") ∷ needed (codes "PORT") ∷ needed (codes "COUNT") ∷ service_options)
+
+-- Serves the bytes of a file.
+abbrev pub looping : Shape
+looping = program (codes "loop")
+    (needed (codes "FILE") ∷ needed (codes "INPUT") ∷ service_options)
+
 -- Imports the rows of a CSV file.
 abbrev pub import_rows : Shape
 import_rows = program (codes "import")
@@ -40,18 +54,27 @@ nodes = program (codes "nodes")
     (needed (codes "FILE") ∷ needed (codes "RING") ∷ needed (codes "ACCOUNT") ∷
     optional (codes "container") ∷ optional (codes "object") ∷ hash_names)
 
--- Writes a published text.
+-- Writes a published ring.
 abbrev pub export : Shape
 export = program (codes "export")
-    (needed (codes "FILE") ∷ needed (codes "RING") ∷ needed (codes "VERSION") ∷ [])
+    (needed (codes "FILE") ∷ needed (codes "RING") ∷ needed (codes "VERSION") ∷
+    optional (codes "format") ∷ [])
+
+-- Makes a new file without numbers.
+abbrev pub renew : Shape
+renew = program (codes "renew") (needed (codes "FILE") ∷ needed (codes "NEW") ∷ [])
 
 -- The programs that answer requests.
 abbrev pub with_services : App → App
-with_services app = with_subcommand (with_subcommand app run) import_rows
+with_services app =
+    with_subcommand (with_subcommand (with_subcommand (with_subcommand app run) serve) looping)
+    import_rows
 
--- The programs that read what is kept.
+-- The programs that read what is kept, to show it or to go on from it.
 abbrev pub with_readers : App → App
-with_readers app = with_subcommand (with_subcommand (with_subcommand app table) nodes) export
+with_readers app =
+    with_subcommand (with_subcommand (with_subcommand (with_subcommand app table) nodes) export)
+    renew
 
 -- All that may be written: the name of a program, and its arguments.
 abbrev pub programs : App

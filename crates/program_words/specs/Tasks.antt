@@ -9,9 +9,12 @@ use Rattle.ring_words.specs.Spelling.{SpellsNumber}
 use Rattle.program_words.specs.Shapes.{programs}
 use Rattle.program_words.specs.declared.task.ArgsFault.{ArgsFault}
 use Rattle.program_words.specs.declared.task.ArgsFault.TheVariants.{Bad, NoMemory}
+use Rattle.program_words.specs.declared.task.Format.{Format}
+use Rattle.program_words.specs.declared.task.Format.TheVariants as format
 use Rattle.program_words.specs.declared.task.HashNames.{HashNames}
 use Rattle.program_words.specs.declared.task.Task.{Task}
-use Rattle.program_words.specs.declared.task.Task.TheVariants.{Run, Import, Table, Nodes, Export}
+use Rattle.program_words.specs.declared.task.Task.TheVariants.{Run, Serve, Loop, Import, Table}
+use Rattle.program_words.specs.declared.task.Task.TheVariants.{Nodes, Export, Renew}
 
 -- ---- one argument
 
@@ -38,19 +41,38 @@ pub record HaveNames (rows : List Row) (names : HashNames) : Type 0 where
   pub prefix : names.prefix.now ≡ unwrap_or (first_of (codes "prefix") rows) []
   pub suffix : names.suffix.now ≡ unwrap_or (first_of (codes "suffix") rows) []
 
+-- the word of a format
+abbrev pub format_word : Format → Text
+format_word format.Text = codes "text"
+format_word format.Swift = codes "swift"
+
+-- The format is named by its word, and is text where it isn't named.
+abbrev pub HasFormat : List Row → Format → Type 0
+HasFormat rows written =
+    unwrap_or (first_of (codes "format") rows) (codes "text") ≡ format_word written
+
 -- ---- the task
 
 -- the name of a task's program
 abbrev pub program_of : Task → Text
 program_of (Run file) = codes "run"
+program_of (Serve file port count hour names) = codes "serve"
+program_of (Loop file input hour names) = codes "loop"
 program_of (Import file ring caller number csv hour) = codes "import"
 program_of (Table file ring) = codes "table"
 program_of (Nodes file ring account container object names) = codes "nodes"
-program_of (Export file ring version) = codes "export"
+program_of (Export file ring version written) = codes "export"
+program_of (Renew file fresh) = codes "renew"
 
 -- The arguments of a program are those of the task.
 abbrev pub HasArguments : List Row → Task → Type 0
 HasArguments rows (Run file) = MayHaveText rows (codes "file") file
+HasArguments rows (Serve file port count hour names) =
+    HasText rows (codes "FILE") file × HasNumber rows (codes "PORT") 1 65535 port
+    × HasNumber rows (codes "COUNT") 0 65535 count × HasHour rows hour × HaveNames rows names
+HasArguments rows (Loop file input hour names) =
+    HasText rows (codes "FILE") file × HasText rows (codes "INPUT") input
+    × HasHour rows hour × HaveNames rows names
 HasArguments rows (Import file ring caller number csv hour) =
     HasText rows (codes "FILE") file × HasText rows (codes "RING") ring
     × HasText rows (codes "CALLER") caller × HasText rows (codes "NUMBER") number
@@ -61,9 +83,11 @@ HasArguments rows (Nodes file ring account container object names) =
     HasText rows (codes "FILE") file × HasText rows (codes "RING") ring
     × HasText rows (codes "ACCOUNT") account × MayHaveText rows (codes "container") container
     × MayHaveText rows (codes "object") object × HaveNames rows names
-HasArguments rows (Export file ring version) =
+HasArguments rows (Export file ring version written) =
     HasText rows (codes "FILE") file × HasText rows (codes "RING") ring
-    × HasText rows (codes "VERSION") version
+    × HasText rows (codes "VERSION") version × HasFormat rows written
+HasArguments rows (Renew file fresh) =
+    HasText rows (codes "FILE") file × HasText rows (codes "NEW") fresh
 
 -- The words, of which the first is the program's own name, ask for this task: nothing is wrong with
 -- them, they name its program, and each of its arguments is there as they say.

@@ -3,11 +3,11 @@ ghost use Rattle.std.specs.Prelude.{◌≡◌, IfOk, false};
 ghost use Rattle.clap.specs.Simple.{app_of, shape_of, with_rule, with_subcommand};
 ghost use Rattle.clap.specs.Walk.{rule_of};
 ghost use Rattle.clap.specs.declared.builder.command.Command.TheViews.{out-Command};
-ghost use Rattle.program_words.specs.Shapes.{export, import_rows, needed, nodes};
-ghost use Rattle.program_words.specs.Shapes.{optional, programs, run, table};
+ghost use Rattle.program_words.specs.Shapes.{export, import_rows, looping, needed, nodes};
+ghost use Rattle.program_words.specs.Shapes.{optional, programs, renew, run, serve, table};
 ghost use Rattle.program_words.specs.Shapes.{with_readers, with_services};
 
-use crate::help::{ABOUT, RUN};
+use crate::help::{ABOUT, EXPORT, LOOP, RENEW, RUN, SERVE};
 use clap::{Arg, Command};
 use std::alloc::{AllocError, Global};
 
@@ -79,6 +79,43 @@ fn run_command<'a>(alloc: Global) -> Result<Command<'a>, AllocError>
     with_arg(command, optional(alloc, "file"))
 }
 
+fn serve_command<'a>(alloc: Global) -> Result<Command<'a>, AllocError>
+    ensures shape { IfOk result (λ c. shape_of c ≡ serve) }
+    ensures alone { IfOk result (λ c. (out-Command c).has_globals ≡ false) }
+{
+    let command = Command::new(alloc, "serve")
+        .about("Serves HTTP on a port of this machine")
+        .long_about(SERVE);
+    let command = with_three(
+        command,
+        needed(alloc, "FILE"),
+        needed(alloc, "PORT"),
+        needed(alloc, "COUNT"),
+    )?;
+    with_three(
+        command,
+        optional(alloc, "hour"),
+        optional(alloc, "prefix"),
+        optional(alloc, "suffix"),
+    )
+}
+
+fn looping_command<'a>(alloc: Global) -> Result<Command<'a>, AllocError>
+    ensures shape { IfOk result (λ c. shape_of c ≡ looping) }
+    ensures alone { IfOk result (λ c. (out-Command c).has_globals ≡ false) }
+{
+    let command = Command::new(alloc, "loop")
+        .about("Answers the bytes of a file as those of one connection of HTTP")
+        .long_about(LOOP);
+    let command = with_two(command, needed(alloc, "FILE"), needed(alloc, "INPUT"))?;
+    with_three(
+        command,
+        optional(alloc, "hour"),
+        optional(alloc, "prefix"),
+        optional(alloc, "suffix"),
+    )
+}
+
 fn import_rows_command<'a>(alloc: Global) -> Result<Command<'a>, AllocError>
     ensures shape { IfOk result (λ c. shape_of c ≡ import_rows) }
     ensures alone { IfOk result (λ c. (out-Command c).has_globals ≡ false) }
@@ -135,13 +172,26 @@ fn export_command<'a>(alloc: Global) -> Result<Command<'a>, AllocError>
     ensures shape { IfOk result (λ c. shape_of c ≡ export) }
     ensures alone { IfOk result (λ c. (out-Command c).has_globals ≡ false) }
 {
-    let command = Command::new(alloc, "export").about("Writes a published text of a ring");
-    with_three(
+    let command = Command::new(alloc, "export")
+        .about("Writes a ring as it was published")
+        .long_about(EXPORT);
+    let command = with_three(
         command,
         needed(alloc, "FILE"),
         needed(alloc, "RING"),
         needed(alloc, "VERSION"),
-    )
+    )?;
+    with_arg(command, optional(alloc, "format"))
+}
+
+fn renew_command<'a>(alloc: Global) -> Result<Command<'a>, AllocError>
+    ensures shape { IfOk result (λ c. shape_of c ≡ renew) }
+    ensures alone { IfOk result (λ c. (out-Command c).has_globals ≡ false) }
+{
+    let command = Command::new(alloc, "renew")
+        .about("Makes a new file with the rings of one that is full of numbers")
+        .long_about(RENEW);
+    with_two(command, needed(alloc, "FILE"), needed(alloc, "NEW"))
 }
 
 /// The command with two more programs.
@@ -163,15 +213,20 @@ fn with_programs<'a>(
 fn with_services<'a>(alloc: Global, command: Command<'a>) -> Result<Command<'a>, AllocError>
     ensures { IfOk result (λ c. app_of c ≡ with_services (app_of command.entry)) }
 {
-    with_programs(command, run_command(alloc)?, import_rows_command(alloc)?)
+    let command = with_programs(command, run_command(alloc)?, serve_command(alloc)?)?;
+    with_programs(
+        command,
+        looping_command(alloc)?,
+        import_rows_command(alloc)?,
+    )
 }
 
-/// The programs that read what is kept.
+/// The programs that read what is kept, to show it or to go on from it.
 fn with_readers<'a>(alloc: Global, command: Command<'a>) -> Result<Command<'a>, AllocError>
     ensures { IfOk result (λ c. app_of c ≡ with_readers (app_of command.entry)) }
 {
     let command = with_programs(command, table_command(alloc)?, nodes_command(alloc)?)?;
-    command.subcommand(export_command(alloc)?)
+    with_programs(command, export_command(alloc)?, renew_command(alloc)?)
 }
 
 /// The programs.

@@ -52,3 +52,72 @@ balance 100.00 dispersion 0.00 version 2
 With --file FILE, rings and the answers that were given are kept in FILE, which is made if it is missing, and in FILE-wal
 beside it: each request is on the disk before it is answered. Without it they are kept in memory, and are gone when the
 program ends.";
+
+/// What `ringd serve --help` tells.
+pub(crate) const SERVE: &str =
+    "Serves HTTP/1.1 on 127.0.0.1, over the rings in FILE, which is made if it is missing.
+
+It serves COUNT connections of the port PORT, one after another, and then ends. PORT is 1 to 65535, COUNT 0 to 65535.
+Only this machine reaches it: TLS, and who may ask, are for a proxy in front of it.
+
+  POST /v1/requests                               the body is a request, as in a line of 'run' but without the hour
+  POST /v1/import/RING?caller=C&number=N          the body is a CSV table of devices, imported as this request
+  GET  /v1/rings/RING/devices                     where each device stands, what it weighs, and its state
+  GET  /v1/rings/RING/balance                     how many seats each device wants and has
+  GET  /v1/rings/RING/nodes?account=A&container=C&object=O
+                                                  the devices that hold a path; container and object may be left out
+  GET  /v1/rings/RING/text/VERSION                the ring as it was published under this version
+
+For instance:
+
+  ringd serve rings.db 8642 65535 &
+  curl -d '{\"caller\":\"ops\",\"number\":1,\"do\":\"create\",\"ring\":\"object\",\"power\":4,\"replicas\":3,\"min_hours\":24}' http://127.0.0.1:8642/v1/requests
+  curl http://127.0.0.1:8642/v1/rings/object/devices
+
+Each request is on the disk before it is answered. A client that got no answer sends the same request again: it is answered
+as before, and nothing is done twice. A client that breaks off ends its own connection alone.
+
+Each request is decided at the hour of the machine's clock, or always at the one that --hour gives. --prefix and --suffix
+are what the cluster hashes before and after each path; they are empty where they are not given.";
+
+/// What `ringd loop --help` tells.
+pub(crate) const LOOP: &str =
+    "Answers the bytes of the file INPUT as 'serve' would those of one connection, on standard output.
+
+INPUT holds requests of HTTP/1.1, one behind the other, as a client would send them: 32768 bytes at most, and as many of
+answers. The program connects to itself on 127.0.0.1, by a port that is free, serves this connection over the rings in FILE,
+and prints the answers. So it shows what a service over this FILE would answer.
+
+  printf 'GET /v1/rings/object/devices HTTP/1.1\\r\\nHost: a\\r\\n\\r\\n' > input
+  ringd loop rings.db input
+
+The options are those of 'serve'.";
+
+/// What `ringd export --help` tells.
+pub(crate) const EXPORT: &str =
+    "Writes the ring RING as it was published under VERSION, on standard output.
+
+A request that says publish keeps the ring's text of then under the version that it had, for good. --format text, which
+is also what is taken without --format, writes this text. --format swift writes the same ring as a ring file of OpenStack
+Swift.";
+
+/// What `ringd renew --help` tells.
+pub(crate) const RENEW: &str =
+    "Makes NEW, a file with the rings of FILE, their published texts and its hour, and without a number.
+
+A file holds 100000 numbers. When it is full, a new request is answered 507, and this is how to go on. NEW must not be
+there. FILE stays as it was: keep it, for it has the replies that were given.
+
+Numbers begin anew in NEW: a request that was answered in FILE would be carried out once more. So let the callers come to
+rest, stop the service, renew the file, give the callers other names, from ops-1 to ops-2, say, and start over NEW.";
+
+/// What words are told of which an argument is not of its form.
+pub(crate) const FORMS: &str = "error: an argument is not of its form
+
+  PORT              a whole number from 1 to 65535
+  COUNT             a whole number from 0 to 65535
+  --hour <hour>     a whole number from 0 to 4294967295, the hours since 1970
+  --format <format> text or swift
+
+Numbers are written in digits, without leading zeros. For more information, try '--help'.
+";

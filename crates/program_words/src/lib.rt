@@ -10,7 +10,7 @@ mod reading;
 mod task;
 
 pub use reading::task_of;
-pub use task::{ArgsFault, HashNames, Task};
+pub use task::{ArgsFault, Format, HashNames, Task};
 
 #[cfg(test)]
 mod tests;

@@ -5,14 +5,14 @@ ghost use Rattle.clap.specs.Values.{kind_of};
 ghost use Rattle.clap.specs.Walk.{first_of, rows_of};
 ghost use Rattle.clap.specs.declared.error.kind.ErrorKind.{ErrorKind};
 ghost use Rattle.program_words.specs.Tasks.{AskFor, AskForNothing, HaveNames, IfBad};
-ghost use Rattle.program_words.specs.Inner.Reading.{IsHour, IsTask};
+ghost use Rattle.program_words.specs.Inner.Reading.{IsFormat, IsHour, IsNumber, IsTask};
 
 use crate::commands::command;
-use crate::help::ABOUT;
-use crate::task::{ArgsFault, HashNames, Task};
+use crate::help::{ABOUT, FORMS};
+use crate::task::{ArgsFault, Format, HashNames, Task};
 use clap::error::ErrorKind;
 use clap::{ArgMatches, Error};
-use ring_words::{Hour, read_number};
+use ring_words::{Hour, Port, read_bounded, read_number, read_number16};
 use std::alloc::{AllocError, Global};
 use std::fmt::Display;
 
@@ -36,6 +36,37 @@ fn hour_of(matches: &ArgMatches<'_>) -> Option<Option<Hour>>
     }
 }
 
+/// The port that is to be served, `None` where it is none.
+fn port_of(matches: &ArgMatches<'_>) -> Option<Port>
+    ensures { IsNumber (rows_of (found_of matches.now)) (codes "PORT") 1 65535 result }
+{
+    match read_bounded(text_of(matches, "PORT")?) {
+        Ok(port) => Some(port),
+        Err(_) => None,
+    }
+}
+
+/// How many connections are to be served, `None` where it is no number from 0 to 65535.
+fn count_of(matches: &ArgMatches<'_>) -> Option<u16>
+    ensures { IsNumber (rows_of (found_of matches.now)) (codes "COUNT") 0 65535 result }
+{
+    match read_number16(text_of(matches, "COUNT")?) {
+        Ok(count) => Some(count),
+        Err(_) => None,
+    }
+}
+
+/// How a published ring is to be written, `None` where the word names no format.
+fn format_of(matches: &ArgMatches<'_>) -> Option<Format>
+    ensures { IsFormat (rows_of (found_of matches.now)) result }
+{
+    match text_of(matches, "format").unwrap_or("text") {
+        "text" => Some(Format::Text),
+        "swift" => Some(Format::Swift),
+        _ => None,
+    }
+}
+
 /// What is hashed before and after each path.
 fn names_of<'a>(matches: &ArgMatches<'a>) -> HashNames<'a>
     ensures { HaveNames (rows_of (found_of matches.now)) result }
@@ -51,6 +82,29 @@ fn run<'a>(matches: &ArgMatches<'a>) -> Option<Task<'a>>
 {
     Some(Task::Run {
         file: text_of(matches, "file"),
+    })
+}
+
+fn serve<'a>(matches: &ArgMatches<'a>) -> Option<Task<'a>>
+    ensures { IsTask (codes "serve") (rows_of (found_of matches.now)) result }
+{
+    Some(Task::Serve {
+        file: text_of(matches, "FILE")?,
+        port: port_of(matches)?,
+        count: count_of(matches)?,
+        hour: hour_of(matches)?,
+        names: names_of(matches),
+    })
+}
+
+fn looping<'a>(matches: &ArgMatches<'a>) -> Option<Task<'a>>
+    ensures { IsTask (codes "loop") (rows_of (found_of matches.now)) result }
+{
+    Some(Task::Loop {
+        file: text_of(matches, "FILE")?,
+        input: text_of(matches, "INPUT")?,
+        hour: hour_of(matches)?,
+        names: names_of(matches),
     })
 }
 
@@ -70,6 +124,16 @@ fn export<'a>(matches: &ArgMatches<'a>) -> Option<Task<'a>>
         file: text_of(matches, "FILE")?,
         ring: text_of(matches, "RING")?,
         version: text_of(matches, "VERSION")?,
+        format: format_of(matches)?,
+    })
+}
+
+fn renew<'a>(matches: &ArgMatches<'a>) -> Option<Task<'a>>
+    ensures { IsTask (codes "renew") (rows_of (found_of matches.now)) result }
+{
+    Some(Task::Renew {
+        file: text_of(matches, "FILE")?,
+        new: text_of(matches, "NEW")?,
     })
 }
 
@@ -105,10 +169,13 @@ fn task_named<'a>(name: &str, matches: &ArgMatches<'a>) -> Option<Task<'a>>
 {
     match name {
         "run" => run(matches),
+        "serve" => serve(matches),
+        "loop" => looping(matches),
         "import" => import_rows(matches),
         "table" => table(matches),
         "nodes" => nodes(matches),
         "export" => export(matches),
+        "renew" => renew(matches),
         _ => None,
     }
 }
@@ -148,6 +215,6 @@ pub fn task_of<'a>(alloc: Global, words: &'a [String]) -> Result<Task<'a>, ArgsF
     };
     match task_named(name, given) {
         Some(task) => Ok(task),
-        None => Err(bad(alloc, &ABOUT)),
+        None => Err(bad(alloc, &FORMS)),
     }
 }

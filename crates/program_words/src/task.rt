@@ -2,7 +2,7 @@
 ghost use Rattle.std.specs.Prelude.{◌≡◌};
 ghost use Rattle.program_words.specs.declared.task.ArgsFault.TheVariants.{NoMemory};
 
-use ring_words::Hour;
+use ring_words::{Hour, Port};
 use std::alloc::AllocError;
 
 /// What is hashed before and after each path.
@@ -12,12 +12,38 @@ pub struct HashNames<'a> {
     pub suffix: &'a str,
 }
 
+/// How a published ring is written.
+#[derive(Clone, Copy, Debug, PartialEq, Eq)]
+pub enum Format {
+    /// As the text that was published.
+    Text,
+    /// As a ring file of OpenStack Swift.
+    Swift,
+}
+
 /// What the words ask for. A text stands as it was written.
 #[derive(Clone, Copy, Debug)]
 pub enum Task<'a> {
     /// To answer requests and questions, a line each, over this file or over memory.
     Run {
         file: Option<&'a str>,
+    },
+    /// To serve so many connections of HTTP on this port of 127.0.0.1, one after another. The clock
+    /// tells the hour that is given, always, or else that of the machine.
+    Serve {
+        file: &'a str,
+        port: Port,
+        count: u16,
+        hour: Option<Hour>,
+        names: HashNames<'a>,
+    },
+    /// To answer the bytes of a file as those of one connection of HTTP. The clock is as that of
+    /// `Serve`.
+    Loop {
+        file: &'a str,
+        input: &'a str,
+        hour: Option<Hour>,
+        names: HashNames<'a>,
     },
     /// To import the rows of a CSV file, under a caller's number.
     Import {
@@ -42,11 +68,17 @@ pub enum Task<'a> {
         object: Option<&'a str>,
         names: HashNames<'a>,
     },
-    /// To write a published text.
+    /// To write a published ring.
     Export {
         file: &'a str,
         ring: &'a str,
         version: &'a str,
+        format: Format,
+    },
+    /// To make a new file with the rings and the hour of this one, and without its numbers.
+    Renew {
+        file: &'a str,
+        new: &'a str,
     },
 }
 

@@ -50,12 +50,82 @@ fn each_program_gets_its_arguments(rt: HostRuntime) -> Result<(), Fail> {
     );
     assert_eq!(rt;
         told(alloc, "export F object 7")?.as_str(),
-        "Export { file: \"F\", ring: \"object\", version: \"7\" }"
+        "Export { file: \"F\", ring: \"object\", version: \"7\", format: Text }"
+    );
+    assert_eq!(rt;
+        told(alloc, "renew F G")?.as_str(),
+        "Renew { file: \"F\", new: \"G\" }"
     );
     assert_eq!(rt;
         told(alloc, "import F object ops 5 rows.csv --hour 9")?.as_str(),
         "Import { file: \"F\", ring: \"object\", caller: \"ops\", number: \"5\", csv: \"rows.csv\", hour: Some(9) }"
     );
+    Ok(())
+}
+
+#[test]
+fn a_service_gets_its_port_its_count_and_its_options(rt: HostRuntime) -> Result<(), Fail> {
+    let alloc = rt.alloc();
+    assert_eq!(rt;
+        told(alloc, "serve F 8642 0")?.as_str(),
+        "Serve { file: \"F\", port: Bounded { number: 8642 }, count: 0, hour: None, names: HashNames { prefix: \"\", suffix: \"\" } }"
+    );
+    assert_eq!(rt;
+        told(alloc, "serve F --hour 9 1 --prefix x 65535 --suffix y")?.as_str(),
+        "Serve { file: \"F\", port: Bounded { number: 1 }, count: 65535, hour: Some(9), names: HashNames { prefix: \"x\", suffix: \"y\" } }"
+    );
+    assert_eq!(rt;
+        told(alloc, "loop F input --suffix=y --hour=0")?.as_str(),
+        "Loop { file: \"F\", input: \"input\", hour: Some(0), names: HashNames { prefix: \"\", suffix: \"y\" } }"
+    );
+    Ok(())
+}
+
+#[test]
+fn a_port_and_a_count_are_numbers_in_their_ranges(rt: HostRuntime) -> Result<(), Fail> {
+    let alloc = rt.alloc();
+    for line in [
+        "serve F 0 1",
+        "serve F 65536 1",
+        "serve F 080 1",
+        "serve F +80 1",
+        "serve F http 1",
+        "serve F 80 65536",
+        "serve F 80 01",
+        "serve F 80 1.0",
+        "serve F 80 1 --hour 4294967296",
+        "loop F input --hour -1",
+    ] {
+        assert!(rt; is_bad(alloc, line)?, "{line}");
+    }
+    assert_eq!(rt;
+        told(alloc, "serve F 0 1")?.as_str(),
+        "error: an argument is not of its form"
+    );
+    Ok(())
+}
+
+#[test]
+fn an_export_has_one_of_two_formats(rt: HostRuntime) -> Result<(), Fail> {
+    let alloc = rt.alloc();
+    for (line, format) in [
+        ("export F object 7 --format text", "Text"),
+        ("export F object 7 --format swift", "Swift"),
+        ("export --format=swift F object 7", "Swift"),
+    ] {
+        let want = format!(in alloc;
+            "Export {{ file: \"F\", ring: \"object\", version: \"7\", format: {format} }}"
+        )?;
+        assert_eq!(rt; told(alloc, line)?.as_str(), want.as_str());
+    }
+    for line in [
+        "export F object 7 --format",
+        "export F object 7 --format Swift",
+        "export F object 7 --format json",
+        "export F object 7 swift",
+    ] {
+        assert!(rt; is_bad(alloc, line)?, "{line}");
+    }
     Ok(())
 }
 
@@ -108,7 +178,13 @@ fn other_words_and_calls_for_help_ask_for_nothing(rt: HostRuntime) -> Result<(),
         "table F object more",
         "nodes F tiny",
         "export F object",
-        "serve F 80 1",
+        "serve F 80",
+        "serve F 80 1 more",
+        "serve 80 1 --file F",
+        "loop F",
+        "loop F input 80",
+        "renew F",
+        "renew F G H",
         "import F object ops 5",
         "run --file F --file G",
         "table F object --hour 1",

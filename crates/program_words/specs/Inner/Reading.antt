@@ -1,7 +1,8 @@
 -- What reading the arguments of a program answers.
 use Rattle.std.specs.Prelude.{◌≡◌, ℕ, List, Option, Some, None}
 use Rattle.clap.specs.Walk.{Row, Text}
-use Rattle.program_words.specs.Tasks.{HasArguments, HasHour, program_of}
+use Rattle.program_words.specs.Tasks.{HasArguments, HasFormat, HasHour, HasNumber, program_of}
+use Rattle.program_words.specs.declared.task.Format.{Format}
 use Rattle.program_words.specs.declared.task.Task.{Task}
 
 -- The task is one of this program with these arguments; there is None where no task is.
@@ -14,3 +15,14 @@ IsTask name rows None = (task : Task) → program_of task ≡ name → HasArgume
 abbrev pub IsHour : List Row → Option (Option ℕ) → Type 0
 IsHour rows (Some hour) = HasHour rows hour
 IsHour rows None = (hour : Option ℕ) → HasHour rows hour → ⊥
+
+-- The number is the one that an argument spells within these bounds; None stands for an argument
+-- that spells none.
+abbrev pub IsNumber : List Row → Text → ℕ → ℕ → Option ℕ → Type 0
+IsNumber rows id least most (Some n) = HasNumber rows id least most n
+IsNumber rows id least most None = (n : ℕ) → HasNumber rows id least most n → ⊥
+
+-- The format is the one that is named, if one is; None stands for a word that names none.
+abbrev pub IsFormat : List Row → Option Format → Type 0
+IsFormat rows (Some written) = HasFormat rows written
+IsFormat rows None = (written : Format) → HasFormat rows written → ⊥
