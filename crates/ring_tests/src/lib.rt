@@ -14,6 +14,8 @@ mod paths;
 #[cfg(test)]
 mod share;
 #[cfg(test)]
+mod swift;
+#[cfg(test)]
 mod tables;
 #[cfg(test)]
 mod text;
