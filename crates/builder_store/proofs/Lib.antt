@@ -6,5 +6,6 @@ pub mod Declared
 pub mod Empty
 pub mod Found
 pub mod Gained
+pub mod Made
 pub mod Keeping
 pub mod Rising

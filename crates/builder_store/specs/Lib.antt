@@ -2,5 +2,6 @@ pub mod Codes
 pub mod Doubt
 pub mod Standing
 pub mod Opening
+pub mod Making
 pub mod Keepers
 pub mod Inner

@@ -26,3 +26,12 @@ pub enum FileFault {
     /// They were opened, and what they hold isn't opened for this cause.
     Opening(OpenFault),
 }
+
+/// Why no store is made.
+#[derive(Clone, Copy, Debug, PartialEq, Eq)]
+pub enum MakeFault {
+    /// There is something already. It stays as it was.
+    Taken,
+    /// It couldn't be opened or written, for this cause.
+    Opening(FileFault),
+}

@@ -7,7 +7,8 @@ ghost use Rattle.builder_store.specs.Inner.Tables.{HasTables, fact_prop};
 
 use crate::adopting::{Left, fault_of, take_over};
 use crate::calls::find;
-use crate::fault::OpenFault;
+use crate::fault::{FileFault, MakeFault, OpenFault};
+use crate::making::make_tables;
 use crate::planning::keep;
 use crate::reading::Opened;
 use crate::starting::open_tables;
@@ -155,6 +156,70 @@ impl<S: Alter + Drop> SqlKeeper<S> {
                 faults: 0,
             }),
             Err(fault) => Err(fault),
+        }
+    }
+}
+
+impl<S: Alter + Drop> SqlKeeper<S> {
+    ghost use Rattle.std.specs.Prelude.{IfErr, IfOk, ◌⊎◌};
+    ghost use Rattle.sqlite_trees.specs.Tree.{Trees};
+    ghost use Rattle.sqlite_trees.specs.View.{doubt};
+    ghost use Rattle.builder_store.specs.Keepers.{IsCleanLeft, content_of_keeper, left_may_leave};
+    ghost use Rattle.builder_store.specs.Making.{rings_alone};
+    ghost use Rattle.builder_store.specs.Opening.{AreDeclared};
+    ghost use Rattle.builder_store.specs.Standing.{Stands};
+    ghost use Rattle.builder_store.specs.declared.fault.MakeFault.TheVariants.{Taken};
+
+    /// Makes a store of these rings over a connection whose last commit holds nothing, and keeps at
+    /// most `limits.numbers` requests. The store has no request, and its book goes on from `hour`.
+    /// What the connection hasn't committed is rolled back.
+    ///
+    /// All is written in one transaction. Where any table is there already, nothing is written. A
+    /// refusal gives back what is left.
+    pub fn make(
+        alloc: Global,
+        conn: Connection<S>,
+        rings: Rings,
+        hour: Hour,
+        limits: Limits,
+    ) -> Result<SqlKeeper<S>, (MakeFault, Left<S>)>
+        ensures limit { IfOk result (λ k. k.limit ≡ limits.numbers) }
+        ensures faults { IfOk result (λ k. k.faults ≡ 0) }
+        ensures clean { IfOk result (λ k. doubt (state S.Store conn).is_clean ≤ doubt
+            (state S.Store k.conn).is_clean) }
+        ensures made { IfOk result (λ k. HasCleanDisk (state S.Store k.conn)
+            → content_of_keeper k ≡ rings_alone rings hour) }
+        ensures nothing { IfOk result (λ k. HasCleanDisk (state S.Store k.conn)
+            → AreDeclared 0 (state S.Store conn).committed.trees) }
+        ensures taken { IfErr result (λ e. e.0 ≡ Taken → IsCleanLeft S.Store e.1
+            → AreDeclared 0 (state S.Store conn).committed.trees → ⊥) }
+        ensures stays { IfErr result (λ e. e.0 ≡ Taken → IsCleanLeft S.Store e.1 → (db : Trees)
+            → left_may_leave S.Store e.1 db → (state S.Store conn).may_leave db) }
+        // A crash after a refusal leaves what it could leave before, or what was to be made.
+        ensures crash { IfErr result (λ e. IsCleanLeft S.Store e.1 → (db : Trees)
+            → left_may_leave S.Store e.1 db
+            → (state S.Store conn).may_leave db ⊎ Stands db (rings_alone rings hour)) }
+    {
+        one_content();
+        let mut conn = match take_over(alloc, conn) {
+            Ok(conn) => conn,
+            Err((error, store)) => {
+                let fault = FileFault::Opening(fault_of(&error));
+                return Err((MakeFault::Opening(fault), Left::Store(store)));
+            }
+        };
+        match make_tables(alloc, &mut conn, &rings, hour) {
+            Ok(()) => Ok(SqlKeeper {
+                alloc,
+                last: Snapshot::of(&conn),
+                conn,
+                rings,
+                count: 0,
+                hour,
+                limit: limits.numbers,
+                faults: 0,
+            }),
+            Err(fault) => Err((fault, Left::Connection(conn))),
         }
     }
 }

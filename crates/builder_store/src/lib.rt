@@ -7,6 +7,7 @@ mod calls;
 mod fault;
 mod keeper;
 pub mod laws;
+mod making;
 mod opening;
 mod over;
 mod planning;
@@ -14,9 +15,9 @@ mod reading;
 mod starting;
 
 pub use adopting::Left;
-pub use fault::{FileFault, OpenFault};
+pub use fault::{FileFault, MakeFault, OpenFault};
 pub use keeper::SqlKeeper;
-pub use over::{open_from, open_memory};
+pub use over::{make_at, open_from, open_memory};
 
 #[cfg(test)]
 mod tests;

@@ -1,4 +1,4 @@
-//! Opening over memory and over the files at a path.
+//! Opening and making over memory and over the files at a path.
 ghost use Rattle.std.specs.Prelude.{◌≡◌, IfOk};
 ghost use Rattle.sqlite.specs.Files.{file_state};
 ghost use Rattle.sqlite.specs.Held.{state};
@@ -6,13 +6,17 @@ ghost use Rattle.sqlite.specs.State.{HasCleanDisk};
 ghost use Rattle.sqlite.specs.Steps.{over_memory};
 ghost use Rattle.sqlite_wal.specs.Files.{image_at};
 ghost use Rattle.builder_store.specs.Keepers.{content_of_keeper};
+ghost use Rattle.builder_store.specs.Making.{rings_alone};
 ghost use Rattle.builder_store.specs.Opening.{IsOpenedFrom, nothing};
 
-use crate::fault::{FileFault, OpenFault};
+use crate::fault::{FileFault, MakeFault, OpenFault};
 use crate::keeper::SqlKeeper;
-use ring_words::Limits;
+use ring_model::Rings;
+use ring_words::{Hour, Limits};
 use sqlite::{Connection, Error, ErrorCode, FileFrom, FileStore, MemStore, Start};
 use std::alloc::Global;
+use std::fs::symlink_metadata;
+use std::io::ErrorKind;
 use std::rt::HostRuntime;
 
 /// A keeper of no rings and no request, in memory. It keeps at most `limits.numbers` requests.
@@ -64,5 +68,50 @@ pub fn open_from<S: Start>(
     match SqlKeeper::over(rt.alloc(), conn, limits) {
         Ok(keeper) => Ok(keeper),
         Err(fault) => Err(FileFault::Opening(fault)),
+    }
+}
+
+/// Whether there is anything at a path, as also a link that leads nowhere.
+fn is_taken(rt: &HostRuntime, path: &str) -> Result<bool, FileFault> {
+    match symlink_metadata(rt, path) {
+        Ok(_) => Ok(true),
+        Err(error) => match error.kind() {
+            ErrorKind::NotFound => Ok(false),
+            ErrorKind::OutOfMemory => Err(FileFault::Opening(OpenFault::NoMemory)),
+            _ => Err(FileFault::CannotOpen),
+        },
+    }
+}
+
+/// Makes a store of these rings in a file that is not there, with the log beside it. It has no
+/// request, and its book goes on from `hour`. Keeps at most `limits.numbers` requests.
+///
+/// Whatever is at the path already stays as it was, and the answer is `Taken`. `start` stands for
+/// what the files hold once they are there.
+pub fn make_at<S: Start>(
+    rt: &HostRuntime,
+    path: &str,
+    rings: Rings,
+    hour: Hour,
+    limits: Limits,
+    start: S,
+) -> Result<SqlKeeper<FileStore<FileFrom<S>>>, MakeFault>
+    ensures limit { IfOk result (λ k. k.limit ≡ limits.numbers) }
+    ensures faults { IfOk result (λ k. k.faults ≡ 0) }
+    ensures made { IfOk result (λ k. HasCleanDisk (file_state k.conn)
+        → content_of_keeper k ≡ rings_alone rings hour) }
+{
+    match is_taken(rt, path) {
+        Ok(false) => {}
+        Ok(true) => return Err(MakeFault::Taken),
+        Err(fault) => return Err(MakeFault::Opening(fault)),
+    }
+    let conn = match Connection::open_from(rt, path, false, start) {
+        Ok(conn) => conn,
+        Err((error, _)) => return Err(MakeFault::Opening(file_fault(&error))),
+    };
+    match SqlKeeper::make(rt.alloc(), conn, rings, hour, limits) {
+        Ok(keeper) => Ok(keeper),
+        Err((fault, _)) => Err(fault),
     }
 }

@@ -88,6 +88,30 @@ pub const AT_THE_HOUR: [Row; 1] = [(
     "200 {'balance':5000,'changed':1,'dispersion':0,'done':'rebalance','version':6}",
 )];
 
+/// The hour comes with a command that moves nothing.
+pub const RISEN: [Row; 1] = [(
+    24,
+    7,
+    "'do':'set_hours','min_hours':24",
+    "200 {'done':'set_hours','version':6}",
+)];
+
+/// What a number that was used before is answered in a renewed store, though its own hour is early.
+pub const RENEWED: [Row; 2] = [
+    (
+        5,
+        4,
+        REBALANCE,
+        "200 {'balance':5000,'changed':1,'dispersion':0,'done':'rebalance','version':7}",
+    ),
+    (
+        5,
+        4,
+        REBALANCE,
+        "200 {'balance':5000,'changed':1,'dispersion':0,'done':'rebalance','version':7}",
+    ),
+];
+
 /// The hours are set aside.
 const SET_ASIDE: [Row; 2] = [
     (23, 7, PRETEND, "200 {'done':'pretend_passed','version':6}"),

@@ -1,0 +1,30 @@
+use Rattle.std.proofs.Common.{◌∙◌, ap, sym}
+use Rattle.sqlite.specs.Held.{state}
+use Rattle.sqlite.proofs.StateLemmas.{survives_then, survives_weaker}
+use Rattle.store_tables.specs.Contents.{contents_of}
+use Rattle.builder_store.proofs.Made.{made_stands}
+use Rattle.builder_store.proofs.Settled.{tables_from}
+use Rattle.builder_store.proofs.making.make_tables.Goals as goal
+
+pub returns-in-Ok-prepare_store-clause-tables : goal.returns-in-Ok-prepare_store-clause-tables
+returns-in-Ok-prepare_store-clause-tables g c = λ clean.
+    let done = c.in-Ok-prepare_store.ensures.commits.done clean in
+    tables_from (state g.S.Store c.prepare_store.new.conn)
+    (record { is_open = done.0; store = done.2.store; committed = done.1 })
+
+pub returns-in-Ok-prepare_store-clause-made : goal.returns-in-Ok-prepare_store-clause-made
+returns-in-Ok-prepare_store-clause-made g c = λ clean.
+    let done = c.in-Ok-prepare_store.ensures.commits.done clean in
+    made_stands (state g.S.Store c.prepare_store.new.conn).committed.trees
+    (state g.S.Store c.args.conn.now).now.trees c.args.rings.now c.args.hour c.in-Ok.change.0
+    c.rows.result.now c.meta_row-meta.result c.rows.ensures c.meta_row-meta.ensures
+    (c.in-Ok.ensures c.args.hour c.ranges.hour.fits)
+    (ap (λ d. contents_of d.trees) (sym done.1) ∙ done.2.contents)
+
+pub returns-in-Ok-prepare_store-clause-survives : goal.returns-in-Ok-prepare_store-clause-survives
+returns-in-Ok-prepare_store-clause-survives g c =
+    survives_weaker (state g.S.Store c.args.conn.now) (state g.S.Store c.prepare_store.new.conn) _ _
+    (λ clean db. made_stands db (state g.S.Store c.args.conn.now).now.trees c.args.rings.now
+    c.args.hour c.in-Ok.change.0 c.rows.result.now c.meta_row-meta.result c.rows.ensures
+    c.meta_row-meta.ensures (c.in-Ok.ensures c.args.hour c.ranges.hour.fits))
+    c.in-Ok-prepare_store.ensures.commits.survives

@@ -1,0 +1,69 @@
+//! Writing a store of given rings where nothing is.
+ghost use Rattle.std.specs.Prelude.{◌≡◌, ◌≢◌, ◌<◌, ◌^◌, ℕ, false, Err, IfOk, OnOk};
+ghost use Rattle.sqlite.specs.Held.{state};
+ghost use Rattle.sqlite.specs.State.{HasCleanDisk, Survives};
+ghost use Rattle.store_tables.specs.Changes.{prepared};
+ghost use Rattle.store_tables.specs.Tables.{no_tables};
+ghost use Rattle.store_rows.specs.Judging.{meta_now};
+ghost use Rattle.store_rows.specs.Stands.{IsHoldable, contents_for};
+ghost use Rattle.builder_store.specs.Making.{rings_alone};
+ghost use Rattle.builder_store.specs.Opening.{no_contents};
+ghost use Rattle.builder_store.specs.Standing.{Stands};
+ghost use Rattle.builder_store.specs.Inner.Opened.{IsFresh};
+ghost use Rattle.builder_store.specs.Inner.Tables.{HasTables};
+ghost use Rattle.builder_store.specs.declared.fault.MakeFault.TheVariants.{Taken};
+
+use crate::fault::{FileFault, MakeFault, OpenFault};
+use crate::opening::refused;
+use ring_model::Rings;
+use ring_words::Hour;
+use sqlite::{Alter, Connection};
+use std::alloc::{AllocError, Global};
+use store_rows::laws::nothing_is_holdable;
+use store_rows::{Change, meta_row};
+use store_tables::{is_blank, prepare_store};
+
+/// The rows that are written for these rings where there is none.
+fn rows_alone(alloc: Global, rings: &Rings) -> Result<Change, AllocError>
+    ensures { IfOk result (λ change. (hour : ℕ) → hour < 2 ^ 32
+        → (prepared no_contents change.0 (meta_now hour) ≡ contents_for (rings_alone rings.now hour))
+        × IsHoldable (rings_alone rings.now hour)) }
+{
+    nothing_is_holdable();
+    let none = Rings::new(alloc);
+    let change = Change::between(alloc, &none, rings)?;
+    Ok(change)
+}
+
+/// Writes a store of these rings, without a request, whose book goes on from this hour. It is
+/// written in one transaction where nothing is there, and else not at all.
+pub(crate) fn make_tables<S: Alter>(
+    alloc: Global,
+    conn: &mut Connection<S>,
+    rings: &Rings,
+    hour: Hour,
+) -> Result<(), MakeFault>
+    requires mode { conn.old.in_transaction ≡ false }
+    requires fresh { HasCleanDisk (state S.Store conn.old) → IsFresh (state S.Store conn.old) }
+    ensures mode { conn.new.in_transaction ≡ false }
+    ensures nothing { OnOk result (conn.old.schema ≡ no_tables) }
+    ensures tables { HasCleanDisk (state S.Store conn.new) → OnOk result (HasTables
+        (state S.Store conn.new)) }
+    ensures made { HasCleanDisk (state S.Store conn.new) → OnOk result
+        (Stands (state S.Store conn.new).committed.trees (rings_alone rings.now hour)) }
+    ensures taken { result ≡ Err Taken → (conn.new ≡ conn.old) × (conn.old.schema ≢ no_tables) }
+    ensures survives { Survives (state S.Store conn.old) (state S.Store conn.new)
+        (λ db. Stands db (rings_alone rings.now hour)) }
+{
+    if !is_blank(conn) {
+        return Err(MakeFault::Taken);
+    }
+    let Ok(change) = rows_alone(alloc, rings) else {
+        return Err(MakeFault::Opening(FileFault::Opening(OpenFault::NoMemory)));
+    };
+    let meta = meta_row(hour);
+    match prepare_store(conn, 0, change.rows(), &meta) {
+        Ok(()) => Ok(()),
+        Err(error) => Err(MakeFault::Opening(FileFault::Opening(refused(conn, &error)))),
+    }
+}
