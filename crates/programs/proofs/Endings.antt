@@ -1,10 +1,12 @@
 -- How tasks end whose words were read.
 use Rattle.std.proofs.Common.{◌≡◌, ◌⊎◌, inl, inr, List, Option, Result, Ok, Err, ℕ, subst, sym}
 use Rattle.std.specs.Prelude.{IfErr, IfOk}
+use Rattle.byte_streams.specs.declared.counted.CountedReader.{CountedReader}
 use Rattle.byte_streams.specs.declared.counted.CountedWriter.{CountedWriter}
+use Rattle.program_words.specs.declared.task.Task.{Task}
 use Rattle.sqlite_wal.specs.Recovery.{Image}
 use Rattle.programs.specs.Opened.{Keeping}
-use Rattle.programs.specs.Performed.{FailsToImportFile, ShowsFile}
+use Rattle.programs.specs.Performed.{EndsSo, FailsSo, FailsToImportFile, ShowsFile}
 use Rattle.programs.specs.declared.faults.ProgramFault.{ProgramFault}
 use Rattle.programs.specs.declared.importing.ImportAsk.{ImportAsk}
 use Rattle.programs.specs.declared.performing.Ending.{Ending}
@@ -50,3 +52,40 @@ module _ {K W : Type 0} (files : Keeping K) (image : Image) (contents : W → Op
     | inl word ↦ ill why (read_ill read Forms why forms word.0) word.1
     | inr done ↦ work why (done.0, read_well read Asks done.0 asks done.1, done.2)
   ]
+
+module _ {M K R W N : Type 0} (memory : Keeping M) (files : Keeping K) (image : Image)
+    (remaining : R → Option (List ℕ)) (contents : W → Option (List ℕ))
+    (reader late_reader : CountedReader R) (writer later : CountedWriter W) (made : Keeping N) where
+  -- a task ended as the one that it is
+  pub ends_as : (ending : Ending) (task asked : Task) → task ≡ asked
+      → EndsSo memory files image remaining contents reader late_reader writer later made asked ending
+      → EndsSo memory files image remaining contents reader late_reader writer later made task ending
+  ends_as ending task asked is = subst (λ t. EndsSo memory files image remaining contents reader
+      late_reader writer later made t ending) (sym is)
+
+  -- and so where it had no fault
+  pub ended_as : (result : Result Ending ProgramFault) (task asked : Task) → task ≡ asked
+      → IfOk result (EndsSo memory files image remaining contents reader late_reader writer later
+      made asked)
+      → IfOk result (EndsSo memory files image remaining contents reader late_reader writer later
+      made task)
+  ended_as result task asked is = subst (λ t. IfOk result (EndsSo memory files image remaining
+      contents reader late_reader writer later made t)) (sym is)
+
+  -- and so it is refused
+  pub refused_as : (task : Task) (ending asked : Ending) → ending ≡ asked
+      → EndsSo memory files image remaining contents reader late_reader writer later made task
+      ending
+      → EndsSo memory files image remaining contents reader late_reader writer later made task asked
+  refused_as task ending asked is = subst (EndsSo memory files image remaining contents reader
+      late_reader writer later made task) is
+
+module _ {M K R W : Type 0} (memory : Keeping M) (files : Keeping K) (image : Image)
+    (remaining : R → Option (List ℕ)) (contents : W → Option (List ℕ))
+    (reader late_reader : CountedReader R) (writer later : CountedWriter W) where
+  -- a task failed as the one that it is
+  pub fails_as : (why : ProgramFault) (task asked : Task) → task ≡ asked
+      → FailsSo memory files image remaining contents reader late_reader writer later asked why
+      → FailsSo memory files image remaining contents reader late_reader writer later task why
+  fails_as why task asked is = subst (λ t. FailsSo memory files image remaining contents reader
+      late_reader writer later t why) (sym is)

@@ -6,6 +6,8 @@ use Rattle.byte_streams.specs.Writing.{WritesBeginning}
 use Rattle.byte_streams.specs.declared.counted.CountedWriter.{CountedWriter}
 use Rattle.byte_streams.specs.declared.fault.StreamFault.{StreamFault}
 use Rattle.byte_streams.specs.declared.fault.StreamFault.TheVariants as stream
+use Rattle.http_sockets.specs.declared.fault.ServeFault.{ServeFault}
+use Rattle.http_sockets.specs.declared.fault.ServeFault.TheVariants as serve
 use Rattle.programs.specs.declared.faults.ProgramFault.{ProgramFault}
 use Rattle.programs.specs.declared.faults.ProgramFault.TheVariants as fault
 
@@ -18,6 +20,7 @@ fault_name fault.NoMemory = codes "NoMemory"
 fault_name fault.StoreFault = codes "StoreFault"
 fault_name fault.BadStore = codes "BadStore"
 fault_name fault.NoFile = codes "NoFile"
+fault_name fault.NetFailed = codes "NetFailed"
 fault_name fault.TooLong = codes "TooLong"
 fault_name fault.BadPath = codes "BadPath"
 fault_name fault.NoVersion = codes "NoVersion"
@@ -33,6 +36,7 @@ fault_number fault.NoMemory = 23
 fault_number fault.StoreFault = 24
 fault_number fault.BadStore = 26
 fault_number fault.NoFile = 27
+fault_number fault.NetFailed = 28
 fault_number fault.TooLong = 29
 fault_number fault.BadPath = 30
 fault_number fault.NoVersion = 32
@@ -48,6 +52,11 @@ abbrev pub stream_fault : StreamFault → ProgramFault
 stream_fault stream.ReadFailed = fault.ReadFailed
 stream_fault stream.WriteFailed = fault.WriteFailed
 stream_fault stream.NoMemory = fault.NoMemory
+
+-- what the fault of a service is told as
+abbrev pub serve_fault : ServeFault → ProgramFault
+serve_fault serve.NetFailed = fault.NetFailed
+serve_fault (serve.Stream cause) = stream_fault cause
 
 -- The writer got this text: it took all of it and was flushed, or it failed and took a beginning.
 abbrev pub GetsText : {E : Type 0} → (E → Option (List ℕ)) → CountedWriter E → CountedWriter E →

@@ -7,7 +7,7 @@ use Rattle.byte_streams.specs.declared.counted.CountedWriter.{CountedWriter}
 use Rattle.builder.specs.Replies.{answer_status}
 use Rattle.builder.specs.declared.machine.RingMachine.{RingMachine}
 use Rattle.csv_import.specs.declared.fault.CsvFault.{CsvFault}
-use Rattle.csv_import.specs.declared.fault.CsvFault.TheVariants as csv
+use Rattle.http_api.specs.Http.{told_csv}
 use Rattle.line_api.specs.Lines.{answer_line, told_of}
 use Rattle.line_api.specs.Served.{steps_of}
 use Rattle.request_book.specs.Book.{Parts}
@@ -33,14 +33,6 @@ pub record AsksImport (name caller_word number_word : List ℕ) (ask : ImportAsk
   pub ring : SpellsName is_label name ask.ring
   pub caller : SpellsName is_label caller_word ask.key.caller
   pub number : SpellsNumber number_word 0 4294967295 ask.key.number
-
--- what a table that tells no rows is told as
-abbrev pub told_csv : CsvFault → Told
-told_csv csv.BadHeader = told.BadHeader
-told_csv (csv.BadRow row) = told.BadRow row
-told_csv (csv.BadField row column) = told.BadField row column
-told_csv csv.ReadFailed = told.ReadFailed
-told_csv csv.NoMemory = told.NoMemory
 
 -- an answer as it is printed: its line, and a line feed
 abbrev pub told_line : Told → List ℕ
@@ -97,7 +89,7 @@ module _ {K : Type 0} (g : Keeping K) (Begins : K → Type 0) where
     -- writer failed and took a beginning of what the import is told. Else it wasn't touched.
     abbrev pub FailsToImport : Option (List ℕ) → ImportAsk → ℕ → ProgramFault → Type 0
     FailsToImport known ask hour why =
-        ((why ≡ fault.TooLong) × IsLong known × (later ≡ writer))
+        ((why ≡ fault.TooLong) × IsLong 65536 known × (later ≡ writer))
         ⊎ (IsStoreFault why × (later ≡ writer))
         ⊎ ((why ≡ fault.WriteFailed) × ((t : Told) × TellsImport known ask hour t
         × FailsTold contents writer later t))

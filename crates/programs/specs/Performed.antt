@@ -4,13 +4,16 @@ use Rattle.std.specs.Borrow.{Bor}
 use Rattle.byte_streams.specs.declared.counted.CountedReader.{CountedReader}
 use Rattle.byte_streams.specs.declared.counted.CountedWriter.{CountedWriter}
 use Rattle.byte_streams.specs.declared.fault.StreamFault.{StreamFault}
+use Rattle.program_words.specs.declared.task.HashNames.{HashNames}
 use Rattle.program_words.specs.declared.task.Task.{Task}
 use Rattle.program_words.specs.declared.task.Task.TheVariants as task
 use Rattle.sqlite_wal.specs.Recovery.{Image}
 use Rattle.programs.specs.Faults.{stream_fault}
 use Rattle.programs.specs.Importing.{AnswersImport, AsksImport, FailsToImport}
-use Rattle.programs.specs.Opened.{IsKept, IsNew, Keeping}
+use Rattle.programs.specs.Opened.{IsKept, IsNew, IsStoreFault, Keeping}
+use Rattle.programs.specs.Renewing.{Renews}
 use Rattle.programs.specs.Running.{AnswersLines, FailsLines, StopsLines}
+use Rattle.programs.specs.Serving.{FailsToLoopInput, FailsToServe, LoopsInput, ServesConnections}
 use Rattle.programs.specs.Showing.{AsksShown, FailsToShow, IsFormFault, IsMalformed, IsPathless}
 use Rattle.programs.specs.Showing.{Shows}
 use Rattle.programs.specs.declared.faults.ProgramFault.{ProgramFault}
@@ -48,6 +51,11 @@ module _ {K W : Type 0} (files : Keeping K) (image : Image) (contents : W → Op
       ⊎ ((hour : ℕ) × IfSome given (λ h. hour ≡ h)
       × FailsToImport files (IsKept files image) contents writer later None ask hour why))
 
+  -- This fault came of a loop over the bytes of a file: it can't be opened, or one of the loop.
+  abbrev pub FailsToLoopFile : Option ℕ → HashNames → ProgramFault → Type 0
+  FailsToLoopFile given names why = ((why ≡ fault.NoFile) × (later ≡ writer))
+      ⊎ FailsToLoopInput files (IsKept files image) given names contents writer later None why
+
 -- The status of an import ends it so: 200 where it was done.
 abbrev pub EndsBy : Ending → ℕ → Type 0
 EndsBy Done status = status ≡ 200
@@ -71,30 +79,45 @@ module _ {M K R W : Type 0} (memory : Keeping M) (files : Keeping K) (image : Im
   FailsToRun (Some file) why = FailsLines files (IsKept files image) remaining contents reader
       late_reader writer later why
 
-  -- A task had no fault and ended so: what it asks for was done, or an import was refused. Only
-  -- `run` touches the reader.
-  abbrev pub EndsSo : Task → Ending → Type 0
-  EndsSo (task.Run file) Done = Runs file
-  EndsSo (task.Table file ring) Done = (late_reader ≡ reader)
-      × ShowsFile files image contents writer later (AsksShown (task.Table file ring))
-  EndsSo (task.Export file ring version) Done = (late_reader ≡ reader)
-      × ShowsFile files image contents writer later (AsksShown (task.Export file ring version))
-  EndsSo (task.Nodes file ring account container object names) Done = (late_reader ≡ reader)
-      × ShowsFile files image contents writer later
-      (AsksShown (task.Nodes file ring account container object names))
-  EndsSo (task.Import file ring caller number csv given) ending = (late_reader ≡ reader)
-      × ImportsFile files image contents writer later (AsksImport ring.now caller.now number.now)
-      given (EndsBy ending)
-  EndsSo _ _ = ⊥
+  -- Keepers of stores that are made are these.
+  module _ {N : Type 0} (made : Keeping N) where
+    -- A task had no fault and ended so: what it asks for was done, or an import was refused. Only
+    -- `run` touches the reader.
+    abbrev pub EndsSo : Task → Ending → Type 0
+    EndsSo (task.Run file) Done = Runs file
+    EndsSo (task.Serve file port count given names) Done = (late_reader ≡ reader) × (later ≡ writer)
+        × ServesConnections files (IsKept files image) given names count
+    EndsSo (task.Loop file input given names) Done = (late_reader ≡ reader)
+        × LoopsInput files (IsKept files image) given names contents writer later None
+    EndsSo (task.Table file ring) Done = (late_reader ≡ reader)
+        × ShowsFile files image contents writer later (AsksShown (task.Table file ring))
+    EndsSo (task.Export file ring version written) Done = (late_reader ≡ reader)
+        × ShowsFile files image contents writer later
+        (AsksShown (task.Export file ring version written))
+    EndsSo (task.Nodes file ring account container object names) Done = (late_reader ≡ reader)
+        × ShowsFile files image contents writer later
+        (AsksShown (task.Nodes file ring account container object names))
+    EndsSo (task.Import file ring caller number csv given) ending = (late_reader ≡ reader)
+        × ImportsFile files image contents writer later (AsksImport ring.now caller.now number.now)
+        given (EndsBy ending)
+    EndsSo (task.Renew file fresh) Done = (late_reader ≡ reader) × (later ≡ writer)
+        × Renews files made (IsKept files image)
+    EndsSo _ _ = ⊥
 
   -- This fault came of the work of a task.
   abbrev pub FailsToDo : Task → ProgramFault → Type 0
   FailsToDo (task.Run file) why = FailsToRun file why
+  FailsToDo (task.Serve file port count given names) why = (late_reader ≡ reader)
+      × (later ≡ writer) × FailsToServe files (IsKept files image) given names count why
+  FailsToDo (task.Loop file input given names) why = (late_reader ≡ reader)
+      × FailsToLoopFile files image contents writer later given names why
   FailsToDo (task.Table file ring) why = (late_reader ≡ reader)
       × FailsToShowFile files image contents writer later (AsksShown (task.Table file ring)) why
-  FailsToDo (task.Export file ring version) why = (late_reader ≡ reader)
-      × FailsToShowFile files image contents writer later (AsksShown (task.Export file ring
-      version)) why
+  FailsToDo (task.Export file ring version written) why = (late_reader ≡ reader)
+      × FailsToShowFile files image contents writer later
+      (AsksShown (task.Export file ring version written)) why
+  FailsToDo (task.Renew file fresh) why = (late_reader ≡ reader) × (later ≡ writer)
+      × IsStoreFault why
   FailsToDo (task.Nodes file ring account container object names) why = (late_reader ≡ reader)
       × FailsToShowFile files image contents writer later
       (AsksShown (task.Nodes file ring account container object names)) why

@@ -11,6 +11,8 @@ use Rattle.builder.specs.Step.{State}
 use Rattle.node_text.specs.Nodes.{nodes_json}
 use Rattle.path_lookup.specs.Names.{PathNames, is_path, names_of}
 use Rattle.path_lookup.specs.Nodes.{AreNodes, partition_of, path_hash}
+use Rattle.program_words.specs.declared.task.Format.{Format}
+use Rattle.program_words.specs.declared.task.Format.TheVariants as format
 use Rattle.program_words.specs.declared.task.HashNames.{HashNames}
 use Rattle.program_words.specs.declared.task.Task.{Task}
 use Rattle.program_words.specs.declared.task.Task.TheVariants as task
@@ -18,6 +20,9 @@ use Rattle.ring_model.specs.Ring.{RingRecord, is_assigned, published_at}
 use Rattle.ring_model.specs.Rings.{ring_at}
 use Rattle.ring_share.specs.Want.{AreWanted}
 use Rattle.ring_tables.specs.Tables.{balance_table, device_table}
+use Rattle.ring_text.specs.Snapshot.{SnapshotRecord}
+use Rattle.ring_text.specs.Spelling.{Spells}
+use Rattle.swift_ring.specs.SwiftFile.{swift_file}
 use Rattle.ring_words.specs.Spelling.{SpellsName, SpellsNumber}
 use Rattle.ring_words.specs.Texts.{is_label}
 use Rattle.programs.specs.Opened.{IsStoreFault, Keeping}
@@ -25,7 +30,7 @@ use Rattle.programs.specs.declared.faults.ProgramFault.{ProgramFault}
 use Rattle.programs.specs.declared.faults.ProgramFault.TheVariants as fault
 use Rattle.programs.specs.declared.showing.Question.{Question}
 use Rattle.programs.specs.declared.showing.View.{View}
-use Rattle.programs.specs.declared.showing.View.TheVariants.{Tables, Nodes, Text}
+use Rattle.programs.specs.declared.showing.View.TheVariants.{Tables, Nodes, Published}
 
 -- ---- what is asked
 
@@ -39,12 +44,13 @@ pub record AsksTables (name : List ℕ) (question : Question) : Type 0 where
   pub ring : SpellsName is_label name question.ring
   pub view : question.view ≡ Tables
 
--- What `export` asks of the ring of this name.
-pub record AsksText (name word : List ℕ) (question : Question) : Type 0 where
-  pub ring : SpellsName is_label name question.ring
-  pub number : ℕ
-  pub version : SpellsNumber word 0 4294967295 number
-  pub view : question.view ≡ Text number
+-- What `export` asks of the ring of this name, in a format.
+pub record AsksPublished (name word : List ℕ) (written : Format) (question : Question) : Type 0
+  where
+    pub ring : SpellsName is_label name question.ring
+    pub number : ℕ
+    pub version : SpellsNumber word 0 4294967295 number
+    pub view : question.view ≡ Published number written
 
 -- What `nodes` asks of the ring of this name.
 pub record AsksNodes (name : List ℕ) (path : PathNames) (names : HashNames) (question : Question) :
@@ -56,7 +62,8 @@ pub record AsksNodes (name : List ℕ) (path : PathNames) (names : HashNames) (q
 -- The task is to show this.
 abbrev pub AsksShown : Task → Question → Type 0
 AsksShown (task.Table file ring) question = AsksTables ring.now question
-AsksShown (task.Export file ring version) question = AsksText ring.now version.now question
+AsksShown (task.Export file ring version written) question = AsksPublished ring.now version.now
+    written question
 AsksShown (task.Nodes file ring account container object names) question =
     AsksNodes ring.now (names_given account container object) names question
 AsksShown _ question = ⊥
@@ -80,7 +87,7 @@ IsFormFault malformed pathless _ = ⊥
 -- A name or a number of the task isn't of its form.
 abbrev pub IsMalformed : Task → Type 0
 IsMalformed (task.Table file ring) = IsNoName ring.now
-IsMalformed (task.Export file ring version) = IsNoName ring.now ⊎ IsNoNumber version.now
+IsMalformed (task.Export file ring version written) = IsNoName ring.now ⊎ IsNoNumber version.now
 IsMalformed (task.Nodes file ring account container object names) = IsNoName ring.now
 IsMalformed (task.Import file ring caller number csv hour) = IsNoName ring.now ⊎ IsNoName caller.now
     ⊎ IsNoNumber number.now
@@ -107,16 +114,29 @@ AreNodesTold ring path names text = (ids : List ℕ) × AreNodes ring names.pref
     × (text ≡ nodes_json ring (partition_of (path_hash names.prefix.now path names.suffix.now)
     ring.power) ids ++ 10 ∷ [])
 
+-- The bytes are Swift's ring file of the ring that a text spells.
+abbrev pub IsSwiftFileOf : List ℕ → List ℕ → Type 0
+IsSwiftFileOf text bytes = (snapshot : SnapshotRecord) × Spells text snapshot
+    × (bytes ≡ swift_file snapshot)
+
+-- The text is that of no ring.
+abbrev pub SpellsNoRing : List ℕ → Type 0
+SpellsNoRing text = (snapshot : SnapshotRecord) → Spells text snapshot → ⊥
+
 -- The text is what is shown of a ring.
 abbrev pub IsShown : View → RingRecord → List ℕ → Type 0
 IsShown Tables ring text = AreTables ring text
 IsShown (Nodes path names) ring text = AreNodesTold ring path names text
-IsShown (Text version) ring text = published_at ring version ≡ Some text
+IsShown (Published version format.Text) ring text = published_at ring version ≡ Some text
+IsShown (Published version format.Swift) ring bytes = (text : List ℕ)
+    × (published_at ring version ≡ Some text) × IsSwiftFileOf text bytes
 
--- This is why it isn't shown of a ring.
+-- This is why it isn't shown of a ring. A text of no ring is none that the machine has published.
 abbrev pub IsHidden : View → RingRecord → ProgramFault → Type 0
 IsHidden (Nodes path names) ring fault.NotAssigned = is_assigned ring ≡ false
-IsHidden (Text version) ring fault.NoVersion = published_at ring version ≡ None
+IsHidden (Published version written) ring fault.NoVersion = published_at ring version ≡ None
+IsHidden (Published version format.Swift) ring fault.BadStore = (text : List ℕ)
+    × (published_at ring version ≡ Some text) × SpellsNoRing text
 IsHidden _ ring _ = ⊥
 
 -- The text is what these rings show of what is asked.

@@ -5,6 +5,7 @@ ghost use Rattle.programs.specs.declared.faults.ProgramFault.TheVariants.{NoMemo
 
 use builder_store::{FileFault, OpenFault};
 use byte_streams::{CountedWriter, StreamFault, write_text};
+use http_sockets::ServeFault;
 use std::alloc::AllocError;
 use std::io::Write;
 
@@ -25,6 +26,8 @@ pub enum ProgramFault {
     BadStore,
     /// A file that is to be read can't be opened.
     NoFile,
+    /// A port can't be had, or connections can't be accepted any more.
+    NetFailed,
     /// A file that is to be read has more bytes than it may.
     TooLong,
     /// The names make no path.
@@ -59,6 +62,19 @@ impl From<StreamFault> for ProgramFault {
     }
 }
 
+impl From<ServeFault> for ProgramFault {
+    ghost use Rattle.programs.specs.Faults.{serve_fault};
+
+    ghost from_gives = { λ cause fault. fault ≡ serve_fault cause };
+
+    fn from(fault: ServeFault) -> ProgramFault {
+        match fault {
+            ServeFault::NetFailed => ProgramFault::NetFailed,
+            ServeFault::Stream(fault) => ProgramFault::from(fault),
+        }
+    }
+}
+
 impl From<FileFault> for ProgramFault {
     ghost use Rattle.programs.specs.Opened.{open_fault};
 
@@ -87,6 +103,7 @@ fn fault_line(fault: ProgramFault) -> &'static str
         ProgramFault::StoreFault => "ringd: StoreFault 24\n",
         ProgramFault::BadStore => "ringd: BadStore 26\n",
         ProgramFault::NoFile => "ringd: NoFile 27\n",
+        ProgramFault::NetFailed => "ringd: NetFailed 28\n",
         ProgramFault::TooLong => "ringd: TooLong 29\n",
         ProgramFault::BadPath => "ringd: BadPath 30\n",
         ProgramFault::NoVersion => "ringd: NoVersion 32\n",

@@ -1,26 +1,24 @@
 //! The program `import`: one numbered import of a table.
 ghost use Rattle.std.specs.Prelude.{◌≡◌, ◌⊎◌, IfErr, IfOk, string_bytes};
 ghost use Rattle.byte_streams.specs.declared.fault.StreamFault.TheVariants.{WriteFailed};
-ghost use Rattle.line_api.specs.Lines.{told_fault, told_of};
 ghost use Rattle.sqlite_wal.specs.Files.{image_at};
 ghost use Rattle.programs.specs.Importing.{AnswersImport, AsksImport, FailsToImport, FailsTold};
-ghost use Rattle.programs.specs.Importing.{Imports, TellsImport, WritesTold, told_csv, told_line};
+ghost use Rattle.programs.specs.Importing.{Imports, TellsImport, WritesTold, told_line};
 ghost use Rattle.programs.specs.Opened.{IsKept, IsStoreFault};
 ghost use Rattle.programs.specs.Tables.{IsLong};
 ghost use Rattle.programs.specs.declared.faults.ProgramFault.TheVariants.{TooLong};
 ghost use Rattle.programs.specs.Showing.{IsFormFault, IsNoName, IsNoNumber};
 
 use crate::faults::ProgramFault;
-use crate::opening::{FileKeeper, close_store, open_store};
+use crate::opening::{FileKeeper, close_store, open_book, open_store};
 use crate::showing::form_fault;
 use crate::table::{TableFault, read_table};
 use builder::{RingMachine, Told, status_of, told_text};
 use byte_streams::{CountedWriter, StreamFault, write_text};
-use csv_import::CsvFault;
-use request_book::{Answer, Book, Fault, Keeper};
-use ring_words::{
-    Act, Caller, Command, Hour, Key, Limits, Reply, RingName, Row, Rows, read_name, read_number,
-};
+use http_api::told_csv;
+use line_api::told_of;
+use request_book::Keeper;
+use ring_words::{Act, Caller, Command, Hour, Key, RingName, Row, Rows, read_name, read_number};
 use sqlite::Start;
 use std::alloc::{AllocError, Global};
 use std::io::{Read, Write};
@@ -62,42 +60,6 @@ pub(crate) fn ask_import(
         ring,
         key: Key { caller, number },
     })
-}
-
-/// What a fault of the book is told as.
-fn told_fault(fault: Fault) -> Told
-    ensures { result ≡ told_fault fault }
-{
-    match fault {
-        Fault::NumberReused => Told::NumberReused,
-        Fault::BookFull => Told::BookFull,
-        Fault::NoMemory => Told::NoMemory,
-        Fault::StoreFault => Told::StoreFault,
-        Fault::Closed => Told::Closed,
-    }
-}
-
-/// What a delivery's answer is told as.
-fn told_of(answer: Answer<Reply>) -> Told
-    ensures { result ≡ told_of answer }
-{
-    match answer {
-        Ok(reply) => Told::Reply(reply),
-        Err(fault) => told_fault(fault),
-    }
-}
-
-/// What a table that can't be read is told as.
-fn told_csv(fault: CsvFault) -> Told
-    ensures { result ≡ told_csv fault }
-{
-    match fault {
-        CsvFault::BadHeader => Told::BadHeader,
-        CsvFault::BadRow(row) => Told::BadRow { row },
-        CsvFault::BadField(row, column) => Told::BadField { row, column },
-        CsvFault::ReadFailed => Told::ReadFailed,
-        CsvFault::NoMemory => Told::NoMemory,
-    }
 }
 
 /// An answer as a line: its status, a space, its text and a line feed.
@@ -156,10 +118,7 @@ fn deliver_rows<K: Keeper<RingMachine> + Drop>(
     requires { K.fault_count keeper ≡ 0 }
     ensures { Imports K.Keeper (λ k. k ≡ keeper) ask rows.items hour result.0 }
 {
-    let machine = RingMachine {
-        limits: Limits::full(),
-    };
-    let mut book = Book::open(alloc, machine, keeper);
+    let mut book = open_book(alloc, keeper);
     let ImportAsk { ring, key } = ask;
     let act = Act::Import(Rows::new(rows));
     let told = told_of(book.deliver(hour, key, Command { ring, act }));
@@ -203,7 +162,7 @@ fn tell_import<S: Start, R: Read + Drop>(
         ⟦<FileKeeper<S> as Keeper<RingMachine>>⟧
         (IsKept ⟦<FileKeeper<S> as Keeper<RingMachine>>⟧ (image_at S.Start))
         (R.remaining table) ask hour) }
-    ensures fault { IfErr result (λ why. ((why ≡ TooLong) × IsLong (R.remaining table))
+    ensures fault { IfErr result (λ why. ((why ≡ TooLong) × IsLong 65536 (R.remaining table))
         ⊎ IsStoreFault why) }
 {
     match read_table(rt.alloc(), table) {

@@ -11,6 +11,8 @@ mod importing;
 mod lines;
 mod opening;
 mod performing;
+mod renewing;
+mod serving;
 mod showing;
 mod table;
 

@@ -5,11 +5,11 @@ ghost use Rattle.programs.specs.Opened.{IsKept, IsNew};
 ghost use Rattle.programs.specs.Running.{AnswersLines, FailsLines, StopsLines};
 
 use crate::faults::ProgramFault;
-use crate::opening::{FileKeeper, close_store, open_store};
+use crate::opening::{FileKeeper, close_store, open_book, open_store};
 use builder::RingMachine;
 use byte_streams::{CountedReader, CountedWriter, StreamFault};
 use line_api::run_lines;
-use request_book::{Book, Keeper, MemKeeper};
+use request_book::{Keeper, MemKeeper};
 use ring_model::Rings;
 use ring_words::{Command, Limits, Reply};
 use sqlite::Start;
@@ -32,10 +32,7 @@ fn answer_lines<R: Read, W: Write, K: Keeper<RingMachine> + Drop>(
     ensures stopped { IfErr result.0 (StopsLines K.Keeper
         (λ k. k ≡ keeper) R.remaining W.contents reader.old reader.new writer.old writer.new) }
 {
-    let machine = RingMachine {
-        limits: Limits::full(),
-    };
-    let mut book = Book::open(alloc, machine, keeper);
+    let mut book = open_book(alloc, keeper);
     let answered = run_lines(alloc, reader, writer, &mut book);
     (answered, book.into_keeper())
 }

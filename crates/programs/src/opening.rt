@@ -1,15 +1,16 @@
-//! Opening the store in a file.
+//! Opening the store in a file, and books.
 ghost use Rattle.std.specs.Prelude.{◌≡◌, IfErr, IfOk};
 ghost use Rattle.sqlite_wal.specs.Files.{image_at};
-ghost use Rattle.programs.specs.Opened.{IsKept, IsStoreFault};
+ghost use Rattle.programs.specs.Opened.{IsBegun, IsKept, IsStoreFault};
 ghost use Rattle.programs.specs.declared.faults.ProgramFault.TheVariants.{StoreFault};
 
 use crate::faults::ProgramFault;
 use builder::RingMachine;
 use builder_store::{SqlKeeper, open_from};
-use request_book::Keeper;
+use request_book::{Book, Keeper};
 use ring_words::Limits;
 use sqlite::{FileFrom, FileStore, Start};
+use std::alloc::Global;
 
 /// Keeps rings and requests in a file and the log beside it.
 pub(crate) type FileKeeper<S> = SqlKeeper<FileStore<FileFrom<S>>>;
@@ -29,6 +30,17 @@ pub(crate) fn open_store<S: Start>(
         Ok(keeper) => Ok(keeper),
         Err(fault) => Err(ProgramFault::from(fault)),
     }
+}
+
+/// Opens a book over a keeper, under the full limits.
+pub(crate) fn open_book<K: Keeper<RingMachine>>(alloc: Global, keeper: K) -> Book<RingMachine, K>
+    requires { K.fault_count keeper ≡ 0 }
+    ensures { IsBegun (λ k. k ≡ keeper) result }
+{
+    let machine = RingMachine {
+        limits: Limits::full(),
+    };
+    Book::open(alloc, machine, keeper)
 }
 
 /// Closes a store, so that all that it holds is in its file.

@@ -1,13 +1,15 @@
 //! What the program does over three streams.
-ghost use Rattle.std.specs.Prelude.{◌≡◌, ◌⊎◌, ◌≤◌, Err, IfErr, IfOk, Ok, OnOk, map};
+ghost use Rattle.std.specs.Prelude.{◌≡◌, ◌⊎◌, ◌≤◌, Err, IfErr, IfOk, None, Ok, OnOk, map};
 ghost use Rattle.std.specs.Prelude.{string_bytes};
 ghost use Rattle.program_words.specs.Tasks.{AskFor, AskForNothing};
 ghost use Rattle.program_words.specs.declared.task.Task.{Task};
 ghost use Rattle.sqlite_wal.specs.Files.{image_at};
 ghost use Rattle.programs.specs.Faults.{GetsText, fault_line};
+ghost use Rattle.programs.specs.Opened.{IsKept};
+ghost use Rattle.programs.specs.Serving.{LoopsInput};
 ghost use Rattle.programs.specs.Performed.{EndsBy, EndsSo, FailsSo, FailsToImportFile};
 ghost use Rattle.programs.specs.Performed.{FailsToRun, FailsToShowFile, ImportsFile, Runs};
-ghost use Rattle.programs.specs.Performed.{ShowsFile};
+ghost use Rattle.programs.specs.Performed.{FailsToLoopFile, ShowsFile};
 ghost use Rattle.programs.specs.declared.faults.ProgramFault.{ProgramFault};
 ghost use Rattle.programs.specs.declared.faults.ProgramFault.TheVariants.{NoMemory};
 ghost use Rattle.programs.specs.declared.performing.Ending.TheVariants.{Done, Refused};
@@ -17,10 +19,12 @@ use crate::hours::hour_of;
 use crate::importing::{ImportAsk, ask_import, import_table};
 use crate::lines::{MemoryKeeper, run_over_file, run_over_memory};
 use crate::opening::FileKeeper;
-use crate::showing::{Question, ask_nodes, ask_tables, ask_text, show};
+use crate::renewing::{NewFiles, renew_file};
+use crate::serving::{loop_file, serve_file};
+use crate::showing::{Question, ask_nodes, ask_published, ask_tables, show};
 use builder::RingMachine;
 use byte_streams::{CountedReader, CountedWriter, write_text};
-use program_words::{ArgsFault, Task, task_of};
+use program_words::{ArgsFault, HashNames, Task, task_of};
 use request_book::Keeper;
 use ring_words::Hour;
 use sqlite::Start;
@@ -121,6 +125,29 @@ fn import<S: Start, W: Write>(
     }
 }
 
+/// Answers the bytes of a file as those of one connection, over the store in a file.
+fn loop_bytes<S: Start, W: Write>(
+    rt: &HostRuntime,
+    file: &str,
+    input: &str,
+    given: Option<Hour>,
+    names: HashNames<'_>,
+    writer: &mut CountedWriter<W>,
+    start: S,
+) -> Result<(), ProgramFault>
+    ensures done { OnOk result (LoopsInput ⟦<FileKeeper<S> as Keeper<RingMachine>>⟧
+        (IsKept ⟦<FileKeeper<S> as Keeper<RingMachine>>⟧ (image_at S.Start))
+        given names.entry W.contents writer.old writer.new None) }
+    ensures failed { IfErr result (FailsToLoopFile
+        ⟦<FileKeeper<S> as Keeper<RingMachine>>⟧ (image_at S.Start)
+        W.contents writer.old writer.new given names.entry) }
+{
+    let Ok(input) = File::open(rt, input) else {
+        return Err(ProgramFault::NoFile);
+    };
+    loop_file(rt, file, input, given, names, writer, start)
+}
+
 /// Does a task.
 fn perform_task<S: Start, R: Read, W: Write>(
     rt: &HostRuntime,
@@ -131,7 +158,8 @@ fn perform_task<S: Start, R: Read, W: Write>(
 ) -> Result<Ending, ProgramFault>
     ensures ended { IfOk result (EndsSo ⟦<MemoryKeeper as Keeper<RingMachine>>⟧
         ⟦<FileKeeper<S> as Keeper<RingMachine>>⟧ (image_at S.Start) R.remaining W.contents
-        reader.old reader.new writer.old writer.new task.now) }
+        reader.old reader.new writer.old writer.new
+        ⟦<FileKeeper<NewFiles<S>> as Keeper<RingMachine>>⟧ task.now) }
     ensures failed { IfErr result (FailsSo ⟦<MemoryKeeper as Keeper<RingMachine>>⟧
         ⟦<FileKeeper<S> as Keeper<RingMachine>>⟧ (image_at S.Start) R.remaining W.contents
         reader.old reader.new writer.old writer.new task.now) }
@@ -140,6 +168,25 @@ fn perform_task<S: Start, R: Read, W: Write>(
     match task {
         Task::Run { file } => match run(rt, *file, reader, writer, start) {
             Ok(_) => Ok(Ending::Done),
+            Err(fault) => Err(fault),
+        },
+        Task::Serve {
+            file,
+            port,
+            count,
+            hour,
+            names,
+        } => match serve_file(rt, *file, *port, *count, *hour, *names, start) {
+            Ok(()) => Ok(Ending::Done),
+            Err(fault) => Err(fault),
+        },
+        Task::Loop {
+            file,
+            input,
+            hour,
+            names,
+        } => match loop_bytes(rt, *file, *input, *hour, *names, writer, start) {
+            Ok(()) => Ok(Ending::Done),
             Err(fault) => Err(fault),
         },
         Task::Table { file, ring } => {
@@ -160,7 +207,15 @@ fn perform_task<S: Start, R: Read, W: Write>(
             file,
             ring,
             version,
-        } => show_asked(rt, *file, ask_text(alloc, *ring, *version), writer, start),
+            format,
+        } => {
+            let asked = ask_published(alloc, *ring, *version, *format);
+            show_asked(rt, *file, asked, writer, start)
+        }
+        Task::Renew { file, new } => match renew_file(rt, *file, *new, start) {
+            Ok(()) => Ok(Ending::Done),
+            Err(fault) => Err(fault),
+        },
         Task::Import {
             file,
             ring,
@@ -194,7 +249,8 @@ pub fn perform<S: Start, R: Read, W: Write, E: Write>(
     ensures done { result ≡ 0 → (task : Task) × AskFor (map string_bytes words.now) task
         × EndsSo ⟦<MemoryKeeper as Keeper<RingMachine>>⟧
         ⟦<FileKeeper<S> as Keeper<RingMachine>>⟧ (image_at S.Start) R.remaining W.contents
-        reader.old reader.new writer.old writer.new task Done × (errors.new ≡ errors.old) }
+        reader.old reader.new writer.old writer.new
+        ⟦<FileKeeper<NewFiles<S>> as Keeper<RingMachine>>⟧ task Done × (errors.new ≡ errors.old) }
     // A fault came of a task, an import was refused, or there was no memory to read the words.
     ensures fault { result ≡ 1 → ((task : Task) × AskFor (map string_bytes words.now) task
         × (((why : ProgramFault) × FailsSo ⟦<MemoryKeeper as Keeper<RingMachine>>⟧
@@ -203,7 +259,8 @@ pub fn perform<S: Start, R: Read, W: Write, E: Write>(
         × GetsText E.contents errors.old errors.new (fault_line why))
         ⊎ (EndsSo ⟦<MemoryKeeper as Keeper<RingMachine>>⟧
         ⟦<FileKeeper<S> as Keeper<RingMachine>>⟧ (image_at S.Start) R.remaining W.contents
-        reader.old reader.new writer.old writer.new task Refused × (errors.new ≡ errors.old))))
+        reader.old reader.new writer.old writer.new
+        ⟦<FileKeeper<NewFiles<S>> as Keeper<RingMachine>>⟧ task Refused × (errors.new ≡ errors.old))))
         ⊎ ((reader.new ≡ reader.old) × (writer.new ≡ writer.old)
         × GetsText E.contents errors.old errors.new (fault_line NoMemory)) }
     ensures nothing { result ≡ 2 → AskForNothing (map string_bytes words.now)

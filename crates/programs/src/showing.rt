@@ -1,15 +1,18 @@
 //! The programs `table`, `nodes` and `export`: what a store's rings show.
-ghost use Rattle.std.specs.Prelude.{◌≡◌, ◌≢◌, ◌⊎◌, ◌<◌, IfErr, IfOk, MatchResult, OnErr, OnOk};
-ghost use Rattle.std.specs.Prelude.{string_bytes, true};
+ghost use Rattle.std.specs.Prelude.{◌≡◌, ◌≢◌, ◌⊎◌, ◌<◌, IfErr, IfOk, MatchResult, None, OnErr};
+ghost use Rattle.std.specs.Prelude.{OnOk, Some, string_bytes, true};
 ghost use Rattle.path_lookup.specs.Names.{is_path};
 ghost use Rattle.ring_model.specs.Ring.{published_at};
 ghost use Rattle.sqlite_wal.specs.Files.{image_at};
 ghost use Rattle.programs.specs.Opened.{IsKept, IsStoreFault};
-ghost use Rattle.programs.specs.Showing.{AreNodesTold, AreTables, AsksNodes, AsksTables, AsksText};
+ghost use Rattle.programs.specs.Showing.{AreNodesTold, AreTables, AsksNodes, AsksPublished};
+ghost use Rattle.programs.specs.Showing.{AsksTables, IsSwiftFileOf, SpellsNoRing};
 ghost use Rattle.programs.specs.Showing.{FailsToShow, HidesOf, IsAsked, IsFormFault, IsHidden};
 ghost use Rattle.programs.specs.Showing.{IsNoName, IsNoNumber, IsShown, Shows, ShowsOf};
 ghost use Rattle.programs.specs.Showing.{names_given};
 ghost use Rattle.programs.specs.Inner.Forms.{form_fault};
+ghost use Rattle.programs.specs.declared.faults.ProgramFault.TheVariants.{BadStore, NoMemory};
+ghost use Rattle.programs.specs.declared.faults.ProgramFault.TheVariants.{NoVersion};
 
 use crate::faults::ProgramFault;
 use crate::opening::{FileKeeper, close_store, open_store};
@@ -17,14 +20,16 @@ use builder::RingMachine;
 use byte_streams::{CountedWriter, write_text};
 use node_text::nodes_text;
 use path_lookup::{NodesFault, Path, PathFault, hash_path, nodes, partition_of};
-use program_words::HashNames;
+use program_words::{Format, HashNames};
 use request_book::{KeepFault, Keeper};
 use ring_model::{Ring, Rings};
 use ring_tables::{balance_table, device_table};
+use ring_text::read_ring;
 use ring_words::{RingName, SpellingFault, read_name, read_number};
 use sqlite::Start;
 use std::alloc::{AllocError, Global};
 use std::io::Write;
+use swift_ring::write_swift_ring;
 
 /// What is shown of a ring.
 #[derive(Drop)]
@@ -33,8 +38,8 @@ pub enum View<'a> {
     Tables,
     /// The nodes of a path, which is hashed between these names.
     Nodes(Path, HashNames<'a>),
-    /// Its text that is published under this version.
-    Text(u32),
+    /// It as it is published under this version, in a format.
+    Published(u32, Format),
 }
 
 /// What is shown of which ring.
@@ -69,12 +74,13 @@ pub(crate) fn ask_tables<'a>(alloc: Global, ring: &str) -> Result<Question<'a>, 
 }
 
 /// What `export` shows.
-pub(crate) fn ask_text<'a>(
+pub(crate) fn ask_published<'a>(
     alloc: Global,
     ring: &str,
     version: &str,
+    format: Format,
 ) -> Result<Question<'a>, ProgramFault>
-    ensures asked { IfOk result (AsksText ring.now version.now) }
+    ensures asked { IfOk result (AsksPublished ring.now version.now format) }
     ensures fault { IfErr result (IsFormFault (IsNoName ring.now ⊎ IsNoNumber version.now) ⊥) }
 {
     let ring = match read_name(alloc, ring) {
@@ -84,7 +90,7 @@ pub(crate) fn ask_text<'a>(
     match read_number(version, u32::MAX) {
         Ok(version) => Ok(Question {
             ring,
-            view: View::Text(version),
+            view: View::Published(version, format),
         }),
         Err(fault) => Err(form_fault(fault)),
     }
@@ -156,71 +162,112 @@ fn nodes_line(
 }
 
 /// The text of a ring that is published under a version.
-fn published_text(alloc: Global, ring: &Ring, version: u32) -> Result<String, ProgramFault>
-    ensures told { IfOk result (λ text. IsShown (View.Text version) ring.now (string_bytes text)) }
-    ensures fault { IfErr result (λ why. IsStoreFault why ⊎ IsHidden (View.Text version)
-        ring.now why) }
+fn published_text(ring: &Ring, version: u32) -> Result<&str, ProgramFault>
+    ensures found { IfOk result (λ text. published_at ring.now version ≡ Some text.now) }
+    ensures none { IfErr result (λ why. (why ≡ NoVersion) × (published_at ring.now version ≡ None)) }
 {
     match ring.published(version) {
-        Some(text) => Ok(String::from_str(alloc, text)?),
+        Some(text) => Ok(text),
         None => Err(ProgramFault::NoVersion),
     }
 }
 
+/// Swift's ring file of the ring that a text spells.
+fn swift_bytes(alloc: Global, text: &str) -> Result<Vec<u8>, ProgramFault>
+    ensures told { IfOk result (λ bytes. IsSwiftFileOf text.now bytes.items) }
+    ensures fault { IfErr result (λ why. (why ≡ NoMemory) ⊎ ((why ≡ BadStore)
+        × SpellsNoRing text.now)) }
+{
+    match read_ring(alloc, text.as_bytes()) {
+        Ok(snapshot) => Ok(write_swift_ring(alloc, &snapshot)?),
+        Err(SpellingFault::Bad) => Err(ProgramFault::BadStore),
+        Err(SpellingFault::NoMemory) => Err(ProgramFault::NoMemory),
+    }
+}
+
+/// A ring as it is published under a version, in a format.
+fn published_bytes(
+    alloc: Global,
+    ring: &Ring,
+    version: u32,
+    format: Format,
+) -> Result<Vec<u8>, ProgramFault>
+    ensures told { IfOk result (λ bytes. IsShown (View.Published version format) ring.now
+        bytes.items) }
+    ensures fault { IfErr result (λ why. (why ≡ NoMemory) ⊎ IsHidden (View.Published version
+        format) ring.now why) }
+{
+    let text = match published_text(ring, version) {
+        Ok(text) => text,
+        Err(fault) => return Err(fault),
+    };
+    match format {
+        Format::Text => Ok(Vec::from_slice(alloc, text.as_bytes())?),
+        Format::Swift => swift_bytes(alloc, text),
+    }
+}
+
 /// What is shown of a ring.
-fn view_text(alloc: Global, ring: &Ring, view: &View<'_>) -> Result<String, ProgramFault>
-    ensures shown { IfOk result (λ text. IsShown view.now ring.now (string_bytes text)) }
+fn view_bytes(alloc: Global, ring: &Ring, view: &View<'_>) -> Result<Vec<u8>, ProgramFault>
+    ensures shown { IfOk result (λ bytes. IsShown view.now ring.now bytes.items) }
     ensures fault { IfErr result (λ why. IsStoreFault why ⊎ IsHidden view.now ring.now why) }
 {
     match view {
-        View::Tables => Ok(tables_text(alloc, ring)?),
-        View::Nodes(path, names) => nodes_line(alloc, ring, path, *names),
-        View::Text(version) => published_text(alloc, ring, *version),
+        View::Tables => Ok(tables_text(alloc, ring)?.into_bytes()),
+        View::Nodes(path, names) => match nodes_line(alloc, ring, path, *names) {
+            Ok(text) => Ok(text.into_bytes()),
+            Err(fault) => Err(fault),
+        },
+        View::Published(version, format) => published_bytes(alloc, ring, *version, *format),
     }
 }
 
 /// What is shown of these rings.
-fn shown_text(alloc: Global, rings: &Rings, question: &Question<'_>) -> Result<String, ProgramFault>
-    ensures shown { IfOk result (λ text. ShowsOf rings.now question.now (string_bytes text)) }
+fn shown_bytes(
+    alloc: Global,
+    rings: &Rings,
+    question: &Question<'_>,
+) -> Result<Vec<u8>, ProgramFault>
+    ensures shown { IfOk result (λ bytes. ShowsOf rings.now question.now bytes.items) }
     ensures fault { IfErr result (λ why. IsStoreFault why ⊎ HidesOf rings.now question.now why) }
 {
     match rings.get(&question.ring) {
-        Some(ring) => view_text(alloc, ring, &question.view),
+        Some(ring) => view_bytes(alloc, ring, &question.view),
         None => Err(ProgramFault::NoRing),
     }
 }
 
 /// What is shown of the rings that a keeper holds.
-fn kept_text<K: Keeper<RingMachine>>(
+fn kept_bytes<K: Keeper<RingMachine>>(
     alloc: Global,
     keeper: &mut K,
     question: &Question<'_>,
-) -> Result<String, ProgramFault>
+) -> Result<Vec<u8>, ProgramFault>
     requires { K.fault_count keeper.old ≡ 0 }
-    ensures shown { IfOk result (λ text. K.sound keeper.new
-        → ShowsOf (K.content keeper.old).state question.now (string_bytes text)) }
+    ensures shown { IfOk result (λ bytes. K.sound keeper.new
+        → ShowsOf (K.content keeper.old).state question.now bytes.items) }
     ensures fault { IfErr result (λ why. IsStoreFault why ⊎ (K.sound keeper.new
         → HidesOf (K.content keeper.old).state question.now why)) }
     ensures sound { K.sound keeper.new → K.sound keeper.old }
     ensures content { K.sound keeper.new → K.content keeper.new ≡ K.content keeper.old }
 {
     match keeper.load() {
-        Ok(()) => shown_text(alloc, keeper.state(), question),
+        Ok(()) => shown_bytes(alloc, keeper.state(), question),
         Err(KeepFault::NoMemory) => Err(ProgramFault::NoMemory),
         Err(KeepFault::Store) => Err(ProgramFault::StoreFault),
     }
 }
 
 /// What is shown of the rings in a file, which is closed then.
-fn file_text<S: Start>(
+fn file_bytes<S: Start>(
     rt: &HostRuntime,
     file: &str,
     question: &Question<'_>,
     start: S,
-) -> Result<String, ProgramFault>
-    ensures shown { IfOk result (λ text. IsAsked ⟦<FileKeeper<S> as Keeper<RingMachine>>⟧
+) -> Result<Vec<u8>, ProgramFault>
+    ensures shown { IfOk result (λ bytes. IsAsked ⟦<FileKeeper<S> as Keeper<RingMachine>>⟧
         (IsKept ⟦<FileKeeper<S> as Keeper<RingMachine>>⟧ (image_at S.Start))
-        (λ rings. ShowsOf rings question.now (string_bytes text))) }
+        (λ rings. ShowsOf rings question.now bytes.items)) }
     ensures fault { IfErr result (λ why. IsStoreFault why
         ⊎ IsAsked ⟦<FileKeeper<S> as Keeper<RingMachine>>⟧
         (IsKept ⟦<FileKeeper<S> as Keeper<RingMachine>>⟧ (image_at S.Start))
@@ -230,11 +277,11 @@ fn file_text<S: Start>(
         Ok(keeper) => keeper,
         Err(fault) => return Err(fault),
     };
-    let text = kept_text(rt.alloc(), &mut keeper, question);
+    let bytes = kept_bytes(rt.alloc(), &mut keeper, question);
     let closed = close_store(keeper);
-    match text {
-        Ok(text) => match closed {
-            Ok(()) => Ok(text),
+    match bytes {
+        Ok(bytes) => match closed {
+            Ok(()) => Ok(bytes),
             Err(fault) => Err(fault),
         },
         Err(fault) => Err(fault),
@@ -256,11 +303,11 @@ pub(crate) fn show<S: Start, W: Write>(
         (IsKept ⟦<FileKeeper<S> as Keeper<RingMachine>>⟧ (image_at S.Start))
         W.contents writer.old writer.new question.now) }
 {
-    let text = match file_text(rt, file, question, start) {
-        Ok(text) => text,
+    let bytes = match file_bytes(rt, file, question, start) {
+        Ok(bytes) => bytes,
         Err(fault) => return Err(fault),
     };
-    match write_text(writer, text.as_bytes()) {
+    match write_text(writer, bytes.as_slice()) {
         Ok(()) => Ok(()),
         Err(fault) => Err(ProgramFault::from(fault)),
     }

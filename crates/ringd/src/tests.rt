@@ -369,7 +369,10 @@ fn other_words_and_calls_for_help_touch_nothing(rt: HostRuntime) -> Result<(), F
     assert!(rt; are_refused(&rt, &["ringd", "--help"])?);
     assert!(rt; are_refused(&rt, &["ringd", "run", "--help"])?);
     assert!(rt; are_refused(&rt, &["ringd", "help", "run"])?);
-    assert!(rt; are_refused(&rt, &["ringd", "serve"])?);
+    assert!(rt; are_refused(&rt, &["ringd", "serve", "/no/folder/f", "0", "1"])?);
+    assert!(rt; are_refused(&rt, &["ringd", "serve", "/no/folder/f", "8642", "65536"])?);
+    assert!(rt; are_refused(&rt, &["ringd", "serve", "/no/folder/f", "8642"])?);
+    assert!(rt; are_refused(&rt, &["ringd", "loop", "/no/folder/f"])?);
     assert!(rt; are_refused(&rt, &["ringd", "run", "more"])?);
     assert!(rt; are_refused(&rt, &["ringd", "run", "--files", "x"])?);
     assert!(rt; are_refused(&rt, &["ringd"])?);

@@ -61,6 +61,23 @@ fn a_missing_table_is_told_before_the_file_is_opened(rt: HostRuntime) -> Result<
 }
 
 #[test]
+fn an_input_that_is_not_read_is_told_before_the_file_is_opened(
+    rt: HostRuntime,
+) -> Result<(), Fail> {
+    for (input, told) in [
+        ("/no/folder/i", "ringd: NoFile 27\n"),
+        // a folder can be opened, and not read
+        ("/", "ringd: ReadFailed 50\n"),
+        // this program has more than 32768 bytes
+        ("/proc/self/exe", "ringd: TooLong 29\n"),
+    ] {
+        let words = ["ringd", "loop", "/no/folder/f", input];
+        assert!(rt; is_told(&rt, &words, told)?, "{input}");
+    }
+    Ok(())
+}
+
+#[test]
 fn a_missing_folder_is_a_fault_of_the_store(rt: HostRuntime) -> Result<(), Fail> {
     let store_fault = "ringd: StoreFault 24\n";
     assert!(rt;
@@ -71,5 +88,9 @@ fn a_missing_folder_is_a_fault_of_the_store(rt: HostRuntime) -> Result<(), Fail>
         )?
     );
     assert!(rt; is_told(&rt, &["ringd", "table", "/no/folder/f", "r"], store_fault)?);
+    let words = ["ringd", "serve", "/no/folder/f", "8642", "1"];
+    assert!(rt; is_told(&rt, &words, store_fault)?);
+    let words = ["ringd", "loop", "/no/folder/f", "/dev/null"];
+    assert!(rt; is_told(&rt, &words, store_fault)?);
     Ok(())
 }

@@ -25,6 +25,9 @@ returns-in-BadStore c = rw (c.in-BadStore.is, two_digits 2 6 (lit≤ tt) (lit< t
 pub returns-in-NoFile : goal.returns-in-NoFile
 returns-in-NoFile c = rw (c.in-NoFile.is, two_digits 2 7 (lit≤ tt) (lit< tt) (lit< tt)) refl
 
+pub returns-in-NetFailed : goal.returns-in-NetFailed
+returns-in-NetFailed c = rw (c.in-NetFailed.is, two_digits 2 8 (lit≤ tt) (lit< tt) (lit< tt)) refl
+
 pub returns-in-TooLong : goal.returns-in-TooLong
 returns-in-TooLong c = rw (c.in-TooLong.is, two_digits 2 9 (lit≤ tt) (lit< tt) (lit< tt)) refl
 

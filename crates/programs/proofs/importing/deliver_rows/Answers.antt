@@ -1,4 +1,4 @@
-use Rattle.std.proofs.Common.{List, rules, subst}
+use Rattle.std.proofs.Common.{List, subst}
 use Rattle.line_api.specs.Served.{steps_of}
 use Rattle.request_book.specs.Call.{Deliver}
 use Rattle.request_book.specs.Made.{Makes}
@@ -9,22 +9,16 @@ use Rattle.programs.proofs.importing.deliver_rows.Goals as goal
 pub returns : goal.returns
 returns g c =
     let Made : List Row → Type 0 = λ rows. Makes steps_of g.K.Keeper.content g.K.Keeper.sound
-    g.K.Keeper.limit g.K.Keeper.fault_count g.K.Keeper.may_leave c.open-book.result
+    g.K.Keeper.limit g.K.Keeper.fault_count g.K.Keeper.may_leave c.open_book-book.result
     c.deliver.new.self (Deliver (record {
       hour = c.args.hour;
       key = c.args.ask.key;
       command = record { ring = c.args.ask.ring; act = act.Import rows };
     }) c.deliver.result) in
     record {
-      book = c.open-book.result;
+      book = c.open_book-book.result;
       later = c.deliver.new.self;
-      opened = record {
-        rings = search rules;
-        devices = search rules;
-        ids = search rules;
-        versions = search rules;
-        keeper = search rules;
-      };
+      opened = c.open_book-book.ensures;
       answer = c.deliver.result;
       made = subst Made c.new.ensures c.deliver.ensures.made;
       told_is = c.told_of-told.ensures;

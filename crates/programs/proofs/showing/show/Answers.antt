@@ -1,12 +1,12 @@
-use Rattle.std.proofs.Common.{◌∙◌, ap, inr, string_bytes}
+use Rattle.std.proofs.Common.{◌∙◌, ap, inr}
 use Rattle.programs.specs.Faults.{stream_fault}
 use Rattle.programs.proofs.showing.show.Goals as goal
 
 pub returns-in-Ok-write_text-clause-shown : goal.returns-in-Ok-write_text-clause-shown
 returns-in-Ok-write_text-clause-shown g c = (
-  string_bytes c.in-Ok.text,
+  c.in-Ok.bytes.items,
   c.in-Ok.ensures.shown,
-  rw c.as_bytes.ensures.value at c.in-Ok-write_text.ensures.ok,
+  rw c.as_slice.ensures.value at c.in-Ok-write_text.ensures.ok,
   c.in-Ok-write_text.ensures.cause,
   c.in-Ok-write_text.ensures.flushed,
 )
@@ -17,9 +17,9 @@ returns-clause-fault g c =
     inr (inr (
       c.from.ensures ∙ ap stream_fault failed.0,
       (
-        string_bytes c.in-Ok.text,
+        c.in-Ok.bytes.items,
         c.in-Ok.ensures.shown,
-        rw c.as_bytes.ensures.value at failed.1,
+        rw c.as_slice.ensures.value at failed.1,
         c.in-Err-write_text.ensures.cause,
       ),
     ))
