@@ -10,14 +10,9 @@ import sys
 from pathlib import Path
 
 import program
+from common import has
 
 MARK = "<!-- measured -->"
-
-
-def has(word):
-    """Whether the program has a command of this name."""
-    told = subprocess.run([*program.program(), "help"], capture_output=True, text=True)
-    return any(line.split()[:1] == [word] for line in told.stdout.splitlines())
 
 
 def main():

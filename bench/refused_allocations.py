@@ -8,8 +8,9 @@ other answer is that of an unharmed run, the repeat's too; or the program says `
 and ends with status 1.
 
 With --store the runs are over a new file each. There the store may also be told as failed, and the book is closed from then
-on, or the file is not opened. Whichever it was, a second run over the file, unharmed, answers every line as the second run
-of an unharmed file does: each number was decided once, and the rings are right. --every takes every Nth allocation alone.
+on, or the file is not opened. Whichever it was, a second run over the file, unharmed, answers every request as the second
+run of an unharmed file does, and a third one every question too: each number was decided once, and the rings are right.
+--every takes every Nth allocation alone.
 
 RINGD names the program, as for checks/. The C compiler `cc` makes the library that refuses.
 """
@@ -71,11 +72,20 @@ def judged(run, want):
     return "WRONG"
 
 
-def judged_over_store(run, again, want, want_again):
-    """What became of a run over a file with a refused allocation, and of an unharmed one after it."""
+def is_settled(again, last, lines, want_again):
+    """Whether a run after one with a refused allocation answered each request, and a further one each question, rightly."""
+    got = answers(again.stdout)
+    # a question in the first of them may come before what a closed book left undone
+    requests = [one == other for line, one, other in zip(lines, got, want_again) if not line.startswith("?")]
+    is_right = len(got) == len(want_again) and all(requests)
+    return is_right and answers(last.stdout) == want_again and not again.returncode and not last.returncode
+
+
+def judged_over_store(run, is_right, want):
+    """What became of a run over a file with a refused allocation, where the runs after it were right or not."""
     got = answers(run.stdout)
     differing = [one for one, other in zip(got, want) if one != other]
-    if again.returncode or answers(again.stdout) != want_again:
+    if not is_right:
         return "WRONG after it"
     if run.returncode == 1 and run.stderr in (b"ringd: NoMemory 23\n", b"ringd: StoreFault 24\n") and len(got) in (0, len(want)):
         return f"told as {run.stderr.decode().split()[1]}, " + ("at the end" if got else "before the first line")
@@ -92,8 +102,8 @@ def main():
     named = [word for word in sys.argv[1:] if word.endswith(".jsonl")]
     every = int(sys.argv[sys.argv.index("--every") + 1]) if "--every" in sys.argv else 1
     files = named or [TOP / "examples" / "rebalance.jsonl", TOP / "bench" / "more.jsonl"]
-    lines = [line for file in files for line in Path(file).read_text().splitlines()]
-    text = "".join(f"{line}\n{line}\n" for line in lines).encode()
+    lines = [line for file in files for line in Path(file).read_text().splitlines() for _ in range(2)]
+    text = "".join(f"{line}\n" for line in lines).encode()
     with tempfile.TemporaryDirectory() as room:
         source, library, count = (f"{room}/{name}" for name in ("refusing.c", "refusing.so", "count"))
         Path(source).write_text(REFUSING)
@@ -109,7 +119,8 @@ def main():
             if not over_store:
                 return judged(run(at), want)
             file = f"{room}/{next(numbers)}.db"
-            told = judged_over_store(run(at, "--file", file), run(0, "--file", file), want, want_again)
+            harmed, again, last = (run(refused, "--file", file) for refused in (at, 0, 0))
+            told = judged_over_store(harmed, is_settled(again, last, lines, want_again), want)
             for end in ("", "-wal"):
                 Path(file + end).unlink(missing_ok=True)
             return told
@@ -120,7 +131,7 @@ def main():
         total = int(Path(count).read_text())
         want_again = answers(run(0, *over).stdout)
         seen = collections.Counter(outcome(at) for at in range(1, total + 1, every))
-    print(f"{len(lines)} lines, each twice; {total} allocations, {seen.total()} of them refused, each in a run of its own")
+    print(f"{len(lines) // 2} lines, each twice; {total} allocations, {seen.total()} of them refused, each in a run of its own")
     for what, times in sorted(seen.items()):
         print(f"{times:>6} {what}")
     return 1 if any(what.startswith("WRONG") for what in seen) else 0

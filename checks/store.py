@@ -120,23 +120,43 @@ def renewal(checks):
         return checks.skip("renew", "the program has none")
     with scratch() as room:
         file, new = f"{room}/rings.db", f"{room}/new.db"
-        run("run", "--file", file, given=lines(*FIRST, (30, message(5, "set_hours", min_hours=9))))
-        before = rows_of(file)
+        run("run", "--file", file, given=lines(*FIRST, (30, message(5, "set_hours", min_hours=9)), (30, message(6, "publish"))))
+        before, held = rows_of(file), files_of(file)[""]
         checks.same("renew", run("renew", file, new), (0, b"", b""))
-        after, old = rows_of(new), rows_of(file)
-        checks.same("the old store has the rows that it had", old, before)
+        checks.same("the old file has the bytes that it had", files_of(file)[""], held)
+        checks.same("and its log has no change", rows_of(file), before)
+        after = rows_of(new)
         kept = {name: rows for name, rows in before.items() if name != "request"}
-        checks.same("the new one has its rings and its hour", {name: after[name] for name in kept}, kept)
+        checks.same("the new one has its rings, its texts and its hour", {name: after[name] for name in kept}, kept)
         checks.same("and no request", after["request"], [])
+        checks.same("the published text", run("export", new, "object", "4"), run("export", file, "object", "4"))
         status, told, _ = run("run", "--file", new, given=lines((0, message(1, "set_hours", min_hours=3))))
         checks.same("number 1 is new there", (status, told), (0, b'200 {"done":"set_hours","version":5}\n'))
-        held = files_of(new)
-        status, told, errors = run("renew", file, new)
-        is_named = status == 1 and not told and errors.startswith(b"ringd: ") and errors.count(b"\n") == 1
-        checks.show(f"a new file that is there already is refused ({errors.decode().strip()})", is_named, (status, told, errors))
-        checks.same("and stays as it was", files_of(new), held)
-        status, _, errors = run("renew", f"{room}/nothing.db", f"{room}/newer.db")
-        print(f"        renew of a file that is missing: status {status}, {errors.decode().strip() or 'no fault'}")
+        checks.same("and decided at the hour that was kept", rows_of(new)["meta"], [(1, 2, 30)])
+        made = files_of(new)
+        checks.same("a new file that is there already is refused", run("renew", file, new), fault("StoreFault", 24))
+        checks.same("and stays as it was", files_of(new), made)
+        checks.same("the file itself is no new one", run("renew", file, file), fault("StoreFault", 24))
+        checks.same("and stays as it was", files_of(file)[""], held)
+        taken_names(checks, room, file)
+        checks.same("a new file in a missing folder", run("renew", file, f"{room}/away/new.db"), fault("StoreFault", 24))
+        Path(f"{room}/text.db").write_bytes(b"hello, I am a text and no database\n" * 200)
+        checks.same("renew of no store", run("renew", f"{room}/text.db", f"{room}/newer.db"), fault("BadStore", 26))
+        checks.show("makes none", not os.path.exists(f"{room}/newer.db"))
+        checks.same("renew of a file that is missing", run("renew", f"{room}/nothing.db", f"{room}/newer.db"), (0, b"", b""))
+        checks.same("makes a store of no rings", rows_of(f"{room}/newer.db"), rows_of(f"{room}/nothing.db"))
+
+
+def taken_names(checks, room, file):
+    """Whatever has the new file's name stays as it was."""
+    os.mkdir(f"{room}/folder.db")
+    Path(f"{room}/empty.db").touch()
+    os.symlink(f"{room}/nowhere", f"{room}/link.db")
+    before = sorted(os.listdir(room))
+    for what in ("folder", "empty", "link"):
+        checks.same(f"a new file where there is: {what}", run("renew", file, f"{room}/{what}.db"), fault("StoreFault", 24))
+    checks.same("nothing was made", sorted(os.listdir(room)), before)
+    checks.same("and the empty file is empty", Path(f"{room}/empty.db").stat().st_size, 0)
 
 
 def two_programs(checks):

@@ -1,0 +1,177 @@
+#!/usr/bin/python3
+"""From a builder file of Swift to requests of ringd: tools/from_swift.py BUILDER RING CALLER [--hour N]
+
+Prints two lines for `ringd run` that make the ring of BUILDER, as `object.builder`, under the name RING: number 1 of CALLER
+creates it, with its power, replicas and hours, and number 2 imports its devices. CALLER must not have used these numbers.
+The hour of the lines is that of the clock, or N.
+
+Standard error tells what is left out. What ringd cannot keep, as replicas that are not whole, is told there too; then nothing
+is printed, and the exit status is 1.
+
+It reads BUILDER by Swift's own code, which unpickles it: read no file that you do not trust. It needs Debian's python3-swift
+and its Python, /usr/bin/python3. BUILDER is not changed.
+"""
+import argparse
+import decimal
+import json
+import os
+import re
+import sys
+import time
+
+MOST_HOUR = 4294967295
+
+
+class Refused(Exception):
+    """What ringd cannot keep of a builder."""
+
+
+def need(holds, why):
+    """Refuses the builder where something does not hold."""
+    if not holds:
+        raise Refused(why)
+
+
+def within(value, least, most, what):
+    """A whole number within bounds."""
+    need(isinstance(value, int) and not isinstance(value, bool), f"{what} is {value!r}, which is no whole number")
+    need(least <= value <= most, f"{what} is {value}; ringd takes {least} to {most}")
+    return value
+
+
+def label(text, what):
+    """A name of a ring or of a caller."""
+    need(re.fullmatch(r"[a-z][a-z0-9-]{0,31}", text), f"{what} is {text!r}; it is 1 to 32 of a to z, 0 to 9 and -, a letter first")
+    return text
+
+
+def weight_of(value, what):
+    """A weight with two decimals. Swift keeps it as a float: the shortest decimal that reads as this float is meant."""
+    try:
+        weight = decimal.Decimal(str(value))
+    except decimal.InvalidOperation:
+        raise Refused(f"the weight of {what} is {value!r}, which is no number") from None
+    need(weight.is_finite() and 0 <= weight <= 1000000, f"the weight of {what} is {value}; ringd takes 0.00 to 1000000.00")
+    rounded = weight.quantize(decimal.Decimal("0.01"))
+    need(rounded == weight, f"the weight of {what} is {value}; ringd takes two decimals at most")
+    return str(abs(rounded))
+
+
+def address_of(value, what):
+    """An IPv4 address."""
+    numbers = str(value).split(".")
+    is_one = len(numbers) == 4 and all(re.fullmatch(r"0|[1-9][0-9]{0,2}", number) and int(number) < 256 for number in numbers)
+    need(is_one, f"the address of {what} is {value!r}; ringd takes IPv4 addresses, as 10.0.0.1")
+    return value
+
+
+def replicas_of(value):
+    """A whole number of replicas."""
+    need(float(value).is_integer(), f"there are {float(value):g} replicas, which is not whole: swift-ring-builder BUILDER set_replicas N")
+    return within(int(value), 1, 5, "the number of replicas")
+
+
+def row_of(device, what):
+    """The row of an import for one of Swift's devices."""
+    name = str(device["device"])
+    need(re.fullmatch(r"[A-Za-z0-9_-]{1,32}", name), f"the name of {what} is {name!r}; ringd takes 1 to 32 letters, digits, _ and -")
+    return [
+        within(device.get("region", 1), 0, 65535, f"the region of {what}"),
+        within(device["zone"], 0, 65535, f"the zone of {what}"),
+        address_of(device["ip"], what),
+        within(device["port"], 1, 65535, f"the port of {what}"),
+        name,
+        weight_of(device["weight"], what),
+    ]
+
+
+def rows_of(devices):
+    """The rows of an import for all devices. No two may have the same address, port and name."""
+    rows, places = [], {}
+    for device in devices:
+        what = f"device {device['id']}"
+        row = row_of(device, what)
+        place = tuple(row[2:5])
+        need(place not in places, f"{what} has the address, port and name of {places.get(place)}")
+        places[place] = what
+        rows.append(row)
+    need(len(rows) <= 256, f"there are {len(rows)} devices; ringd takes 256 in a ring")
+    return rows
+
+
+def left_out(builder, kept, going):
+    """What of a builder goes into no line."""
+    if builder._replica2part2dev is not None:
+        yield "which device has which partition: the first rebalance places everything anew"
+        yield "when partitions were moved: nothing is locked at first"
+    if builder.overload:
+        yield f"the overload of {builder.overload:g}: ringd has none, and each device wants its share by weight"
+    if builder.dispersion is not None and builder.ever_rebalanced:
+        yield f"the dispersion of {builder.dispersion:g}: ringd reckons its own"
+    for device in going:
+        yield f"device {device['id']}, which is marked to be removed"
+    for device in kept:
+        if device.get("meta"):
+            yield f"the meta of device {device['id']}: {device['meta']!r}"
+        own = (device["ip"], device["port"])
+        other = (device.get("replication_ip") or own[0], device.get("replication_port") or own[1])
+        if other != own:
+            yield f"the replication address of device {device['id']}, {other[0]}:{other[1]}: a ring file of ringd has its own address there"
+    for number, device in enumerate(kept):
+        if device["id"] != number:
+            yield f"the number of device {device['id']}, which is {number} here"
+
+
+def read(path):
+    """The builder of a file."""
+    try:
+        from swift.common.ring import RingBuilder
+    except ImportError:
+        raise Refused("there is no module swift: apt-get install python3-swift, and use /usr/bin/python3") from None
+    need(os.path.isfile(path), f"{path} is no file")
+    try:
+        return RingBuilder.load(path)
+    except Exception as error:
+        raise Refused(f"{path} is not read as a builder file: {error}") from None
+
+
+def lines_of(builder, ring, caller, hour):
+    """The lines, and what is left out of them."""
+    growing = builder.next_part_power
+    need(not growing, f"its power is being raised to {growing}: swift-ring-builder BUILDER finish_increase_partition_power")
+    gone = {device["id"] for device in builder._remove_devs}
+    present = sorted((device for device in builder.devs if device is not None), key=lambda device: device["id"])
+    kept = [device for device in present if device["id"] not in gone]
+    going = [device for device in present if device["id"] in gone]
+    shared = {"caller": label(caller, "CALLER"), "ring": label(ring, "RING")}
+    create = {
+        "power": within(builder.part_power, 1, 14, "the part power"),
+        "replicas": replicas_of(builder.replicas),
+        "min_hours": within(builder.min_part_hours, 0, 65535, "min_part_hours"),
+    }
+    messages = [{**shared, "number": 1, "do": "create", **create}, {**shared, "number": 2, "do": "import", "rows": rows_of(kept)}]
+    lines = [f"{hour} {json.dumps(message, separators=(',', ':'))}" for message in messages]
+    need(len(lines[1]) <= 65536, "the import is longer than 65536 bytes")
+    return lines, list(left_out(builder, kept, going))
+
+
+def main():
+    words = argparse.ArgumentParser(description="Prints the lines for `ringd run` that make the ring of a builder file of Swift.")
+    for name in ("BUILDER", "RING", "CALLER"):
+        words.add_argument(name)
+    words.add_argument("--hour", type=int, default=int(time.time()) // 3600, metavar="N", help="the hour of the lines")
+    given = words.parse_args()
+    try:
+        hour = within(given.hour, 0, MOST_HOUR, "the hour")
+        lines, without = lines_of(read(given.BUILDER), given.RING, given.CALLER, hour)
+    except Refused as why:
+        print(f"from_swift: {why}", file=sys.stderr)
+        return 1
+    for what in without:
+        print(f"from_swift: left out: {what}", file=sys.stderr)
+    print("\n".join(lines))
+    return 0
+
+
+if __name__ == "__main__":
+    sys.exit(main())
