@@ -17,12 +17,13 @@ import os
 import platform
 import shutil
 import signal
+import sqlite3
 import sys
 from concurrent.futures import ProcessPoolExecutor
 from pathlib import Path
 
 import common
-from common import MANY, Checks, has, lines, message, run, rows_of, scratch
+from common import MANY, Checks, fault, has, lines, message, run, rows_of, scratch
 from tables import OLDER, make_older
 
 # The numbers of the system calls, by the machine's kind.
@@ -230,6 +231,14 @@ def older_file(checks):
     kills(checks, True, MOST // 2)
 
 
+def left_of(new):
+    """The rows of a new file, none where there is no file or it has no whole first page yet, which is no database."""
+    try:
+        return rows_of(new) if os.path.exists(new) else {}
+    except sqlite3.DatabaseError:
+        return {}
+
+
 def killed_renewal(task):
     """Kills one `renew`, and looks at what is left of both files: why it is wrong, or nothing, and what NEW is."""
     stop, before, after = task
@@ -239,9 +248,12 @@ def killed_renewal(task):
         traced(["renew", file, new], f"{room}/answers", [], stop)
         if rows_of(file) != before:
             return "the old file has other rows", "?"
-        left = rows_of(new) if os.path.exists(new) else {}
+        left = left_of(new)
         if left and left != after:
             return f"the new file is a store, and has not all of it: {left}", "part"
+        shown = run("table", new, "object")
+        if shown != (run("table", file, "object") if left else fault("NoRing", 1)):
+            return f"the new file is opened as neither all nor nothing: {shown}", "part"
         for end in ("", "-wal"):
             if os.path.exists(f"{new}{end}"):
                 os.remove(f"{new}{end}")

@@ -131,8 +131,9 @@ def one_ring(checks, room, power, replicas, asked_of_ringd):
     checks.show(f"{name}: {PATHS} paths have the same nodes", not wrong and len(seen["nodes"]) == PATHS, (len(wrong), wrong[:3]))
     wrong = []
     for path, nodes in list(zip(paths, seen["nodes"]))[:asked_of_ringd]:
-        words = [path[0], *(["--container", path[1]] if path[1:] else []), *(["--object", path[2]] if path[2:] else [])]
-        done = run("nodes", file, "object", f"--prefix={prefix}", f"--suffix={suffix}", *words)
+        names = [f"--{part}={name}" for part, name in zip(("container", "object"), path[1:])]
+        # behind `--` a name may begin with a dash
+        done = run("nodes", f"--prefix={prefix}", f"--suffix={suffix}", *names, "--", file, "object", path[0])
         told = json.loads(done[1]) if done[0] == 0 else None
         if told is None or [told["partition"], [node["id"] for node in told["nodes"]]] != nodes:
             wrong.append((path, done))
