@@ -59,19 +59,20 @@ in_range : (xs : List ℕ) (first last k : ℕ) → k < last - first → get_or 
 in_range xs first last k lt = get_or-take (last - first) (drop first xs) k 0 lt ∙ get_or-drop first
     xs k 0
 
-pub distinct_more : (seats : List ℕ) (replicas place x : ℕ) → place < length seats →
-    x ≡ get_or seats place 0
-    → list_any (λ y. y == x) (slice_range seats (place - place % replicas) place) ≡ false
+-- `before` is how many seats of its partition stand before the seat at a place.
+pub distinct_more : (seats : List ℕ) (replicas place before x : ℕ) → before ≡ place % replicas →
+    place < length seats → x ≡ get_or seats place 0
+    → list_any (λ y. y == x) (slice_range seats (place - before) place) ≡ false
     → ((j k id : ℕ) → j < k → k < place → j / replicas ≡ k / replicas →
     slice_get seats j ≡ Some id → slice_get seats k ≡ Some id → ⊥)
     → (j k id : ℕ) → j < k → k < place + 1 → j / replicas ≡ k / replicas →
     slice_get seats j ≡ Some id → slice_get seats k ≡ Some id → ⊥
-distinct_more seats replicas place x lt is none before j k id less below same one other =
-    ⊎_elim (λ earlier. before j k id less earlier same one other) (λ late.
+distinct_more seats replicas place before x count lt is none apart j k id less below same one other =
+    ⊎_elim (λ earlier. apart j k id less earlier same one other) (λ late.
     let here : k ≡ place = omega arith in
-    let start : place - place % replicas ≤ j =
-    same_row j place replicas (same ∙ ap (λ (m : ℕ). m / replicas) here) in
-    let first : ℕ = place - place % replicas in
+    let start : place - before ≤ j = subst (λ (m : ℕ). place - m ≤ j) (sym count)
+    (same_row j place replicas (same ∙ ap (λ (m : ℕ). m / replicas) here)) in
+    let first : ℕ = place - before in
     let inside : j - first < place - first = omega arith in
     let there : first + (j - first) ≡ j = omega arith in
     let long : j - first < length (slice_range seats first place) =
@@ -89,13 +90,16 @@ distinct_more seats replicas place x lt is none before j k id less below same on
         k < length (slice_range xs first last)
     range_long xs first last k lt inside = simp (length-take, length-drop) (omega arith)
 
-pub distinct_fails : (seats : List ℕ) (replicas place x : ℕ) → 0 < replicas → place < length seats →
-    x ≡ get_or seats place 0
-    → list_any (λ y. y == x) (slice_range seats (place - place % replicas) place) ≡ true →
+pub distinct_fails : (seats : List ℕ) (replicas place before x : ℕ) → before ≡ place % replicas →
+    0 < replicas → place < length seats → x ≡ get_or seats place 0
+    → list_any (λ y. y == x) (slice_range seats (place - before) place) ≡ true →
     AreDistinct replicas seats → ⊥
-distinct_fails seats replicas place x some lt is found distinct =
+distinct_fails seats replicas place before x count some lt is found distinct =
     let first : ℕ = place - place % replicas in
-    let a = Any-from_list_any (λ (y : ℕ). y == x) (slice_range seats first place) found in
+    let among : list_any (λ y. y == x) (slice_range seats first place) ≡ true =
+    subst (λ (m : ℕ). list_any (λ y. y == x) (slice_range seats (place - m) place) ≡ true) count
+    found in
+    let a = Any-from_list_any (λ (y : ℕ). y == x) (slice_range seats first place) among in
     let m : ℕ = a.0 in
     let whole = div-add-mod place replicas in
     let part : place % replicas < replicas = mod-lt place some in

@@ -1,5 +1,6 @@
 //! The parts that a ring is made of.
-ghost use Rattle.std.specs.Prelude.{◌≡◌, ◌==◌, ◌+◌, ◌*◌, ◌<◌, ◌≤◌, ◌^◌, ◌↔◌, ℕ, slice_index_or};
+ghost use Rattle.std.specs.Prelude.{◌≡◌, ◌==◌, ◌+◌, ◌*◌, ◌%◌, ◌<◌, ◌≤◌, ◌^◌, ◌↔◌, ℕ};
+ghost use Rattle.std.specs.Prelude.{slice_index_or};
 ghost use Rattle.std.specs.Prelude.{false, IfOk, IsTrue, All, length, map, find, true};
 ghost use Rattle.std.specs.List.{list_any};
 ghost use Rattle.std.specs.List.Sorted.{IsStrictlyIncreasing};
@@ -159,15 +160,25 @@ fn are_known(devices: &[Device], seats: &[DeviceId]) -> bool
     seats.iter().all(|seat| is_known(&known, *seat))
 }
 
+/// The number after a number below a bound, where 0 comes after the last.
+fn next_below(bound: usize, number: usize) -> usize
+    requires { number < bound }
+    ensures { (place : ℕ) → number ≡ place % bound → result ≡ (place + 1) % bound }
+{
+    if number + 1 < bound { number + 1 } else { 0 }
+}
+
 fn are_distinct(seats: &[DeviceId], replicas: usize) -> bool
     requires { 0 < replicas }
     ensures { IsTrue result ↔ AreDistinct replicas seats.now }
 {
+    // how many seats of its partition stand before a seat
+    let mut before = 0;
     for place in 0..seats.len() {
-        let first = place - place % replicas;
-        if seats[first..place].contains(&seats[place]) {
+        if seats[place - before..place].contains(&seats[place]) {
             return false;
         }
+        before = next_below(replicas, before);
     }
     true
 }

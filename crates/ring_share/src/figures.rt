@@ -12,7 +12,7 @@ ghost use Rattle.ring_share.specs.Room.{have};
 ghost use Rattle.ring_share.specs.Inner.Nearness.{IsTable};
 ghost use Rattle.ring_share.specs.Tiers.{AreTier};
 ghost use Rattle.ring_share.specs.declared.tiers.Tier.TheVariants.{Region};
-ghost use Rattle.ring_share.specs.Crowd.{device_of, rows_of};
+ghost use Rattle.ring_share.specs.Crowd.{device_of, row_of, rows_of};
 ghost use Rattle.ring_share.specs.Figures.{distance, greatest_balance, device_balance};
 ghost use Rattle.ring_share.specs.Figures.{ring_balance, has_crowded, ring_dispersion};
 
@@ -144,6 +144,34 @@ fn has_crowded(devices: &[Device], regions: &[usize], table: &Table, row: &[Devi
     has_better_at(devices, table, &places[..row.len()])
 }
 
+/// The seats of a partition of an assigned ring by replica.
+fn row_in(ring: &Ring, partition: usize) -> &[DeviceId]
+    requires assigned { is_assigned ring.now ≡ true }
+    requires partition { partition < partitions_of ring.now }
+    ensures row { map Some result.now ≡ row_of ring.now partition }
+    ensures known { All (λ id. has_device id ring.now.devices ≡ true) result.now }
+    ensures few { length result.now ≤ 5 }
+{
+    let replicas = usize::from(ring.replicas().get());
+    let first = partition * replicas;
+    &ring.seats()[first..first + replicas]
+}
+
+/// Whether the seats of each partition of an assigned ring stand apart, so that none has such a
+/// seat. `regions` has the place of a device in each region that has an open one.
+fn all_stand_apart(ring: &Ring, regions: &[usize]) -> bool
+    requires assigned { is_assigned ring.now ≡ true }
+    requires regions { AreTier Region ring.now.devices regions.now }
+    ensures { result ≡ true → count_by (has_crowded ring.now.devices) (rows_of ring.now) ≡ 0 }
+{
+    for partition in 0..partition_count(ring.power()) {
+        if !stand_apart(ring.devices(), regions, row_in(ring, partition)) {
+            return false;
+        }
+    }
+    true
+}
+
 /// How many partitions of an assigned ring have such a seat.
 fn crowded_count(ring: &Ring) -> u32
     requires { is_assigned ring.now ≡ true }
@@ -152,14 +180,14 @@ fn crowded_count(ring: &Ring) -> u32
 {
     let devices = ring.devices();
     let (regions, count) = one_each(devices, Tier::Region);
+    let regions = &regions[..count];
+    if all_stand_apart(ring, regions) {
+        return 0;
+    }
     let table = table_of(devices);
-    let replicas = usize::from(ring.replicas().get());
-    let seats = ring.seats();
     let mut crowded = 0;
     for partition in 0..partition_count(ring.power()) {
-        let first = partition * replicas;
-        let row = &seats[first..first + replicas];
-        if has_crowded(devices, &regions[..count], &table, row) {
+        if has_crowded(devices, regions, &table, row_in(ring, partition)) {
             crowded += 1;
         }
     }

@@ -25,9 +25,32 @@ fn span_of(devices: &[Device], id: DeviceId) -> (usize, usize)
     (end.saturating_sub(behind), past)
 }
 
+/// Whether the device of a number stands at the place of that number, as each does where none was
+/// dropped.
+fn stands_at_its_number(devices: &[Device], id: DeviceId) -> bool
+    ensures { result ≡ true → StandsAt devices.now id id }
+{
+    match devices.get(usize::from(id)) {
+        Some(device) => device.id == id,
+        None => false,
+    }
+}
+
 /// The place of the device of a number among the devices of a ring, which stand by rising number.
-/// It is looked for by halving, and at once where no device was dropped.
 pub fn place_in(devices: &[Device], id: DeviceId) -> usize
+    requires rise { IsStrictlyIncreasing (map (λ device. device.id) devices.now) }
+    requires known { has_device id devices.now ≡ true }
+    ensures stands { StandsAt devices.now id result }
+    ensures within { result < length devices.now }
+{
+    if stands_at_its_number(devices, id) {
+        return usize::from(id);
+    }
+    place_by_halving(devices, id)
+}
+
+/// The same, looked for by halving.
+fn place_by_halving(devices: &[Device], id: DeviceId) -> usize
     requires rise { IsStrictlyIncreasing (map (λ device. device.id) devices.now) }
     requires known { has_device id devices.now ≡ true }
     ensures stands { StandsAt devices.now id result }

@@ -1,59 +1,43 @@
-use Rattle.std.proofs.Common.{◌≡◌, ◌<◌, ◌≤◌, ◌+◌, Some, below_more, get_or, length, take, sym}
-use Rattle.std.proofs.Common.{subst, ◌∙◌, arith}
-use Rattle.std.specs.Prelude.{slice_get}
+use Rattle.std.proofs.Common.{◌≡◌, ◌<◌, ◌≤◌, ◌+◌, ℕ, List, get_or, length, take, sym}
+use Rattle.std.proofs.Common.{subst, arith}
 use Rattle.std.proofs.lemmas.List.{length-take-le, get_or-take}
-use Rattle.std.proofs.lemmas.Option.{same_Some, slice_get_within}
-use Rattle.ring_words.specs.declared.device.Device.{Device}
-use Rattle.ring_share.specs.Inner.Apart.{sharing}
-use Rattle.ring_share.specs.Crowd.{in_region, in_zone}
+use Rattle.ring_share.specs.Inner.Apart.{AreTiersAt, same_in}
 use Rattle.ring_share.specs.Near.{StandsAt}
 use Rattle.ring_share.proofs.Bridge.{AreStanding}
-use Rattle.ring_share.proofs.SeatsApart.{apart_uncrowded}
-use Rattle.ring_share.proofs.Standing.{read_at}
+use Rattle.ring_share.proofs.SeatsApart.{tiers_uncrowded}
 use Rattle.ring_share.proofs.apart.stand_apart.Goals as goal
-
-pub loop-place-preserved : goal.loop-place-preserved
-loop-place-preserved c =
-    let devices = c.args.devices.now in
-    let places = take (length c.args.row.now) c.places_of-places.result in
-    let fewest = c.fewest_sharing-fewest.result in
-    let i = c.loop-place.place-index in
-    let x = c.index-devices-place.result in
-    let lt : i < length places = omega arith in
-    let long : length places ≡ length c.args.row.now = length-take-le (length c.args.row.now)
-    c.places_of-places.result (omega (arith, c.requires.few)) in
-    let below_row : i < length c.args.row.now = omega (arith, lt, long) in
-    let stands = c.places_of-places.ensures i below_row in
-    let read = get_or-take (length c.args.row.now) c.places_of-places.result i 0 below_row in
-    let within = slice_get_within devices (get_or c.places_of-places.result i 0) stands.device
-    stands.at in
-    let at = read_at devices (get_or places i 0) x (omega (arith, read, within))
-    c.index-devices-place.is in
-    λ k e below there.
-    below_more (λ k. (e : Device) → slice_get devices (get_or places k 0) ≡ Some e →
-    (sharing in_region devices places e ≤ fewest + 1) × (sharing in_zone devices places e ≤ 1))
-    i
-    (λ k before e et. c.loop-place.invariant k e before et)
-    (λ e et.
-    subst (λ y. (sharing in_region devices places y ≤ fewest + 1) ×
-    (sharing in_zone devices places y ≤ 1)) (same_Some x e (sym at ∙ et)) (
-      omega (arith, c.if-count-fewest.false, c.sharing-count.ensures.region),
-      omega (arith, c.if-count-gt1.false, c.sharing-count.ensures.zone),
-    ))
-    k below e there
 
 pub returns : goal.returns
 returns c apart =
-    let places = take (length c.args.row.now) c.places_of-places.result in
+    let n = length c.args.row.now in
+    let few = c.requires.few in
+    let places = take n c.places_of-places.result in
+    let regions : List ℕ = take n c.tiers_at.result.0 in
+    let zones : List ℕ = take n c.tiers_at.result.1 in
+    let long : length places ≡ n = length-take-le n c.places_of-places.result (omega (arith, few)) in
     let all : AreStanding c.args.devices.now c.args.row.now places = record {
-      count = length-take-le (length c.args.row.now) c.places_of-places.result
-          (omega (arith, c.requires.few));
+      count = long;
       stand = λ replica lt. subst (λ place. StandsAt c.args.devices.now
           (get_or c.args.row.now replica 0) place)
-          (sym (get_or-take (length c.args.row.now) c.places_of-places.result replica 0 lt))
+          (sym (get_or-take n c.places_of-places.result replica 0 lt))
           (c.places_of-places.ensures replica lt);
     } in
-    apart_uncrowded c.args.devices.now c.requires.rise c.args.row.now places all
-    c.fewest_sharing-fewest.result c.args.regions.now c.requires.regions
-    c.fewest_sharing-fewest.ensures.least
-    (λ k e lt at. c.loop-place.invariant k e (omega (arith, lt, c.loop-place-test.false)) at)
+    let are : AreTiersAt c.args.devices.now places regions zones =
+    subst (λ (m : ℕ). AreTiersAt c.args.devices.now places (take m c.tiers_at.result.0)
+    (take m c.tiers_at.result.1)) long c.tiers_at.ensures in
+    tiers_uncrowded c.args.devices.now c.requires.rise c.args.row.now places all regions zones are
+    c.fewest_in-fewest.result c.args.regions.now c.requires.regions
+    c.fewest_in-fewest.ensures.least
+    (λ k lt.
+    let held = c.loop-replica.invariant k (omega (arith, lt, c.loop-replica-test.false)) in
+    let eight : k < 8 = omega (arith, lt, few) in
+    let region = c.same_among-by_region.ensures k eight in
+    let zone = c.same_among-by_zone.ensures k eight in
+    let region_at : get_or regions k 0 ≡ get_or c.tiers_at.result.0 k 0 =
+    get_or-take n c.tiers_at.result.0 k 0 lt in
+    let zone_at : get_or zones k 0 ≡ get_or c.tiers_at.result.1 k 0 =
+    get_or-take n c.tiers_at.result.1 k 0 lt in (
+      subst (λ number. same_in regions number ≤ c.fewest_in-fewest.result + 1) (sym region_at)
+          (omega (arith, held.0, region)),
+      subst (λ number. same_in zones number ≤ 1) (sym zone_at) (omega (arith, held.1, zone)),
+    ))

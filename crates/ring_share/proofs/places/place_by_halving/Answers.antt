@@ -1,8 +1,7 @@
 use Rattle.std.proofs.Common.{ap, arith}
-use Rattle.std.proofs.lemmas.Option.{slice_get_within}
 use Rattle.ring_words.specs.declared.device.Device.{Device}
-use Rattle.ring_share.proofs.Standing.{found_device, not_before, is_before, read_at, stands_there}
-use Rattle.ring_share.proofs.places.place_in.Goals as goal
+use Rattle.ring_share.proofs.Standing.{not_before, is_before, read_at, stands_there}
+use Rattle.ring_share.proofs.places.place_by_halving.Goals as goal
 
 pub loop-high-init : goal.loop-high-init
 loop-high-init c = record {

@@ -1,7 +1,7 @@
 use Rattle.std.proofs.Common.{◌≡◌, ◌<◌, ◌≤◌, ◌-◌, ℕ, length, Some}
 use Rattle.std.specs.Prelude.{slice_get}
 use Rattle.ring_words.specs.declared.device.Device.{Device}
-use Rattle.ring_share.proofs.places.place_in.Given as goal
+use Rattle.ring_share.proofs.places.place_by_halving.Given as goal
 
 -- the device of the number is none before low, and none from high on
 abbrev pub invariant-loop-high : goal.invariant-loop-high
