@@ -6,6 +6,7 @@ a device table of 256 devices, repeats, and new requests that are stored. Beside
 there; nginx, where it is there, with a file of the same size; Python's http.server with a lookup by MD5 in a list behind
 it. FOLDER is where the file lies. --small takes small sizes, --write puts the tables into docs/speed.md.
 """
+import contextlib
 import hashlib
 import http.server
 import json
@@ -201,28 +202,38 @@ def figure(number):
     return "" if number is None else f"{number:,.0f}"
 
 
-def ours(room):
-    """The service itself; the length of an answer of nodes."""
-    file, port = f"{room}/rings.db", free_port()
-    lines = [message(1, "create", power=POWER, replicas=5, min_hours=0), message(2, "import", rows=rows()), message(3, "rebalance", seed=1)]
-    timed_run("run", "--file", file, given="".join(lines).encode())
+@contextlib.contextmanager
+def service(file):
+    """The port of the service over a file, started anew: it ends after 65,535 connections."""
+    port = free_port()
     server = subprocess.Popen([*program(), "serve", file, str(port), "65535", "--hour", "0"])
     try:
         wait_until(lambda: is_listening(port))
-        told, repeat, first = [], post(body_of(lines[0])), 10
-        for what, given, target in [("nodes of a path", get(NODES), NODES), (f"device table of {DEVICES}", get(TABLE), TABLE), ("repeat", repeat, None)]:
+        yield port
+    finally:
+        server.kill()
+        server.wait()
+
+
+def ours(room):
+    """The service itself; the length of an answer of nodes."""
+    file, told = f"{room}/rings.db", []
+    lines = [message(1, "create", power=POWER, replicas=5, min_hours=0), message(2, "import", rows=rows()), message(3, "rebalance", seed=1)]
+    timed_run("run", "--file", file, given="".join(lines).encode())
+    repeat = post(body_of(lines[0]))
+    for what, given, target in [("nodes of a path", get(NODES), NODES), (f"device table of {DEVICES}", get(TABLE), TABLE), ("repeat", repeat, None)]:
+        with service(file) as port:
             status, alone = one_at_a_time(port, again(given))
             _, flight = many_in_flight(port, again(given))
             told.append([what, status, figure(alone), figure(flight), figure(target and by_wrk(port, target)),
                          figure(by_connections(port, again(given), 1)), figure(by_connections(port, again(given), 16))])
-        status, alone = one_at_a_time(port, new_ones(first))
-        told.append(["new request, stored", status, figure(alone), "", "", figure(by_connections(port, new_ones(1000000), 1)), figure(by_connections(port, new_ones(2000000), 16))])
+    with service(file) as port:
+        status, alone = one_at_a_time(port, new_ones(10))
+        told.append(["new request, stored", status, figure(alone), "", "",
+                     figure(by_connections(port, new_ones(1000000), 1)), figure(by_connections(port, new_ones(2000000), 16))])
         with connect(port) as one:
             one.sendall(get(NODES))
             return told, len(read_answer(one, b"")[1])
-    finally:
-        server.kill()
-        server.wait()
 
 
 def others(room, size):
