@@ -540,7 +540,7 @@ class Quiet:
 
 
 def main():
-    checks = Checks("service.py", 1800 if "--long" in sys.argv else 120)
+    checks = Checks("service.py", 1800 if "--long" in sys.argv else 300)
     if not has("serve"):
         checks.skip("the service", "the program has no serve")
         print("0 passed, 0 failed")
