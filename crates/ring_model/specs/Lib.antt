@@ -2,6 +2,7 @@ pub mod Ring
 pub mod Valid
 pub mod Parts
 pub mod Raise
+pub mod Reseat
 pub mod Rings
 pub mod Import
 pub mod Publish

@@ -83,6 +83,7 @@ impl Ring {
     ghost use Rattle.ring_model.specs.Ring.{published_at, partition_count, has_device, has_present};
     ghost use Rattle.ring_model.specs.Ring.{with_device, with_weight, with_mark, with_min_hours};
     ghost use Rattle.ring_model.specs.Ring.{with_hours_passed};
+    ghost use Rattle.ring_model.specs.Reseat.{reseated};
     ghost use Rattle.ring_words.specs.Rows.{has_place};
     ghost use Rattle.ring_model.specs.Parts.{record_of, texts_of};
     ghost use Rattle.ring_model.specs.Raise.{IsRaised};
@@ -196,6 +197,32 @@ impl Ring {
         parts.moved = vec![in *parts.moved.allocator(); None; partitions]?;
         parts.version = risen(parts.version);
         Ok(Ring { parts })
+    }
+
+    /// The ring with these devices and seats, of partitions that were moved at these hours, where
+    /// these make a valid ring. The version rises. Only the published texts are copied.
+    pub fn reseated(
+        &self,
+        devices: Vec<Device>,
+        seats: Vec<DeviceId>,
+        moved: Vec<Option<Hour>>,
+    ) -> Result<Ring, AllocError>
+        requires { IsValid (reseated self.now devices.items seats.items moved.items) }
+        ensures { IfOk result (λ ring. ring ≡ reseated self.now devices.items seats.items
+            moved.items) }
+    {
+        let published = self.parts.published.clone()?;
+        Ok(Ring::of_parts(RingParts {
+            power: self.parts.power,
+            replicas: self.parts.replicas,
+            min_hours: self.parts.min_hours,
+            next_id: self.parts.next_id,
+            version: risen(self.parts.version),
+            devices,
+            seats,
+            moved,
+            published,
+        }))
     }
 
     /// The ring with each partition split into two halves, which are on the partition's devices and

@@ -267,6 +267,9 @@ pub(crate) fn gathering(
         order,
         &mut seats,
     );
+    if !was.has_some_room() {
+        return Ok((kept, seats));
+    }
     gather(
         Pass::Second,
         &was,

@@ -12,7 +12,7 @@ use crate::gather::gathering;
 use crate::order::{draws_of, shuffled_order};
 use crate::place::place_all;
 use crate::seats::Seats;
-use ring_model::{BuildFault, Ring, risen};
+use ring_model::Ring;
 use ring_share::is_open;
 use ring_words::{Device, DeviceId, Hour, partition_count};
 use std::alloc::{AllocError, Global};
@@ -130,19 +130,10 @@ fn finish(
     ensures memory { IsErrOf result PlaceError.TooFewDevices → ⊥ }
 {
     let (moved, changed) = moves(alloc, ring, hour, old, new)?;
-    let mut parts = ring.parts()?;
-    parts.devices = remaining(alloc, ring.devices())?;
-    parts.seats = new.devices(alloc)?;
-    parts.moved = moved;
-    parts.version = risen(parts.version);
-    match Ring::build(alloc, parts) {
-        Ok(ring) => Ok(Rebalanced { ring, changed }),
-        Err(BuildFault::NoMemory) => Err(PlaceError::NoMemory),
-        Err(BuildFault::Invalid) => {
-            prove!(false);
-            Err(PlaceError::NoMemory)
-        }
-    }
+    let devices = remaining(alloc, ring.devices())?;
+    let seats = new.devices(alloc)?;
+    let ring = ring.reseated(devices, seats, moved)?;
+    Ok(Rebalanced { ring, changed })
 }
 
 /// Rebalances a ring at an hour. Seats that are empty or on devices that are marked to be removed

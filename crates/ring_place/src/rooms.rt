@@ -12,7 +12,7 @@ ghost use Rattle.ring_place.specs.Inner.Lists.{AreRoomy};
 ghost use Rattle.ring_share.specs.Tiers.{AreTier};
 
 use ring_model::Ring;
-use ring_share::{Tier, counts_of, is_open, one_each, place_in};
+use ring_share::{Tier, counts_of, is_open, one_each, place_in, tier_codes};
 use ring_words::{Device, DeviceId};
 use std::alloc::{AllocError, Global};
 use std::marker::Model;
@@ -33,6 +33,9 @@ pub struct Room {
     pub(crate) regions: Vec<usize>,
     pub(crate) zones: Vec<usize>,
     pub(crate) servers: Vec<usize>,
+    /// For the device at each place a number that tells its region, and one that tells its zone.
+    pub(crate) in_region: [u8; 256],
+    pub(crate) in_zone: [u8; 256],
 }
 
 impl Model for Room {
@@ -53,7 +56,8 @@ impl Model for Room {
       wanted = r.wanted.items;
       counts = r.counts.items;
     })
-        r.roomy.items r.count r.regions.items r.zones.items r.servers.items };
+        r.roomy.items r.count r.regions.items r.zones.items r.servers.items r.in_region
+        r.in_zone };
 }
 
 /// Whether a device that wants and has so many seats is open and has fewer than it wants.
@@ -145,6 +149,8 @@ impl Room {
             regions: tier_places(alloc, devices, Tier::Region)?,
             zones: tier_places(alloc, devices, Tier::Zone)?,
             servers: tier_places(alloc, devices, Tier::Server)?,
+            in_region: tier_codes(devices, Tier::Region),
+            in_zone: tier_codes(devices, Tier::Zone),
         })
     }
 
@@ -161,6 +167,8 @@ impl Room {
             regions: Vec::from_slice(alloc, &self.regions)?,
             zones: Vec::from_slice(alloc, &self.zones)?,
             servers: Vec::from_slice(alloc, &self.servers)?,
+            in_region: self.in_region,
+            in_zone: self.in_zone,
         })
     }
 

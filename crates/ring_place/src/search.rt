@@ -1,6 +1,6 @@
 //! The search of a room for a device that is least crowded for a seat.
 ghost use Rattle.std.specs.Prelude.{◌≡◌, ◌<◌, ◌≤◌, ◌+◌, ℕ, true, false, All, length, slice_index};
-ghost use Rattle.std.specs.Prelude.{IfSome, IfNone};
+ghost use Rattle.std.specs.Prelude.{IfSome, IfNone, List, Option};
 ghost use Rattle.std.specs.List.{list_any};
 ghost use Rattle.ring_model.specs.Ring.{has_device};
 ghost use Rattle.ring_place.specs.Inner.Gathering.{AreUncrowded, has_free_in};
@@ -10,12 +10,16 @@ ghost use Rattle.ring_place.specs.Inner.Places.{IsBestSoFar, id_at, is_within, p
 ghost use Rattle.ring_place.specs.Inner.Places.{seats_at};
 ghost use Rattle.ring_place.specs.Inner.Lists.{IsFloor};
 ghost use Rattle.ring_share.specs.Tiers.{AreTier};
+ghost use Rattle.ring_share.specs.declared.tiers.Tier.TheVariants.{Region};
 
 use crate::rooms::Room;
 use crate::seats::devices_on;
 use crate::tiers::{Crowd, cut, is_less, lesser};
 use ring_share::{Tier, shared_tiers, stand_apart};
 use ring_words::DeviceId;
+
+/// After so many steps a search looks for a floor down to zones and servers.
+const STEPS_BY_REGIONS: usize = 3;
 
 /// The place so many steps after another, where the first place comes after the last.
 fn place_after(count: usize, start: usize, step: usize) -> usize
@@ -109,7 +113,25 @@ impl Room {
             return true;
         }
         let (ids, count) = devices_on(row);
-        stand_apart(&self.devices, &self.regions, &ids[..count])
+        let ids = &ids[..count];
+        stand_apart(
+            &self.devices,
+            &self.regions,
+            &self.in_region,
+            &self.in_zone,
+            ids,
+        )
+    }
+
+    /// Whether some device has room. Else none is free for any seat.
+    pub(crate) fn has_some_room(&self) -> bool
+        ensures { result ≡ false → (row : List (Option ℕ)) (id : ℕ) →
+            is_free_in self.now row id ≡ false }
+    {
+        if self.count == 0 {
+            return false;
+        }
+        true
     }
 
     /// Whether some device that isn't among `others` has room.
@@ -146,8 +168,8 @@ impl Room {
         Some(self.devices[best.0].id)
     }
 
-    /// How crowded open devices are at the least for a seat whose other seats are on the devices at
-    /// these places.
+    /// How crowded open devices are at the least, by their regions alone, for a seat whose other
+    /// seats are on the devices at these places.
     fn floor_for(&self, others: &[usize]) -> Crowd
         requires others { All (λ other. other < length self.now.devices) others.now }
         requires few { length others.now ≤ 5 }
@@ -157,8 +179,58 @@ impl Room {
         if others.len() < self.regions.len() {
             return (0, 0, 0);
         }
-        let floor = self.floor_by(Tier::Region, &self.regions, others, (0, 0, 0));
+        self.region_floor(&self.regions, others)
+    }
+
+    /// How many of the devices at some places are in the region of the device at a place.
+    fn in_region_of(&self, others: &[usize], place: usize) -> u32
+        requires others { All (λ other. other < length self.now.devices) others.now }
+        requires few { length others.now ≤ 5 }
+        requires place { place < length self.now.devices }
+        ensures { result ≡ (crowd_in self.now (seats_at self.now.devices others.now)
+            (id_at self.now.devices place)).0 }
+    {
+        let mut count = 0;
+        for other in others {
+            count += shared_tiers(&self.devices[place], &self.devices[*other]).0;
+        }
+        count
+    }
+
+    /// How crowded open devices are at the least, by their regions alone, for a seat whose other
+    /// seats are on the devices at some places. `places` has one in each region.
+    fn region_floor(&self, places: &[usize], others: &[usize]) -> Crowd
+        requires load { IsLoad self.now }
+        requires tier { AreTier Region self.now.devices places.now }
+        requires others { All (λ other. other < length self.now.devices) others.now }
+        requires few { length others.now ≤ 5 }
+        ensures { IsFloor self.now (seats_at self.now.devices others.now) result }
+    {
+        // more than any has: a partition has at most five other seats
+        let mut least = 6;
+        for place in places {
+            least = self.in_region_of(others, *place).min(least);
+        }
+        (least, 0, 0)
+    }
+
+    /// How crowded open devices are at the least, where it is known how crowded they are down to
+    /// regions. Zones and servers are looked at once, in a search that takes some steps.
+    fn floor_after(&self, steps: usize, others: &[usize], floor: Crowd) -> Crowd
+        requires others { All (λ other. other < length self.now.devices) others.now }
+        requires few { length others.now ≤ 5 }
+        requires floor { IsFloor self.now (seats_at self.now.devices others.now) floor }
+        ensures { IsFloor self.now (seats_at self.now.devices others.now) result }
+    {
+        // where a region has none of the others it is as low as can be
+        if steps != STEPS_BY_REGIONS || floor.0 == 0 {
+            return floor;
+        }
         let floor = self.floor_by(Tier::Zone, &self.zones, others, floor);
+        // in a zone that has none of the others no server has any
+        if floor.1 == 0 {
+            return floor;
+        }
         self.floor_by(Tier::Server, &self.servers, others, floor)
     }
 
@@ -187,7 +259,8 @@ impl Room {
 
     /// Of the devices at some places, the place of a free one than which no other is less crowded,
     /// and how crowded it is. The search begins at one of the places, and ends at a device than
-    /// which no open device is less crowded by this floor.
+    /// which no open device is less crowded by a floor. That by regions comes first, which mostly
+    /// some device reaches.
     fn least_of(
         &self,
         places: &[usize],
@@ -204,10 +277,12 @@ impl Room {
             (seats_at self.now.devices others.now) result }
         ensures start { start < length places.now }
     {
+        let mut known = floor;
         let mut best = None;
         for step in 0..places.len() {
+            known = self.floor_after(step, others, known);
             best = self.better(places, start, step, others, best);
-            if is_within(best, floor) {
+            if is_within(best, known) {
                 return best;
             }
         }

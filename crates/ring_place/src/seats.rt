@@ -1,5 +1,6 @@
 //! Seats of partitions while some of them are empty.
-ghost use Rattle.std.specs.Prelude.{◌≡◌, ◌<◌, ◌≤◌, length, slice_get, slice_set, take, IfOk};
+ghost use Rattle.std.specs.Prelude.{◌≡◌, ◌<◌, ◌≤◌, ℕ, length, slice_get, slice_set, take, IfOk};
+ghost use Rattle.std.specs.Prelude.{slice_index_or, None};
 ghost use Rattle.std.specs.List.{flat_map, list_any};
 ghost use Rattle.ring_model.specs.Valid.{IsValid};
 ghost use Rattle.ring_share.specs.Crowd.{rows_of};
@@ -55,11 +56,22 @@ impl Model for Seats {
     ghost invariant = { λ s. AreSeatRows s.seats.items s.partitions s.replicas };
 }
 
-/// The device at a place of a ring's seats, none where they are empty.
-fn seat_at(seats: &[DeviceId], place: usize) -> Option<DeviceId>
-    ensures { result ≡ slice_get seats.now place }
+/// So many seats: these devices are on the first of them, and the others are empty.
+fn seats_with(
+    alloc: Global,
+    devices: &[DeviceId],
+    count: usize,
+) -> Result<Vec<Option<DeviceId>>, AllocError>
+    requires { length devices.now ≤ count }
+    ensures long { IfOk result (λ seats. length seats.items ≡ count) }
+    ensures seats { IfOk result (λ seats. (place : ℕ) →
+        slice_index_or seats.items place None ≡ slice_get devices.now place) }
 {
-    seats.get(place).copied()
+    let mut seats = vec![in alloc; None; count]?;
+    for (place, device) in devices.iter().enumerate() {
+        seats[place] = Some(*device);
+    }
+    Ok(seats)
 }
 
 impl Seats {
@@ -70,10 +82,7 @@ impl Seats {
     {
         let partitions = partition_count(ring.power());
         let replicas = usize::from(ring.replicas().get());
-        let mut seats = Vec::with_capacity(alloc, partitions * replicas)?;
-        for place in 0..partitions * replicas {
-            seats.push(seat_at(ring.seats(), place))?;
-        }
+        let seats = seats_with(alloc, ring.seats(), partitions * replicas)?;
         Ok(Seats {
             seats,
             partitions,

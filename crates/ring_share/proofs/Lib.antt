@@ -9,5 +9,6 @@ pub mod Counting
 pub mod Bridge
 pub mod TierLists
 pub mod SeatsApart
+pub mod Coding
 pub mod Assigned
 pub mod AllSeats

@@ -1,21 +1,18 @@
 -- Where the seats of a partition stand apart none of them is crowded.
-use Rattle.std.proofs.Common.{◌≡◌, ◌≢◌, ◌==◌, ℕ, zero, suc, ◌+◌, ◌*◌, ◌<◌, ◌≤◌, Bool, true, false, cond, ◌&&◌}
-use Rattle.std.proofs.Common.{◌||◌, List, [], ◌∷◌, length, get_or, count_by, map, set, Option}
+use Rattle.std.proofs.Common.{◌≡◌, ◌==◌, ℕ, zero, suc, ◌+◌, ◌<◌, ◌≤◌, Bool, true, false, cond, ◌&&◌}
+use Rattle.std.proofs.Common.{◌||◌, List, [], ◌∷◌, length, get_or, count_by, map, Option}
 use Rattle.std.proofs.Common.{Some, None, refl, sym, ap, subst, ◌∙◌, ⊎_elim, arith}
-use Rattle.std.specs.Prelude.{All, slice_get, nat_lt}
+use Rattle.std.specs.Prelude.{slice_get, nat_lt}
 use Rattle.std.specs.List.Sorted.{IsStrictlyIncreasing}
-use Rattle.std.proofs.lemmas.Bool.{and_parts, cases_Bool, cases_eq, cases_lt, eq-eqb, eqb-true}
-use Rattle.std.proofs.lemmas.Bool.{ne_eqb}
+use Rattle.std.proofs.lemmas.Bool.{and_parts, cases_Bool, eq-eqb, eqb-true}
 use Rattle.std.proofs.lemmas.Bool.Decides.{nat_tests}
 use Rattle.std.proofs.lemmas.Grind.{get_or_default_zero}
-use Rattle.std.proofs.lemmas.List.{get_or-map, get_or-set_other, get_or-set_same, length-map}
-use Rattle.std.proofs.lemmas.Nat.{same_from_place}
+use Rattle.std.proofs.lemmas.List.{get_or-map, length-map}
 use Rattle.std.proofs.lemmas.List.Folds.{Any-from_list_any}
 use Rattle.std.proofs.lemmas.List.Sums.{sum_by-set}
-use Rattle.std.proofs.lemmas.Option.{get_or_from_slice_get, same_Some, slice_get-get_or}
+use Rattle.std.proofs.lemmas.Option.{get_or_from_slice_get, slice_get-get_or}
 use Rattle.std.proofs.lemmas.Option.{slice_get_within}
 use Rattle.ring_words.specs.declared.device.Device.{Device}
-use Rattle.ring_share.specs.Inner.Apart.{AreTiersAt, same_in, zone_number}
 use Rattle.ring_share.specs.Crowd.{crowd, device_of, in_region, in_zone, is_less, is_on, is_outside}
 use Rattle.ring_share.specs.Crowd.{on_server, others, pass_both, tiers_of}
 use Rattle.ring_share.specs.Figures.{has_better, has_crowded, is_crowded}
@@ -31,7 +28,7 @@ sharing tier devices places device =
     count_by (λ place. pass_both tier (Some device) (slice_get devices place)) places
 
 -- tests that agree element by element count the same
-count_alike : {A B : Type 0} (test : A → Bool) (other : B → Bool) (xs : List A) (ys : List B) →
+pub count_alike : {A B : Type 0} (test : A → Bool) (other : B → Bool) (xs : List A) (ys : List B) →
     length ys ≡ length xs
     → ((k : ℕ) (x : A) (y : B) → slice_get xs k ≡ Some x → slice_get ys k ≡ Some y → test x ≡ other
     y) → count_by test xs ≡ count_by other ys
@@ -46,80 +43,6 @@ count_alike test other (x ∷ xs) (y ∷ ys) count same =
     let one = sum_cons test x xs in
     let two = sum_cons other y ys in
     omega (arith, head, rest, one, two)
-
--- one more place is written
-pub set_more : (xs : List ℕ) (i y : ℕ) → i < length xs → (P : ℕ → ℕ → Type 0) →
-    ((k : ℕ) → k < i → P k (get_or xs k 0)) → P i y → (k : ℕ) → k < i + 1 → P k
-    (get_or (set xs i y) k 0)
-set_more xs i y within P before here k lt = ⊎_elim
-    (λ less. subst (P k) (sym (get_or-set_other xs i k y 0 (let ne : k ≢ i = omega arith in ne)))
-    (before k less))
-    (λ ge. let same : i ≡ k = omega arith in
-    subst (λ j. P j (get_or (set xs i y) j 0)) same (subst (P i) (sym (get_or-set_same xs i y 0
-    within)) here))
-    (cases_lt k i)
-
--- as many numbers are that of a device as devices at the places share a tier with it
-tier_shared : (devices : List Device) (places numbers : List ℕ) → length numbers ≡ length places
-    → All (λ place. place < length devices) places → (tier : Device → Device → Bool)
-    (number : Device → ℕ) (one : Device)
-    → ((k place : ℕ) (other : Device) → slice_get places k ≡ Some place →
-    slice_get devices place ≡ Some other →
-    (slice_get numbers k ≡ Some (number other)) ×
-    (tier one other ≡ (number one == number other)))
-    → sharing tier devices places one ≡ same_in numbers (number one)
-tier_shared devices places numbers count within tier number one are = count_alike
-    (λ place. pass_both tier (Some one) (slice_get devices place)) (λ other. number one == other)
-    places numbers count
-    (λ k place other at there.
-    let below : place < length devices = subst (λ n. n < length devices)
-    (get_or_from_slice_get places k place 0 at)
-    (within k 0 (slice_get_within places k place at)) in
-    let device : Device = get_or devices place one in
-    let read : slice_get devices place ≡ Some device = slice_get-get_or devices place one below in
-    let is = are k place device at read in
-    let same : number device ≡ other = same_Some (number device) other (sym is.0 ∙ there) in
-    ap (λ found. pass_both tier (Some one) found) read ∙ is.1 ∙ ap (λ n. number one == n) same)
-
-pub region_shared : (devices : List Device) (places regions zones : List ℕ) →
-    AreTiersAt devices places regions zones → All (λ place. place < length devices) places →
-    (one : Device) → sharing in_region devices places one ≡ same_in regions one.row.region
-region_shared devices places regions zones are within one = tier_shared devices places regions
-    are.region_count within in_region (λ device. device.row.region) one
-    (λ k place other at there. (are.region k place other at there, refl))
-
--- devices are in one zone exactly where one number tells it of both
-zone_told : (one other : Device) → one.row.zone < 65536 → other.row.zone < 65536 →
-    in_zone one other ≡ (zone_number one == zone_number other)
-zone_told one other low high = told one.row.region other.row.region one.row.zone other.row.zone low
-    high
-  where
-    not_both : (x y : Bool) → (x ≡ true → y ≡ true → ⊥) → (x && y) ≡ false
-    not_both true true never = absurd (never refl refl)
-    not_both true false never = refl
-    not_both false y never = refl
-
-    told : (a b c d : ℕ) → c < 65536 → d < 65536 → ((a == b) && (c == d)) ≡
-        ((a * 65536 + c) == (b * 65536 + d))
-    told a b c d low high = ⊎_elim
-        (λ same. let parts = same_from_place a c b d 65536 low high same in
-        both_true (a == b) (c == d) (eq-eqb a b parts.0) (eq-eqb c d parts.1) ∙ sym (eq-eqb
-        (a * 65536 + c) (b * 65536 + d) same))
-        (λ apart. not_both (a == b) (c == d) (λ one two. apart (
-        let first = eqb-true a b one in let second = eqb-true c d two in omega (arith, first, second)))
-        ∙ sym (ne_eqb (a * 65536 + c) (b * 65536 + d) apart))
-        (cases_eq (a * 65536 + c) (b * 65536 + d))
-
-pub zone_shared : (devices : List Device) (places regions zones : List ℕ) →
-    AreTiersAt devices places regions zones → All (λ place. place < length devices) places →
-    (one : Device) → one.row.zone < 65536 → sharing in_zone devices places one ≡ same_in zones
-    (zone_number one)
-zone_shared devices places regions zones are within one low = tier_shared devices places zones
-    are.zone_count within in_zone zone_number one
-    (λ k place other at there. (
-      are.zone k place other at there,
-      zone_told one other low (are.small k place other at there),
-    ))
 
 -- as many pass a test as another that they pass alike
 count_same : (f g : ℕ → Bool) → ((place : ℕ) → f place ≡ g place) → (places : List ℕ) →
@@ -343,36 +266,3 @@ module _ (devices : List Device) (rise : IsStrictlyIncreasing (map (λ device. d
           let calm = seat_apart fewest seat.0 better.0 x lt at few_x
           (λ e et. own seat.0 e (let count = all.count in omega (arith, lt, count)) et) in
           (let less = parts.1 in cc (calm, less))
-
-  -- the same by the numbers of their regions and zones
-  pub tiers_uncrowded : (regions zones : List ℕ) → AreTiersAt devices places regions zones →
-      (fewest : ℕ) (have : List ℕ) → AreTier Region devices have
-      → ((index : ℕ) (device : Device) → index < length have →
-      slice_get devices (get_or have index 0) ≡ Some device →
-      fewest ≤ same_in regions device.row.region)
-      → ((k : ℕ) → k < length ids → (same_in regions (get_or regions k 0) ≤ fewest + 1) ×
-      (same_in zones (get_or zones k 0) ≤ 1))
-      → has_crowded devices (map Some ids) ≡ false
-  tiers_uncrowded regions zones are fewest have tier least own = apart_uncrowded fewest have tier
-      (λ index device lt at. let le = least index device lt at in
-      let shared = region_shared devices places regions zones are within device in
-      omega (arith, le, shared))
-      (λ k e lt at.
-      let here = slice_get-get_or places k 0 lt in
-      let region_is : get_or regions k 0 ≡ e.row.region =
-      get_or_from_slice_get regions k e.row.region 0 (are.region k (get_or places k 0) e here at) in
-      let zone_is : get_or zones k 0 ≡ zone_number e =
-      get_or_from_slice_get zones k (zone_number e) 0 (are.zone k (get_or places k 0) e here at) in
-      let held = own k (omega (arith, lt, all.count)) in
-      let in_regions = subst (λ n. same_in regions n ≤ fewest + 1) region_is held.0 in
-      let in_zones = subst (λ n. same_in zones n ≤ 1) zone_is held.1 in
-      let region = region_shared devices places regions zones are within e in
-      let zone = zone_shared devices places regions zones are within e
-      (are.small k (get_or places k 0) e here at) in
-      (omega (arith, in_regions, region), omega (arith, in_zones, zone)))
-    where
-      within : All (λ place. place < length devices) places
-      within k d lt =
-          let stands = all.stand k (let count = all.count in omega (arith, lt, count)) in
-          let below = slice_get_within devices (get_or places k 0) stands.device stands.at in
-          subst (λ place. place < length devices) (sym (get_or_default_zero places k d lt)) below

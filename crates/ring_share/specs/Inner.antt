@@ -1,4 +1,4 @@
 -- Words of contracts of private functions and of proofs. No public contract rests on them.
-pub mod Apart
+pub mod Coded
 pub mod Turns
 pub mod Nearness

@@ -4,4 +4,5 @@ pub mod Crowd
 pub mod Figures
 pub mod Near
 pub mod Tiers
+pub mod Codes
 pub mod Inner

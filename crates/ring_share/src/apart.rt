@@ -5,116 +5,108 @@ ghost use Rattle.std.specs.Prelude.{◌+◌, ◌*◌, ◌==◌, if◌then◌else
 ghost use Rattle.std.specs.List.Sorted.{IsStrictlyIncreasing};
 ghost use Rattle.ring_model.specs.Ring.{has_device};
 ghost use Rattle.ring_words.specs.declared.device.Device.{Device as DeviceModel};
-ghost use Rattle.ring_share.specs.Inner.Apart.{AreTiersAt, same_in};
 ghost use Rattle.ring_share.specs.Figures.{has_crowded};
 ghost use Rattle.ring_share.specs.Tiers.{AreTier};
-ghost use Rattle.ring_share.specs.declared.tiers.Tier.TheVariants.{Region};
+ghost use Rattle.ring_share.specs.declared.tiers.Tier.TheVariants.{Region, Zone};
+ghost use Rattle.ring_share.specs.Codes.{IsCode, AreCodes};
+ghost use Rattle.ring_share.specs.Inner.Coded.{coded};
 
-use crate::crowds::one_if;
 use crate::places::places_of;
+use crate::tiers::{Tier, shares};
 use ring_words::{Device, DeviceId};
 
-/// A number for each of at most five seats. What stands behind the last is left over: compilers do
-/// all eight at a time.
-type Lanes = [u32; 8];
-
-/// One number for a region and a zone there.
-fn zone_number(region: u16, zone: u16) -> u32
-    ensures value { result ≡ region * 65536 + zone }
-    ensures small { zone < 65536 }
+/// No codes yet.
+fn no_codes<const N: usize>() -> [u8; N]
+    ensures zero { (k : ℕ) → slice_index result k ≡ 0 }
+    ensures long { length result ≡ N }
 {
-    u32::from(region) * 65_536 + u32::from(zone)
+    [0; N]
 }
 
-/// The regions and the zones of the devices at at most five places.
-fn tiers_at(devices: &[Device], places: &[usize]) -> (Lanes, Lanes)
-    requires places { All (λ place. place < length devices.now) places.now }
+/// The place of the first device that shares a tier of a kind with the device at a place.
+fn first_sharing(devices: &[Device], tier: Tier, place: usize) -> usize
+    requires { place < length devices.now }
+    ensures { IsCode tier devices.now place result }
+{
+    for other in 0..place {
+        if shares(tier, &devices[other], &devices[place]) {
+            return other;
+        }
+    }
+    place
+}
+
+/// For the device at each place a number that those devices have who share its tier of a kind, and
+/// no others. Behind the last device it is left open what stands.
+pub fn tier_codes(devices: &[Device], tier: Tier) -> [u8; 256]
+    requires { length devices.now ≤ 256 }
+    ensures { AreCodes tier devices.now result }
+{
+    let mut codes: [u8; 256] = no_codes();
+    for place in 0..devices.len() {
+        codes[place] = first_sharing(devices, tier, place) as u8;
+    }
+    codes
+}
+
+/// Counts how many of at most five places have each code.
+fn count_at(counts: &mut [u8; 256], codes: &[u8; 256], places: &[usize])
+    requires zero { (code : ℕ) → slice_index counts.old code ≡ 0 }
+    requires places { All (λ place. place < 256) places.now }
     requires few { length places.now ≤ 5 }
-    ensures { AreTiersAt devices.now places.now (take (length places.now) result.0)
-        (take (length places.now) result.1) }
+    ensures { (code : ℕ) → code < 256 →
+        slice_index counts.new code ≡ coded codes.now places.now code }
 {
-    let mut regions = [0; 8];
-    let mut zones = [0; 8];
-    for (index, place) in places.iter().enumerate() {
-        let row = &devices[*place].row;
-        regions[index] = u32::from(row.region);
-        zones[index] = zone_number(row.region, row.zone);
-    }
-    (regions, zones)
-}
-
-/// Adds 1 where a number is this one.
-fn count_same(counts: &mut Lanes, numbers: &Lanes, number: u32)
-    requires { (k : ℕ) → slice_index counts.old k ≤ 5 }
-    ensures { (k : ℕ) → k < 8 → slice_index counts.new k ≡ slice_index counts.old k +
-        (if slice_index numbers.now k == number then 1 else 0) }
-{
-    for lane in 0..8 {
-        counts[lane] += one_if(numbers[lane] == number);
+    for place in places {
+        counts[usize::from(codes[*place])] += 1;
     }
 }
 
-/// For each number how many of the first ones, at most five, are the same.
-fn same_among(numbers: &Lanes, count: usize) -> Lanes
-    requires { count ≤ 5 }
-    ensures { (k : ℕ) → k < 8 → slice_index result k ≡ same_in (take count numbers.now)
-        (slice_index numbers.now k) }
-{
-    let mut counts = [0; 8];
-    for index in 0..count {
-        count_same(&mut counts, numbers, numbers[index]);
-    }
-    counts
-}
-
-/// How many of at most five numbers are this one.
-fn same_as(numbers: &[u32], number: u32) -> u32
-    requires { length numbers.now ≤ 5 }
-    ensures count { result ≡ same_in numbers.now number }
-    ensures few { result ≤ 5 }
-{
-    let mut count = 0;
-    for other in numbers {
-        count += one_if(number == *other);
-    }
-    count
-}
-
-/// How many of at most five regions are that of any device at some places, at the least. 6 where
-/// there is no such place.
-fn fewest_in(devices: &[Device], places: &[usize], regions: &[u32]) -> u32
-    requires places { All (λ place. place < length devices.now) places.now }
-    requires few { length regions.now ≤ 5 }
-    ensures least { (index : ℕ) (device : DeviceModel) → index < length places.now →
-        slice_get devices.now (slice_index places.now index) ≡ Some device
-        → result ≤ same_in regions.now device.row.region }
+/// The least of these counts at any of some places, 6 where there is none or none is less.
+fn fewest_at(counts: &[u8; 256], codes: &[u8; 256], places: &[usize]) -> u8
+    requires { All (λ place. place < 256) places.now }
+    ensures least { (index : ℕ) → index < length places.now →
+        result ≤ slice_index counts.now (slice_index codes.now (slice_index places.now index)) }
     ensures few { result ≤ 6 }
 {
     let mut fewest = 6;
     for place in places {
-        let count = same_as(regions, u32::from(devices[*place].row.region));
-        fewest = count.min(fewest);
+        fewest = counts[usize::from(codes[*place])].min(fewest);
     }
     fewest
 }
 
 /// Whether each seat of a partition is alone in its zone, and in no region are two more of them
 /// than in any region that has an open device. `regions` has the place of a device in each of
-/// these. Where it answers true no open device is less crowded for any of the seats.
-pub fn stand_apart(devices: &[Device], regions: &[usize], row: &[DeviceId]) -> bool
+/// these; regions and zones are told by codes. Where it answers true no open device is less crowded
+/// for any of the seats.
+pub fn stand_apart(
+    devices: &[Device],
+    regions: &[usize],
+    in_region: &[u8; 256],
+    in_zone: &[u8; 256],
+    row: &[DeviceId],
+) -> bool
     requires rise { IsStrictlyIncreasing (map (λ device. device.id) devices.now) }
+    requires devices { length devices.now ≤ 256 }
     requires regions { AreTier Region devices.now regions.now }
+    requires in_region { AreCodes Region devices.now in_region.now }
+    requires in_zone { AreCodes Zone devices.now in_zone.now }
     requires known { All (λ id. has_device id devices.now ≡ true) row.now }
     requires few { length row.now ≤ 5 }
     ensures { result ≡ true → has_crowded devices.now (map Some row.now) ≡ false }
 {
     let places = places_of(devices, row);
-    let (in_regions, in_zones) = tiers_at(devices, &places[..row.len()]);
-    let fewest = fewest_in(devices, regions, &in_regions[..row.len()]);
-    let by_region = same_among(&in_regions, row.len());
-    let by_zone = same_among(&in_zones, row.len());
-    for replica in 0..row.len() {
-        if by_zone[replica] > 1 || by_region[replica] > fewest + 1 {
+    let places = &places[..row.len()];
+    let mut by_region: [u8; 256] = no_codes();
+    count_at(&mut by_region, in_region, places);
+    let mut by_zone: [u8; 256] = no_codes();
+    count_at(&mut by_zone, in_zone, places);
+    let most = fewest_at(&by_region, in_region, regions) + 1;
+    for place in places {
+        let zone = usize::from(in_zone[*place]);
+        let region = usize::from(in_region[*place]);
+        if by_zone[zone] > 1 || by_region[region] > most {
             return false;
         }
     }

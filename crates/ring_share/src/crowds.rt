@@ -38,7 +38,7 @@ pub(crate) fn device_of(devices: &[Device], id: DeviceId) -> Option<&Device>
 }
 
 /// 1 where something holds, and else 0.
-pub(crate) fn one_if(yes: bool) -> u32
+fn one_if(yes: bool) -> u32
     ensures { result ≡ (if yes then 1 else 0) }
 {
     if yes { 1 } else { 0 }

@@ -11,12 +11,13 @@ ghost use Rattle.ring_share.specs.Want.{total_weight};
 ghost use Rattle.ring_share.specs.Room.{have};
 ghost use Rattle.ring_share.specs.Inner.Nearness.{IsTable};
 ghost use Rattle.ring_share.specs.Tiers.{AreTier};
-ghost use Rattle.ring_share.specs.declared.tiers.Tier.TheVariants.{Region};
+ghost use Rattle.ring_share.specs.declared.tiers.Tier.TheVariants.{Region, Zone};
+ghost use Rattle.ring_share.specs.Codes.{AreCodes};
 ghost use Rattle.ring_share.specs.Crowd.{device_of, row_of, rows_of};
 ghost use Rattle.ring_share.specs.Figures.{distance, greatest_balance, device_balance};
 ghost use Rattle.ring_share.specs.Figures.{ring_balance, has_crowded, ring_dispersion};
 
-use crate::apart::stand_apart;
+use crate::apart::{stand_apart, tier_codes};
 use crate::crowds::device_of;
 use crate::nearness::{Table, has_better_at, table_of};
 use crate::places::{place_in, places_of};
@@ -129,15 +130,24 @@ pub fn balance(ring: &Ring) -> u32
 
 /// Whether a partition with these seats has one for which an open device outside it is less crowded
 /// than the seat's own.
-fn has_crowded(devices: &[Device], regions: &[usize], table: &Table, row: &[DeviceId]) -> bool
+fn has_crowded(
+    devices: &[Device],
+    regions: &[usize],
+    in_region: &[u8; 256],
+    in_zone: &[u8; 256],
+    table: &Table,
+    row: &[DeviceId],
+) -> bool
     requires devices { AreDevices 65536 devices.now }
     requires regions { AreTier Region devices.now regions.now }
+    requires in_region { AreCodes Region devices.now in_region.now }
+    requires in_zone { AreCodes Zone devices.now in_zone.now }
     requires table { IsTable devices.now table.now }
     requires known { All (λ id. has_device id devices.now ≡ true) row.now }
     requires few { length row.now ≤ 5 }
     ensures { result ≡ has_crowded devices.now (map Some row.now) }
 {
-    if stand_apart(devices, regions, row) {
+    if stand_apart(devices, regions, in_region, in_zone, row) {
         return false;
     }
     let places = places_of(devices, row);
@@ -159,13 +169,21 @@ fn row_in(ring: &Ring, partition: usize) -> &[DeviceId]
 
 /// Whether the seats of each partition of an assigned ring stand apart, so that none has such a
 /// seat. `regions` has the place of a device in each region that has an open one.
-fn all_stand_apart(ring: &Ring, regions: &[usize]) -> bool
+fn all_stand_apart(
+    ring: &Ring,
+    regions: &[usize],
+    in_region: &[u8; 256],
+    in_zone: &[u8; 256],
+) -> bool
     requires assigned { is_assigned ring.now ≡ true }
     requires regions { AreTier Region ring.now.devices regions.now }
+    requires in_region { AreCodes Region ring.now.devices in_region.now }
+    requires in_zone { AreCodes Zone ring.now.devices in_zone.now }
     ensures { result ≡ true → count_by (has_crowded ring.now.devices) (rows_of ring.now) ≡ 0 }
 {
     for partition in 0..partition_count(ring.power()) {
-        if !stand_apart(ring.devices(), regions, row_in(ring, partition)) {
+        let row = row_in(ring, partition);
+        if !stand_apart(ring.devices(), regions, in_region, in_zone, row) {
             return false;
         }
     }
@@ -181,13 +199,16 @@ fn crowded_count(ring: &Ring) -> u32
     let devices = ring.devices();
     let (regions, count) = one_each(devices, Tier::Region);
     let regions = &regions[..count];
-    if all_stand_apart(ring, regions) {
+    let in_region = tier_codes(devices, Tier::Region);
+    let in_zone = tier_codes(devices, Tier::Zone);
+    if all_stand_apart(ring, regions, &in_region, &in_zone) {
         return 0;
     }
     let table = table_of(devices);
     let mut crowded = 0;
     for partition in 0..partition_count(ring.power()) {
-        if has_crowded(devices, regions, &table, row_in(ring, partition)) {
+        let row = row_in(ring, partition);
+        if has_crowded(devices, regions, &in_region, &in_zone, &table, row) {
             crowded += 1;
         }
     }

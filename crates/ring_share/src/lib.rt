@@ -17,7 +17,7 @@ mod rooms;
 mod tiers;
 mod wants;
 
-pub use apart::stand_apart;
+pub use apart::{stand_apart, tier_codes};
 pub use crowds::{crowd, in_region, in_zone, on_server, shared_tiers};
 pub use figures::{balance, balance_of, balance_with, counts_of, dispersion};
 pub use places::place_in;

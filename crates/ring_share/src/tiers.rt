@@ -20,7 +20,7 @@ pub enum Tier {
 }
 
 /// Whether two devices share a tier of a kind.
-fn shares(tier: Tier, one: &Device, other: &Device) -> bool
+pub(crate) fn shares(tier: Tier, one: &Device, other: &Device) -> bool
     ensures { result ≡ shares tier one.now other.now }
 {
     match tier {

@@ -12,6 +12,7 @@ use Rattle.std.proofs.lemmas.List.FromFn.{fill_by_all, get_or-map-range_with_len
 use Rattle.std.proofs.lemmas.List.FromFn.{length-map-range_with_len}
 use Rattle.std.proofs.lemmas.Option.{get_or_from_slice_get, same_Some, slice_get_within}
 use Rattle.ring_model.specs.Ring.{RingRecord, moved_at, partition_count, risen, seat}
+use Rattle.ring_model.specs.Reseat.{reseated}
 use Rattle.ring_model.specs.Valid.{IsValid}
 use Rattle.ring_words.specs.declared.device.Device.{Device}
 use Rattle.ring_share.specs.Crowd.{row_of, rows_of}
@@ -284,35 +285,22 @@ module _ (ring : RingRecord) (hour : ℕ) (rows : List (List (Option ℕ))) (mad
   pub made_valid : IsValid made
   made_valid = valid_after ring made hour valid made_on made_after
 
-pub is_made : (ring parts : RingRecord) (hour : ℕ) (old rows : List (List (Option ℕ))) (version : ℕ)
-    (all devices : List Device) (seats : List ℕ) (moved : List (Option ℕ)) → parts ≡ ring →
-    old ≡ rows_of ring
+pub is_made : (ring : RingRecord) (hour : ℕ) (old rows : List (List (Option ℕ)))
+    (all devices : List Device) (seats : List ℕ) (moved : List (Option ℕ)) → old ≡ rows_of ring
     → all ≡ ring.devices → devices ≡ remaining all → seats ≡ flat_map devices_on rows
     → moved ≡ map (λ partition. stamped hour (changed_in (row_at old partition)
     (row_at rows partition)) (slice_index_or ring.moved partition None))
     (range_with_len 0 (length old))
-    → version ≡ risen parts.version → IsMade ring hour rows (record parts {
-      version = version;
-      devices = devices;
-      seats = seats;
-      moved = moved;
-    })
-is_made ring parts hour old rows version all devices seats moved same are listed left taken written
-    up = record {
-      devices = left ∙ ap remaining listed;
-      seats = taken;
-      moved = written ∙ ap (λ (before : List (List (Option ℕ))). map (λ partition. stamped hour
-          (changed_in (row_at before partition) (row_at rows partition)) (slice_index_or ring.moved
-          partition None)) (range_with_len 0 (length before))) are;
-      version = up ∙ ap (λ (r : RingRecord). risen r.version) same;
-      rest = ap (λ (r : RingRecord). record r {
-        version = ring.version;
-        devices = ring.devices;
-        seats =
-            ring.seats;
-        moved = ring.moved;
-      }) same;
-    }
+    → IsMade ring hour rows (reseated ring devices seats moved)
+is_made ring hour old rows all devices seats moved are listed left taken written = record {
+  devices = left ∙ ap remaining listed;
+  seats = taken;
+  moved = written ∙ ap (λ (before : List (List (Option ℕ))). map (λ partition. stamped hour
+      (changed_in (row_at before partition) (row_at rows partition)) (slice_index_or ring.moved
+      partition None)) (range_with_len 0 (length before))) are;
+  version = refl;
+  rest = refl;
+}
 
 pub alike : (ring : RingRecord) (rows : List (List (Option ℕ))) → IsValid ring →
     AreWhole ring rows → AreAlike (rows_of ring) rows

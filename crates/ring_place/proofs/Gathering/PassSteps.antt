@@ -9,7 +9,7 @@ use Rattle.std.proofs.lemmas.List.Sums.{sum_by-set}
 use Rattle.ring_model.specs.Ring.{has_device, has_present}
 use Rattle.ring_words.specs.declared.device.Device.{Device}
 use Rattle.ring_share.specs.Crowd.{seats_on}
-use Rattle.ring_place.specs.Load.{Load, want_in}
+use Rattle.ring_place.specs.Load.{Load, is_free_in, want_in}
 use Rattle.ring_place.specs.Inner.SeatRows.{AreKnown, row_at}
 use Rattle.ring_place.specs.declared.gather.Pass.{Pass}
 use Rattle.ring_place.specs.declared.gather.Pass.TheVariants.{First, Second}
@@ -17,6 +17,7 @@ use Rattle.ring_place.specs.Inner.Gathering.{AreRows, Calm, Crowded, Falls, IsFi
 use Rattle.ring_place.specs.Inner.Gathering.{IsLifting, IsPass, IsSecond, LostFirst, Same, Surplus}
 use Rattle.ring_place.specs.Inner.Gathering.{Takes, is_among, present_only}
 use Rattle.ring_place.proofs.Rows.LiftedSeats.{known_lifted}
+use Rattle.ring_place.proofs.Searching.LessCrowded.{none_free}
 
 -- the devices' seats change as a partition's do
 pub filled_step : (before after : Load) (devices : List Device) (wanted : List ℕ)
@@ -86,6 +87,19 @@ pass_start pass was kept locked old filled = record {
   as_many = refl;
   rest = λ p none. refl;
   lifted = λ p some. absurd (cc some);
+  filled = filled;
+}
+
+-- where no device is free there is nothing for the second pass
+pub no_second : (done : List ℕ) (was kept : Load) (locked : List Bool)
+    (rows : List (List (Option ℕ))) → IsFilled kept was.devices was.wanted rows
+    → ((row : List (Option ℕ)) (id : ℕ) → is_free_in was row id ≡ false)
+    → IsPass Second done was kept locked rows rows
+no_second done was kept locked rows filled none = record {
+  as_many = refl;
+  rest = λ p out. refl;
+  lifted = λ p some. Same refl (λ full unlocked free.
+      absurd (let no = none_free was (row_at rows p) (none (row_at rows p)) in cc (no, free)));
   filled = filled;
 }
 

@@ -1,5 +1,5 @@
 -- The best device of the first steps.
-use Rattle.std.proofs.Common.{◌≡◌, ℕ, ◌+◌, ◌<◌, true, false, List, length, Option, Some, None, ap}
+use Rattle.std.proofs.Common.{◌≡◌, ℕ, ◌+◌, ◌<◌, ◌≤◌, true, false, List, length, Option, Some, None, ap}
 use Rattle.std.proofs.Common.{subst, sym, ◌∙◌, arith, below_more}
 use Rattle.std.specs.Prelude.{slice_index}
 use Rattle.std.proofs.lemmas.Bool.Decides.{nat_tests}
@@ -13,6 +13,10 @@ less_trans a b c h k = grind (arith, nat_tests)
 pub not_less_trans : (a b c : ℕ × ℕ × ℕ) → is_less a b ≡ false → is_less b c ≡ false →
     is_less a c ≡ false
 not_less_trans a b c h k = grind (arith, nat_tests)
+
+-- with no fewer in its region it isn't less crowded than a floor by regions
+pub not_less_by_region : (a : ℕ × ℕ × ℕ) (least : ℕ) → least ≤ a.0 → is_less a (least, 0, 0) ≡ false
+not_less_by_region a least le = grind (arith, nat_tests)
 
 pub not_less_self : (a : ℕ × ℕ × ℕ) → is_less a a ≡ false
 not_less_self a = grind (arith, nat_tests)

@@ -58,12 +58,13 @@ pub room_alike : (d e : List Device) (w v n m : List ℕ) (place : ℕ) → d �
     (record { devices = e; wanted = v; counts = m }) (id_at e place)
 room_alike d e w v n m place devices wanted counts = rw (devices, wanted, counts) refl
 
-pub room_kept : (load : Load) (roomy : List ℕ) (listed : ℕ) (regions zones servers : List ℕ) →
-    IsRoom load roomy listed regions zones servers → (changed count : ℕ)
+pub room_kept : (load : Load) (roomy : List ℕ) (listed : ℕ)
+    (regions zones servers in_region in_zone : List ℕ) →
+    IsRoom load roomy listed regions zones servers in_region in_zone → (changed count : ℕ)
     → has_room_in (with_count_at load changed count) (id_at load.devices changed) ≡ has_room_in load
     (id_at load.devices changed)
-    → IsRoom (with_count_at load changed count) roomy listed regions zones servers
-room_kept load roomy listed regions zones servers is changed count same =
+    → IsRoom (with_count_at load changed count) roomy listed regions zones servers in_region in_zone
+room_kept load roomy listed regions zones servers in_region in_zone is changed count same =
     let before = is.counted in
     record {
       counted = record {
@@ -85,6 +86,8 @@ room_kept load roomy listed regions zones servers is changed count same =
       regions_have = is.regions_have;
       zones_have = is.zones_have;
       servers_have = is.servers_have;
+      regions_told = is.regions_told;
+      zones_told = is.zones_told;
     }
 
 -- the first of some places are places of devices

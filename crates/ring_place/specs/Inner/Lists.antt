@@ -3,6 +3,7 @@ use Rattle.std.specs.Prelude.{◌≡◌, ℕ, ◌<◌, ◌≤◌, true, false, A
 use Rattle.std.specs.Prelude.{slice_index}
 use Rattle.ring_share.specs.Crowd.{is_less}
 use Rattle.ring_share.specs.Room.{has_open}
+use Rattle.ring_share.specs.Codes.{AreCodes}
 use Rattle.ring_share.specs.Tiers.{AreTier}
 use Rattle.ring_share.specs.declared.tiers.Tier.{Tier}
 use Rattle.ring_share.specs.declared.tiers.Tier.TheVariants.{Region, Zone, Server}
@@ -29,9 +30,10 @@ pub record AreRoomy (load : Load) (places : List ℕ) : Type 0 where
       (slice_index places index ≡ place)
 
 -- The devices that have room, and no others, stand at the first places of a list as long as that of
--- the devices. Each region, zone and server that has an open device has one in a list.
-pub record IsRoom (load : Load) (roomy : List ℕ) (count : ℕ) (regions zones servers : List ℕ) : Type
-    0 where
+-- the devices. Each region, zone and server that has an open device has one in a list. Numbers tell
+-- in which region and in which zone each device is.
+pub record IsRoom (load : Load) (roomy : List ℕ) (count : ℕ)
+    (regions zones servers in_region in_zone : List ℕ) : Type 0 where
   pub counted : IsLoad load
   pub long : length roomy ≡ length load.devices
   pub few : count ≤ length roomy
@@ -39,3 +41,5 @@ pub record IsRoom (load : Load) (roomy : List ℕ) (count : ℕ) (regions zones 
   pub regions_have : AreTier Region load.devices regions
   pub zones_have : AreTier Zone load.devices zones
   pub servers_have : AreTier Server load.devices servers
+  pub regions_told : AreCodes Region load.devices in_region
+  pub zones_told : AreCodes Zone load.devices in_zone

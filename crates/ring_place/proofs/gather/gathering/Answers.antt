@@ -10,7 +10,7 @@ use Rattle.ring_place.specs.declared.gather.Pass.TheVariants.{First, Second}
 use Rattle.ring_place.specs.Inner.Gathering.{AreRows, IsFilled, IsPass}
 use Rattle.ring_place.proofs.Gathering.GatheredRing.{is_gathered}
 use Rattle.ring_place.proofs.Rows.PartitionOrders.{order_all}
-use Rattle.ring_place.proofs.Gathering.PassSteps.{first_rows}
+use Rattle.ring_place.proofs.Gathering.PassSteps.{first_rows, no_second}
 use Rattle.ring_place.proofs.Rows.RingSeats.{length-rows_of, ring_filled, ring_rows}
 use Rattle.ring_place.proofs.gather.gathering.Goals as goal
 
@@ -97,6 +97,24 @@ gather-requires-2-clause-rows c =
       count,
     )))
     (subst (λ r. AreRows ring.devices r) (sym rows) (ring_rows ring c.of-2.ensures.valid)))
+
+pub returns-then-not-has_some_room : goal.returns-then-not-has_some_room
+returns-then-not-has_some_room c =
+    let ring = c.args.ring.now in
+    let was = c.in_ok-was.was' in
+    let locks : c.as_slice-2.result.now ≡ map (is_recent ring.min_hours c.args.hour) ring.moved =
+    c.as_slice-2.ensures.value ∙ c.in_ok-locked.ensures in
+    let wants : was.wanted ≡ c.in_ok-wanted.wanted.items =
+    c.in_ok-was.ensures.wants ∙ c.as_slice.ensures.value in
+    is_gathered ring c.args.hour was c.gather.new.kept c.gather.new.kept
+    c.in_ok-wanted.wanted.items c.as_slice-2.result.now c.args.order.now c.gather.new.seats
+    c.gather.new.seats
+    c.of-2.ensures.valid c.in_ok-wanted.ensures c.in_ok-was.ensures.devices wants
+    c.in_ok-was.ensures.counts locks c.requires
+    (subst (λ r. IsPass First c.args.order.now was c.gather.new.kept c.as_slice-2.result.now r
+    c.gather.new.seats) c.in_ok-seats.ensures.rows c.gather.ensures)
+    (no_second c.args.order.now was c.gather.new.kept c.as_slice-2.result.now c.gather.new.seats
+    c.gather.ensures.filled (c.has_some_room.ensures c.if-not-has_some_room.true))
 
 pub returns : goal.returns
 returns c =

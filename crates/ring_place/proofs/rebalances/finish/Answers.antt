@@ -1,6 +1,6 @@
-use Rattle.std.proofs.Common.{ℕ, Err, List, Option, length, sum_by, sym, ap, subst, ◌∙◌, arith}
+use Rattle.std.proofs.Common.{ℕ, List, Option, length, sum_by, sym, ap, subst, ◌∙◌, arith}
 use Rattle.std.specs.List.{range_with_len}
-use Rattle.ring_model.specs.Parts.{record_of}
+use Rattle.ring_model.specs.Valid.{IsValid}
 use Rattle.ring_share.specs.Crowd.{rows_of}
 use Rattle.ring_place.specs.Inner.Finishing.{AreAlike, changed_in}
 use Rattle.ring_place.specs.Rebalance.{IsAfter, changed_seats}
@@ -19,48 +19,51 @@ pub moves-requires-clause-alike : goal.moves-requires-clause-alike
 moves-requires-clause-alike c = subst (λ rows. AreAlike rows c.args.new.now) (sym c.requires.old)
     (alike c.args.ring.now c.args.new.now c.requires.valid c.requires.new)
 
-pub prove-unreachable-requires : goal.prove-unreachable-requires
-prove-unreachable-requires c =
-    let made = is_made c.args.ring.now (record_of c.in_ok-parts.parts) c.args.hour c.args.old.now
-    c.args.new.now c.risen.result c.devices.result.now c.in_ok-parts-2.field-0.items
-    c.in_ok-parts-3.field-0.items c.in_ok-moved.moved.items
-    c.in_ok-parts.ensures.parts c.requires.old c.devices.ensures.value c.in_ok-parts-2.ensures
-    c.in_ok-parts-3.ensures c.in_ok-moved.ensures.moved c.risen.ensures in
-    c.in-Err-Invalid.ensures.invalid.0 (ap Err c.in-Err-Invalid.field-0-is)
-    (made_valid c.args.ring.now c.args.hour c.args.new.now _ c.requires.valid c.requires.new
-    made)
+pub reseated-requires : goal.reseated-requires
+reseated-requires c =
+    let made = is_made c.args.ring.now c.args.hour c.args.old.now c.args.new.now
+    c.devices.result.now c.in_ok-devices.devices.items c.in_ok-seats.seats.items
+    c.in_ok-moved.moved.items c.requires.old c.devices.ensures.value c.in_ok-devices.ensures
+    c.in_ok-seats.ensures c.in_ok-moved.ensures.moved in
+    made_valid c.args.ring.now c.args.hour c.args.new.now _ c.requires.valid c.requires.new made
 
-pub returns-in-Ok-clause-rows : goal.returns-in-Ok-clause-rows
-returns-in-Ok-clause-rows c =
-    let made = is_made c.args.ring.now (record_of c.in_ok-parts.parts) c.args.hour c.args.old.now
-    c.args.new.now c.risen.result c.devices.result.now c.in_ok-parts-2.field-0.items
-    c.in_ok-parts-3.field-0.items c.in_ok-moved.moved.items
-    c.in_ok-parts.ensures.parts c.requires.old c.devices.ensures.value c.in_ok-parts-2.ensures
-    c.in_ok-parts-3.ensures c.in_ok-moved.ensures.moved c.risen.ensures in
-    ap rows_of c.in-Ok.ensures.built ∙ rows_same c.args.ring.now c.args.hour c.args.new.now _
+pub returns-clause-rows : goal.returns-clause-rows
+returns-clause-rows c =
+    let made = is_made c.args.ring.now c.args.hour c.args.old.now c.args.new.now
+    c.devices.result.now c.in_ok-devices.devices.items c.in_ok-seats.seats.items
+    c.in_ok-moved.moved.items c.requires.old c.devices.ensures.value c.in_ok-devices.ensures
+    c.in_ok-seats.ensures c.in_ok-moved.ensures.moved in
+    ap rows_of c.in_ok-ring.ensures ∙ rows_same c.args.ring.now c.args.hour c.args.new.now _
     c.requires.valid c.requires.new made
 
-pub returns-in-Ok-clause-after : goal.returns-in-Ok-clause-after
-returns-in-Ok-clause-after c =
-    let made = is_made c.args.ring.now (record_of c.in_ok-parts.parts) c.args.hour c.args.old.now
-    c.args.new.now c.risen.result c.devices.result.now c.in_ok-parts-2.field-0.items
-    c.in_ok-parts-3.field-0.items c.in_ok-moved.moved.items
-    c.in_ok-parts.ensures.parts c.requires.old c.devices.ensures.value c.in_ok-parts-2.ensures
-    c.in_ok-parts-3.ensures c.in_ok-moved.ensures.moved c.risen.ensures in
-    subst (λ r. IsAfter c.args.ring.now c.args.hour r) (sym c.in-Ok.ensures.built)
+pub returns-clause-after : goal.returns-clause-after
+returns-clause-after c =
+    let made = is_made c.args.ring.now c.args.hour c.args.old.now c.args.new.now
+    c.devices.result.now c.in_ok-devices.devices.items c.in_ok-seats.seats.items
+    c.in_ok-moved.moved.items c.requires.old c.devices.ensures.value c.in_ok-devices.ensures
+    c.in_ok-seats.ensures c.in_ok-moved.ensures.moved in
+    subst (λ r. IsAfter c.args.ring.now c.args.hour r) (sym c.in_ok-ring.ensures)
     (made_after c.args.ring.now c.args.hour c.args.new.now _ c.requires.valid c.requires.new
     made)
 
-pub returns-in-Ok-clause-changed : goal.returns-in-Ok-clause-changed
-returns-in-Ok-clause-changed c =
-    let made = is_made c.args.ring.now (record_of c.in_ok-parts.parts) c.args.hour c.args.old.now
-    c.args.new.now c.risen.result c.devices.result.now c.in_ok-parts-2.field-0.items
-    c.in_ok-parts-3.field-0.items c.in_ok-moved.moved.items
-    c.in_ok-parts.ensures.parts c.requires.old c.devices.ensures.value c.in_ok-parts-2.ensures
-    c.in_ok-parts-3.ensures c.in_ok-moved.ensures.moved c.risen.ensures in
+pub returns-clause-valid : goal.returns-clause-valid
+returns-clause-valid c =
+    let made = is_made c.args.ring.now c.args.hour c.args.old.now c.args.new.now
+    c.devices.result.now c.in_ok-devices.devices.items c.in_ok-seats.seats.items
+    c.in_ok-moved.moved.items c.requires.old c.devices.ensures.value c.in_ok-devices.ensures
+    c.in_ok-seats.ensures c.in_ok-moved.ensures.moved in
+    subst IsValid (sym c.in_ok-ring.ensures)
+    (made_valid c.args.ring.now c.args.hour c.args.new.now _ c.requires.valid c.requires.new made)
+
+pub returns-clause-changed : goal.returns-clause-changed
+returns-clause-changed c =
+    let made = is_made c.args.ring.now c.args.hour c.args.old.now c.args.new.now
+    c.devices.result.now c.in_ok-devices.devices.items c.in_ok-seats.seats.items
+    c.in_ok-moved.moved.items c.requires.old c.devices.ensures.value c.in_ok-devices.ensures
+    c.in_ok-seats.ensures c.in_ok-moved.ensures.moved in
     c.in_ok-moved.ensures.changed
     ∙ ap (λ (before : List (List (Option ℕ))). sum_by (λ partition. changed_in
     (row_at before partition) (row_at c.args.new.now partition))
     (range_with_len 0 (length before))) c.requires.old
     ∙ made_changed c.args.ring.now c.args.hour c.args.new.now _ c.requires.valid c.requires.new made
-    ∙ ap (changed_seats c.args.ring.now) (sym c.in-Ok.ensures.built)
+    ∙ ap (changed_seats c.args.ring.now) (sym c.in_ok-ring.ensures)

@@ -12,8 +12,8 @@ loop-partition-preserved c =
     let count : c.partition_count-partition-end.result ≡ partition_count c.args.ring.now =
     c.partition_count-partition-end.ensures.value ∙ ap (λ (n : ℕ). 2 ^ n) c.power.ensures.value in
     let none : has_crowded c.args.ring.now.devices (row_of c.args.ring.now p) ≡ false =
-    ap (has_crowded c.args.ring.now.devices) (sym c.row_in.ensures.row)
-    ∙ ap (λ (devices : List Device). has_crowded devices (map Some c.row_in.result.now))
+    ap (has_crowded c.args.ring.now.devices) (sym c.row_in-row.ensures.row)
+    ∙ ap (λ (devices : List Device). has_crowded devices (map Some c.row_in-row.result.now))
     (sym c.devices.ensures.value)
     ∙ c.stand_apart.ensures c.if-not-stand_apart.false in
     rows_more_no (has_crowded c.args.ring.now.devices) c.args.ring.now p (omega (arith, count)) none

@@ -18,9 +18,9 @@ loop-partition-preserved c =
     c.partition_count-partition-end.ensures.value ∙ ap (λ (n : ℕ). 2 ^ n) c.power.ensures.value in
     let is : c.has_crowded.result ≡ has_crowded c.args.ring.now.devices (row_of c.args.ring.now p) =
     c.has_crowded.ensures
-    ∙ ap (λ (devices : List Device). has_crowded devices (map Some c.row_in.result.now))
+    ∙ ap (λ (devices : List Device). has_crowded devices (map Some c.row_in-row.result.now))
     c.devices-devices.ensures.value
-    ∙ ap (has_crowded c.args.ring.now.devices) c.row_in.ensures.row in
+    ∙ ap (has_crowded c.args.ring.now.devices) c.row_in-row.ensures.row in
     elim c.if-has_crowded.branch [
       | then-has_crowded w ↦
           let more = rows_more_yes (has_crowded c.args.ring.now.devices) c.args.ring.now p

@@ -17,7 +17,7 @@ invariant_of-self-else-has_room_at-had_room c =
     let before = ap (λ (l : Load). has_room_in l (id_at l.devices c.args.place))
     (sym c.self.view_is) in
     room_kept load inside.roomy.items inside.count inside.regions.items inside.zones.items
-    inside.servers.items c.self.invariant c.args.place c.args.count
+    inside.servers.items inside.in_region inside.in_zone c.self.invariant c.args.place c.args.count
     (sym (room_alike c.deref.result.now inside.devices.items c.deref-2.result.now
     inside.wanted.items c.deref-3.result.now (set inside.counts.items c.args.place c.args.count)
     c.args.place
