@@ -21,7 +21,6 @@ fn titles(alloc: Global) -> Result<String, AllocError>
 
 /// Adds a device that has so many seats as a row.
 fn push_balance(
-    alloc: Global,
     into: &mut String,
     ring: &Ring,
     device: &Device,
@@ -33,10 +32,10 @@ fn push_balance(
         row balance_columns (balance_texts ring.now device.now want)) }
 {
     push_number(into, 5, u32::from(device.id), " ")?;
-    push_hundredths(alloc, into, 10, device.row.weight.hundredths(), " ")?;
+    push_hundredths(into, 10, device.row.weight.hundredths(), " ")?;
     push_number(into, 6, want, " ")?;
     push_number(into, 6, seats, " ")?;
-    push_hundredths(alloc, into, 7, balance_with(ring, device, seats), "\n")
+    push_hundredths(into, 7, balance_with(ring, device, seats), "\n")
 }
 
 /// The figures of the whole ring as the last line.
@@ -62,7 +61,7 @@ pub fn balance_table(alloc: Global, ring: &Ring) -> Result<String, AllocError>
     let counts = counts_of(ring);
     let mut table = titles(alloc)?;
     for (place, device) in ring.devices().iter().enumerate() {
-        push_balance(alloc, &mut table, ring, device, wants[place], counts[place])?;
+        push_balance(&mut table, ring, device, wants[place], counts[place])?;
     }
     let last = figures_line(alloc, ring)?;
     table.push_str(last.as_str())?;

@@ -1,12 +1,13 @@
 //! The table of devices.
 ghost use Rattle.std.specs.Prelude.{◌≡◌, ◌++◌, ◌∷◌, [], ℕ, IfOk, OnOk, string_bytes};
-ghost use Rattle.ring_tables.specs.Layout.{cells, row};
+ghost use Rattle.ring_words.specs.Texts.{address_text};
+ghost use Rattle.ring_tables.specs.Layout.{at_left, cells, row};
 ghost use Rattle.ring_tables.specs.Tables.{state_text, place_columns, place_texts, device_columns};
 ghost use Rattle.ring_tables.specs.Tables.{device_titles, device_texts, device_table};
 
-use crate::cells::{push_hundredths, push_left, push_number};
+use crate::cells::{push_decimal, push_hundredths, push_left, push_number, push_spaces};
 use ring_model::Ring;
-use ring_words::Device;
+use ring_words::{Address, Device};
 use std::alloc::{AllocError, Global};
 
 /// Whether seats may go to a device, in a word.
@@ -32,27 +33,50 @@ fn titles(alloc: Global) -> Result<String, AllocError>
     )
 }
 
+/// Adds an address, its four octets joined by points.
+fn push_address(into: &mut String, address: Address) -> Result<(), AllocError>
+    ensures { OnOk result (string_bytes into.new ≡ string_bytes into.old ++ address_text address) }
+{
+    let bits = address.bits();
+    push_decimal(into, bits / 16777216, ".")?;
+    push_decimal(into, bits / 65536 % 256, ".")?;
+    push_decimal(into, bits / 256 % 256, ".")?;
+    push_decimal(into, bits % 256, "")
+}
+
+/// Adds an address at the left of its column, and a space.
+fn push_address_cell(into: &mut String, address: Address) -> Result<(), AllocError>
+    ensures { OnOk result (string_bytes into.new ≡ string_bytes into.old ++
+        (at_left 15 (address_text address) ++ 32 ∷ [])) }
+{
+    let before = into.len();
+    push_address(into, address)?;
+    let length = into.len() - before;
+    push_spaces(into, 15usize.saturating_sub(length))?;
+    into.push_str(" ")?;
+    Ok(())
+}
+
 /// Adds where a device stands, as cells, and a space.
-fn push_place(alloc: Global, into: &mut String, device: &Device) -> Result<(), AllocError>
+fn push_place(into: &mut String, device: &Device) -> Result<(), AllocError>
     ensures { OnOk result (string_bytes into.new ≡ string_bytes into.old ++
         (cells place_columns (place_texts device.now) ++ 32 ∷ [])) }
 {
     let row = &device.row;
-    let address = row.address.to_string(alloc)?;
     push_number(into, 6, u32::from(row.region), " ")?;
     push_number(into, 5, u32::from(row.zone), " ")?;
-    push_left(into, 15, address.as_str(), " ")?;
+    push_address_cell(into, row.address)?;
     push_number(into, 5, u32::from(row.port.get()), " ")
 }
 
 /// Adds a device as a row.
-fn push_device(alloc: Global, into: &mut String, device: &Device) -> Result<(), AllocError>
+fn push_device(into: &mut String, device: &Device) -> Result<(), AllocError>
     ensures { OnOk result (string_bytes into.new ≡ string_bytes into.old ++
         row device_columns (device_texts device.now)) }
 {
     push_number(into, 5, u32::from(device.id), " ")?;
-    push_place(alloc, into, device)?;
-    push_hundredths(alloc, into, 10, device.row.weight.hundredths(), " ")?;
+    push_place(into, device)?;
+    push_hundredths(into, 10, device.row.weight.hundredths(), " ")?;
     push_left(into, 7, state_text(device), " ")?;
     into.push_str(device.row.name.as_str())?;
     into.push_str("\n")?;
@@ -68,7 +92,7 @@ pub fn device_table(alloc: Global, ring: &Ring) -> Result<String, AllocError>
     let devices = ring.devices();
     let mut table = titles(alloc)?;
     for device in devices {
-        push_device(alloc, &mut table, device)?;
+        push_device(&mut table, device)?;
     }
     Ok(table)
 }

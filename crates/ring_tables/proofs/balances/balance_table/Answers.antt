@@ -1,16 +1,13 @@
-use Rattle.std.proofs.Common.{rules, refl, take, ◌∙◌, ◌≡◌, ◌++◌, List, ℕ, ◌<◌, Some, length, ap, sym}
-use Rattle.std.proofs.Common.{subst, map, string_bytes, arith}
+use Rattle.std.proofs.Common.{rules, refl, take, ◌∙◌, ◌≡◌, ◌++◌, List, ℕ, ◌<◌, length, ap, sym}
+use Rattle.std.proofs.Common.{map, string_bytes, arith}
 use Rattle.std.specs.List.{zip}
 use Rattle.std.specs.Prelude.{slice_get}
-use Rattle.std.specs.List.Sorted.{IsStrictlyIncreasing}
 use Rattle.ring_words.specs.declared.device.Device.{Device}
 use Rattle.ring_share.specs.Want.{AreWanted}
-use Rattle.ring_share.specs.Crowd.{device_of}
 use Rattle.ring_share.proofs.Standing.{read_at}
 use Rattle.std.proofs.lemmas.List.{take_all}
 use Rattle.std.proofs.lemmas.Slice.Zip.{length-zip}
 use Rattle.ring_share.proofs.Determined.{same_wants}
-use Rattle.ring_share.proofs.Bridge.{device_of_at}
 use Rattle.ring_tables.specs.Layout.{row, table}
 use Rattle.ring_tables.specs.Tables.{balance_columns, balance_titles, balance_texts, figures_line}
 use Rattle.ring_tables.proofs.RowByRow.{next_row, pair_at, pair_below}

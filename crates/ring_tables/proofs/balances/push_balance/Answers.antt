@@ -1,7 +1,6 @@
 use Rattle.std.proofs.Common.{rules, ◌≡◌, ◌++◌, ◌∷◌, ◌∙◌, [], OnOk, ap, string_bytes, decimal, ℕ}
 use Rattle.std.proofs.lemmas.Result.{on_ok_weaker}
 use Rattle.ring_words.specs.Texts.{hundredths_text}
-use Rattle.ring_share.specs.Room.{have}
 use Rattle.ring_share.specs.Figures.{device_balance}
 use Rattle.ring_tables.specs.Layout.{at_right}
 use Rattle.ring_tables.proofs.RowByRow.{five}

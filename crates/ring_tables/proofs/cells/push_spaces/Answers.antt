@@ -10,8 +10,8 @@ loop-space-init c = sym (append-nil (string_bytes c.args.into.now))
 
 pub loop-space-preserved : goal.loop-space-preserved
 loop-space-preserved c =
-    let pushed : string_bytes c.push_str.new.self ≡ string_bytes c.loop-space.into ++ 32 ∷ [] =
-    search rules in
+    let pushed : string_bytes c.push_str-in-loop-space.new.self
+    ≡ string_bytes c.loop-space.into ++ 32 ∷ [] = search rules in
     let before = string_bytes c.args.into.now in
     let so_far = replicate c.loop-space._space 32 in
     pushed ∙ ap (λ (l : List ℕ). l ++ 32 ∷ []) c.loop-space.invariant ∙
