@@ -1,16 +1,27 @@
 -- What stands for a content once it gained a request.
-use Rattle.std.proofs.Common.{◌≡◌, ◌∙◌, ◌≤◌, List, None, ap, length, sym, ℕ}
+use Rattle.std.proofs.Common.{◌≡◌, ◌∙◌, ◌≤◌, ◌∷◌, [], Bool, List, None, ap, false, length, pos}
+use Rattle.std.proofs.Common.{refl}
+use Rattle.std.proofs.Common.{sym, true, ℕ}
+use Rattle.std.specs.FinMap.{from_entries}
+use Rattle.std.specs.Ordering.{int_cmp}
 use Rattle.request_book.specs.Content.{entry_of}
 use Rattle.sqlite_trees.specs.Tree.{Trees}
 use Rattle.store_tables.specs.declared.changes.RowChange.{RowChange}
+use Rattle.store_tables.specs.declared.changes.RowChange.TheVariants.{DropDevice, PutRing}
+use Rattle.store_tables.specs.declared.changes.RowChange.TheVariants.{AddDevice, PutPart}
+use Rattle.store_tables.specs.declared.changes.RowChange.TheVariants.{PutPublished}
 use Rattle.store_tables.specs.declared.rows.MetaRow.{MetaRow}
 use Rattle.store_tables.specs.declared.rows.RequestRow.{RequestRow}
-use Rattle.store_tables.specs.Changes.{changed_all, with_decided}
-use Rattle.store_tables.specs.Contents.{contents_of}
+use Rattle.store_tables.specs.Changes.{changed_all, with_decided, with_kept}
+use Rattle.store_tables.specs.Contents.{Contents, contents_of, device_key, device_of, part_of}
+use Rattle.store_tables.specs.Contents.{published_of, ring_of, with_device, with_part}
+use Rattle.store_tables.specs.Contents.{with_published}
+use Rattle.store_tables.specs.Contents.{with_ring, without_device}
 use Rattle.store_rows.specs.Differences.{with_state}
 use Rattle.store_rows.specs.RingRows.{NamedRings}
 use Rattle.store_rows.specs.Stands.{DecidedRequest, IsHoldable, RingContent, contents_for, gained}
-use Rattle.builder_store.specs.Inner.Gains.{GainsIn}
+use Rattle.store_rows.specs.Stands.{meta_value}
+use Rattle.builder_store.specs.Inner.Gains.{GainsIn, written}
 use Rattle.builder_store.specs.Standing.{Stands, StandsAlone}
 
 -- that no store stands for two contents
@@ -27,23 +38,58 @@ alone_from one db content is = (
       (sym also.contents ∙ is.contents),
 )
 
+-- no change of rows touches the row on the whole store
+meta_stays : (changes : List RowChange) (c : Contents) → (changed_all c changes).meta ≡ c.meta
+meta_stays [] c = refl
+meta_stays (DropDevice key ∷ changes) c = meta_stays changes (without_device c (device_key key))
+meta_stays (PutRing row ∷ changes) c = meta_stays changes (with_ring c (ring_of row).0
+    (ring_of row).1)
+meta_stays (AddDevice row ∷ changes) c = meta_stays changes (with_device c (device_of row).0
+    (device_of row).1)
+meta_stays (PutPart row ∷ changes) c = meta_stays changes (with_part c (part_of row).0
+    (part_of row).1)
+meta_stays (PutPublished row ∷ changes) c = meta_stays changes (with_published c
+    (published_of row).0 (published_of row).1)
+
+-- so what is made with that row is made without it where that row is there already
+made_without : (x made : Contents) (request : RequestRow) (meta : MetaRow)
+    → with_decided x request meta ≡ made → x.meta ≡ made.meta → with_kept x request ≡ made
+made_without x made request meta is same = ap (λ (c : Contents). record c { meta = x.meta }) is
+    ∙ ap (λ m. record made { meta = m }) same
+
+-- as it is where the hour is the same
+written_is : (b : Bool) (content : RingContent) (state : NamedRings) (entry : DecidedRequest)
+    (changes : List RowChange) (request : RequestRow) (meta : MetaRow)
+    → (b ≡ true → content.hour ≡ entry.hour)
+    → with_decided (changed_all (contents_for content) changes) request meta ≡ contents_for
+    (gained (with_state content state) entry)
+    → written b (contents_for content) changes request meta ≡ contents_for
+    (gained (with_state content state) entry)
+written_is true content state entry changes request meta same is = made_without
+    (changed_all (contents_for content) changes) (contents_for (gained (with_state content state)
+    entry)) request meta is
+    (meta_stays changes (contents_for content) ∙ ap (λ h. from_entries {R = int_cmp}
+    ((pos 1, meta_value 2 h) ∷ [])) (same refl))
+written_is false content state entry changes request meta same is = is
+
 -- the trees of the transaction stand for what was planned
 pub gained_alone : OneContent → (old db : Trees) (content more : RingContent)
-    (changes : List RowChange) (request : RequestRow) (meta : MetaRow) → Stands old content
-    → with_decided (changed_all (contents_for content) changes) request meta ≡ contents_for more
+    (b : Bool) (changes : List RowChange) (request : RequestRow) (meta : MetaRow)
+    → Stands old content
+    → written b (contents_for content) changes request meta ≡ contents_for more
     → IsHoldable more
-    → contents_of db ≡ with_decided (changed_all (contents_of old) changes) request meta
+    → contents_of db ≡ written b (contents_of old) changes request meta
     → StandsAlone db more
-gained_alone one old db content more changes request meta was planned holdable is =
+gained_alone one old db content more b changes request meta was planned holdable is =
     alone_from one db more (record {
       holdable = holdable;
-      contents = is ∙ ap (λ x. with_decided
-          (changed_all x changes) request meta) was.contents ∙ planned;
+      contents = is ∙ ap (λ x. written b x changes request meta) was.contents ∙ planned;
     })
 
 -- so a commit gains the request
-pub gains_in : OneContent → (old : Trees) (rings state : NamedRings) (count limit : ℕ)
-    (entry : DecidedRequest) (changes shown : List RowChange) (request : RequestRow)
+pub gains_in : OneContent → (old : Trees) (rings state : NamedRings) (count limit hour : ℕ)
+    (entry : DecidedRequest) (b : Bool) → (b ≡ true → entry.hour ≡ hour)
+    → (changes shown : List RowChange) (request : RequestRow)
     (meta : MetaRow) → shown ≡ changes
     → ((content : RingContent) → IsHoldable content → content.state ≡ rings
     → length content.book ≡ count → entry_of entry.key content.book ≡ None
@@ -51,11 +97,12 @@ pub gains_in : OneContent → (old : Trees) (rings state : NamedRings) (count li
     → (with_decided (changed_all (contents_for content) changes) request meta ≡ contents_for
     (gained (with_state content state) entry)) × IsHoldable (gained
     (with_state content state) entry))
-    → (db : Trees) → contents_of db ≡ with_decided (changed_all
-    (contents_of old) shown) request meta → GainsIn old rings count limit entry state db
-gains_in one old rings state count limit entry changes shown request meta same planned db is content
-    stands may =
+    → (db : Trees) → contents_of db ≡ written b (contents_of old) shown request meta
+    → GainsIn old rings count limit hour entry state db
+gains_in one old rings state count limit hour entry b at changes shown request meta same planned db
+    is content stands may =
     let made = planned content stands.holdable may.held may.counted may.unknown may.later in
-    gained_alone one old db content (gained (with_state content state) entry) changes request meta
-    stands made.0 made.1
-    (is ∙ ap (λ x. with_decided (changed_all (contents_of old) x) request meta) same)
+    gained_alone one old db content (gained (with_state content state) entry) b changes request meta
+    stands (written_is b content state entry changes request meta (λ t. may.reached ∙ sym (at t))
+    made.0) made.1
+    (is ∙ ap (λ x. written b (contents_of old) x request meta) same)

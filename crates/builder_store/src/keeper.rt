@@ -321,6 +321,7 @@ impl<S: Alter> Keeper<RingMachine> for SqlKeeper<S> {
             &state,
             self.count,
             self.limit,
+            self.hour,
             &entry,
         ) {
             Ok(()) => {

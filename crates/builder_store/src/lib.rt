@@ -18,6 +18,3 @@ pub use adopting::Left;
 pub use fault::{FileFault, MakeFault, OpenFault};
 pub use keeper::SqlKeeper;
 pub use over::{make_at, open_from, open_memory};
-
-#[cfg(test)]
-mod tests;

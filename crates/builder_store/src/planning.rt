@@ -4,22 +4,23 @@ ghost use Rattle.sqlite.specs.Held.{state};
 ghost use Rattle.sqlite.specs.State.{HasCleanDisk, Survives};
 ghost use Rattle.request_book.specs.declared.keeper.KeepFault.TheVariants.{NoMemory, Store};
 ghost use Rattle.store_tables.specs.Contents.{contents_of};
-ghost use Rattle.builder_store.specs.Inner.Gains.{GainsIn};
+ghost use Rattle.builder_store.specs.Inner.Gains.{GainsIn, written};
 ghost use Rattle.builder_store.specs.Inner.Tables.{HasTables};
 ghost use Rattle.request_book.specs.Content.{entry_of};
 ghost use Rattle.store_tables.specs.Changes.{changed_all, with_decided};
+ghost use Rattle.store_tables.specs.Store.{CommitsTables, SeesStore};
 ghost use Rattle.store_rows.specs.Differences.{Grows, with_state};
 ghost use Rattle.store_rows.specs.Stands.{IsHoldable, RingContent, contents_for, gained};
 
 use crate::calls::{cause, settle};
 use request_book::{Entry, KeepFault};
 use ring_model::Rings;
-use ring_words::{Command, Reply};
-use sqlite::{Alter, Connection};
+use ring_words::{Command, Hour, Reply};
+use sqlite::{Alter, Connection, Error};
 use std::alloc::{AllocError, Global};
 use store_rows::laws::one_content;
 use store_rows::{Change, DecidedRows, decided_rows, grows};
-use store_tables::{RowChange, commit_decided};
+use store_tables::{RowChange, commit_decided, commit_request};
 
 /// What a commit writes: the rows of rings that differ, and those of the request.
 #[derive(Drop)]
@@ -61,11 +62,33 @@ pub(crate) fn planned(
     Ok(Plan { change, rows })
 }
 
+/// Makes the changes and keeps the request, in one transaction. The row on the whole store is
+/// written where its hour is another.
+fn commit_rows<S: Alter>(
+    conn: &mut Connection<S>,
+    changes: &[RowChange],
+    rows: &DecidedRows,
+    is_same_hour: bool,
+) -> Result<(), Error>
+    requires mode { conn.old.in_transaction ≡ false }
+    requires store { SeesStore (state S.Store conn.old) }
+    ensures mode { conn.new.in_transaction ≡ false }
+    ensures commits { CommitsTables (state S.Store conn.old) (state S.Store conn.new) result
+        (written is_same_hour (contents_of (state S.Store conn.old).now.trees) changes.now
+        rows.now.request rows.now.meta) }
+{
+    if is_same_hour {
+        return commit_request(conn, changes, &rows.request);
+    }
+    commit_decided(conn, changes, &rows.request, &rows.meta)
+}
+
 /// Makes the changes and keeps the request, in one transaction.
 fn write<S: Alter>(
     conn: &mut Connection<S>,
     changes: &[RowChange],
     rows: &DecidedRows,
+    is_same_hour: bool,
 ) -> Result<(), KeepFault>
     requires mode { conn.old.in_transaction ≡ false }
     requires tables { HasCleanDisk (state S.Store conn.old) → HasTables (state S.Store conn.old) }
@@ -74,25 +97,26 @@ fn write<S: Alter>(
         → HasTables (state S.Store conn.new) }
     ensures done { HasCleanDisk (state S.Store conn.new)
         → OnOk result (contents_of (state S.Store conn.new).committed.trees
-        ≡ with_decided (changed_all (contents_of (state S.Store conn.old).committed.trees) changes.now)
+        ≡ written is_same_hour (contents_of (state S.Store conn.old).committed.trees) changes.now
         rows.now.request rows.now.meta) }
     ensures none { HasCleanDisk (state S.Store conn.new) → result ≡ Err NoMemory
         → (state S.Store conn.new).committed ≡ (state S.Store conn.old).committed }
     ensures survives { Survives (state S.Store conn.old) (state S.Store conn.new)
         (λ trees. contents_of trees
-        ≡ with_decided (changed_all (contents_of (state S.Store conn.old).committed.trees) changes.now)
+        ≡ written is_same_hour (contents_of (state S.Store conn.old).committed.trees) changes.now
         rows.now.request rows.now.meta) }
 {
     settle(conn);
-    let done = commit_decided(conn, changes, &rows.request, &rows.meta);
+    let done = commit_rows(conn, changes, rows, is_same_hour);
     match done {
         Ok(()) => Ok(()),
         Err(error) => Err(cause(conn, &error)),
     }
 }
 
-/// Keeps a decided request with the rings that it leads to, in one transaction. All that it needs
-/// of memory besides the store's own is asked for before.
+/// Keeps a decided request with the rings that it leads to, in one transaction, where the greatest
+/// hour so far is this one. All that it needs of memory besides the store's own is asked for
+/// before.
 pub(crate) fn keep<S: Alter>(
     alloc: Global,
     conn: &mut Connection<S>,
@@ -100,6 +124,7 @@ pub(crate) fn keep<S: Alter>(
     new: &Rings,
     count: usize,
     limit: u32,
+    hour: Hour,
     entry: &Entry<Command, Reply>,
 ) -> Result<(), KeepFault>
     requires mode { conn.old.in_transaction ≡ false }
@@ -110,13 +135,14 @@ pub(crate) fn keep<S: Alter>(
         → HasTables (state S.Store conn.new) }
     ensures room { OnOk result (count < limit) }
     ensures done { HasCleanDisk (state S.Store conn.new)
-        → OnOk result (GainsIn (state S.Store conn.old).committed.trees old.now count limit
+        → OnOk result (GainsIn (state S.Store conn.old).committed.trees old.now count limit hour
         entry.now new.now
         (state S.Store conn.new).committed.trees) }
     ensures none { HasCleanDisk (state S.Store conn.new) → result ≡ Err NoMemory
         → (state S.Store conn.new).committed ≡ (state S.Store conn.old).committed }
     ensures survives { Survives (state S.Store conn.old) (state S.Store conn.new)
-        (GainsIn (state S.Store conn.old).committed.trees old.now count limit entry.now new.now) }
+        (GainsIn (state S.Store conn.old).committed.trees old.now count limit hour entry.now
+        new.now) }
 {
     one_content();
     // While the keeper is sound, the book that asks has found room, and no step takes a ring away.
@@ -126,5 +152,5 @@ pub(crate) fn keep<S: Alter>(
     let Ok(plan) = planned(alloc, old, new, count as u32, entry) else {
         return Err(KeepFault::NoMemory);
     };
-    write(conn, plan.change.rows(), &plan.rows)
+    write(conn, plan.change.rows(), &plan.rows, entry.hour == hour)
 }

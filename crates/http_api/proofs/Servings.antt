@@ -99,7 +99,8 @@ module _ {K C : Type 0} (content : K → Content State Command Reply) (sound : K
       safe_run old.machine.limits (limit old.keeper) (is_closed steps_of content sound limit faults
       old) (content old.keeper) (content new.keeper) calls (made.run s)
 
-  unmoved : (old new : RingBook content sound limit faults) → new ≡ old → sound new.keeper →
+  -- a book that stays as it was is a safe run
+  pub unmoved : (old new : RingBook content sound limit faults) → new ≡ old → sound new.keeper →
       IsSafeRun old.machine.limits (content old.keeper) (content new.keeper)
   unmoved old new same = subst (λ (book : RingBook content sound limit faults). sound book.keeper →
       IsSafeRun old.machine.limits (content old.keeper) (content book.keeper)) (sym same)

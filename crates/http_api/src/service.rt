@@ -19,7 +19,7 @@ use byte_streams::{CountedReader, CountedWriter, StreamFault};
 use csv_import::{CsvFault, read_rows};
 use http_answers::route_fault_text;
 use http_requests::Method;
-use http_routes::{RingRead, TargetAsk, TargetFault, read_target};
+use http_routes::{RingRead, Routes, TargetAsk, TargetFault, read_target};
 use http_stream::{Service, serve_requests};
 use line_api::{told_fault, told_of};
 use request_book::{Book, Keeper};
@@ -32,6 +32,7 @@ use std::marker::PhantomData;
 #[derive(Drop)]
 struct RingService<'a, K, C> {
     alloc: Global,
+    routes: Routes,
     prefix: &'a [u8],
     suffix: &'a [u8],
     kinds: PhantomData<(K, C)>,
@@ -148,7 +149,7 @@ impl<'a, K: Keeper<RingMachine>, C: Clock> Service for RingService<'a, K, C> {
             suffix: self.suffix,
             is_last,
         };
-        match read_target(alloc, method, target) {
+        match read_target(alloc, &self.routes, method, target) {
             Ok(TargetAsk::Deliver) => {
                 let told = answer_message(alloc, clock, book, body)?;
                 told_answer(alloc, &told, is_last)
@@ -207,8 +208,10 @@ pub fn serve_stream<R: Read, W: Write, C: Clock, K: Keeper<RingMachine>>(
     ensures safe { K.sound book.new.keeper
         → IsSafeRun book.old.machine.limits (K.content book.old.keeper) (K.content book.new.keeper) }
 {
+    let routes = Routes::new(alloc)?;
     let service = RingService {
         alloc,
+        routes,
         prefix,
         suffix,
         kinds: PhantomData::<(K, C)>,

@@ -2,3 +2,4 @@
 pub mod Pairs
 pub mod Faults
 pub mod Routing
+pub mod Table

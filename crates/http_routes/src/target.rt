@@ -4,7 +4,8 @@ ghost use Rattle.http_routes.specs.Targets.{TargetAsks, TargetFails, target_path
 ghost use Rattle.http_routes.specs.Inner.Routing.{RouteAsks, RouteFails};
 
 use crate::query::{read_key, read_path};
-use crate::routes::{Endpoint, FoundRoute, find_route};
+use crate::routes::{Endpoint, FoundRoute};
+use crate::table::Routes;
 use http_answers::RouteFault;
 use http_requests::Method;
 use path_lookup::{Path, PathFault};
@@ -121,11 +122,16 @@ fn read_route(alloc: Global, found: FoundRoute<'_>, query: &[u8]) -> Result<Targ
 /// What a target asks for by a method. The path is looked at first, then the method, then the
 /// ring's name, and then the version or the query. Segments are taken as they stand, and the values
 /// of a query are decoded.
-pub fn read_target(alloc: Global, method: Method, target: &[u8]) -> Result<TargetAsk, TargetFault>
+pub fn read_target(
+    alloc: Global,
+    routes: &Routes,
+    method: Method,
+    target: &[u8],
+) -> Result<TargetAsk, TargetFault>
     ensures { MatchResult result (TargetAsks target.now method) (TargetFails target.now method) }
 {
     let (path, query) = split_target(target);
-    let Some(found) = find_route(path) else {
+    let Some(found) = routes.find_route(path) else {
         return Err(TargetFault::Route(RouteFault::NoRoute));
     };
     let allowed = found.endpoint.method();

@@ -11,6 +11,3 @@ mod task;
 
 pub use reading::task_of;
 pub use task::{ArgsFault, Format, HashNames, Task};
-
-#[cfg(test)]
-mod tests;

@@ -2,9 +2,6 @@
 //! request once.
 #![tactic(auto)]
 
-#[cfg(test)]
-mod tests;
-
 use byte_streams::{CountedReader, CountedWriter};
 use programs::perform;
 use sqlite::Unknown;

@@ -17,3 +17,4 @@ pub mod Reading
 pub mod Places
 pub mod RingParts
 pub mod Parting
+pub mod Unchanged

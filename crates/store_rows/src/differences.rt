@@ -1,7 +1,7 @@
 //! The rows that a change of rings writes.
 ghost use Rattle.std.specs.Prelude.{[], ◌∷◌, ◌≡◌, ◌++◌, ◌*◌, ◌<◌, ◌≤◌, ◌==◌, ◌↔◌, IfOk, IsTrue};
 ghost use Rattle.std.specs.Prelude.{OnOk, count_by, drop, is_none, length, find, map, slice_get};
-ghost use Rattle.std.specs.Prelude.{slice_index_or, take, None};
+ghost use Rattle.std.specs.Prelude.{slice_index_or, take, None, IsSomeAnd};
 ghost use Rattle.std.specs.Option.{option_copied, option_map};
 ghost use Rattle.std.specs.Rc.{rc_str_bytes};
 ghost use Rattle.ring_model.specs.Ring.{partition_count};
@@ -19,7 +19,7 @@ ghost use Rattle.store_rows.specs.RingRows.{published_entry, ring_entries};
 
 use crate::ring_rows::{device_row, part_row, partition_seats, published_row, ring_row};
 use ring_model::{Ring, Rings};
-use ring_words::{Device, DeviceId, RingName};
+use ring_words::{Device, DeviceId, Hour, RingName};
 use std::alloc::{AllocError, Global};
 use std::rc::RcStr;
 use store_tables::{DeviceRow, PartRow, PublishedRow, RingRow};
@@ -162,6 +162,25 @@ fn push_devices(
     Ok(())
 }
 
+/// Adds the rows of a ring's devices that are not among others, none where these are the same.
+fn push_changed_devices(
+    alloc: Global,
+    into: &mut Vec<DeviceRow>,
+    name: &RingName,
+    others: &[Device],
+    ring: &Ring,
+) -> Result<(), AllocError>
+    ensures { OnOk result (map device_of into.new.items ≡ map device_of into.old.items ++
+        lacking name_number_cmp is_same_device (map (device_entry name.now) others.now)
+        (map (device_entry name.now) ring.now.devices)) }
+{
+    let devices = ring.devices();
+    if others == devices {
+        return Ok(());
+    }
+    push_devices(alloc, into, name, others, devices)
+}
+
 /// The rows of `device` that the new rings have and the old ones have not.
 pub(crate) fn new_devices(
     alloc: Global,
@@ -175,7 +194,7 @@ pub(crate) fn new_devices(
     let mut rows = Vec::new(alloc);
     for entry in new.list() {
         let others = devices_of(old.get(&entry.0));
-        push_devices(alloc, &mut rows, &entry.0, others, entry.1.devices())?;
+        push_changed_devices(alloc, &mut rows, &entry.0, others, entry.1.as_ref())?;
     }
     Ok(rows)
 }
@@ -187,12 +206,15 @@ fn is_gone(others: &[Device], device: &Device) -> bool
     find_device(others, device.id).is_none()
 }
 
-/// How many devices of a ring have a number that is not among others.
+/// How many devices of a ring have a number that is not among others, 0 where these are the same.
 fn count_gone(others: &[Device], devices: &[Device]) -> usize
     ensures value { result ≡ count_by (λ device. is_none (device_in device.id others.now))
         devices.now }
     ensures small { result ≤ length devices.now }
 {
+    if others == devices {
+        return 0;
+    }
     devices
         .iter()
         .filter(|device| is_gone(others, device))
@@ -275,7 +297,37 @@ fn push_new_part(
     Ok(())
 }
 
-/// Adds the rows of a ring's partitions that the old ring has not.
+/// Whether two lists of last moves are the same.
+fn are_same_moves(one: &[Option<Hour>], other: &[Option<Hour>]) -> bool
+    ensures { IsTrue result → one.now ≡ other.now }
+{
+    one == other
+}
+
+/// Whether two rings have the same seats and last moves.
+fn are_same_places(one: &Ring, other: &Ring) -> bool
+    ensures { IsTrue result → (one.now.replicas ≡ other.now.replicas) × (one.now.seats ≡
+        other.now.seats) × (one.now.moved ≡ other.now.moved) }
+{
+    one.replicas() == other.replicas()
+        && one.seats() == other.seats()
+        && are_same_moves(one.moves(), other.moves())
+}
+
+/// Whether an old ring has the same seats and last moves, so that no row of a partition differs.
+fn has_same_places(old: Option<&Ring>, ring: &Ring) -> bool
+    ensures { IsTrue result → IsSomeAnd (option_map (λ ring. ring.now) old.entry) (λ before.
+        (before.replicas ≡ ring.now.replicas) × (before.seats ≡ ring.now.seats)
+        × (before.moved ≡ ring.now.moved)) }
+{
+    match old {
+        Some(before) => are_same_places(before, ring),
+        None => false,
+    }
+}
+
+/// Adds the rows of a ring's partitions that the old ring has not. Where neither a seat nor a last
+/// move changed, one comparison of the whole lists tells it.
 fn push_parts(
     alloc: Global,
     into: &mut Vec<PartRow>,
@@ -287,6 +339,9 @@ fn push_parts(
         lacking name_number_cmp is_same_part (rows_at part_entries_of name.now
         (option_map (λ ring. ring.now) old.entry)) (part_entries_of (name.now, ring.now))) }
 {
+    if has_same_places(old, ring) {
+        return Ok(());
+    }
     for partition in 0..ring.moves().len() {
         push_new_part(alloc, into, name, old, ring, partition)?;
     }

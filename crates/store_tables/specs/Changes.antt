@@ -24,6 +24,10 @@ abbrev pub changed_all : Contents → List RowChange → Contents
 changed_all c [] = c
 changed_all c (change ∷ changes) = changed_all (changed c change) changes
 
+-- The contents with the request.
+abbrev pub with_kept : Contents → RequestRow → Contents
+with_kept c request = let asked = request_of request in with_request c asked.0 asked.1
+
 -- The contents with the request, and with the row on the whole store.
 abbrev pub with_decided : Contents → RequestRow → MetaRow → Contents
 with_decided c request meta =

@@ -3,6 +3,7 @@
 ghost use Rattle.std.specs.Prelude.{◌≡◌, ◌≤◌, false};
 ghost use Rattle.sqlite.specs.Held.{state};
 ghost use Rattle.store_tables.specs.Changes.{changed, changed_all, prepared, with_decided};
+ghost use Rattle.store_tables.specs.Changes.{with_kept};
 ghost use Rattle.sqlite.specs.State.{HasCleanDisk};
 ghost use Rattle.store_tables.specs.Contents.{contents_of};
 ghost use Rattle.store_tables.specs.Store.{CommitsTables, IsBegun, Reaches, SeesStore, Writes};
@@ -91,6 +92,39 @@ pub fn commit_decided<S: Alter>(
 {
     let mut tx = conn.transaction();
     write_decided(&mut tx, changes, request, meta)?;
+    tx.commit()
+}
+
+/// Makes the changes and adds the request.
+fn write_request<S: Alter>(
+    tx: &mut Transaction<'_, S>,
+    changes: &[RowChange],
+    request: &RequestRow,
+) -> Result<(), Error>
+    requires { SeesStore (state S.Store tx.old.conn.now) }
+    ensures same_reference { tx.new.conn.ghost_name ≡ tx.old.conn.ghost_name }
+    ensures writes { Writes (state S.Store tx.old.conn.now) (state S.Store tx.new.conn.now) result
+        (λ c. with_kept (changed_all c changes.now) request.now) }
+{
+    apply(tx, changes)?;
+    add_request(tx, request)
+}
+
+/// Keeps a decided request as `commit_decided` does, where the row on the whole store stays.
+pub fn commit_request<S: Alter>(
+    conn: &mut Connection<S>,
+    changes: &[RowChange],
+    request: &RequestRow,
+) -> Result<(), Error>
+    requires mode { conn.old.in_transaction ≡ false }
+    requires store { SeesStore (state S.Store conn.old) }
+    ensures mode { conn.new.in_transaction ≡ false }
+    ensures commits { CommitsTables (state S.Store conn.old) (state S.Store conn.new) result
+        (with_kept (changed_all (contents_of (state S.Store conn.old).now.trees) changes.now)
+        request.now) }
+{
+    let mut tx = conn.transaction();
+    write_request(&mut tx, changes, request)?;
     tx.commit()
 }
 

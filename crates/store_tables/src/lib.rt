@@ -9,7 +9,7 @@ mod reads;
 mod rows;
 mod writes;
 
-pub use changes::{RowChange, apply, commit_decided, prepare_store};
+pub use changes::{RowChange, apply, commit_decided, commit_request, prepare_store};
 pub use creating::{TABLE_COUNT, create_missing};
 pub use opening::{attach, is_blank, tables_made};
 pub use reads::{
@@ -24,6 +24,3 @@ pub use writes::{
     add_device, add_moved, add_request, add_seat, clear_moved, clear_seats, drop_device, put_meta,
     put_part, put_published, put_ring,
 };
-
-#[cfg(test)]
-mod tests;

@@ -1,25 +1,38 @@
 -- When a content gains a request, and what then stands for it.
-use Rattle.std.specs.Prelude.{◌≡◌, ◌<◌, ◌≤◌, ℕ, None, length}
+use Rattle.std.specs.Prelude.{◌≡◌, ◌<◌, ◌≤◌, ℕ, Bool, List, None, if◌then◌else◌, length}
 use Rattle.sqlite_trees.specs.Tree.{Trees}
 use Rattle.request_book.specs.Content.{entry_of}
+use Rattle.store_tables.specs.Changes.{changed_all, with_decided, with_kept}
+use Rattle.store_tables.specs.Contents.{Contents}
+use Rattle.store_tables.specs.declared.changes.RowChange.{RowChange}
+use Rattle.store_tables.specs.declared.rows.MetaRow.{MetaRow}
+use Rattle.store_tables.specs.declared.rows.RequestRow.{RequestRow}
 use Rattle.store_rows.specs.RingRows.{NamedRings}
 use Rattle.store_rows.specs.Differences.{with_state}
 use Rattle.store_rows.specs.Stands.{DecidedRequest, RingContent, gained}
 use Rattle.builder_store.specs.Standing.{Stands, StandsAlone}
 
--- The content has these rings and so many requests, fewer than it may have. The key of the request
--- is new, and its hour is not before the content's.
-pub record MayGain (content : RingContent) (rings : NamedRings) (count limit : ℕ)
+-- The content has these rings, so many requests, fewer than it may have, and this hour. The key of
+-- the request is new, and its hour is not before the content's.
+pub record MayGain (content : RingContent) (rings : NamedRings) (count limit hour : ℕ)
     (entry : DecidedRequest) : Type 0 where
   pub held : content.state ≡ rings
   pub counted : length content.book ≡ count
+  pub reached : content.hour ≡ hour
   pub room : count < limit
   pub unknown : entry_of entry.key content.book ≡ None
   pub later : content.hour ≤ entry.hour
 
 -- If the old trees stand for a content that may gain the request, these stand for it with the
 -- request and the new rings.
-abbrev pub GainsIn : Trees → NamedRings → ℕ → ℕ → DecidedRequest → NamedRings → Trees → Type 0
-GainsIn old rings count limit entry state db = (content : RingContent) → Stands old content
-    → MayGain content rings count limit entry
+abbrev pub GainsIn : Trees → NamedRings → ℕ → ℕ → ℕ → DecidedRequest → NamedRings → Trees → Type 0
+GainsIn old rings count limit hour entry state db = (content : RingContent) → Stands old content
+    → MayGain content rings count limit hour entry
     → StandsAlone db (gained (with_state content state) entry)
+
+-- What the changes and the request make of the contents, with the row on the whole store unless its
+-- hour is the same.
+abbrev pub written : Bool → Contents → List RowChange → RequestRow → MetaRow → Contents
+written is_same_hour c changes request meta =
+    if is_same_hour then with_kept (changed_all c changes) request
+    else with_decided (changed_all c changes) request meta

@@ -1,6 +1,7 @@
+use Rattle.std.proofs.Common.{refl}
 use Rattle.std.proofs.lemmas.Result.{IfOk-weaker, IfErr-weaker}
 use Rattle.byte_streams.specs.Counted.{reader_of, writer_of}
-use Rattle.http_api.proofs.Servings.{served_run, served_safe, stopped_run}
+use Rattle.http_api.proofs.Servings.{served_run, served_safe, stopped_run, unmoved}
 use Rattle.http_api.proofs.service.serve_stream.Goals as goal
 
 pub returns-clause-served : goal.returns-clause-served
@@ -32,3 +33,8 @@ returns-clause-safe g c = served_safe g.K.Keeper.content g.K.Keeper.sound g.K.Ke
       c.serve_requests.new.state,
     ) _ _ _ c.serve_requests.result
     (returns-clause-served g c) (returns-clause-stopped g c)
+
+pub returns-in_err-routes-clause-safe : goal.returns-in_err-routes-clause-safe
+returns-in_err-routes-clause-safe g c = unmoved g.K.Keeper.content g.K.Keeper.sound
+    g.K.Keeper.limit g.K.Keeper.fault_count g.C.Clock.tells c.args.prefix.now c.args.suffix.now
+    c.args.book.now c.args.book.now refl

@@ -1,0 +1,7 @@
+use Rattle.store_rows.proofs.Unchanged.{none_gone_of, same_devices}
+use Rattle.store_rows.proofs.differences.count_gone.Goals as goal
+
+pub returns-then-eq-clause-value : goal.returns-then-eq-clause-value
+returns-then-eq-clause-value c =
+    none_gone_of c.args.others.now c.args.devices.now (same_devices c.args.others.now
+    c.args.devices.now c.eq.result c.eq.ensures c.if-eq.true)

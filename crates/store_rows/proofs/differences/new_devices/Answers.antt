@@ -15,16 +15,16 @@ loop-entry-preserved c =
     rings_step is_same_device (λ e. map (device_entry e.0) e.1.devices) devices_named c.args.old.now
     c.list-known.ensures.by_name c.list-entry-items.result.now c.loop-entry.entry-index
     c.entry-item.result c.loop-entry-test.true c.entry-item.is
-    (map device_of c.loop-entry.rows.items) (map device_of c.push_devices.new.into.items)
+    (map device_of c.loop-entry.rows.items) (map device_of c.push_changed_devices.new.into.items)
     c.loop-entry.invariant
     (let n = c.entry-item.result.0 in
     let others = ap (map (device_entry n)) (c.devices_of-others.ensures ∙ ap
     (rows_at (λ (e : List ℕ × RingRecord). e.1.devices) []) c.get.ensures) ∙ others_are n
     (ring_at n c.args.old.now) in
-    let devices = c.devices.ensures.value ∙ ap (λ (r : RingRecord). r.devices) c.deref.ensures in
-    c.in_ok-push_devices.ensures
+    let ring = c.as_ref.ensures in
+    c.in_ok-push_changed_devices.ensures
     ∙ ap (λ xs. map device_of c.loop-entry.rows.items ++ lacking name_number_cmp is_same_device xs
-    (map (device_entry n) c.devices.result.now)) others
-    ∙ ap (λ ds. map device_of c.loop-entry.rows.items ++ lacking name_number_cmp is_same_device
-    (rows_at (λ e. map (device_entry e.0) e.1.devices) n (ring_at n c.args.old.now))
-    (map (device_entry n) ds)) devices)
+    (map (device_entry n) c.as_ref.result.now.devices)) others
+    ∙ ap (λ (r : RingRecord). map device_of c.loop-entry.rows.items ++ lacking name_number_cmp
+    is_same_device (rows_at (λ e. map (device_entry e.0) e.1.devices) n (ring_at n c.args.old.now))
+    (map (device_entry n) r.devices)) ring)

@@ -10,7 +10,15 @@ use Rattle.store_rows.specs.RingRows.{part_entry, part_entries_of}
 use Rattle.store_rows.specs.Inner.Lacking.{lacking, rows_at}
 use Rattle.std.proofs.lemmas.List.{take_all}
 use Rattle.store_rows.proofs.Steps.{step_more, entries_more, any_default}
+use Rattle.store_rows.proofs.Unchanged.{same_parts, adds_no_part}
 use Rattle.store_rows.proofs.differences.push_parts.Goals as goal
+
+pub returns-then-has_same_places : goal.returns-then-has_same_places
+returns-then-has_same_places c =
+    let n = c.args.name.now in
+    let old = option_map (λ ring. ring.now) c.args.old in
+    adds_no_part (map part_of c.args.into.now.items) n old c.args.ring.now (same_parts n old
+    c.args.ring.now (c.has_same_places.ensures c.if-has_same_places.true))
 
 pub loop-partition-preserved : goal.loop-partition-preserved
 loop-partition-preserved c =

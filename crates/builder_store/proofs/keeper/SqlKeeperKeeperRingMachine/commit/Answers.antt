@@ -60,9 +60,10 @@ invariant_of-self g c =
           k.hour (λ it. k.holds it) (record { state = k.rings; book = []; hour = k.hour }) was
           in
           let room : length content.book < k.limit = c.requires.room was in
-          let may : MayGain content k.rings k.count k.limit entry = record {
+          let may : MayGain content k.rings k.count k.limit k.hour entry = record {
             held = agrees.0;
             counted = agrees.1;
+            reached = agrees.2;
             room = omega (arith, agrees.1, room);
             unknown = c.requires.unknown was;
             later = c.requires.hour was;
@@ -104,9 +105,10 @@ returns-in-Ok-clause-commits g c = λ clean.
     k.conn)).committed.trees old.is_clean k.rings k.count k.hour (λ it. k.holds it)
     (record { state = k.rings; book = []; hour = k.hour }) was in
     let room : length content.book < k.limit = c.requires.room was in
-    let may : MayGain content k.rings k.count k.limit entry = record {
+    let may : MayGain content k.rings k.count k.limit k.hour entry = record {
       held = agrees.0;
       counted = agrees.1;
+      reached = agrees.2;
       room = omega (arith, agrees.1, room);
       unknown = c.requires.unknown was;
       later = c.requires.hour was;
@@ -141,9 +143,10 @@ returns-in-Ok-clause-left g c = λ clean.
     k.conn)).committed.trees old.is_clean k.rings k.count k.hour (λ it. k.holds it)
     (record { state = k.rings; book = []; hour = k.hour }) was in
     let room : length content.book < k.limit = c.requires.room was in
-    let may : MayGain content k.rings k.count k.limit entry = record {
+    let may : MayGain content k.rings k.count k.limit k.hour entry = record {
       held = agrees.0;
       counted = agrees.1;
+      reached = agrees.2;
       room = omega (arith, agrees.1, room);
       unknown = c.requires.unknown was;
       later = c.requires.hour was;
@@ -259,9 +262,10 @@ returns-clause-left g c = λ clean.
     k.conn)).committed.trees old.is_clean k.rings k.count k.hour (λ it. k.holds it)
     (record { state = k.rings; book = []; hour = k.hour }) was in
     let room : length content.book < k.limit = c.requires.room was in
-    let may : MayGain content k.rings k.count k.limit entry = record {
+    let may : MayGain content k.rings k.count k.limit k.hour entry = record {
       held = agrees.0;
       counted = agrees.1;
+      reached = agrees.2;
       room = omega (arith, agrees.1, room);
       unknown = c.requires.unknown was;
       later = c.requires.hour was;

@@ -1,11 +1,12 @@
 //! Stores of schema 1, and stores that are none.
-use super::rows::{AT_THE_HOUR, FIRST, LOCKED, Row};
-use super::{answers_all, book_of};
-use crate::{OpenFault, SqlKeeper};
+use super::{answers_all, book_of, close, open};
+use builder_store::{OpenFault, SqlKeeper};
 use ring_words::Limits;
-use sqlite::{Connection, Error, MemStore};
+use sqlite::{Alter, Connection, Error, MemStore};
+use sqlite_disk::Memory;
 use std::alloc::Global;
 use std::test::Fail;
+use worked_rows::{AT_THE_HOUR, FIRST, LOCKED, Row};
 
 /// The tables of schema 1.
 const TABLES: [&str; 7] = [
@@ -90,16 +91,29 @@ const BREAKS: [&str; 14] = [
     "UPDATE device SET removed = 2 WHERE id = 0",
 ];
 
-/// A connection with a store of schema 1.
-fn old_store(alloc: Global) -> Result<Connection<MemStore>, Error> {
-    let mut conn = Connection::open_in_memory(alloc)?;
+/// Makes a store of schema 1.
+fn make_old<S: Alter>(conn: &mut Connection<S>) -> Result<(), Error> {
     for text in TABLES {
         conn.execute(text, &[])?;
     }
     for text in OLD_ROWS {
         conn.execute(text, &[])?;
     }
+    Ok(())
+}
+
+/// A connection with a store of schema 1.
+fn old_store(alloc: Global) -> Result<Connection<MemStore>, Error> {
+    let mut conn = Connection::open_in_memory(alloc)?;
+    make_old(&mut conn)?;
     Ok(conn)
+}
+
+/// A closed file with a store of schema 1.
+pub fn old_file(alloc: Global) -> Result<Memory, Error> {
+    let mut conn = open(alloc, Memory::new(alloc))?;
+    make_old(&mut conn)?;
+    close(conn)
 }
 
 /// Whether rows over a connection are answered so, and the connection then.

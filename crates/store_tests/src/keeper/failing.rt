@@ -1,28 +1,36 @@
 //! Disks that fail at some call, and are opened again.
-use super::rows::{FIRST, Row};
+use super::migrating::old_file;
 use super::{answer, book_of, is_answer};
-use crate::SqlKeeper;
 use builder::{RingMachine, Told};
+use builder_store::SqlKeeper;
 use request_book::{Book, Keeper};
 use ring_words::Limits;
 use sqlite::{Connection, FileStore, Files, Options};
 use sqlite_disk::{Disk, Fuse, Memory};
 use std::alloc::Global;
 use std::test::Fail;
+use worked_rows::{AT_THE_HOUR, FIRST, Row};
 
 type Fused = Files<Fuse<Memory>>;
 
-/// Two empty files, one of which fails after so many calls.
-fn fused(alloc: Global, calls: u64, fails_in_log: bool) -> Fused {
+/// A file of these bytes, which fails after so many calls.
+fn fused(alloc: Global, bytes: &[u8], calls: u64) -> Result<Fuse<Memory>, Fail> {
+    let mut file = Memory::new(alloc);
+    file.write_at(0, bytes).map_err(|_| "copied")?;
+    Ok(Fuse::new(file, calls))
+}
+
+/// A closed file of these bytes and its empty log, one of which fails after so many calls.
+fn failing(alloc: Global, bytes: &[u8], calls: u64, fails_in_log: bool) -> Result<Fused, Fail> {
     let (log, db) = if fails_in_log {
         (calls, u64::MAX)
     } else {
         (u64::MAX, calls)
     };
-    Files {
-        log: Fuse::new(Memory::new(alloc), log),
-        db: Fuse::new(Memory::new(alloc), db),
-    }
+    Ok(Files {
+        log: fused(alloc, b"", log)?,
+        db: fused(alloc, bytes, db)?,
+    })
 }
 
 /// How a run ended: every row was answered, or the store failed before.
@@ -75,46 +83,70 @@ fn run(alloc: Global, files: Fused, rows: &[Row<'_>]) -> Result<(Ended, Fused), 
     }
 }
 
-/// A file with the same bytes, which does not fail.
-fn mended(alloc: Global, disk: &Fuse<Memory>) -> Result<Fuse<Memory>, Fail> {
-    let mut copy = Memory::new(alloc);
-    copy.write_at(0, disk.inner().bytes())
-        .map_err(|_| "copied")?;
-    Ok(Fuse::new(copy, u64::MAX))
-}
-
-/// Whether, after a file fails at this call, each delivery that is sent again is answered as its
-/// row. None where the run met no failure.
+/// Whether, after one of two files fails at this call, each delivery that is sent again is answered
+/// as its row. None where the run met no failure. The run begins with a file of these bytes.
 fn goes_on(
     alloc: Global,
+    bytes: &[u8],
     calls: u64,
     fails_in_log: bool,
     rows: &[Row<'_>],
 ) -> Result<Option<bool>, Fail> {
-    let (ended, files) = run(alloc, fused(alloc, calls, fails_in_log), rows)?;
+    let (ended, files) = run(alloc, failing(alloc, bytes, calls, fails_in_log)?, rows)?;
     if ended == Ended::Whole {
         return Ok(None);
     }
     let files = Files {
-        log: mended(alloc, &files.log)?,
-        db: mended(alloc, &files.db)?,
+        log: fused(alloc, files.log.inner().bytes(), u64::MAX)?,
+        db: fused(alloc, files.db.inner().bytes(), u64::MAX)?,
     };
     let (again, _) = run(alloc, files, rows)?;
     Ok(Some(ended == Ended::Failed && again == Ended::Whole))
 }
 
-#[test]
-fn a_failing_disk_loses_nothing_and_acts_once(rt: HostRuntime) -> Result<(), Fail> {
-    let alloc = rt.alloc();
-    for fails_in_log in [true, false] {
-        for step in 0..30 {
-            // Each call is too many for the time of a test; so every 17th.
-            let calls = 17 * step;
-            match goes_on(alloc, calls, fails_in_log, &FIRST)? {
-                Some(is_right) => assert!(rt; is_right, "at call {calls}"),
-                None => break,
-            }
+/// Whether every run goes on, whichever of the calls of one file is the first to fail: the first of
+/// these, and then each that is so many calls later. Each call is too many for the time of a test;
+/// `checks/kills.py` tries each of a real file.
+fn all_go_on(
+    alloc: Global,
+    bytes: &[u8],
+    fails_in_log: bool,
+    step: u64,
+    rows: &[Row<'_>],
+) -> Result<bool, Fail> {
+    for turn in 0..100u64 {
+        let calls = turn.saturating_mul(step);
+        match goes_on(alloc, bytes, calls, fails_in_log, rows)? {
+            Some(true) => {}
+            Some(false) => return Ok(false),
+            None => return Ok(true),
         }
     }
+    Ok(false)
+}
+
+#[test]
+fn a_failing_log_loses_nothing_and_acts_once(rt: HostRuntime) -> Result<(), Fail> {
+    assert!(rt; all_go_on(rt.alloc(), b"", true, 17, &FIRST)?);
+    Ok(())
+}
+
+#[test]
+fn a_failing_file_loses_nothing_and_acts_once(rt: HostRuntime) -> Result<(), Fail> {
+    assert!(rt; all_go_on(rt.alloc(), b"", false, 17, &FIRST)?);
+    Ok(())
+}
+
+#[test]
+fn a_failing_log_leaves_a_store_of_one_schema(rt: HostRuntime) -> Result<(), Fail> {
+    let old = old_file(rt.alloc())?;
+    assert!(rt; all_go_on(rt.alloc(), old.bytes(), true, 29, &AT_THE_HOUR)?);
+    Ok(())
+}
+
+#[test]
+fn a_failing_file_leaves_a_store_of_one_schema(rt: HostRuntime) -> Result<(), Fail> {
+    let old = old_file(rt.alloc())?;
+    assert!(rt; all_go_on(rt.alloc(), old.bytes(), false, 97, &AT_THE_HOUR)?);
     Ok(())
 }

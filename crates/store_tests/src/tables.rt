@@ -1,3 +1,4 @@
+//! The tables of the store, over memory and over files in memory.
 ghost use Rattle.std.specs.Prelude.{◌≡◌, false, IfOk, IsTrue, OnOk};
 ghost use Rattle.sqlite.specs.Held.{state};
 ghost use Rattle.sqlite.specs.State.{HasCleanDisk};
@@ -5,15 +6,15 @@ ghost use Rattle.sqlite.specs.Files.{file_state};
 ghost use Rattle.sqlite_disk.specs.Memory.{memory_is_usable};
 ghost use Rattle.store_tables.specs.Store.{SeesStore};
 
-use crate::{
+use sqlite::{Alter, Connection, Error, FileStore, Files, Options};
+use sqlite_disk::Memory;
+use std::alloc::{AllocError, Global};
+use store_tables::{
     DeviceKey, DeviceRow, MetaRow, MovedRow, PartRow, PublishedRow, RequestRow, RingRow, RowChange,
     SeatRow, add_moved, add_seat, all_devices, all_meta, all_moved, all_parts, all_published,
     all_requests, all_rings, all_seats, attach, clear_moved, clear_seats, commit_decided,
     find_request, is_blank, prepare_store, tables_made,
 };
-use sqlite::{Alter, Connection, Error, FileStore, Files, Options};
-use sqlite_disk::Memory;
-use std::alloc::{AllocError, Global};
 
 fn text(alloc: Global, from: &str) -> Result<String, AllocError> {
     String::from_str(alloc, from)
@@ -276,7 +277,7 @@ fn old_rows_go<S: Alter>(alloc: Global, conn: &mut Connection<S>) -> Result<bool
 }
 
 // What was kept, as a new connection over the same store finds it.
-#[tactic(auto, using(crate::proofs::Living::store_begun))]
+#[tactic(auto, using(store_tables::proofs::Living::store_begun))]
 fn found_again<S: Alter + Drop>(alloc: Global, conn: Connection<S>) -> Result<bool, Error> {
     let mut conn = match attach(alloc, conn) {
         Ok(conn) => conn,

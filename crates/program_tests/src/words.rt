@@ -1,5 +1,5 @@
 //! What words ask for, and which ask for nothing.
-use crate::{ArgsFault, Task, task_of};
+use program_words::{ArgsFault, Task, task_of};
 use std::alloc::{AllocError, Global};
 use std::test::Fail;
 

@@ -6,80 +6,12 @@ use ring_model::Rings;
 use ring_words::{Limits, RingName};
 use std::alloc::{AllocError, Global};
 use std::test::Fail;
-
-/// The hour of a line, the number of its request, what it asks of its ring, and its answer.
-type Row<'a> = (u32, u32, &'a str, &'a str);
-
-const CREATE: &str = "'do':'create','power':2,'replicas':1,'min_hours':24";
-
-const CREATE_PAIRS: &str = "'do':'create','power':2,'replicas':2,'min_hours':24";
-
-const CREATE_SMALL: &str = "'do':'create','power':1,'replicas':2,'min_hours':0";
-
-const ADD_D0: &str =
-    "'do':'add','region':1,'zone':1,'address':'10.0.0.1','port':6200,'name':'d0','weight':'100.00'";
-
-const ADD_D1: &str =
-    "'do':'add','region':1,'zone':1,'address':'10.0.0.2','port':6200,'name':'d1','weight':'100.00'";
-
-const ADD_D2: &str =
-    "'do':'add','region':1,'zone':1,'address':'10.0.0.3','port':6200,'name':'d2','weight':'100.00'";
-
-const ADD_D3: &str =
-    "'do':'add','region':1,'zone':1,'address':'10.0.0.4','port':6200,'name':'d3','weight':'100.00'";
-
-const REBALANCE: &str = "'do':'rebalance','seed':7";
+use worked_rows::{
+    ADD_D0, ADD_D1, ADD_D2, ADD_D3, ADDED_D0, AT_THE_HOUR, CLOCK_BACK, CREATED, FAR, FEW, FIRST,
+    LOCKED, PAIRS, REBALANCE, REMOVAL, REPEATED, Row, SET_ASIDE, SMALL, TOO_FEW, UNREACHABLE,
+};
 
 const PUBLISH: &str = "'do':'publish'";
-
-const CREATED: &str = "200 {'done':'create','version':0}";
-
-const ADDED_D0: &str = "200 {'done':'add','id':0,'version':1}";
-
-const ADDED_D1: &str = "200 {'done':'add','id':1,'version':2}";
-
-const ASSIGNED: &str =
-    "200 {'balance':0,'changed':4,'dispersion':0,'done':'rebalance','version':3}";
-
-/// Four partitions of one replica are assigned to devices 0 and 1, and stay for 24 hours.
-const FIRST: [Row; 4] = [
-    (0, 1, CREATE, CREATED),
-    (0, 2, ADD_D0, ADDED_D0),
-    (0, 3, ADD_D1, ADDED_D1),
-    (0, 4, REBALANCE, ASSIGNED),
-];
-
-/// Device 2 comes, and is to wait for the 24th hour.
-const LOCKED: [Row; 2] = [
-    (1, 5, ADD_D2, "200 {'done':'add','id':2,'version':4}"),
-    (
-        23,
-        6,
-        REBALANCE,
-        "200 {'balance':10000,'changed':0,'dispersion':0,'done':'rebalance','version':5}",
-    ),
-];
-
-/// Four partitions of two replicas are assigned to devices 0 and 1.
-const PAIRS: [Row; 4] = [
-    (0, 1, CREATE_PAIRS, CREATED),
-    (0, 2, ADD_D0, ADDED_D0),
-    (0, 3, ADD_D1, ADDED_D1),
-    (
-        0,
-        4,
-        REBALANCE,
-        "200 {'balance':0,'changed':8,'dispersion':0,'done':'rebalance','version':3}",
-    ),
-];
-
-/// Two partitions of two replicas are assigned to devices 0 and 1, and may move at once.
-const SMALL: [Row; 4] = [
-    (0, 1, CREATE_SMALL, CREATED),
-    (0, 2, ADD_D0, ADDED_D0),
-    (0, 3, ADD_D1, ADDED_D1),
-    (0, 4, REBALANCE, ASSIGNED),
-];
 
 /// Puts a row's text behind others, with `"` for `'`.
 fn push_quoted(into: &mut String, row: &str) -> Result<(), AllocError> {
@@ -157,81 +89,36 @@ balance 0.00 dispersion 0.00 version 3
 
 #[test]
 fn a_repeated_rebalance_gets_its_reply_and_moves_nothing(rt: HostRuntime) -> Result<(), Fail> {
-    let then = [
-        (9, 4, REBALANCE, ASSIGNED),
-        (
-            9,
-            4,
-            "'do':'rebalance','seed':8",
-            "409 {'fault':'NumberReused','rule':21}",
-        ),
-        (9, 4, REBALANCE, ASSIGNED),
-        (
-            9,
-            5,
-            "'do':'pretend_passed'",
-            "200 {'done':'pretend_passed','version':4}",
-        ),
-    ];
-    assert!(rt; runs(rt.alloc(), &[&FIRST, &then])?);
+    let then = [(
+        9,
+        5,
+        "'do':'pretend_passed'",
+        "200 {'done':'pretend_passed','version':4}",
+    )];
+    assert!(rt; runs(rt.alloc(), &[&FIRST, &REPEATED, &then])?);
     Ok(())
 }
 
 #[test]
 fn a_moved_partition_stays_for_its_hours(rt: HostRuntime) -> Result<(), Fail> {
-    let at_the_hour = [(
-        24,
-        7,
-        REBALANCE,
-        "200 {'balance':5000,'changed':1,'dispersion':0,'done':'rebalance','version':6}",
-    )];
-    assert!(rt; runs(rt.alloc(), &[&FIRST, &LOCKED, &at_the_hour])?);
-    let set_aside = [
-        (
-            23,
-            7,
-            "'do':'pretend_passed'",
-            "200 {'done':'pretend_passed','version':6}",
-        ),
-        (
-            23,
-            8,
-            REBALANCE,
-            "200 {'balance':5000,'changed':1,'dispersion':0,'done':'rebalance','version':7}",
-        ),
-    ];
-    assert!(rt; runs(rt.alloc(), &[&FIRST, &LOCKED, &set_aside])?);
+    assert!(rt; runs(rt.alloc(), &[&FIRST, &LOCKED, &AT_THE_HOUR])?);
+    assert!(rt; runs(rt.alloc(), &[&FIRST, &LOCKED, &SET_ASIDE])?);
     Ok(())
 }
 
 #[test]
 fn removal_ignores_the_lock(rt: HostRuntime) -> Result<(), Fail> {
-    let then = [
-        (1, 5, ADD_D2, "200 {'done':'add','id':2,'version':4}"),
-        (
-            1,
-            6,
-            "'do':'remove','id':0",
-            "200 {'done':'remove','version':5}",
-        ),
-        (
-            1,
-            7,
-            REBALANCE,
-            "200 {'balance':0,'changed':2,'dispersion':0,'done':'rebalance','version':6}",
-        ),
-        (
-            1,
-            8,
-            "'do':'remove','id':0",
-            "422 {'refused':'NoDevice','rule':4}",
-        ),
-    ];
+    let gone = [(
+        1,
+        8,
+        "'do':'remove','id':0",
+        "422 {'refused':'NoDevice','rule':4}",
+    )];
     let got = told(
         rt.alloc(),
         Limits::full(),
         "object",
-        &[&FIRST, &then],
+        &[&FIRST, &REMOVAL, &gone],
         "? balance object\n",
     )?;
     let table = "   id     weight wanted    has balance
@@ -326,33 +213,12 @@ fn a_drained_device_keeps_its_seats_while_they_are_locked(rt: HostRuntime) -> Re
 
 #[test]
 fn too_few_open_devices_change_nothing(rt: HostRuntime) -> Result<(), Fail> {
-    let too_few = "422 {'refused':'TooFewDevices','rule':9}";
-    let three_replicas = [
-        (
-            0,
-            1,
-            "'do':'create','power':1,'replicas':3,'min_hours':0",
-            CREATED,
-        ),
-        (0, 2, ADD_D0, ADDED_D0),
-        (0, 3, ADD_D1, ADDED_D1),
-        (0, 4, REBALANCE, too_few),
-        (0, 5, ADD_D2, "200 {'done':'add','id':2,'version':3}"),
-        (0, 4, REBALANCE, too_few),
-        (
-            0,
-            6,
-            REBALANCE,
-            "200 {'balance':0,'changed':6,'dispersion':0,'done':'rebalance','version':4}",
-        ),
-    ];
-    assert!(rt; runs(rt.alloc(), &[&three_replicas])?);
+    assert!(rt; runs(rt.alloc(), &[&FEW])?);
     Ok(())
 }
 
 #[test]
 fn a_marked_device_is_none_to_put_seats_on(rt: HostRuntime) -> Result<(), Fail> {
-    let too_few = "422 {'refused':'TooFewDevices','rule':9}";
     let marked = [
         (
             0,
@@ -367,7 +233,7 @@ fn a_marked_device_is_none_to_put_seats_on(rt: HostRuntime) -> Result<(), Fail> 
             "422 {'refused':'DeviceRemoved','rule':6}",
         ),
         (0, 7, ADD_D1, "422 {'refused':'DeviceExists','rule':5}"),
-        (0, 8, REBALANCE, too_few),
+        (0, 8, REBALANCE, TOO_FEW),
         (
             0,
             9,
@@ -381,46 +247,18 @@ fn a_marked_device_is_none_to_put_seats_on(rt: HostRuntime) -> Result<(), Fail> 
 
 #[test]
 fn a_want_that_no_seats_can_meet_moves_nothing(rt: HostRuntime) -> Result<(), Fail> {
-    let rows = [
-        (0, 1, CREATE_PAIRS, CREATED),
-        (
-            0,
-            2,
-            "'do':'add','region':1,'zone':1,'address':'10.0.0.1','port':6200,'name':'d0','weight':'300.00'",
-            ADDED_D0,
-        ),
-        (0, 3, ADD_D1, ADDED_D1),
-        (
-            0,
-            4,
-            REBALANCE,
-            "200 {'balance':10000,'changed':8,'dispersion':0,'done':'rebalance','version':3}",
-        ),
-        (
-            24,
-            5,
-            REBALANCE,
-            "200 {'balance':10000,'changed':0,'dispersion':0,'done':'rebalance','version':4}",
-        ),
-    ];
-    assert!(rt; runs(rt.alloc(), &[&rows])?);
+    assert!(rt; runs(rt.alloc(), &[&UNREACHABLE])?);
     Ok(())
 }
 
 #[test]
 fn a_far_device_takes_a_seat_of_each_partition(rt: HostRuntime) -> Result<(), Fail> {
     let alloc = rt.alloc();
-    let add = [(
-        0,
-        5,
-        "'do':'add','region':2,'zone':1,'address':'10.0.0.3','port':6200,'name':'d2','weight':'200.00'",
-        "200 {'done':'add','id':2,'version':4}",
-    )];
     let got = told(
         alloc,
         Limits::full(),
         "object",
-        &[&SMALL, &add],
+        &[&SMALL, &FAR],
         "? balance object\n",
     )?;
     assert!(rt; got.ends_with("\nbalance 100.00 dispersion 100.00 version 4\n"));
@@ -434,7 +272,7 @@ fn a_far_device_takes_a_seat_of_each_partition(rt: HostRuntime) -> Result<(), Fa
         alloc,
         Limits::full(),
         "object",
-        &[&SMALL, &add],
+        &[&SMALL, &FAR],
         lines.as_str(),
     )?;
     assert!(rt;
@@ -449,37 +287,7 @@ fn a_far_device_takes_a_seat_of_each_partition(rt: HostRuntime) -> Result<(), Fa
 
 #[test]
 fn a_clock_that_goes_back_frees_no_partition(rt: HostRuntime) -> Result<(), Fail> {
-    let rows = [
-        (0, 1, CREATE, CREATED),
-        (0, 2, ADD_D0, ADDED_D0),
-        (0, 3, ADD_D1, ADDED_D1),
-        (
-            30,
-            4,
-            "'do':'pretend_passed'",
-            "200 {'done':'pretend_passed','version':3}",
-        ),
-        (
-            5,
-            5,
-            REBALANCE,
-            "200 {'balance':0,'changed':4,'dispersion':0,'done':'rebalance','version':4}",
-        ),
-        (31, 6, ADD_D2, "200 {'done':'add','id':2,'version':5}"),
-        (
-            53,
-            7,
-            REBALANCE,
-            "200 {'balance':10000,'changed':0,'dispersion':0,'done':'rebalance','version':6}",
-        ),
-        (
-            54,
-            8,
-            REBALANCE,
-            "200 {'balance':5000,'changed':1,'dispersion':0,'done':'rebalance','version':7}",
-        ),
-    ];
-    assert!(rt; runs(rt.alloc(), &[&rows])?);
+    assert!(rt; runs(rt.alloc(), &[&CLOCK_BACK])?);
     Ok(())
 }
 

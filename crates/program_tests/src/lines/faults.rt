@@ -1,5 +1,5 @@
 //! Faults of the programs over files, in their order.
-use crate::tests::performed;
+use super::performed;
 use std::alloc::AllocError;
 use std::test::Fail;
 

@@ -1,9 +1,8 @@
 //! Stores that are made of the rings of another one.
 ghost use Rattle.std.specs.Prelude.{◌≡◌, IfOk};
 
-use super::rows::{FIRST, LOCKED, RENEWED, RISEN};
 use super::{answers_all, book_of, open};
-use crate::{MakeFault, SqlKeeper};
+use builder_store::{MakeFault, SqlKeeper};
 use request_book::Keeper;
 use ring_model::Rings;
 use ring_words::{Hour, Limits};
@@ -12,6 +11,7 @@ use sqlite_disk::{Disk, Memory};
 use std::alloc::Global;
 use std::test::Fail;
 use store_rows::{Change, grows};
+use worked_rows::{FIRST, LOCKED, RENEWED, RISEN};
 
 type Conn = Connection<FileStore<Memory>>;
 

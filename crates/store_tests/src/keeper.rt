@@ -5,17 +5,16 @@ ghost use Rattle.sqlite_disk.specs.Memory.{memory_is_usable};
 mod failing;
 mod making;
 mod migrating;
-mod rows;
 
-use crate::{SqlKeeper, open_memory};
 use builder::{MessageFault, RingMachine, Told, read_delivery, status_of, told_text};
+use builder_store::{SqlKeeper, open_memory};
 use request_book::{Book, Fault, Keeper};
 use ring_words::Limits;
-use rows::{FIRST, Row};
 use sqlite::{Connection, Error, FileStore, Files, Options};
 use sqlite_disk::Memory;
 use std::alloc::{AllocError, Global};
 use std::test::Fail;
+use worked_rows::{AT_THE_HOUR, FIRST, FULL, LOCKED, RUNS, Row};
 
 /// A text with `"` for `'`.
 fn quoted(alloc: Global, text: &str) -> Result<String, AllocError> {
@@ -103,7 +102,7 @@ fn runs(alloc: Global, rows: &[&[Row<'_>]]) -> Result<bool, Fail> {
 
 #[test]
 fn the_worked_rows_are_answered_over_memory(rt: HostRuntime) -> Result<(), Fail> {
-    for run in rows::RUNS {
+    for run in RUNS {
         assert!(rt; runs(rt.alloc(), run)?);
     }
     Ok(())
@@ -153,9 +152,9 @@ fn a_file_that_is_opened_again_goes_on(rt: HostRuntime) -> Result<(), Fail> {
     // Each request that comes again gets its reply, and what is new is decided.
     let (again, db) = runs_over(alloc, db, &FIRST)?;
     assert!(rt; again);
-    let (locked, db) = runs_over(alloc, db, &rows::LOCKED)?;
+    let (locked, db) = runs_over(alloc, db, &LOCKED)?;
     assert!(rt; locked);
-    let (all, _) = runs_over(alloc, db, &rows::AT_THE_HOUR)?;
+    let (all, _) = runs_over(alloc, db, &AT_THE_HOUR)?;
     assert!(rt; all);
     Ok(())
 }
@@ -174,6 +173,6 @@ fn a_full_book_refuses_new_numbers(rt: HostRuntime) -> Result<(), Fail> {
         return Err(Fail::new(format_args!("not opened")));
     };
     let mut book = Book::open(alloc, RingMachine { limits }, keeper);
-    assert!(rt; answers_all(alloc, &mut book, &rows::FULL)?);
+    assert!(rt; answers_all(alloc, &mut book, &FULL)?);
     Ok(())
 }

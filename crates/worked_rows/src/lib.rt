@@ -1,72 +1,88 @@
-//! Deliveries with their answers. The texts are written with `'` for `"`.
+//! Worked examples, for tests: deliveries on one ring with their answers. The texts are written
+//! with `'` for `"`.
+#![tactic(auto)]
 
 /// The hour of a delivery, its number, what it asks of its ring, and its answer.
 pub type Row<'a> = (u32, u32, &'a str, &'a str);
 
-const CREATE: &str = "'do':'create','power':2,'replicas':1,'min_hours':24";
+pub const CREATE: &str = "'do':'create','power':2,'replicas':1,'min_hours':24";
 
-const CREATE_PAIRS: &str = "'do':'create','power':2,'replicas':2,'min_hours':24";
+pub const CREATE_PAIRS: &str = "'do':'create','power':2,'replicas':2,'min_hours':24";
 
-const ADD_D0: &str =
+pub const CREATE_SMALL: &str = "'do':'create','power':1,'replicas':2,'min_hours':0";
+
+pub const ADD_D0: &str =
     "'do':'add','region':1,'zone':1,'address':'10.0.0.1','port':6200,'name':'d0','weight':'100.00'";
 
-const ADD_D1: &str =
+pub const ADD_D1: &str =
     "'do':'add','region':1,'zone':1,'address':'10.0.0.2','port':6200,'name':'d1','weight':'100.00'";
 
-const ADD_D2: &str =
+pub const ADD_D2: &str =
     "'do':'add','region':1,'zone':1,'address':'10.0.0.3','port':6200,'name':'d2','weight':'100.00'";
 
-const ADD_HEAVY: &str =
+pub const ADD_D3: &str =
+    "'do':'add','region':1,'zone':1,'address':'10.0.0.4','port':6200,'name':'d3','weight':'100.00'";
+
+pub const ADD_HEAVY: &str =
     "'do':'add','region':1,'zone':1,'address':'10.0.0.1','port':6200,'name':'d0','weight':'300.00'";
 
-const ADD_FAR: &str =
+pub const ADD_FAR: &str =
     "'do':'add','region':2,'zone':1,'address':'10.0.0.3','port':6200,'name':'d2','weight':'200.00'";
 
-const REBALANCE: &str = "'do':'rebalance','seed':7";
+pub const REBALANCE: &str = "'do':'rebalance','seed':7";
 
-const PRETEND: &str = "'do':'pretend_passed'";
+pub const PRETEND: &str = "'do':'pretend_passed'";
 
-const CREATED: &str = "200 {'done':'create','version':0}";
+pub const CREATED: &str = "200 {'done':'create','version':0}";
 
-const ADDED_D0: &str = "200 {'done':'add','id':0,'version':1}";
+pub const ADDED_D0: &str = "200 {'done':'add','id':0,'version':1}";
 
-const ADDED_D1: &str = "200 {'done':'add','id':1,'version':2}";
+pub const ADDED_D1: &str = "200 {'done':'add','id':1,'version':2}";
 
-const TOO_FEW: &str = "422 {'refused':'TooFewDevices','rule':9}";
+pub const ASSIGNED: &str =
+    "200 {'balance':0,'changed':4,'dispersion':0,'done':'rebalance','version':3}";
+
+pub const TOO_FEW: &str = "422 {'refused':'TooFewDevices','rule':9}";
 
 /// Four partitions of one replica are assigned to devices 0 and 1, and stay for 24 hours.
 pub const FIRST: [Row; 4] = [
     (0, 1, CREATE, CREATED),
     (0, 2, ADD_D0, ADDED_D0),
     (0, 3, ADD_D1, ADDED_D1),
+    (0, 4, REBALANCE, ASSIGNED),
+];
+
+/// Four partitions of two replicas are assigned to devices 0 and 1.
+pub const PAIRS: [Row; 4] = [
+    (0, 1, CREATE_PAIRS, CREATED),
+    (0, 2, ADD_D0, ADDED_D0),
+    (0, 3, ADD_D1, ADDED_D1),
     (
         0,
         4,
         REBALANCE,
-        "200 {'balance':0,'changed':4,'dispersion':0,'done':'rebalance','version':3}",
+        "200 {'balance':0,'changed':8,'dispersion':0,'done':'rebalance','version':3}",
     ),
 ];
 
+/// Two partitions of two replicas are assigned to devices 0 and 1, and may move at once.
+pub const SMALL: [Row; 4] = [
+    (0, 1, CREATE_SMALL, CREATED),
+    (0, 2, ADD_D0, ADDED_D0),
+    (0, 3, ADD_D1, ADDED_D1),
+    (0, 4, REBALANCE, ASSIGNED),
+];
+
 /// A number that comes again, and one that comes with another command.
-const REPEATED: [Row; 3] = [
-    (
-        9,
-        4,
-        REBALANCE,
-        "200 {'balance':0,'changed':4,'dispersion':0,'done':'rebalance','version':3}",
-    ),
+pub const REPEATED: [Row; 3] = [
+    (9, 4, REBALANCE, ASSIGNED),
     (
         9,
         4,
         "'do':'rebalance','seed':8",
         "409 {'fault':'NumberReused','rule':21}",
     ),
-    (
-        9,
-        4,
-        REBALANCE,
-        "200 {'balance':0,'changed':4,'dispersion':0,'done':'rebalance','version':3}",
-    ),
+    (9, 4, REBALANCE, ASSIGNED),
 ];
 
 /// Device 2 comes, and is to wait for the 24th hour.
@@ -113,7 +129,7 @@ pub const RENEWED: [Row; 2] = [
 ];
 
 /// The hours are set aside.
-const SET_ASIDE: [Row; 2] = [
+pub const SET_ASIDE: [Row; 2] = [
     (23, 7, PRETEND, "200 {'done':'pretend_passed','version':6}"),
     (
         23,
@@ -124,7 +140,7 @@ const SET_ASIDE: [Row; 2] = [
 ];
 
 /// A removed device gives its seats away at once.
-const REMOVAL: [Row; 3] = [
+pub const REMOVAL: [Row; 3] = [
     (1, 5, ADD_D2, "200 {'done':'add','id':2,'version':4}"),
     (
         1,
@@ -141,7 +157,7 @@ const REMOVAL: [Row; 3] = [
 ];
 
 /// A want that no seats can meet.
-const UNREACHABLE: [Row; 5] = [
+pub const UNREACHABLE: [Row; 5] = [
     (0, 1, CREATE_PAIRS, CREATED),
     (0, 2, ADD_HEAVY, ADDED_D0),
     (0, 3, ADD_D1, ADDED_D1),
@@ -159,27 +175,11 @@ const UNREACHABLE: [Row; 5] = [
     ),
 ];
 
-/// A device in another region takes a seat of each partition.
-const FAR: [Row; 5] = [
-    (
-        0,
-        1,
-        "'do':'create','power':1,'replicas':2,'min_hours':0",
-        CREATED,
-    ),
-    (0, 2, ADD_D0, ADDED_D0),
-    (0, 3, ADD_D1, ADDED_D1),
-    (
-        0,
-        4,
-        REBALANCE,
-        "200 {'balance':0,'changed':4,'dispersion':0,'done':'rebalance','version':3}",
-    ),
-    (0, 5, ADD_FAR, "200 {'done':'add','id':2,'version':4}"),
-];
+/// A device in another region, which takes a seat of each of two partitions.
+pub const FAR: [Row; 1] = [(0, 5, ADD_FAR, "200 {'done':'add','id':2,'version':4}")];
 
 /// A refusal is kept, though the command could be done later.
-const FEW: [Row; 7] = [
+pub const FEW: [Row; 7] = [
     (
         0,
         1,
@@ -200,7 +200,7 @@ const FEW: [Row; 7] = [
 ];
 
 /// Requests that come in another order.
-const REORDERED: [Row; 4] = [
+pub const REORDERED: [Row; 4] = [
     (0, 2, ADD_D0, "422 {'refused':'NoRing','rule':1}"),
     (0, 1, CREATE, CREATED),
     (0, 2, ADD_D0, "422 {'refused':'NoRing','rule':1}"),
@@ -208,7 +208,7 @@ const REORDERED: [Row; 4] = [
 ];
 
 /// A clock that goes back.
-const CLOCK_BACK: [Row; 8] = [
+pub const CLOCK_BACK: [Row; 8] = [
     (0, 1, CREATE, CREATED),
     (0, 2, ADD_D0, ADDED_D0),
     (0, 3, ADD_D1, ADDED_D1),
@@ -250,7 +250,7 @@ pub const RUNS: [&[&[Row]]; 9] = [
     &[&FIRST, &LOCKED, &SET_ASIDE],
     &[&FIRST, &REMOVAL],
     &[&UNREACHABLE],
-    &[&FAR],
+    &[&SMALL, &FAR],
     &[&FEW],
     &[&REORDERED],
     &[&CLOCK_BACK],

@@ -1,0 +1,90 @@
+-- What the router holds after each route.
+use Rattle.std.proofs.Common.{◌≡◌, List, [], ◌∷◌, ℕ, codes, refl}
+use Rattle.matchit.proofs.OnLiterals.{matchit_on_literals}
+use Rattle.matchit.specs.Route.{parse_route}
+use Rattle.matchit.specs.Router.{RouteOf}
+use Rattle.matchit.specs.Rows.{RowsOf}
+use Rattle.http_routes.specs.Inner.Table.{IsAdded, IsNewRoute, all_routes, import_row, requests_row}
+use Rattle.http_routes.specs.Inner.Table.{ring_row}
+use Rattle.http_routes.specs.declared.routes.Endpoint.{Endpoint}
+use Rattle.http_routes.specs.declared.routes.Endpoint.TheVariants.{Requests, Import, Devices}
+use Rattle.http_routes.specs.declared.routes.Endpoint.TheVariants.{Balance, Nodes, Text}
+
+abbrev Rows : Type 0
+Rows = RowsOf (RouteOf Endpoint)
+
+abbrev pub devices_row : List ℕ × RouteOf Endpoint
+devices_row = ring_row (codes "/devices") Devices
+
+abbrev pub balance_row : List ℕ × RouteOf Endpoint
+balance_row = ring_row (codes "/balance") Balance
+
+abbrev pub nodes_row : List ℕ × RouteOf Endpoint
+nodes_row = ring_row (codes "/nodes") Nodes
+
+pub none-before : (rows : Rows) → rows ≡ [] → IsNewRoute (parse_route (codes "/v1/requests")) rows
+unfolding matchit_on_literals
+none-before rows is = rw is refl
+
+pub one : (old rows : Rows) → old ≡ [] → IsAdded (parse_route (codes "/v1/requests")) Requests old
+    rows
+    → rows ≡ requests_row ∷ []
+unfolding matchit_on_literals
+one old rows is added = rw (added, is) refl
+
+pub after-one : (rows : Rows) → rows ≡ requests_row ∷ []
+    → IsNewRoute (parse_route (codes "/v1/import/{ring}")) rows
+unfolding matchit_on_literals
+after-one rows is = rw is refl
+
+pub two : (old rows : Rows) → old ≡ requests_row ∷ []
+    → IsAdded (parse_route (codes "/v1/import/{ring}")) Import old rows
+    → rows ≡ import_row ∷ requests_row ∷ []
+unfolding matchit_on_literals
+two old rows is added = rw (added, is) refl
+
+pub after-two : (rows : Rows) → rows ≡ import_row ∷ requests_row ∷ []
+    → IsNewRoute (parse_route (codes "/v1/rings/{ring}/devices")) rows
+unfolding matchit_on_literals
+after-two rows is = rw is refl
+
+pub three : (old rows : Rows) → old ≡ import_row ∷ requests_row ∷ []
+    → IsAdded (parse_route (codes "/v1/rings/{ring}/devices")) Devices old rows
+    → rows ≡ import_row ∷ requests_row ∷ devices_row ∷ []
+unfolding matchit_on_literals
+three old rows is added = rw (added, is) refl
+
+pub after-three : (rows : Rows) → rows ≡ import_row ∷ requests_row ∷ devices_row ∷ []
+    → IsNewRoute (parse_route (codes "/v1/rings/{ring}/balance")) rows
+unfolding matchit_on_literals
+after-three rows is = rw is refl
+
+pub four : (old rows : Rows) → old ≡ import_row ∷ requests_row ∷ devices_row ∷ []
+    → IsAdded (parse_route (codes "/v1/rings/{ring}/balance")) Balance old rows
+    → rows ≡ import_row ∷ requests_row ∷ balance_row ∷ devices_row ∷ []
+unfolding matchit_on_literals
+four old rows is added = rw (added, is) refl
+
+pub after-four : (rows : Rows) → rows ≡ import_row ∷ requests_row ∷ balance_row ∷ devices_row ∷ []
+    → IsNewRoute (parse_route (codes "/v1/rings/{ring}/nodes")) rows
+unfolding matchit_on_literals
+after-four rows is = rw is refl
+
+pub five : (old rows : Rows) → old ≡ import_row ∷ requests_row ∷ balance_row ∷ devices_row ∷ []
+    → IsAdded (parse_route (codes "/v1/rings/{ring}/nodes")) Nodes old rows
+    → rows ≡ import_row ∷ requests_row ∷ balance_row ∷ devices_row ∷ nodes_row ∷ []
+unfolding matchit_on_literals
+five old rows is added = rw (added, is) refl
+
+pub after-five : (rows : Rows) → rows ≡ import_row ∷ requests_row ∷ balance_row ∷ devices_row ∷
+    nodes_row ∷ []
+    → IsNewRoute (parse_route (codes "/v1/rings/{ring}/text/{version}")) rows
+unfolding matchit_on_literals
+after-five rows is = rw is refl
+
+pub six : (old rows : Rows) → old ≡ import_row ∷ requests_row ∷ balance_row ∷ devices_row ∷
+    nodes_row ∷ []
+    → IsAdded (parse_route (codes "/v1/rings/{ring}/text/{version}")) Text old rows → rows
+    ≡ all_routes
+unfolding matchit_on_literals
+six old rows is added = rw (added, is) refl

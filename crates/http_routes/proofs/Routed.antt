@@ -1,0 +1,337 @@
+-- The routes of the table are those of the paths.
+use Rattle.std.proofs.Common.{◌≡◌, inl, inr, ℕ, ◌+◌, List, [], ◌∷◌, ◌++◌, length, refl, sym, ap}
+use Rattle.std.proofs.Common.{◌∙◌, arith, subst}
+use Rattle.std.proofs.Common.{append_assoc, codes, Option, Some, None, true, drop}
+use Rattle.std.proofs.lemmas.List.{append-nil, drop_at, length-append}
+use Rattle.std.proofs.lemmas.Str.{IsUtf8-append}
+use Rattle.std.specs.Option.{unwrap_or}
+use Rattle.std.specs.Prelude.{MatchOption}
+use Rattle.std.specs.Str.{IsUtf8}
+use Rattle.matchit.proofs.OnLiterals.{matchit_on_literals}
+use Rattle.matchit.specs.Level.{IsText}
+use Rattle.matchit.specs.Params.{AllText, named, part_of, walk}
+use Rattle.matchit.specs.Router.{RouteOf}
+use Rattle.matchit.specs.Rows.{RowsOf}
+use Rattle.matchit.specs.Seek.{first}
+use Rattle.http_routes.proofs.Finding.{Follows, IsFound, IsFree, IsPiece, between-first}
+use Rattle.http_routes.proofs.Finding.{bytes-first, last-first, seek-found}
+use Rattle.http_routes.proofs.Parts.{part-before, part-last}
+use Rattle.http_routes.proofs.Texts.{is_plain, begins-with, piece-of, plain-text, plain-utf8}
+use Rattle.http_routes.proofs.Texts.{segment-of, takes-piece, text-before}
+use Rattle.http_routes.proofs.Texts.{text-behind, utf8-behind, utf8-cut}
+use Rattle.http_routes.specs.Inner.Table.{all_routes, import_row, requests_row, ring_row, text_row}
+use Rattle.http_routes.specs.Routes.{HasRoute, IsPathSegment}
+use Rattle.http_routes.specs.declared.routes.Endpoint.{Endpoint}
+use Rattle.http_routes.specs.declared.routes.Endpoint.TheVariants.{Requests, Import, Devices}
+use Rattle.http_routes.specs.declared.routes.Endpoint.TheVariants.{Balance, Nodes, Text}
+
+abbrev pub Row : Type 0
+Row = RouteOf Endpoint
+
+-- what a found route's parameters say
+abbrev pub parts : List ℕ → Row → List (List ℕ × List ℕ)
+parts path row = walk row.pattern row.text path row.names 0 0
+
+abbrev pub part_named : List ℕ → List (List ℕ × List ℕ) → List ℕ
+part_named name pairs = unwrap_or (named name pairs) []
+
+-- A found route is one that the path has, with what its parameters say.
+pub record IsRouted (path : List ℕ) (row : Row) : Type 0 where
+  pub texts : AllText (parts path row)
+  pub has : HasRoute path row.value (part_named (codes "ring") (parts path row))
+      (part_named (codes "version") (parts path row))
+
+import_parts : (ring : List ℕ) → parts (codes "/v1/import/" ++ ring) import_row.1
+    ≡ (codes "ring", ring) ∷ []
+import_parts ring = part-last import_row.0 import_row.1.text (codes "/v1/import/" ++ ring) (12, 16)
+    0 0
+    (codes "/v1/import/") ring (plain-text (codes "/v1/import/") refl) (omega arith) (omega arith)
+    refl refl
+
+on-import : (path : List ℕ) → IsText path → IsUtf8 path → Follows import_row.0 path
+    → IsRouted path import_row.1
+on-import path text utf8 f =
+    let front = begins-with (codes "/v1/import/") (256 ∷ []) path
+    (plain-text (codes "/v1/import/") refl) f in
+    let whole : IsText (codes "/v1/import/" ++ front.0) = subst IsText front.1 text in
+    let piece = takes-piece [] front.0 (text-behind (codes "/v1/import/") front.0 whole) front.2 in
+    let is : path ≡ codes "/v1/import/" ++ piece.0 =
+    front.1 ∙ ap (λ (l : List ℕ). codes "/v1/import/" ++ l) (piece.2
+    ∙ ap (λ (l : List ℕ). piece.0 ++ l) piece.4 ∙ append-nil piece.0) in
+    let ringed : IsUtf8 piece.0 = utf8-behind (codes "/v1/import/") piece.0 (subst IsUtf8 is utf8)
+    (plain-utf8 (codes "/v1/import/") refl) in
+    subst (λ (p : List ℕ). IsRouted p import_row.1) (sym is) (made piece.0 piece.3 ringed)
+  where
+    made : (ring : List ℕ) → IsPiece ring → IsUtf8 ring
+        → IsRouted (codes "/v1/import/" ++ ring) import_row.1
+    made ring is utf8 = record {
+      texts = subst AllText (sym (import_parts ring)) (plain-utf8 (codes "ring") refl, utf8, tt);
+      has = subst (λ (pairs : List (List ℕ × List ℕ)). HasRoute (codes "/v1/import/" ++ ring) Import
+          (part_named (codes "ring") pairs) (part_named (codes "version") pairs))
+          (sym (import_parts ring))
+          (refl, segment-of ring is utf8, refl);
+    }
+
+on-requests : (path : List ℕ) → Follows requests_row.0 path → IsRouted path requests_row.1
+on-requests path f =
+    let front = begins-with (codes "/v1/requests") [] path (plain-text (codes "/v1/requests") refl)
+    f in
+    record {
+      texts = tt;
+      has = (front.1 ∙ ap (λ (l : List ℕ). codes "/v1/requests" ++ l) front.2, refl, refl);
+    }
+
+-- the path of a ring
+ring_front : (ring tail : List ℕ) → (codes "/v1/rings/" ++ ring) ++ tail
+    ≡ codes "/v1/rings/" ++ (ring ++ tail)
+ring_front ring tail = append_assoc (codes "/v1/rings/") ring tail
+
+-- a path whose tokens behind a ring's name begin with a slash
+ring-cut : (t path : List ℕ) → IsText path → IsUtf8 path
+    → Follows (codes "/v1/rings/" ++ 256 ∷ 47 ∷ t) path
+    → (ring : List ℕ) × (rest : List ℕ) × (path ≡ (codes "/v1/rings/" ++ ring) ++ 47 ∷ rest)
+    × IsPiece ring × IsUtf8 ring
+    × IsUtf8 (47 ∷ rest) × IsText rest × Follows t rest
+ring-cut t path text utf8 f =
+    let front = begins-with (codes "/v1/rings/") (256 ∷ 47 ∷ t) path
+    (plain-text (codes "/v1/rings/") refl) f in
+    let behind : IsText front.0 = text-behind (codes "/v1/rings/") front.0
+    (subst IsText front.1 text) in
+    let piece = takes-piece (47 ∷ t) front.0 behind front.2 in
+    let tail = begins-with (47 ∷ []) t piece.1 (plain-text (47 ∷ []) refl) piece.4 in
+    let is : front.0 ≡ piece.0 ++ 47 ∷ tail.0 = piece.2
+    ∙ ap (λ (l : List ℕ). piece.0 ++ l) tail.1 in
+    let whole : path ≡ (codes "/v1/rings/" ++ piece.0) ++ 47 ∷ tail.0 =
+    front.1 ∙ ap (λ (l : List ℕ). codes "/v1/rings/" ++ l) is
+    ∙ sym (ring_front piece.0 (47 ∷ tail.0)) in
+    let cut : IsUtf8 piece.0 × IsUtf8 (47 ∷ tail.0) = utf8-cut piece.0 tail.0 (subst IsUtf8 is
+    (utf8-behind (codes "/v1/rings/") front.0 (subst IsUtf8 front.1 utf8)
+    (plain-utf8 (codes "/v1/rings/") refl))) in
+    let rest : IsText (47 ∷ tail.0) = text-behind piece.0 (47 ∷ tail.0) (subst IsText is behind) in
+    (piece.0, tail.0, whole, piece.3, cut.0, cut.1, rest.1, tail.2)
+
+ring_parts : (t text ring : List ℕ) → IsFree ring → part_of text 11 15 ≡ codes "ring"
+    → walk (codes "/v1/rings/" ++ 256 ∷ 47 ∷ t) text ((codes "/v1/rings/" ++ ring) ++ 47 ∷ t)
+    ((11, 15) ∷ []) 0 0
+    ≡ (codes "ring", ring) ∷ []
+ring_parts t text ring free name =
+    part-before (codes "/v1/rings/" ++ 256 ∷ 47 ∷ t) text ((codes "/v1/rings/" ++ ring) ++ 47 ∷ t)
+    (11, 15) [] 0 0
+    (codes "/v1/rings/") (47 ∷ t) ring t (plain-text (codes "/v1/rings/") refl) free refl
+    (omega arith) (omega arith)
+    refl (ring_front ring (47 ∷ t)) ∙ ap (λ (l : List ℕ). (l, ring) ∷ []) name
+
+on-ring : (t : List ℕ) (endpoint : Endpoint) (path : List ℕ) → is_plain t ≡ true → IsText path
+    → IsUtf8 path
+    → part_of (ring_row (47 ∷ t) endpoint).1.text 11 15 ≡ codes "ring"
+    → ((ring : List ℕ) → IsPathSegment ring
+    → HasRoute ((codes "/v1/rings/" ++ ring) ++ 47 ∷ t) endpoint ring [])
+    → Follows (ring_row (47 ∷ t) endpoint).0 path → IsRouted path (ring_row (47 ∷ t) endpoint).1
+on-ring t endpoint path plain text utf8 name routed f =
+    let cut = ring-cut t path text utf8 f in
+    let tail = begins-with t [] cut.1 (plain-text t plain) (subst (λ (w : List ℕ). Follows w cut.1)
+    (sym (append-nil t)) cut.7) in
+    let rest : cut.1 ≡ t = tail.1 ∙ ap (λ (l : List ℕ). t ++ l) tail.2 ∙ append-nil t in
+    let is : path ≡ (codes "/v1/rings/" ++ cut.0) ++ 47 ∷ t =
+    cut.2 ∙ ap (λ (l : List ℕ). (codes "/v1/rings/" ++ cut.0) ++ 47 ∷ l) rest in
+    subst (λ (p : List ℕ). IsRouted p (ring_row (47 ∷ t) endpoint).1) (sym is)
+    (made t endpoint name routed cut.0 cut.3 cut.4)
+  where
+    made : (t : List ℕ) (endpoint : Endpoint) → part_of (ring_row (47 ∷ t) endpoint).1.text 11 15
+        ≡ codes "ring"
+        → ((ring : List ℕ) → IsPathSegment ring
+        → HasRoute ((codes "/v1/rings/" ++ ring) ++ 47 ∷ t) endpoint ring [])
+        → (ring : List ℕ) → IsPiece ring → IsUtf8 ring
+        → IsRouted ((codes "/v1/rings/" ++ ring) ++ 47 ∷ t) (ring_row (47 ∷ t) endpoint).1
+    made t endpoint name routed ring is utf8 = record {
+      texts = subst AllText (sym (ring_parts t (ring_row (47 ∷ t) endpoint).1.text ring is.1 name))
+          (plain-utf8 (codes "ring") refl, utf8, tt);
+      has = subst (λ (pairs : List (List ℕ × List ℕ)).
+          HasRoute ((codes "/v1/rings/" ++ ring) ++ 47 ∷ t) endpoint
+          (part_named (codes "ring") pairs) (part_named (codes "version") pairs))
+          (sym (ring_parts t (ring_row (47 ∷ t) endpoint).1.text ring is.1 name))
+          (routed ring (segment-of ring is utf8));
+    }
+
+text_parts : (ring version : List ℕ) → IsFree ring
+    → parts ((codes "/v1/rings/" ++ ring) ++ codes "/text/" ++ version) text_row.1
+    ≡ (codes "ring", ring) ∷ (codes "version", version) ∷ []
+text_parts ring version free =
+    let path : List ℕ = (codes "/v1/rings/" ++ ring) ++ codes "/text/" ++ version in
+    let cut : path ≡ (codes "/v1/rings/" ++ ring) ++ (codes "/text/" ++ version) =
+    append_assoc (codes "/v1/rings/" ++ ring) (codes "/text/") version in
+    let long : length path ≡ length (codes "/v1/rings/" ++ ring) + length
+    (codes "/text/" ++ version) =
+    ap (λ (l : List ℕ). length l) cut
+    ∙ length-append (codes "/v1/rings/" ++ ring) (codes "/text/" ++ version) in
+    let fore : length (codes "/v1/rings/" ++ ring) ≡ 0 + 10 + length ring = omega arith in
+    part-before text_row.0 text_row.1.text path (11, 15) ((23, 30) ∷ []) 0 0 (codes "/v1/rings/")
+    (codes "/text/" ++ 256 ∷ []) ring (codes "text/" ++ version)
+    (plain-text (codes "/v1/rings/") refl) free refl
+    (omega arith) (omega arith) refl (cut ∙ ring_front ring (codes "/text/" ++ version))
+    ∙ ap (λ (l : List (List ℕ × List ℕ)). (codes "ring", ring) ∷ l)
+    (part-last text_row.0 text_row.1.text path (23, 30) 11 (0 + 10 + length ring) (codes "/text/")
+    version
+    (plain-text (codes "/text/") refl) (omega arith) (omega (arith, long, fore)) refl
+    (ap (λ (l : List ℕ). drop (0 + 10 + length ring) l) cut
+    ∙ drop_at (codes "/v1/rings/" ++ ring) (codes "/text/" ++ version) (0 + 10 + length ring) fore))
+
+on-text : (path : List ℕ) → IsText path → IsUtf8 path → Follows text_row.0 path
+    → IsRouted path text_row.1
+on-text path text utf8 f =
+    let cut = ring-cut (codes "text/" ++ 256 ∷ []) path text utf8 f in
+    let front = begins-with (codes "text/") (256 ∷ []) cut.1 (plain-text (codes "text/") refl) cut.7
+    in
+    let whole : IsText (codes "text/" ++ front.0) = subst IsText front.1 cut.6 in
+    let piece = takes-piece [] front.0 (text-behind (codes "text/") front.0 whole) front.2 in
+    let rest : cut.1 ≡ codes "text/" ++ piece.0 =
+    front.1 ∙ ap (λ (l : List ℕ). codes "text/" ++ l) (piece.2
+    ∙ ap (λ (l : List ℕ). piece.0 ++ l) piece.4 ∙ append-nil piece.0) in
+    let is : path ≡ (codes "/v1/rings/" ++ cut.0) ++ codes "/text/" ++ piece.0 =
+    cut.2 ∙ ap (λ (l : List ℕ). (codes "/v1/rings/" ++ cut.0) ++ 47 ∷ l) rest
+    ∙ sym (append_assoc (codes "/v1/rings/" ++ cut.0) (codes "/text/") piece.0) in
+    let version : IsUtf8 piece.0 = utf8-behind (codes "/text/") piece.0
+    (subst IsUtf8 (ap (λ (l : List ℕ). 47 ∷ l) rest) cut.5) (plain-utf8 (codes "/text/") refl) in
+    subst (λ (p : List ℕ). IsRouted p text_row.1) (sym is)
+    (made cut.0 piece.0 cut.3 cut.4 piece.3 version)
+  where
+    made : (ring version : List ℕ) → IsPiece ring → IsUtf8 ring → IsPiece version → IsUtf8 version
+        → IsRouted ((codes "/v1/rings/" ++ ring) ++ codes "/text/" ++ version) text_row.1
+    made ring version is utf8 also valid = record {
+      texts = subst AllText (sym (text_parts ring version is.1))
+          (plain-utf8 (codes "ring") refl, utf8, (plain-utf8 (codes "version") refl, valid, tt));
+      has = subst (λ (pairs : List (List ℕ × List ℕ)).
+          HasRoute ((codes "/v1/rings/" ++ ring) ++ codes "/text/" ++ version) Text
+          (part_named (codes "ring") pairs) (part_named (codes "version") pairs))
+          (sym (text_parts ring version is.1))
+          (refl, segment-of ring is utf8, segment-of version also valid);
+    }
+
+by_row : (path : List ℕ) (row found : Row) → row ≡ found → IsRouted path row → IsRouted path found
+by_row path row found is r = subst (IsRouted path) is r
+
+-- what the router finds is a route of the path
+pub found-routed : (path : List ℕ) (row : Row) → IsText path → IsUtf8 path → first all_routes path
+    ≡ Some row → IsRouted path row
+found-routed path row text utf8 found = by (seek-found 0 all_routes path row found)
+  where
+    by : IsFound row all_routes path → IsRouted path row
+    by (inl f) = by_row path _ row f.0 (on-import path text utf8 f.1)
+    by (inr (inl f)) = by_row path _ row f.0 (on-requests path f.1)
+    by (inr (inr (inl f))) = by_row path _ row f.0 (on-ring (codes "balance") Balance path refl text
+        utf8 refl
+        (λ ring is. (refl, is, refl)) f.1)
+    by (inr (inr (inr (inl f)))) = by_row path _ row f.0
+        (on-ring (codes "devices") Devices path refl text utf8 refl
+        (λ ring is. (refl, is, refl)) f.1)
+    by (inr (inr (inr (inr (inl f))))) = by_row path _ row f.0
+        (on-ring (codes "nodes") Nodes path refl text utf8 refl
+        (λ ring is. (refl, is, refl)) f.1)
+    by (inr (inr (inr (inr (inr (inl f)))))) = by_row path _ row f.0 (on-text path text utf8 f.1)
+    by (inr (inr (inr (inr (inr (inr f)))))) = absurd f
+
+abbrev pub HasNone : List ℕ → Type 0
+HasNone path = (endpoint : Endpoint) (ring version : List ℕ) → HasRoute path endpoint ring version
+    → ⊥
+
+abbrev IsThere : List ℕ → Type 0
+IsThere path = (row : Row) × (first all_routes path ≡ Some row)
+
+-- the rows of a ring, behind its name
+abbrev ring_rows : RowsOf Row
+ring_rows = (codes "/balance", (ring_row (codes "/balance") Balance).1) ∷
+    (codes "/devices", (ring_row (codes "/devices") Devices).1) ∷
+    (codes "/nodes", (ring_row (codes "/nodes") Nodes).1) ∷
+    (codes "/text/" ++ 256 ∷ [], text_row.1) ∷ []
+
+there_in_ring : (path ring rest : List ℕ) (row : Row) → IsText path → path
+    ≡ (codes "/v1/rings/" ++ ring) ++ 47 ∷ rest
+    → IsPathSegment ring → first ring_rows (47 ∷ rest) ≡ Some row → IsThere path
+there_in_ring path ring rest row text is named found =
+    let whole : path ≡ codes "/v1/rings/" ++ (ring ++ 47 ∷ rest) = is
+    ∙ ring_front ring (47 ∷ rest) in
+    let bytes : IsText ring = text-before ring (47 ∷ rest)
+    (text-behind (codes "/v1/rings/") (ring ++ 47 ∷ rest) (subst IsText whole text)) in (
+      row,
+      ap (λ (l : List ℕ). first all_routes l) whole
+          ∙ bytes-first (codes "/v1/rings/") all_routes (ring ++ 47 ∷ rest) row
+          (between-first (codes "/balance") (ring_row (codes "/balance") Balance).1 _ ring rest row
+          (piece-of ring named) bytes
+          (refl, (refl, (refl, (refl, tt)))) found),
+    )
+
+row-ends : (row : Row) → first (([], row) ∷ []) [] ≡ Some row
+unfolding matchit_on_literals
+row-ends row = refl
+
+-- a path that has a route is found
+there : (path : List ℕ) (endpoint : Endpoint) (ring version : List ℕ) → IsText path
+    → HasRoute path endpoint ring version
+    → IsThere path
+there path Requests ring version text h = (
+  requests_row.1,
+  ap (λ (l : List ℕ). first all_routes l) h.0
+      ∙ bytes-first (codes "/v1/requests") all_routes [] requests_row.1 (row-ends requests_row.1),
+)
+there path Import ring version text h =
+    let bytes : IsText ring = text-behind (codes "/v1/import/") ring (subst IsText h.0 text) in (
+      import_row.1,
+      ap (λ (l : List ℕ). first all_routes l) h.0
+          ∙ bytes-first (codes "/v1/import/") all_routes ring import_row.1
+          (last-first import_row.1 ring (piece-of ring h.1) bytes),
+    )
+there path Devices ring version text h = there_in_ring path ring (codes "devices")
+    (ring_row (codes "/devices") Devices).1 text h.0 h.1
+    (bytes-first (codes "/devices") ring_rows [] (ring_row (codes "/devices") Devices).1
+    (row-ends (ring_row (codes "/devices") Devices).1))
+there path Balance ring version text h = there_in_ring path ring (codes "balance")
+    (ring_row (codes "/balance") Balance).1 text h.0 h.1
+    (bytes-first (codes "/balance") ring_rows [] (ring_row (codes "/balance") Balance).1
+    (row-ends (ring_row (codes "/balance") Balance).1))
+there path Nodes ring version text h = there_in_ring path ring (codes "nodes")
+    (ring_row (codes "/nodes") Nodes).1 text h.0 h.1
+    (bytes-first (codes "/nodes") ring_rows [] (ring_row (codes "/nodes") Nodes).1
+    (row-ends (ring_row (codes "/nodes") Nodes).1))
+there path Text ring version text h =
+    let is : path ≡ (codes "/v1/rings/" ++ ring) ++ (codes "/text/" ++ version) =
+    h.0 ∙ append_assoc (codes "/v1/rings/" ++ ring) (codes "/text/") version in
+    let bytes : IsText version = text-behind (codes "/text/") version
+    (text-behind (codes "/v1/rings/" ++ ring) (codes "/text/" ++ version) (subst IsText is text)) in
+    there_in_ring path ring (codes "text/" ++ version) text_row.1 text is h.1
+    (bytes-first (codes "/text/") ring_rows version text_row.1
+    (last-first text_row.1 version (piece-of version h.2) bytes))
+
+pub none-found : (path : List ℕ) → IsText path → first all_routes path ≡ None → HasNone path
+none-found path text none endpoint ring version h =
+    let some = there path endpoint ring version text h in cc (none, some.1)
+
+in-ring : (ring tail : List ℕ) → IsPathSegment ring → IsUtf8 tail
+    → IsUtf8 ((codes "/v1/rings/" ++ ring) ++ tail)
+in-ring ring tail named utf8 = IsUtf8-append (codes "/v1/rings/" ++ ring) tail
+    (IsUtf8-append (codes "/v1/rings/") ring (plain-utf8 (codes "/v1/rings/") refl) named.2) utf8
+
+-- a path that has a route is text
+pub routed-utf8 : (path : List ℕ) (endpoint : Endpoint) (ring version : List ℕ)
+    → HasRoute path endpoint ring version → IsUtf8 path
+routed-utf8 path Requests ring version h = subst IsUtf8 (sym h.0)
+    (plain-utf8 (codes "/v1/requests") refl)
+routed-utf8 path Import ring version h =
+    subst IsUtf8 (sym h.0) (IsUtf8-append (codes "/v1/import/") ring
+    (plain-utf8 (codes "/v1/import/") refl) h.1.2)
+routed-utf8 path Devices ring version h = subst IsUtf8 (sym h.0)
+    (in-ring ring (codes "/devices") h.1 (plain-utf8 (codes "/devices") refl))
+routed-utf8 path Balance ring version h = subst IsUtf8 (sym h.0)
+    (in-ring ring (codes "/balance") h.1 (plain-utf8 (codes "/balance") refl))
+routed-utf8 path Nodes ring version h = subst IsUtf8 (sym h.0)
+    (in-ring ring (codes "/nodes") h.1 (plain-utf8 (codes "/nodes") refl))
+routed-utf8 path Text ring version h = subst IsUtf8 (sym h.0)
+    (IsUtf8-append ((codes "/v1/rings/" ++ ring) ++ codes "/text/") version
+    (in-ring ring (codes "/text/") h.1 (plain-utf8 (codes "/text/") refl)) h.2.2)
+
+-- what is shown of a part that may be missing
+pub shown-part : {B : Type 0} (view : B → List ℕ) (result : Option B) (other : B)
+    (part : Option (List ℕ)) → view other ≡ []
+    → MatchOption result (part ≡ None) (λ value. part ≡ Some (view value))
+    → view (unwrap_or result other) ≡ unwrap_or part []
+shown-part view None other part empty is = rw is empty
+shown-part view (Some value) other part empty is = rw is refl
