@@ -34,7 +34,7 @@ fn a_peer_that_trickles_a_request_has_10_seconds_in_all(rt: HostRuntime) -> Resu
     let clock = OwnClock::new(Duration::from_secs(3));
     let pace = Pace::new(&clock, Patience::usual());
     let mut reader = TimedReader::new(Trickle, &pace);
-    assert_eq!(rt; bytes_read(&mut reader), 5);
+    assert!(rt; bytes_read(&mut reader) == 5);
     Ok(())
 }
 
@@ -43,7 +43,7 @@ fn a_peer_that_trickles_answers_has_10_seconds_in_all(rt: HostRuntime) -> Result
     let clock = OwnClock::new(Duration::from_secs(3));
     let pace = Pace::new(&clock, Patience::usual());
     let mut writer = TimedWriter::new(Trickle, &pace);
-    assert_eq!(rt; bytes_written(&mut writer), 4);
+    assert!(rt; bytes_written(&mut writer) == 4);
     Ok(())
 }
 
@@ -53,10 +53,9 @@ fn each_request_and_each_answer_has_its_time(rt: HostRuntime) -> Result<(), Fail
     let pace = Pace::new(&clock, Patience::usual());
     let mut reader = TimedReader::new(Trickle, &pace);
     let mut writer = TimedWriter::new(Trickle, &pace);
-    assert_eq!(rt; bytes_read(&mut reader), 5);
-    assert_eq!(rt; bytes_written(&mut writer), 4);
+    let first = (bytes_read(&mut reader), bytes_written(&mut writer));
     writer.flush()?;
-    assert_eq!(rt; bytes_read(&mut reader), 5);
-    assert_eq!(rt; bytes_written(&mut writer), 4);
+    let second = (bytes_read(&mut reader), bytes_written(&mut writer));
+    assert!(rt; first == (5, 4) && second == (5, 4));
     Ok(())
 }

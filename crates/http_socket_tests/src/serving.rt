@@ -46,139 +46,176 @@ fn patience(between: u64, within: u64, after: u64) -> Patience {
     }
 }
 
-/// A client that has sent this, and is not done.
-fn client(rt: &HostRuntime, address: SocketAddr, text: &str) -> Result<TcpStream, Fail> {
+/// What a client sends, write by write, and all that it gets.
+type Talk<'a> = (&'a [&'a str], &'a [&'a str]);
+
+/// A client that has sent these texts, and is not done.
+fn client(rt: &HostRuntime, address: SocketAddr, texts: &[&str]) -> Result<TcpStream, Fail> {
     let mut stream = TcpStream::connect(rt, address)?;
     stream.set_read_timeout(Some(Duration::from_secs(5)))?;
     stream.set_write_timeout(Some(Duration::from_secs(5)))?;
-    stream.write_all(text.as_bytes())?;
+    for text in texts {
+        stream.write_all(text.as_bytes())?;
+    }
     Ok(stream)
 }
 
-/// Whether a client gets exactly this until the end.
-fn gets(rt: &HostRuntime, mut stream: TcpStream, want: &str) -> Result<bool, Fail> {
+/// Whether bytes are these texts, one behind another.
+pub fn are_joined(bytes: &[u8], texts: &[&str]) -> bool {
+    let mut rest = bytes;
+    for text in texts {
+        match rest.strip_prefix(text.as_bytes()) {
+            Some(behind) => rest = behind,
+            None => return false,
+        }
+    }
+    rest.is_empty()
+}
+
+/// Whether a client gets exactly these texts until the end.
+fn gets(rt: &HostRuntime, mut stream: TcpStream, want: &[&str]) -> Result<bool, Fail> {
     let mut bytes = Vec::new(rt.alloc());
     stream.read_to_end(&mut bytes)?;
-    Ok(bytes.as_slice() == want.as_bytes())
+    Ok(are_joined(&bytes, want))
 }
+
+/// Whether each client gets what its talk says.
+fn all_get(rt: &HostRuntime, streams: Vec<TcpStream>, talks: &[Talk<'_>]) -> Result<bool, Fail> {
+    let mut all = true;
+    for (stream, talk) in streams.into_iter().zip(talks) {
+        all = gets(rt, stream, talk.1)? && all;
+    }
+    Ok(all)
+}
+
+/// The clients of some talks, each of which has sent its texts.
+fn clients(
+    rt: &HostRuntime,
+    address: SocketAddr,
+    talks: &[Talk<'_>],
+) -> Result<Vec<TcpStream>, Fail> {
+    let mut streams = Vec::new(rt.alloc());
+    for talk in talks {
+        streams.push(client(rt, address, talk.0)?)?;
+    }
+    Ok(streams)
+}
+
+/// Serves a client for each talk over a new book: whether each gets what its talk says, and how
+/// long the serving took.
+fn served(
+    rt: &HostRuntime,
+    patience: Patience,
+    talks: &[Talk<'_>],
+) -> Result<(bool, Duration), Fail> {
+    let mut server = Server::bind(rt, 0, patience)?;
+    let streams = clients(rt, server.address()?, talks)?;
+    let mut clock = HourClock::new(rt, Some(7));
+    let mut book = open(rt.alloc());
+    let began = Instant::now(rt)?;
+    let count = u16::try_from(talks.len()).unwrap_or(0);
+    server.serve(count, &mut clock, &mut book, b"", b"")?;
+    let took = began.elapsed(rt)?;
+    Ok((all_get(rt, streams, talks)?, took))
+}
+
+/// Whether each talk goes as it says, in at least so many milliseconds and under four seconds.
+fn goes_so(
+    rt: &HostRuntime,
+    patience: Patience,
+    least: u64,
+    talks: &[Talk<'_>],
+) -> Result<bool, Fail> {
+    let (all, took) = served(rt, patience, talks)?;
+    Ok(all && took >= Duration::from_millis(least) && took < Duration::from_secs(4))
+}
+
+/// A client that asks for two things, and gets both.
+const TWO: Talk<'_> = (&[CREATE, LAST], &[CREATED, LAST_ANSWER]);
 
 #[test]
 fn two_requests_of_one_connection_are_answered(rt: HostRuntime) -> Result<(), Fail> {
-    let mut book = open(rt.alloc());
-    let mut clock = HourClock::new(&rt, Some(7));
-    let mut server = Server::bind(&rt, 0, patience(1000, 1000, 1000))?;
-    let mut stream = client(&rt, server.address()?, CREATE)?;
-    stream.write_all(LAST.as_bytes())?;
-    assert_eq!(rt; server.serve(1, &mut clock, &mut book, b"", b""), Ok(()));
-    let want = format!(in rt.alloc(); "{CREATED}{LAST_ANSWER}")?;
-    assert!(rt; gets(&rt, stream, &want)?);
+    assert!(rt; goes_so(&rt, patience(1000, 1000, 1000), 0, &[TWO])?);
     Ok(())
 }
 
 #[test]
 fn a_repeat_over_another_connection_gets_the_kept_reply(rt: HostRuntime) -> Result<(), Fail> {
-    let mut book = open(rt.alloc());
-    let mut clock = HourClock::new(&rt, Some(7));
-    let mut server = Server::bind(&rt, 0, patience(1000, 1000, 1000))?;
-    let text = format!(in rt.alloc(); "{CREATE}{LAST}")?;
-    let first = client(&rt, server.address()?, &text)?;
-    let second = client(&rt, server.address()?, &text)?;
-    assert_eq!(rt; server.serve(2, &mut clock, &mut book, b"", b""), Ok(()));
-    let want = format!(in rt.alloc(); "{CREATED}{LAST_ANSWER}")?;
-    assert!(rt; gets(&rt, first, &want)?);
-    assert!(rt; gets(&rt, second, &want)?);
+    assert!(rt; goes_so(&rt, patience(1000, 1000, 1000), 0, &[TWO, TWO])?);
     Ok(())
 }
 
 #[test]
 fn half_a_request_ends_in_time_and_the_next_is_served(rt: HostRuntime) -> Result<(), Fail> {
-    let mut book = open(rt.alloc());
-    let mut clock = HourClock::new(&rt, Some(7));
-    let mut server = Server::bind(&rt, 0, patience(50, 150, 50))?;
-    let stopped = client(&rt, server.address()?, &CREATE[..80])?;
-    let text = format!(in rt.alloc(); "{CREATE}{LAST}")?;
-    let next = client(&rt, server.address()?, &text)?;
-    let began = Instant::now(&rt)?;
-    assert_eq!(rt; server.serve(2, &mut clock, &mut book, b"", b""), Ok(()));
-    let took = began.elapsed(&rt)?;
-    assert!(rt; took >= Duration::from_millis(150));
-    assert!(rt; took < Duration::from_secs(4));
-    assert!(rt; gets(&rt, stopped, "")?);
-    let want = format!(in rt.alloc(); "{CREATED}{LAST_ANSWER}")?;
-    assert!(rt; gets(&rt, next, &want)?);
+    let half: [&str; 1] = [&CREATE[..80]];
+    assert!(rt; goes_so(&rt, patience(50, 150, 50), 150, &[(&half, &[]), TWO])?);
     Ok(())
 }
 
 #[test]
 fn silence_between_requests_ends_sooner_than_within_one(rt: HostRuntime) -> Result<(), Fail> {
-    let mut book = open(rt.alloc());
-    let mut clock = HourClock::new(&rt, Some(7));
-    let mut server = Server::bind(&rt, 0, patience(50, 9000, 50))?;
-    let silent = client(&rt, server.address()?, "")?;
-    let paused = client(&rt, server.address()?, CREATE)?;
-    let began = Instant::now(&rt)?;
-    assert_eq!(rt; server.serve(2, &mut clock, &mut book, b"", b""), Ok(()));
-    let took = began.elapsed(&rt)?;
-    assert!(rt; took >= Duration::from_millis(100));
-    assert!(rt; took < Duration::from_secs(4));
-    assert!(rt; gets(&rt, silent, "")?);
-    assert!(rt; gets(&rt, paused, CREATED)?);
+    let talks: [Talk<'_>; 2] = [(&[], &[]), (&[CREATE], &[CREATED])];
+    assert!(rt; goes_so(&rt, patience(50, 9000, 50), 100, &talks)?);
     Ok(())
 }
 
 #[test]
 fn what_comes_behind_the_last_request_loses_no_answer(rt: HostRuntime) -> Result<(), Fail> {
-    let mut book = open(rt.alloc());
-    let mut clock = HourClock::new(&rt, Some(7));
-    let mut server = Server::bind(&rt, 0, patience(1000, 1000, 1000))?;
-    let mut text = format!(in rt.alloc(); "{LAST}")?;
-    for _ in 0..1200 {
-        text.push_str(CREATE)?;
-    }
-    let stream = client(&rt, server.address()?, &text)?;
-    assert_eq!(rt; server.serve(1, &mut clock, &mut book, b"", b""), Ok(()));
-    assert!(rt; gets(&rt, stream, LAST_ANSWER)?);
+    let mut many = [CREATE; 1201];
+    many[0] = LAST;
+    let talks: [Talk<'_>; 1] = [(&many, &[LAST_ANSWER])];
+    assert!(rt; goes_so(&rt, patience(1000, 1000, 1000), 0, &talks)?);
     Ok(())
+}
+
+/// The port of a server.
+fn port_of(server: &Server<'_, HostRuntime>) -> Result<Port, Fail> {
+    let port = server.address()?.port();
+    Ok(Port::new(port).ok_or("a port")?)
+}
+
+/// A port that a server had, and gave back.
+fn free_port(rt: &HostRuntime) -> Result<Port, Fail> {
+    port_of(&Server::bind(rt, 0, Patience::usual())?)
+}
+
+/// Serves no connection at a port.
+fn serve_none(rt: &HostRuntime, port: Port) -> Result<(), ServeFault> {
+    let mut book = open(rt.alloc());
+    let mut clock = HourClock::new(rt, Some(7));
+    serve_connections(rt, port, 0, &mut clock, &mut book, b"", b"")
 }
 
 #[test]
 fn no_connection_is_waited_for_at_count_0(rt: HostRuntime) -> Result<(), Fail> {
-    let mut book = open(rt.alloc());
-    let mut clock = HourClock::new(&rt, Some(7));
-    let free = Server::bind(&rt, 0, Patience::usual())?.address()?.port();
-    let Some(port) = Port::new(free) else {
-        return Err(Fail::from(ServeFault::NetFailed));
-    };
-    assert_eq!(rt;
-        serve_connections(&rt, port, 0, &mut clock, &mut book, b"", b""),
-        Ok(())
-    );
+    let free = free_port(&rt)?;
+    assert!(rt; serve_none(&rt, free) == Ok(()));
     Ok(())
 }
 
 #[test]
 fn a_port_that_is_taken_is_told(rt: HostRuntime) -> Result<(), Fail> {
-    let mut book = open(rt.alloc());
-    let mut clock = HourClock::new(&rt, Some(7));
     let server = Server::bind(&rt, 0, Patience::usual())?;
-    let Some(port) = Port::new(server.address()?.port()) else {
-        return Err(Fail::from(ServeFault::NetFailed));
-    };
-    let told = serve_connections(&rt, port, 0, &mut clock, &mut book, b"", b"");
-    assert_eq!(rt; told, Err(ServeFault::NetFailed));
+    let taken = port_of(&server)?;
+    assert!(rt; serve_none(&rt, taken) == Err(ServeFault::NetFailed));
     Ok(())
+}
+
+/// What serving one connection twice comes to, over a net that fails the second time.
+fn served_twice(alloc: Global) -> Result<(bool, bool), ServeFault> {
+    let machine = (ShortNet, alloc);
+    let mut book = open(alloc);
+    let mut clock = HourClock::new(&ShortNet, Some(7));
+    let mut server = Server::bind(&machine, 0, Patience::usual())?;
+    let first = server.serve(1, &mut clock, &mut book, b"", b"");
+    let second = server.serve(1, &mut clock, &mut book, b"", b"");
+    Ok((first.is_ok(), second == Err(ServeFault::NetFailed)))
 }
 
 #[test]
 fn a_peer_that_is_gone_is_passed_over_and_a_net_that_fails_is_told(
     rt: HostRuntime,
 ) -> Result<(), Fail> {
-    let mut book = open(rt.alloc());
-    let mut clock = HourClock::new(&rt, Some(7));
-    let machine = (ShortNet, rt.alloc());
-    let mut server = Server::bind(&machine, 0, Patience::usual())?;
-    assert_eq!(rt; server.serve(1, &mut clock, &mut book, b"", b""), Ok(()));
-    let told = server.serve(1, &mut clock, &mut book, b"", b"");
-    assert_eq!(rt; told, Err(ServeFault::NetFailed));
+    assert!(rt; served_twice(rt.alloc()) == Ok((true, true)));
     Ok(())
 }

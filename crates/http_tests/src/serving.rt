@@ -21,6 +21,37 @@ pub const CREATE: &str =
 pub const CREATED: &str =
     "HTTP/1.1 200 OK\r\nContent-Type: application/json\r\nContent-Length: 29\r\n\r\n{\"done\":\"create\",\"version\":0}";
 
+/// What is sent.
+#[derive(Clone, Copy)]
+pub enum Sent<'a> {
+    /// A read of this target.
+    Get(&'a str),
+    /// This body, posted to this target.
+    Post(&'a str, &'a str),
+    /// A message.
+    Message(&'a str),
+    /// These bytes.
+    Bytes(&'a str),
+    /// These bytes, and a good request behind them.
+    Before(&'a str),
+}
+
+/// What it is answered, whole.
+#[derive(Clone, Copy)]
+pub enum Told<'a> {
+    /// A status with its phrase, and a body of JSON.
+    Json(&'a str, &'a str),
+    /// The same as the last answer of its connection.
+    Last(&'a str, &'a str),
+    /// A text.
+    Text(&'a str),
+    /// These bytes.
+    Bytes(&'a str),
+}
+
+/// What is sent, and what it is answered.
+pub type Step<'a> = (Sent<'a>, Told<'a>);
+
 /// An empty book in memory.
 pub fn open(alloc: Global, limits: Limits) -> RingBook {
     let keeper = MemKeeper::new(alloc, Rings::new(alloc), limits);
@@ -32,84 +63,149 @@ pub fn clock_at(alloc: Global, hour: u32) -> Result<KnownClock, AllocError> {
     Ok(KnownClock::new(vec![in alloc; hour]?))
 }
 
-/// What a stream is answered at an hour, whose reads and writes have at most so many bytes.
+/// What a stream is answered at hour 0, whose reads and writes have at most so many bytes.
 pub fn ask_in_pieces(
     alloc: Global,
     book: &mut RingBook,
-    hour: u32,
     stream: &[u8],
     size: usize,
 ) -> Result<(u32, Vec<u8>), Fail> {
-    let mut clock = clock_at(alloc, hour)?;
+    let mut clock = clock_at(alloc, 0)?;
     let mut reader = CountedReader::new(Giver::new(stream, size, u32::MAX));
     let mut writer = CountedWriter::new(Taker::new(alloc, size, u32::MAX));
     let count = serve_stream(alloc, &mut reader, &mut writer, &mut clock, book, b"", b"")?;
     Ok((count, writer.into_inner().taken))
 }
 
-/// What a stream is answered at an hour.
-pub fn ask(alloc: Global, book: &mut RingBook, hour: u32, stream: &str) -> Result<Vec<u8>, Fail> {
-    let (_, text) = ask_in_pieces(alloc, book, hour, stream.as_bytes(), 1_000_000)?;
-    Ok(text)
-}
-
-/// Whether a stream is answered so.
-pub fn answers(
+/// Whether a stream gets so many answers, and these.
+fn answers_in_pieces(
     alloc: Global,
     book: &mut RingBook,
-    hour: u32,
-    stream: &str,
-    want: &str,
+    stream: &[u8],
+    size: usize,
+    want: (u32, &str),
 ) -> Result<bool, Fail> {
-    Ok(ask(alloc, book, hour, stream)?.as_slice() == want.as_bytes())
+    let (count, text) = ask_in_pieces(alloc, book, stream, size)?;
+    Ok(count == want.0 && text.as_slice() == want.1.as_bytes())
 }
 
-/// A request that posts this to a target.
-pub fn post(alloc: Global, target: &str, body: &str) -> Result<String, AllocError> {
+/// Whether a stream is answered so at hour 0.
+pub fn answers(alloc: Global, book: &mut RingBook, stream: &str, want: &str) -> Result<bool, Fail> {
+    let (_, text) = ask_in_pieces(alloc, book, stream.as_bytes(), 1_000_000)?;
+    Ok(text.as_slice() == want.as_bytes())
+}
+
+fn post(alloc: Global, target: &str, body: &str) -> Result<String, AllocError> {
     let length = body.len();
     format!(in alloc; "POST {target} HTTP/1.1\r\nHost: a\r\nContent-Length: {length}\r\n\r\n{body}")
 }
 
-/// A request that reads a target.
-pub fn get(alloc: Global, target: &str) -> Result<String, AllocError> {
-    format!(in alloc; "GET {target} HTTP/1.1\r\nHost: a\r\n\r\n")
+/// The bytes that are sent.
+pub fn request_text(alloc: Global, what: Sent<'_>) -> Result<String, AllocError> {
+    match what {
+        Sent::Get(target) => format!(in alloc; "GET {target} HTTP/1.1\r\nHost: a\r\n\r\n"),
+        Sent::Post(target, body) => post(alloc, target, body),
+        Sent::Message(body) => post(alloc, "/v1/requests", body),
+        Sent::Bytes(bytes) => String::from_str(alloc, bytes),
+        Sent::Before(bytes) => format!(in alloc; "{bytes}{CREATE}"),
+    }
 }
 
-/// An answer with this status, its phrase, and this body of JSON.
-pub fn json(alloc: Global, status: &str, body: &str) -> Result<String, AllocError> {
-    let length = body.len();
-    format!(in alloc;
-        "HTTP/1.1 {status}\r\nContent-Type: application/json\r\nContent-Length: {length}\r\n\r\n{body}"
-    )
+/// The bytes that are answered.
+pub fn answer_text(alloc: Global, what: Told<'_>) -> Result<String, AllocError> {
+    match what {
+        Told::Json(status, body) => {
+            let length = body.len();
+            format!(in alloc;
+                "HTTP/1.1 {status}\r\nContent-Type: application/json\r\nContent-Length: {length}\r\n\r\n{body}"
+            )
+        }
+        Told::Last(status, body) => {
+            let length = body.len();
+            format!(in alloc;
+                "HTTP/1.1 {status}\r\nContent-Type: application/json\r\nContent-Length: {length}\r\nConnection: close\r\n\r\n{body}"
+            )
+        }
+        Told::Text(body) => {
+            let length = body.len();
+            format!(in alloc;
+                "HTTP/1.1 200 OK\r\nContent-Type: text/plain\r\nContent-Length: {length}\r\n\r\n{body}"
+            )
+        }
+        Told::Bytes(bytes) => String::from_str(alloc, bytes),
+    }
 }
 
-/// The last answer of a stream, with this status, its phrase, and this body of JSON.
-pub fn last_json(alloc: Global, status: &str, body: &str) -> Result<String, AllocError> {
-    let length = body.len();
-    format!(in alloc;
-        "HTTP/1.1 {status}\r\nContent-Type: application/json\r\nContent-Length: {length}\r\nConnection: close\r\n\r\n{body}"
-    )
+/// Whether a step is answered as it says.
+pub fn is_step(alloc: Global, book: &mut RingBook, step: &Step<'_>) -> Result<bool, Fail> {
+    let stream = request_text(alloc, step.0)?;
+    let want = answer_text(alloc, step.1)?;
+    answers(alloc, book, &stream, &want)
 }
 
-/// An answer with this text.
-pub fn plain(alloc: Global, body: &str) -> Result<String, AllocError> {
-    let length = body.len();
-    format!(in alloc;
-        "HTTP/1.1 200 OK\r\nContent-Type: text/plain\r\nContent-Length: {length}\r\n\r\n{body}"
-    )
+/// Whether each step over one book is answered as it says.
+pub fn are_steps(alloc: Global, book: &mut RingBook, steps: &[Step<'_>]) -> Result<bool, Fail> {
+    for (number, step) in steps.iter().enumerate() {
+        if !is_step(alloc, book, step)? {
+            return Err(Fail::new(format_args!("step {number} is answered otherwise")));
+        }
+    }
+    Ok(true)
 }
 
-/// Whether each message that is posted gets its status with its phrase, and its JSON.
-pub fn posts(
-    alloc: Global,
-    book: &mut RingBook,
-    hour: u32,
-    rows: &[(&str, &str, &str)],
-) -> Result<bool, Fail> {
-    for (body, status, told) in rows {
-        let request = post(alloc, "/v1/requests", body)?;
-        let want = json(alloc, status, told)?;
-        if !answers(alloc, book, hour, &request, &want)? {
+/// Whether steps over a new book, a stream each, are answered as they say.
+pub fn session(alloc: Global, steps: &[Step<'_>]) -> Result<bool, Fail> {
+    are_steps(alloc, &mut open(alloc, Limits::full()), steps)
+}
+
+/// What has no route.
+pub const LOST: Told<'_> = Told::Json("404 Not Found", "{\"fault\":\"NoRoute\",\"status\":404}");
+
+/// What is said of a ring that is not there.
+pub const NO_RING: Told<'_> = Told::Json(
+    "422 Unprocessable Entity",
+    "{\"refused\":\"NoRing\",\"rule\":1}",
+);
+
+#[test]
+fn a_request_is_answered(rt: HostRuntime) -> Result<(), Fail> {
+    let steps = [(Sent::Bytes(CREATE), Told::Bytes(CREATED))];
+    assert!(rt; session(rt.alloc(), &steps)?);
+    Ok(())
+}
+
+/// Whether two equal requests in one stream, cut so, get the same answer.
+fn repeats(alloc: Global, size: usize) -> Result<bool, Fail> {
+    let stream = format!(in alloc; "{CREATE}{CREATE}")?;
+    let want = format!(in alloc; "{CREATED}{CREATED}")?;
+    let mut book = open(alloc, Limits::full());
+    answers_in_pieces(alloc, &mut book, stream.as_bytes(), size, (2, &want))
+}
+
+#[test]
+fn a_repeat_in_one_stream_is_decided_once(rt: HostRuntime) -> Result<(), Fail> {
+    assert!(rt; repeats(rt.alloc(), 1_000_000)?);
+    Ok(())
+}
+
+#[test]
+fn a_stream_is_answered_alike_however_it_is_cut(rt: HostRuntime) -> Result<(), Fail> {
+    for size in 1..=CREATE.len().saturating_mul(2) {
+        assert!(rt; repeats(rt.alloc(), size)?);
+    }
+    Ok(())
+}
+
+/// Whether no proper beginning of a request is answered.
+fn is_silent(alloc: Global, book: &mut RingBook) -> Result<bool, Fail> {
+    for length in 0..CREATE.len() {
+        if !answers_in_pieces(
+            alloc,
+            book,
+            &CREATE.as_bytes()[..length],
+            1_000_000,
+            (0, ""),
+        )? {
             return Ok(false);
         }
     }
@@ -117,106 +213,58 @@ pub fn posts(
 }
 
 #[test]
-fn a_request_is_answered(rt: HostRuntime) -> Result<(), Fail> {
-    let mut book = open(rt.alloc(), Limits::full());
-    assert!(rt; answers(rt.alloc(), &mut book, 0, CREATE, CREATED)?);
-    Ok(())
-}
-
-#[test]
-fn a_repeat_in_one_stream_is_decided_once(rt: HostRuntime) -> Result<(), Fail> {
-    let mut book = open(rt.alloc(), Limits::full());
-    let stream = format!(in rt.alloc(); "{CREATE}{CREATE}")?;
-    let want = format!(in rt.alloc(); "{CREATED}{CREATED}")?;
-    let (count, text) = ask_in_pieces(rt.alloc(), &mut book, 0, stream.as_bytes(), 1_000_000)?;
-    assert_eq!(rt; count, 2);
-    assert_eq!(rt; text.as_slice(), want.as_bytes());
-    Ok(())
-}
-
-#[test]
-fn a_stream_is_answered_alike_however_it_is_cut(rt: HostRuntime) -> Result<(), Fail> {
-    let stream = format!(in rt.alloc(); "{CREATE}{CREATE}")?;
-    let want = format!(in rt.alloc(); "{CREATED}{CREATED}")?;
-    for size in 1..=stream.len() {
-        let mut book = open(rt.alloc(), Limits::full());
-        let (count, text) = ask_in_pieces(rt.alloc(), &mut book, 0, stream.as_bytes(), size)?;
-        assert_eq!(rt; count, 2);
-        assert_eq!(rt; text.as_slice(), want.as_bytes());
-    }
-    Ok(())
-}
-
-#[test]
 fn a_proper_beginning_decides_nothing_and_is_not_answered(rt: HostRuntime) -> Result<(), Fail> {
     let mut book = open(rt.alloc(), Limits::full());
-    for length in 0..CREATE.len() {
-        let front = &CREATE.as_bytes()[..length];
-        let (count, text) = ask_in_pieces(rt.alloc(), &mut book, 0, front, 1_000_000)?;
-        assert_eq!(rt; count, 0);
-        assert_eq!(rt; text.len(), 0);
-    }
-    let read = get(rt.alloc(), "/v1/rings/object/devices")?;
-    let none = json(
-        rt.alloc(),
-        "422 Unprocessable Entity",
-        "{\"refused\":\"NoRing\",\"rule\":1}",
-    )?;
-    assert!(rt; answers(rt.alloc(), &mut book, 0, &read, &none)?);
+    assert!(rt; is_silent(rt.alloc(), &mut book)?);
+    let read = (Sent::Get("/v1/rings/object/devices"), NO_RING);
+    assert!(rt; is_step(rt.alloc(), &mut book, &read)?);
     Ok(())
 }
 
 #[test]
 fn nothing_is_answered_behind_the_last(rt: HostRuntime) -> Result<(), Fail> {
-    let mut book = open(rt.alloc(), Limits::full());
     let stream =
         "GET /v2 HTTP/1.1\r\nHost: a\r\nCONNECTION: Close\r\n\r\nGET /v2 HTTP/1.1\r\nHost: a\r\n\r\n";
-    let want = last_json(
-        rt.alloc(),
-        "404 Not Found",
-        "{\"fault\":\"NoRoute\",\"status\":404}",
-    )?;
-    assert!(rt; answers(rt.alloc(), &mut book, 0, stream, &want)?);
+    let last = Told::Last("404 Not Found", "{\"fault\":\"NoRoute\",\"status\":404}");
+    assert!(rt; session(rt.alloc(), &[(Sent::Bytes(stream), last)])?);
     Ok(())
 }
 
 #[test]
 fn a_body_of_a_read_is_skipped(rt: HostRuntime) -> Result<(), Fail> {
-    let mut book = open(rt.alloc(), Limits::full());
     let stream =
         "GET /v2 HTTP/1.1\r\nHost: a\r\nContent-Length: 3\r\n\r\nabcGET /v2 HTTP/1.1\r\nhost: b\r\n\r\n";
-    let one = json(
-        rt.alloc(),
-        "404 Not Found",
-        "{\"fault\":\"NoRoute\",\"status\":404}",
-    )?;
-    let want = format!(in rt.alloc(); "{one}{one}")?;
-    assert!(rt; answers(rt.alloc(), &mut book, 0, stream, &want)?);
+    let want =
+        "HTTP/1.1 404 Not Found\r\nContent-Type: application/json\r\nContent-Length: 32\r\n\r\n{\"fault\":\"NoRoute\",\"status\":404}HTTP/1.1 404 Not Found\r\nContent-Type: application/json\r\nContent-Length: 32\r\n\r\n{\"fault\":\"NoRoute\",\"status\":404}";
+    assert!(rt; session(rt.alloc(), &[(Sent::Bytes(stream), Told::Bytes(want))])?);
     Ok(())
+}
+
+/// Serves a stream at hours that a clock tells, and answers how many answers were written, and
+/// which hour comes next.
+fn hours_left(alloc: Global, stream: &str, hours: Vec<u32>) -> Result<(u32, u32), Fail> {
+    let mut clock = KnownClock::new(hours);
+    let mut reader = CountedReader::new(stream.as_bytes());
+    let mut writer = CountedWriter::new(Vec::new(alloc));
+    let mut book = open(alloc, Limits::full());
+    let count = serve_stream(
+        alloc,
+        &mut reader,
+        &mut writer,
+        &mut clock,
+        &mut book,
+        b"",
+        b"",
+    )?;
+    Ok((count, clock.hour()))
 }
 
 #[test]
 fn hours_are_taken_by_deliveries_alone(rt: HostRuntime) -> Result<(), Fail> {
-    let alloc = rt.alloc();
-    let mut book = open(alloc, Limits::full());
-    let read = get(alloc, "/v1/rings/object/devices")?;
-    let bad = post(alloc, "/v1/requests", "{}")?;
-    let stream = format!(in alloc; "{read}{bad}{CREATE}{read}{CREATE}")?;
-    let mut clock = KnownClock::new(vec![in alloc; 3, 4, 5]?);
-    let mut reader = CountedReader::new(stream.as_bytes());
-    let mut writer = CountedWriter::new(Vec::new(alloc));
-    assert_eq!(rt;
-        serve_stream(
-            alloc,
-            &mut reader,
-            &mut writer,
-            &mut clock,
-            &mut book,
-            b"",
-            b""
-        )?,
-        5
-    );
-    assert_eq!(rt; clock.hour(), 5);
+    let read = "GET /v1/rings/object/devices HTTP/1.1\r\nHost: a\r\n\r\n";
+    let bad = "POST /v1/requests HTTP/1.1\r\nHost: a\r\nContent-Length: 2\r\n\r\n{}";
+    let stream = format!(in rt.alloc(); "{read}{bad}{CREATE}{read}{CREATE}")?;
+    let hours = vec![in rt.alloc(); 3, 4, 5]?;
+    assert_eq!(rt; hours_left(rt.alloc(), &stream, hours)?, (5, 5));
     Ok(())
 }
