@@ -116,9 +116,14 @@ def distinct(count):
 
 
 def by_numbers():
-    times = [statistics.median(distinct(count) for _ in range(ROUNDS)) for count in NUMBERS]
-    table = [[count, f"{taken:.3f} s", f"{1e6 * taken / count:.1f} µs"] for count, taken in zip(NUMBERS, times)]
-    tell("Distinct numbers in memory", "bench/growth.py", ["numbers", "all of them", "each"], table)
+    """Few and many numbers in turns, as many of them in each turn, since the machine's pace changes."""
+    fewer, most = NUMBERS
+    rounds = [([distinct(fewer) for _ in range(most // fewer)], distinct(most)) for _ in range(ROUNDS)]
+    times = [statistics.median(taken for few, _ in rounds for taken in few), statistics.median(many for _, many in rounds)]
+    times_as_long = statistics.median(many / statistics.mean(few) for few, many in rounds)
+    table = [[count, f"{taken:.3f} s", f"{1e6 * taken / count:.1f} µs", told]
+             for count, taken, told in zip(NUMBERS, times, ("", f"{times_as_long:.1f} times"))]
+    tell("Distinct numbers in memory", "bench/growth.py", ["numbers", "all of them", "each", f"of {fewer} in the same minute"], table)
 
 
 def memory():

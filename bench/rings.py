@@ -1,18 +1,24 @@
 #!/usr/bin/env python3
 """Times rebalances and tables of a ring in memory: bench/rings.py [--small] [--write] [FOLDER]
 
-Each figure is the median over runs of their own, from the line's last byte written to the answer's last byte read. FOLDER
-is not used. --small takes small sizes, --write puts the tables into docs/speed.md.
+Each figure is the median over runs of their own, from the line's last byte written to the answer's last byte read. Where
+Debian's python3-swift is installed, Swift's own builder does the same in turns with it. FOLDER is not used. --small takes
+small sizes, --write puts the tables into docs/speed.md.
 """
+import json
 import statistics
+import subprocess
 import sys
 import time
+from pathlib import Path
 
 from program import ask, ask_balance, message, rows, start, tell
 
 SMALL = "--small" in sys.argv
 ROUNDS = 2 if SMALL else 7
 POWER, REPLICAS, DEVICES = (8, 3, 32) if SMALL else (14, 5, 256)
+SWIFT = "/usr/bin/python3"
+COMPARED = ("a first rebalance", "one more device", "nothing to do")
 
 
 def ask_table(running, rows_told):
@@ -47,14 +53,44 @@ def one_run():
     return took
 
 
+def has_swift():
+    """Whether Swift's code is there."""
+    return subprocess.run([SWIFT, "-c", "import swift.common.ring"], capture_output=True).returncode == 0
+
+
+def swift_run():
+    """What the first three steps took Swift's builder, in seconds."""
+    script = Path(__file__).parent / "swift_builder.py"
+    given = json.dumps(rows(range(DEVICES)))
+    done = subprocess.run([SWIFT, script, str(POWER), str(REPLICAS)], input=given, text=True, capture_output=True, check=True)
+    return dict(zip(COMPARED, json.loads(done.stdout)))
+
+
+def compare(pairs):
+    """Swift's builder beside ours, run by run."""
+    told = []
+    for step in COMPARED:
+        ours, theirs = ([1000 * run[step] for run in side] for side in zip(*pairs))
+        times = statistics.median(slow / fast for fast, slow in zip(ours, theirs))
+        told.append([step, f"{statistics.median(ours):.2f} ms", f"{statistics.median(theirs):.0f} ms", f"{times:.0f} times"])
+    tell("The same ring by Swift's own builder", "bench/rings.py", ["step", "ringd, with both figures", "Swift 2.30, with its balance", "as long"], told)
+
+
 def main():
-    runs = [one_run() for _ in range(ROUNDS)]
+    runs, pairs = [], []
+    with_swift = has_swift()
+    for _ in range(ROUNDS):
+        runs.append(one_run())
+        if with_swift:
+            pairs.append((runs[-1], swift_run()))
     told = []
     for step in runs[0]:
         found = sorted(1000 * run[step] for run in runs)
         told.append([step, f"{statistics.median(found):.2f} ms", f"{found[0]:.2f} to {found[-1]:.2f} ms"])
     tell(f"A ring of power {POWER} with {REPLICAS} replicas and {DEVICES} devices, in memory", "bench/rings.py",
          ["step", "until the answer", "varied"], told)
+    if pairs:
+        compare(pairs)
 
 
 if __name__ == "__main__":

@@ -25,8 +25,13 @@ MILLI = 1000
 
 
 def refused(number):
-    """A request that is decided, and changes no ring: its request and the hour are the rows that are written."""
+    """A request that is decided, and changes no ring: its own row is the one that is written, since the hour stays."""
     return message(number, "remove", id=60000)
+
+
+def risen(number):
+    """The same at an hour of its own, which is written too."""
+    return message(number, "remove", hour=number, id=60000)
 
 
 def hours(number):
@@ -49,8 +54,8 @@ def commits_of_ringd(room, line):
     return COMMITS / (took - idle)
 
 
-def commits_of_sqlite(room, with_ring):
-    """Commits a second of Python's sqlite3: a request, the hour, and perhaps the row of a ring."""
+def commits_of_sqlite(room, also):
+    """Commits a second of Python's sqlite3: a request, and perhaps the hour or the row of a ring."""
     file = f"{room}/sqlite.db"
     for end in ("", "-wal", "-shm"):
         if os.path.exists(file + end):
@@ -70,10 +75,11 @@ def commits_of_sqlite(room, with_ring):
     begun = time.perf_counter()
     for number in range(1, COMMITS + 1):
         held.execute("BEGIN")
-        if with_ring:
+        if also == "ring":
             held.execute("UPDATE ring SET min_hours = ?, version = ? WHERE name = 'object'", (number % 1000, number))
         held.execute("INSERT INTO request VALUES ('bench', ?, ?, 0, ?, ?)", (number, number, command, reply))
-        held.execute("UPDATE meta SET hour = 0 WHERE one = 1")
+        if also == "hour":
+            held.execute("UPDATE meta SET hour = ? WHERE one = 1", (number,))
         held.execute("COMMIT")
     took = time.perf_counter() - begun
     held.close()
@@ -83,11 +89,12 @@ def commits_of_sqlite(room, with_ring):
 def commits(room):
     """Both sides in turns, so that what else the disk does meets both."""
     told = []
-    for what, line, with_ring in [("a request and the hour", refused, False), ("these and the row of a ring", hours, True)]:
+    for what, line, also in [("a request", refused, None), ("a request and the hour", risen, "hour"),
+                             ("a request and the row of a ring", hours, "ring")]:
         ours, theirs = [], []
         for _ in range(ROUNDS):
             ours.append(commits_of_ringd(room, line))
-            theirs.append(commits_of_sqlite(room, with_ring))
+            theirs.append(commits_of_sqlite(room, also))
         mine, other = statistics.median(ours), statistics.median(theirs)
         told.append([what, f"{mine:.0f}", f"{other:.0f}", f"{mine / other:.2f}", f"{min(ours):.0f} to {max(ours):.0f}", f"{min(theirs):.0f} to {max(theirs):.0f}"])
     tell("Commits a second", "bench/store.py",

@@ -14,7 +14,7 @@ from pathlib import Path
 
 TOP = Path(__file__).resolve().parent.parent
 PAGE = TOP / "docs" / "definitions.md"
-TESTS = {"ring_tests", "request_tests", "http_tests", "http_socket_tests", "store_rows_tests", "test_streams"}
+TESTS = {"ring_tests", "request_tests", "http_tests", "http_socket_tests", "store_tests", "program_tests", "test_streams", "worked_rows"}
 WORD = re.compile(r"[A-Za-z_][A-Za-z0-9_]*(?:['-][A-Za-z0-9_]+)*")
 DEFINED = re.compile(r"^\s*(?:abbrev |unfoldable )?pub (?:record |data )?([A-Za-z_][\w'-]*)")
 HEAD = """# The words of the contracts

@@ -29,7 +29,7 @@ LAYERS = (
     ("rings", "ring_place ring_share ring_tables ring_text swift_ring path_lookup csv_import ring_model"),
     ("words and bytes", "ring_words byte_streams"),
 )
-TESTS = re.compile(r"_tests$|^test_streams$")
+TESTS = re.compile(r"_tests$|^test_streams$|^worked_rows$")
 COLOURS = ("#4e79a7", "#f28e2b", "#59a14f", "#e15759", "#b07aa1", "#76b7b2", "#9c755f", "#edc948", "#bab0ac")
 FONT = 'font-family="DejaVu Sans, Verdana, sans-serif"'
 
