@@ -240,10 +240,10 @@ fn a_body_of_a_read_is_skipped(rt: HostRuntime) -> Result<(), Fail> {
     Ok(())
 }
 
-/// Serves a stream at hours that a clock tells, and answers how many answers were written, and
-/// which hour comes next.
-fn hours_left(alloc: Global, stream: &str, hours: Vec<u32>) -> Result<(u32, u32), Fail> {
-    let mut clock = KnownClock::new(hours);
+/// Serves a stream at hours 3, 4 and 5, and answers how many answers were written, and which hour
+/// comes next.
+fn hours_left(alloc: Global, stream: &str) -> Result<(u32, u32), Fail> {
+    let mut clock = KnownClock::new(vec![in alloc; 3, 4, 5]?);
     let mut reader = CountedReader::new(stream.as_bytes());
     let mut writer = CountedWriter::new(Vec::new(alloc));
     let mut book = open(alloc, Limits::full());
@@ -264,7 +264,6 @@ fn hours_are_taken_by_deliveries_alone(rt: HostRuntime) -> Result<(), Fail> {
     let read = "GET /v1/rings/object/devices HTTP/1.1\r\nHost: a\r\n\r\n";
     let bad = "POST /v1/requests HTTP/1.1\r\nHost: a\r\nContent-Length: 2\r\n\r\n{}";
     let stream = format!(in rt.alloc(); "{read}{bad}{CREATE}{read}{CREATE}")?;
-    let hours = vec![in rt.alloc(); 3, 4, 5]?;
-    assert_eq!(rt; hours_left(rt.alloc(), &stream, hours)?, (5, 5));
+    assert_eq!(rt; hours_left(rt.alloc(), &stream)?, (5, 5));
     Ok(())
 }
