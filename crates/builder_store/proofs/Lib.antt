@@ -9,3 +9,4 @@ pub mod Gained
 pub mod Made
 pub mod Keeping
 pub mod Rising
+pub mod Orders

@@ -7,4 +7,3 @@ pub mod Creates
 pub mod Reading
 pub mod Writing
 pub mod Inside
-pub mod Orders

@@ -139,17 +139,9 @@ with_device c key value = record c { devices = insert c.devices key value }
 abbrev pub without_device : Contents → NameNumber → Contents
 without_device c key = record c { devices = remove c.devices key }
 
--- The contents with this row of `seat`, in place of one with its key.
-abbrev pub with_seat : Contents → SeatKey → ℤ → Contents
-with_seat c key value = record c { seats = insert c.seats key value }
-
 -- The contents without the rows of `seat`.
 abbrev pub without_seats : Contents → Contents
 without_seats c = record c { seats = empty }
-
--- The contents with this row of `moved`, in place of one with its key.
-abbrev pub with_moved : Contents → NameNumber → ℤ → Contents
-with_moved c key value = record c { moved = insert c.moved key value }
 
 -- The contents without the rows of `moved`.
 abbrev pub without_moved : Contents → Contents

@@ -46,10 +46,6 @@ pub record Reaches (old new : State) {A : Type 0} (result : Result A Error) (aft
   pub kept : HasCleanDisk new → KeepsCommit old new
   pub survives : Survives old new (λ _. ⊥)
 
--- A call within a transaction that makes this change to the contents.
-abbrev pub Writes : State → State → {A : Type 0} → Result A Error → (Contents → Contents) → Type 0
-Writes old new result change = Reaches old new result (change (contents_of old.now.trees))
-
 -- A call that reads: where it answers Ok, the answer is so of the contents, and nothing changed.
 -- Whatever it answers, nothing is committed.
 pub record ReadsTables (old new : State) {A : Type 0} (result : Result A Error) (IsSo : Contents →

@@ -6,7 +6,8 @@ ghost use Rattle.store_tables.specs.Changes.{changed, changed_all, prepared, wit
 ghost use Rattle.store_tables.specs.Changes.{with_kept};
 ghost use Rattle.sqlite.specs.State.{HasCleanDisk};
 ghost use Rattle.store_tables.specs.Contents.{contents_of};
-ghost use Rattle.store_tables.specs.Store.{CommitsTables, IsBegun, Reaches, SeesStore, Writes};
+ghost use Rattle.store_tables.specs.Inner.Writing.{Writes};
+ghost use Rattle.store_tables.specs.Store.{CommitsTables, IsBegun, Reaches, SeesStore};
 ghost use Rattle.store_tables.specs.Store.{begun_contents};
 
 use crate::creating::create_missing;
@@ -45,7 +46,10 @@ fn apply_one<S: Alter>(tx: &mut Transaction<'_, S>, change: &RowChange) -> Resul
 }
 
 /// Makes the changes in their order, up to the first that fails.
-pub fn apply<S: Alter>(tx: &mut Transaction<'_, S>, changes: &[RowChange]) -> Result<(), Error>
+pub(crate) fn apply<S: Alter>(
+    tx: &mut Transaction<'_, S>,
+    changes: &[RowChange],
+) -> Result<(), Error>
     requires { SeesStore (state S.Store tx.old.conn.now) }
     ensures same_reference { tx.new.conn.ghost_name ≡ tx.old.conn.ghost_name }
     ensures writes { Writes (state S.Store tx.old.conn.now) (state S.Store tx.new.conn.now) result

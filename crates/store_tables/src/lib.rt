@@ -9,9 +9,9 @@ mod reads;
 mod rows;
 mod writes;
 
-pub use changes::{RowChange, apply, commit_decided, commit_request, prepare_store};
+pub use changes::{RowChange, commit_decided, commit_request, prepare_store};
 pub use creating::{TABLE_COUNT, create_missing};
-pub use opening::{attach, is_blank, tables_made};
+pub use opening::{is_blank, tables_made};
 pub use reads::{
     all_devices, all_meta, all_moved, all_parts, all_published, all_requests, all_rings, all_seats,
     find_request,
@@ -19,8 +19,4 @@ pub use reads::{
 pub use rows::{
     DeviceKey, DeviceRow, KeptRequest, MetaRow, MovedRow, PartRow, PublishedRow, RequestRow,
     RingRow, SeatRow,
-};
-pub use writes::{
-    add_device, add_moved, add_request, add_seat, clear_moved, clear_seats, drop_device, put_meta,
-    put_part, put_published, put_ring,
 };

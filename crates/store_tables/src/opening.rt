@@ -2,34 +2,14 @@
 
 ghost use Rattle.std.specs.Prelude.{◌≡◌, ◌≤◌, ◌↔◌, IfOk, IfSome, IsTrue, OnOk, false};
 ghost use Rattle.sqlite.specs.Held.{state};
-ghost use Rattle.sqlite.specs.State.{HasCleanDisk, IsLive, Opens};
+ghost use Rattle.sqlite.specs.State.{HasCleanDisk};
 ghost use Rattle.store_tables.specs.Store.{AreOrdered, IsBegun};
 ghost use Rattle.store_tables.specs.Tables.{no_tables, schema_of_first};
 
 use crate::creating::{TABLE_COUNT, create_range};
 use crate::matching::are_same;
-use sqlite::{Alter, Connection, Error, ErrorCode, MemStore};
+use sqlite::{Alter, Connection, Error, MemStore};
 use std::alloc::Global;
-
-/// A new connection over the same store, which is rolled back and read anew, with no clock and no
-/// limit on steps. Of a connection that was handed in nobody can know that its rowids rise; of
-/// this one it is known. An error comes with the store.
-pub fn attach<S: Alter + Drop>(
-    alloc: Global,
-    conn: Connection<S>,
-) -> Result<Connection<S>, (Error, S)>
-    ensures opens { IfOk result (λ c. HasCleanDisk (state S.Store c)
-        → Opens (state S.Store c) × IsLive (state S.Store c)) }
-    ensures mode { IfOk result (λ c. c.in_transaction ≡ false) }
-    ensures ordered { IfOk result (λ c. HasCleanDisk (state S.Store c)
-        → AreOrdered (state S.Store c).now) }
-{
-    let store = conn.into_store();
-    if store.is_broken() {
-        return Err((Error::SqliteFailure(ErrorCode::Closed), store));
-    }
-    Connection::over(alloc, store)
-}
 
 /// Makes the first tables of the store where there is nothing.
 fn make_first<S: Alter>(conn: &mut Connection<S>, made: usize) -> Result<(), Error>

@@ -5,16 +5,15 @@ ghost use Rattle.sqlite.specs.Held.{state};
 ghost use Rattle.sqlite.specs.State.{Executes, HasCleanDisk, KeepsCommit, Survives};
 ghost use Rattle.sqlite.specs.Values.{bound};
 ghost use Rattle.store_tables.specs.Contents.{contents_of};
-ghost use Rattle.store_tables.specs.Contents.{device_key, device_of, meta_of, moved_of, part_of};
-ghost use Rattle.store_tables.specs.Contents.{published_of, request_of, ring_of, seat_of};
-ghost use Rattle.store_tables.specs.Contents.{with_device, with_meta, with_moved, with_part};
-ghost use Rattle.store_tables.specs.Contents.{with_published, with_request, with_ring, with_seat};
+ghost use Rattle.store_tables.specs.Contents.{device_key, device_of, meta_of, part_of};
+ghost use Rattle.store_tables.specs.Contents.{published_of, request_of, ring_of};
+ghost use Rattle.store_tables.specs.Contents.{with_device, with_meta, with_part};
+ghost use Rattle.store_tables.specs.Contents.{with_published, with_request, with_ring};
 ghost use Rattle.store_tables.specs.Contents.{without_device, without_moved, without_seats};
-ghost use Rattle.store_tables.specs.Store.{Becomes, SeesStore, Writes};
+ghost use Rattle.store_tables.specs.Inner.Writing.{Writes};
+ghost use Rattle.store_tables.specs.Store.{Becomes, SeesStore};
 
-use crate::rows::{
-    DeviceKey, DeviceRow, MetaRow, MovedRow, PartRow, PublishedRow, RequestRow, RingRow, SeatRow,
-};
+use crate::rows::{DeviceKey, DeviceRow, MetaRow, PartRow, PublishedRow, RequestRow, RingRow};
 use sqlite::types::ValueRef;
 use sqlite::{Alter, Error, Transaction, params};
 
@@ -101,7 +100,7 @@ fn replace_meta<S: Alter>(tx: &mut Transaction<'_, S>, row: &MetaRow) -> Result<
 }
 
 /// Puts the row on the whole store, in place of the one with its key.
-pub fn put_meta<S: Alter>(tx: &mut Transaction<'_, S>, row: &MetaRow) -> Result<(), Error>
+pub(crate) fn put_meta<S: Alter>(tx: &mut Transaction<'_, S>, row: &MetaRow) -> Result<(), Error>
     requires { SeesStore (state S.Store tx.old.conn.now) }
     ensures same_reference { tx.new.conn.ghost_name ≡ tx.old.conn.ghost_name }
     ensures writes { Writes (state S.Store tx.old.conn.now) (state S.Store tx.new.conn.now) result
@@ -170,7 +169,7 @@ fn replace_ring<S: Alter>(tx: &mut Transaction<'_, S>, row: &RingRow) -> Result<
 }
 
 /// Puts a ring, in place of the one with its name.
-pub fn put_ring<S: Alter>(tx: &mut Transaction<'_, S>, row: &RingRow) -> Result<(), Error>
+pub(crate) fn put_ring<S: Alter>(tx: &mut Transaction<'_, S>, row: &RingRow) -> Result<(), Error>
     requires { SeesStore (state S.Store tx.old.conn.now) }
     ensures same_reference { tx.new.conn.ghost_name ≡ tx.old.conn.ghost_name }
     ensures writes { Writes (state S.Store tx.old.conn.now) (state S.Store tx.new.conn.now) result
@@ -184,7 +183,10 @@ pub fn put_ring<S: Alter>(tx: &mut Transaction<'_, S>, row: &RingRow) -> Result<
 }
 
 /// Puts a published text, in place of the one with its key. Its ring has to be there.
-pub fn put_published<S: Alter>(tx: &mut Transaction<'_, S>, row: &PublishedRow) -> Result<(), Error>
+pub(crate) fn put_published<S: Alter>(
+    tx: &mut Transaction<'_, S>,
+    row: &PublishedRow,
+) -> Result<(), Error>
     requires { SeesStore (state S.Store tx.old.conn.now) }
     ensures same_reference { tx.new.conn.ghost_name ≡ tx.old.conn.ghost_name }
     ensures writes { Writes (state S.Store tx.old.conn.now) (state S.Store tx.new.conn.now) result
@@ -241,7 +243,7 @@ fn add_part<S: Alter>(tx: &mut Transaction<'_, S>, row: &PartRow) -> Result<(), 
 ///
 /// A row that is there is written over: to take it out and put another in its place would change
 /// its entry in the index too.
-pub fn put_part<S: Alter>(tx: &mut Transaction<'_, S>, row: &PartRow) -> Result<(), Error>
+pub(crate) fn put_part<S: Alter>(tx: &mut Transaction<'_, S>, row: &PartRow) -> Result<(), Error>
     requires { SeesStore (state S.Store tx.old.conn.now) }
     ensures same_reference { tx.new.conn.ghost_name ≡ tx.old.conn.ghost_name }
     ensures writes { Writes (state S.Store tx.old.conn.now) (state S.Store tx.new.conn.now) result
@@ -256,7 +258,10 @@ pub fn put_part<S: Alter>(tx: &mut Transaction<'_, S>, row: &PartRow) -> Result<
 
 /// Adds a device. Its ring has to be there. No row may have its key, nor its address, port and
 /// name in the ring, else it is refused.
-pub fn add_device<S: Alter>(tx: &mut Transaction<'_, S>, row: &DeviceRow) -> Result<(), Error>
+pub(crate) fn add_device<S: Alter>(
+    tx: &mut Transaction<'_, S>,
+    row: &DeviceRow,
+) -> Result<(), Error>
     requires { SeesStore (state S.Store tx.old.conn.now) }
     ensures same_reference { tx.new.conn.ghost_name ≡ tx.old.conn.ghost_name }
     ensures writes { Writes (state S.Store tx.old.conn.now) (state S.Store tx.new.conn.now) result
@@ -281,7 +286,10 @@ pub fn add_device<S: Alter>(tx: &mut Transaction<'_, S>, row: &DeviceRow) -> Res
 
 /// Adds a request. Its number has to be new to the caller, and its place to all, else it is
 /// refused.
-pub fn add_request<S: Alter>(tx: &mut Transaction<'_, S>, row: &RequestRow) -> Result<(), Error>
+pub(crate) fn add_request<S: Alter>(
+    tx: &mut Transaction<'_, S>,
+    row: &RequestRow,
+) -> Result<(), Error>
     requires { SeesStore (state S.Store tx.old.conn.now) }
     ensures same_reference { tx.new.conn.ghost_name ≡ tx.old.conn.ghost_name }
     ensures writes { Writes (state S.Store tx.old.conn.now) (state S.Store tx.new.conn.now) result
@@ -301,36 +309,11 @@ pub fn add_request<S: Alter>(tx: &mut Transaction<'_, S>, row: &RequestRow) -> R
     )
 }
 
-/// Adds a seat of a store of schema 1. Its device has to be there, else it is refused.
-pub fn add_seat<S: Alter>(tx: &mut Transaction<'_, S>, row: &SeatRow) -> Result<(), Error>
-    requires { SeesStore (state S.Store tx.old.conn.now) }
-    ensures same_reference { tx.new.conn.ghost_name ≡ tx.old.conn.ghost_name }
-    ensures writes { Writes (state S.Store tx.old.conn.now) (state S.Store tx.new.conn.now) result
-        (λ c. with_seat c (seat_of row.now).0 (seat_of row.now).1) }
-{
-    run(
-        tx,
-        "INSERT INTO seat VALUES (?1, ?2, ?3, ?4)",
-        params![&row.ring, &row.part, &row.replica, &row.device],
-    )
-}
-
-/// Adds the hour of a move to a store of schema 1. Its ring has to be there, else it is refused.
-pub fn add_moved<S: Alter>(tx: &mut Transaction<'_, S>, row: &MovedRow) -> Result<(), Error>
-    requires { SeesStore (state S.Store tx.old.conn.now) }
-    ensures same_reference { tx.new.conn.ghost_name ≡ tx.old.conn.ghost_name }
-    ensures writes { Writes (state S.Store tx.old.conn.now) (state S.Store tx.new.conn.now) result
-        (λ c. with_moved c (moved_of row.now).0 (moved_of row.now).1) }
-{
-    run(
-        tx,
-        "INSERT INTO moved VALUES (?1, ?2, ?3)",
-        params![&row.ring, &row.part, &row.hour],
-    )
-}
-
 /// Takes out the device with this key, if there is one.
-pub fn drop_device<S: Alter>(tx: &mut Transaction<'_, S>, key: &DeviceKey) -> Result<(), Error>
+pub(crate) fn drop_device<S: Alter>(
+    tx: &mut Transaction<'_, S>,
+    key: &DeviceKey,
+) -> Result<(), Error>
     requires { SeesStore (state S.Store tx.old.conn.now) }
     ensures same_reference { tx.new.conn.ghost_name ≡ tx.old.conn.ghost_name }
     ensures writes { Writes (state S.Store tx.old.conn.now) (state S.Store tx.new.conn.now) result
@@ -344,7 +327,7 @@ pub fn drop_device<S: Alter>(tx: &mut Transaction<'_, S>, key: &DeviceKey) -> Re
 }
 
 /// Takes out all seats of schema 1.
-pub fn clear_seats<S: Alter>(tx: &mut Transaction<'_, S>) -> Result<(), Error>
+pub(crate) fn clear_seats<S: Alter>(tx: &mut Transaction<'_, S>) -> Result<(), Error>
     requires { SeesStore (state S.Store tx.old.conn.now) }
     ensures same_reference { tx.new.conn.ghost_name ≡ tx.old.conn.ghost_name }
     ensures writes { Writes (state S.Store tx.old.conn.now) (state S.Store tx.new.conn.now) result
@@ -354,7 +337,7 @@ pub fn clear_seats<S: Alter>(tx: &mut Transaction<'_, S>) -> Result<(), Error>
 }
 
 /// Takes out all hours of moves of schema 1.
-pub fn clear_moved<S: Alter>(tx: &mut Transaction<'_, S>) -> Result<(), Error>
+pub(crate) fn clear_moved<S: Alter>(tx: &mut Transaction<'_, S>) -> Result<(), Error>
     requires { SeesStore (state S.Store tx.old.conn.now) }
     ensures same_reference { tx.new.conn.ghost_name ≡ tx.old.conn.ghost_name }
     ensures writes { Writes (state S.Store tx.old.conn.now) (state S.Store tx.new.conn.now) result

@@ -1,7 +1,7 @@
 //! Rings that the tests start from, and their rows.
 use ring_model::{Ring, RingParts, Rings};
 use ring_words::{Address, Device, DeviceName, Hour, Port, Power, Replicas, RingName, Row, Weight};
-use std::alloc::Global;
+use std::alloc::{AllocError, Global};
 use std::rc::RcStr;
 use std::test::Fail;
 
@@ -23,47 +23,94 @@ pub fn device(alloc: Global, number: u8) -> Result<Device, Fail> {
     })
 }
 
-/// A ring of power 2 with one replica, and so many devices, at a version.
-pub fn parts(
-    alloc: Global,
-    devices: u8,
-    version: u32,
-    seats: &[u16],
-    hour: Option<Hour>,
-) -> Result<RingParts, Fail> {
+/// What is with device 0.
+#[derive(Clone, Copy, PartialEq, Eq)]
+pub enum First {
+    Stays,
+    /// It is marked to be removed by the next rebalance.
+    Marked,
+    Gone,
+}
+
+/// A ring of power 2 with one replica.
+#[derive(Clone, Copy)]
+pub struct Shape {
+    /// How many devices it was given.
+    pub devices: u8,
+    pub first: First,
+    pub version: u32,
+    /// The device of each partition, where there are any.
+    pub seats: Option<[u16; 4]>,
+    pub moved: [Option<Hour>; 4],
+    /// The version of its only published text.
+    pub published: Option<u32>,
+}
+
+/// Three devices at version 5: two partitions on each of devices 0 and 1 since hour 0.
+pub const SETTLED: Shape = Shape {
+    devices: 3,
+    first: First::Stays,
+    version: 5,
+    seats: Some([0, 1, 0, 1]),
+    moved: [Some(0); 4],
+    published: None,
+};
+
+/// As the fifth worked example leaves it: one partition went from device 1 to device 2 at hour 24.
+pub const FIFTH: Shape = Shape {
+    devices: 3,
+    first: First::Stays,
+    version: 6,
+    seats: Some([0, 1, 0, 2]),
+    moved: [Some(0), Some(0), Some(0), Some(24)],
+    published: Some(6),
+};
+
+/// The devices of a ring.
+fn devices(alloc: Global, shape: &Shape) -> Result<Vec<Device>, Fail> {
     let mut all = Vec::new(alloc);
-    for number in 0..devices {
-        all.push(device(alloc, number)?)?;
+    for number in 0..shape.devices {
+        if number > 0 || shape.first != First::Gone {
+            let mut one = device(alloc, number)?;
+            one.removed = number == 0 && shape.first == First::Marked;
+            all.push(one)?;
+        }
     }
-    Ok(RingParts {
+    Ok(all)
+}
+
+/// The published texts of a ring.
+fn published(alloc: Global, shape: &Shape) -> Result<Vec<(u32, RcStr)>, AllocError> {
+    let mut all = Vec::new(alloc);
+    if let Some(version) = shape.published {
+        all.push((version, RcStr::from_str(alloc, "text")?))?;
+    }
+    Ok(all)
+}
+
+/// The ring of a shape.
+fn ring(alloc: Global, shape: &Shape) -> Result<Ring, Fail> {
+    let parts = RingParts {
         power: Power::new(2).ok_or("a power")?,
         replicas: Replicas::new(1).ok_or("replicas")?,
         min_hours: 24,
-        next_id: u32::from(devices),
-        version,
-        devices: all,
-        seats: Vec::from_slice(alloc, seats)?,
-        moved: vec![in alloc; hour; 4]?,
-        published: Vec::new(alloc),
-    })
-}
-
-/// The ring `object` of these parts, and no other.
-pub fn object(alloc: Global, parts: RingParts) -> Result<Rings, Fail> {
-    let ring = match Ring::build(alloc, parts) {
-        Ok(ring) => ring,
-        Err(_) => return Err(Fail::from("a ring")),
+        next_id: u32::from(shape.devices),
+        version: shape.version,
+        devices: devices(alloc, shape)?,
+        seats: match &shape.seats {
+            Some(seats) => Vec::from_slice(alloc, seats)?,
+            None => Vec::new(alloc),
+        },
+        moved: Vec::from_slice(alloc, &shape.moved)?,
+        published: published(alloc, shape)?,
     };
-    Ok(Rings::new(alloc).with(RingName::new(alloc, "object")?, ring)?)
+    match Ring::build(alloc, parts) {
+        Ok(ring) => Ok(ring),
+        Err(_) => Err(Fail::from("a ring")),
+    }
 }
 
-/// The ring as the fifth worked example leaves it: two partitions on each of devices 0 and 1 at
-/// hour 0, of which one went from device 1 to device 2 at hour 24.
-pub fn fifth(alloc: Global) -> Result<Rings, Fail> {
-    let mut parts = parts(alloc, 3, 6, &[0, 1, 0, 2], Some(0))?;
-    if parts.moved.len() == 4 {
-        parts.moved[3] = Some(24);
-    }
-    parts.published.push((6, RcStr::from_str(alloc, "text")?))?;
-    object(alloc, parts)
+/// The ring `object` of this shape, and no other.
+pub fn object(alloc: Global, shape: &Shape) -> Result<Rings, Fail> {
+    Ok(Rings::new(alloc).with(RingName::new(alloc, "object")?, ring(alloc, shape)?)?)
 }

@@ -1,5 +1,5 @@
-//! Tests of the store: its tables in a SQL database, the rows that a change writes, and the keeper
-//! over memory and over files in memory. There is no code here besides.
+//! Tests of the store: the rows that a change writes, and the keeper over memory and over files in
+//! memory. There is no code here besides.
 #![tactic(auto)]
 
 #[cfg(test)]
@@ -8,5 +8,3 @@ mod changes;
 mod fixtures;
 #[cfg(test)]
 mod keeper;
-#[cfg(test)]
-mod tables;

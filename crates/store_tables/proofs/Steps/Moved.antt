@@ -6,17 +6,16 @@ use Rattle.sqlite_value.specs.Order.{Row}
 use Rattle.sqlite_trees.specs.Tree.{Trees}
 use Rattle.sqlite.specs.State.{State, Executes, Shown}
 use Rattle.store_tables.specs.Tables.{store_schema}
-use Rattle.store_tables.specs.Entries.{map_of, NameNumber, meta_rows, ring_rows, device_rows}
+use Rattle.store_tables.specs.Entries.{map_of, meta_rows, ring_rows, device_rows}
 use Rattle.store_tables.specs.Entries.{seat_rows, moved_rows, published_rows, request_rows}
 use Rattle.store_tables.specs.Entries.{part_rows}
-use Rattle.store_tables.specs.Contents.{contents_of, with_moved, without_moved}
+use Rattle.store_tables.specs.Contents.{contents_of, without_moved}
 use Rattle.store_tables.specs.Store.{IsStore, Becomes}
-use Rattle.store_tables.specs.Inner.Texts.{put_moved, list_moved, clear_moved}
+use Rattle.store_tables.specs.Inner.Texts.{list_moved, clear_moved}
 use Rattle.store_tables.proofs.Plain.Writes.{Spares}
-use Rattle.store_tables.proofs.Plain.Adds.{adds_row}
 use Rattle.store_tables.proofs.Plain.Queries.{lists_all}
 use Rattle.store_tables.proofs.Plain.Drops.{drops_all}
-use Rattle.store_tables.proofs.Tables.Moved.{moved_facts, moved_params, moved_adds}
+use Rattle.store_tables.proofs.Tables.Moved.{moved_facts}
 use Rattle.store_tables.proofs.Tables.Moved.{moved_lists as lists, moved_clears, all_pass}
 use Rattle.store_tables.proofs.Living.{lives_in, store_from, no_entries}
 
@@ -34,18 +33,6 @@ moved_only old new h m is = λ j. record {
   requests = map_of request_rows (h.1.1.1.1.1.1.0 (λ e. cc) j);
   parts = map_of part_rows (h.1.1.1.1.1.1.1.0 (λ e. cc) j);
 }
-
-pub adds_moved : (old new : State) (key : NameNumber) (value : ℤ) (count : ℕ) → IsStore old.now
-    → Executes put_moved (moved_params key value) old new (Ok count)
-    → Becomes new.now (with_moved (contents_of old.now.trees) key value)
-adds_moved old new key value count is h =
-    let it = adds_row store_schema moved_rows moved_facts put_moved moved_params moved_adds key
-    value old new count (lives_in old.now is) h in
-    record {
-      store = store_from new.now it.0;
-      contents = moved_only old.now.trees new.now.trees it.1
-          _ it.2;
-    }
 
 pub lists_moved : (old new : State) (rows : List Row) → IsStore old.now
     → Shown list_moved [] old new rows

@@ -6,17 +6,16 @@ use Rattle.sqlite_value.specs.Order.{Row}
 use Rattle.sqlite_trees.specs.Tree.{Trees}
 use Rattle.sqlite.specs.State.{State, Executes, Shown}
 use Rattle.store_tables.specs.Tables.{store_schema}
-use Rattle.store_tables.specs.Entries.{map_of, SeatKey, meta_rows, ring_rows, device_rows}
+use Rattle.store_tables.specs.Entries.{map_of, meta_rows, ring_rows, device_rows}
 use Rattle.store_tables.specs.Entries.{seat_rows, moved_rows, published_rows, request_rows}
 use Rattle.store_tables.specs.Entries.{part_rows}
-use Rattle.store_tables.specs.Contents.{contents_of, with_seat, without_seats}
+use Rattle.store_tables.specs.Contents.{contents_of, without_seats}
 use Rattle.store_tables.specs.Store.{IsStore, Becomes}
-use Rattle.store_tables.specs.Inner.Texts.{put_seat, list_seat, clear_seat}
+use Rattle.store_tables.specs.Inner.Texts.{list_seat, clear_seat}
 use Rattle.store_tables.proofs.Plain.Writes.{Spares}
-use Rattle.store_tables.proofs.Plain.Adds.{adds_row}
 use Rattle.store_tables.proofs.Plain.Queries.{lists_all}
 use Rattle.store_tables.proofs.Plain.Drops.{drops_all}
-use Rattle.store_tables.proofs.Tables.Seat.{seat_facts, seat_params, seat_adds, seat_lists as lists}
+use Rattle.store_tables.proofs.Tables.Seat.{seat_facts, seat_lists as lists}
 use Rattle.store_tables.proofs.Tables.Seat.{seat_clears, all_pass}
 use Rattle.store_tables.proofs.Living.{lives_in, store_from, no_entries}
 
@@ -34,18 +33,6 @@ seat_only old new h m is = λ j. record {
   requests = map_of request_rows (h.1.1.1.1.1.1.0 (λ e. cc) j);
   parts = map_of part_rows (h.1.1.1.1.1.1.1.0 (λ e. cc) j);
 }
-
-pub adds_seat : (old new : State) (key : SeatKey) (value : ℤ) (count : ℕ) → IsStore old.now
-    → Executes put_seat (seat_params key value) old new (Ok count)
-    → Becomes new.now (with_seat (contents_of old.now.trees) key value)
-adds_seat old new key value count is h =
-    let it = adds_row store_schema seat_rows seat_facts put_seat seat_params seat_adds key value old
-    new count (lives_in old.now is) h in
-    record {
-      store = store_from new.now it.0;
-      contents = seat_only old.now.trees new.now.trees it.1
-          _ it.2;
-    }
 
 pub lists_seat : (old new : State) (rows : List Row) → IsStore old.now
     → Shown list_seat [] old new rows

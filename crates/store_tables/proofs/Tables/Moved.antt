@@ -1,27 +1,25 @@
 -- The rows of `moved`, and what the statements on it mean.
 use Rattle.std.proofs.Common.{◌≡◌, inl, inr, ℤ, List, [], ◌∷◌, codes, true, false, refl}
 use Rattle.std.specs.Ordering.{int_cmp, eq_by_cmp}
-use Rattle.sqlite.specs.declared.types.Value.TheVariants.{Null, Int, Text}
+use Rattle.sqlite.specs.declared.types.Value.TheVariants.{Int, Text}
 use Rattle.sqlite_value.specs.Order.{Row}
 use Rattle.sqlite_value.proofs.OrderLemmas.{value_cmp-Int, value_cmp-Text}
 use Rattle.sqlite_value.specs.Keys.{ascending, first_key}
 use Rattle.sqlite_value.specs.declared.keys.Collation.TheVariants.{Binary}
 use Rattle.sqlite_value.specs.declared.keys.Key.{Key}
-use Rattle.sqlite.specs.Term.{Term, lit, col}
-use Rattle.sqlite.specs.Source.TheVariants.{Values}
-use Rattle.sqlite.specs.Command.TheVariants.{Select, Delete, Insert}
+use Rattle.sqlite.specs.Term.{Term, col}
+use Rattle.sqlite.specs.Command.TheVariants.{Select, Delete}
 use Rattle.sqlite_schema.specs.Rules.{agree}
 use Rattle.sqlite_tied.specs.Compute.{everything}
 use Rattle.sqlite.specs.Listing.{understood, reads_listing}
 use Rattle.sqlite.proofs.Callers.{IsPlain, command_of}
 use Rattle.store_tables.specs.Tables.{store_schema}
 use Rattle.store_tables.specs.Entries.{NameNumber, name_cmp, moved_rows}
-use Rattle.store_tables.specs.Inner.Texts.{put_moved, list_moved, clear_moved}
-use Rattle.store_tables.proofs.Plain.Values.{cast_null, cast_int, equal_ints, equal_texts}
+use Rattle.store_tables.specs.Inner.Texts.{list_moved, clear_moved}
+use Rattle.store_tables.proofs.Plain.Values.{equal_ints, equal_texts}
 use Rattle.store_tables.proofs.Plain.Values.{both_equal}
 use Rattle.store_tables.proofs.Plain.Shapes.{present, shape_of}
 use Rattle.store_tables.proofs.Plain.Facts.{Facts}
-use Rattle.store_tables.proofs.Plain.Adds.{AddText}
 use Rattle.store_tables.proofs.Plain.Queries.{ListText, of_table, passes}
 use Rattle.store_tables.proofs.Plain.Drops.{DropText}
 use Rattle.store_tables.proofs.Keys.{name_number_total, name_number_exact, then_equal}
@@ -50,32 +48,6 @@ moved_facts = record {
   );
   agrees = agrees;
   unique = λ db x h. present _ (and_parts _ _ h).0;
-}
-
-abbrev pub moved_params : NameNumber → ℤ → Row
-moved_params = λ key value. Text key.0 ∷ Int key.1 ∷ Int value ∷ []
-
-abbrev terms : List Term
-terms = lit Null ∷ col 0 0 ∷ col 0 1 ∷ col 0 2 ∷ []
-
-put_is : command_of (understood store_schema put_moved) ≡ Insert 4 (Values terms 4)
-unfolding understood everything
-put_is = refl
-
-put_plain : IsPlain (understood store_schema put_moved)
-unfolding understood everything
-put_plain = (refl, refl)
-
-pub moved_adds : AddText store_schema moved_rows put_moved moved_params
-moved_adds = record {
-  at = 4;
-  terms = terms;
-  width = 4;
-  placed = refl;
-  is = put_is;
-  plain = put_plain;
-  one = λ key value. refl;
-  stored = λ rows key value. rw (cast_null, cast_int key.1, cast_int value) refl;
 }
 
 abbrev project : List Term

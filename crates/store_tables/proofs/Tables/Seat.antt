@@ -1,27 +1,25 @@
 -- The rows of `seat`, and what the statements on it mean.
 use Rattle.std.proofs.Common.{◌≡◌, inl, inr, ℤ, List, [], ◌∷◌, codes, true, false, refl}
 use Rattle.std.specs.Ordering.{int_cmp, eq_by_cmp}
-use Rattle.sqlite.specs.declared.types.Value.TheVariants.{Null, Int, Text}
+use Rattle.sqlite.specs.declared.types.Value.TheVariants.{Int, Text}
 use Rattle.sqlite_value.specs.Order.{Row}
 use Rattle.sqlite_value.proofs.OrderLemmas.{value_cmp-Int, value_cmp-Text}
 use Rattle.sqlite_value.specs.Keys.{ascending, first_key}
 use Rattle.sqlite_value.specs.declared.keys.Collation.TheVariants.{Binary}
 use Rattle.sqlite_value.specs.declared.keys.Key.{Key}
-use Rattle.sqlite.specs.Term.{Term, lit, col}
-use Rattle.sqlite.specs.Source.TheVariants.{Values}
-use Rattle.sqlite.specs.Command.TheVariants.{Select, Delete, Insert}
+use Rattle.sqlite.specs.Term.{Term, col}
+use Rattle.sqlite.specs.Command.TheVariants.{Select, Delete}
 use Rattle.sqlite_schema.specs.Rules.{agree}
 use Rattle.sqlite_tied.specs.Compute.{everything}
 use Rattle.sqlite.specs.Listing.{understood, reads_listing}
 use Rattle.sqlite.proofs.Callers.{IsPlain, command_of}
 use Rattle.store_tables.specs.Tables.{store_schema}
 use Rattle.store_tables.specs.Entries.{SeatKey, name_cmp, seat_rows}
-use Rattle.store_tables.specs.Inner.Texts.{put_seat, list_seat, clear_seat}
-use Rattle.store_tables.proofs.Plain.Values.{cast_null, cast_int, equal_ints, equal_texts}
+use Rattle.store_tables.specs.Inner.Texts.{list_seat, clear_seat}
+use Rattle.store_tables.proofs.Plain.Values.{equal_ints, equal_texts}
 use Rattle.store_tables.proofs.Plain.Values.{all_three}
 use Rattle.store_tables.proofs.Plain.Shapes.{present, shape_of}
 use Rattle.store_tables.proofs.Plain.Facts.{Facts}
-use Rattle.store_tables.proofs.Plain.Adds.{AddText}
 use Rattle.store_tables.proofs.Plain.Queries.{ListText, of_table, passes}
 use Rattle.store_tables.proofs.Plain.Drops.{DropText}
 use Rattle.store_tables.proofs.Keys.{seat_total, seat_exact, then_equals}
@@ -50,33 +48,6 @@ seat_facts = record {
       (s.0, (s.1.0, (s.1.1.0, s.1.1.1.0)), s.1.1.1.1.0, s.2);
   agrees = agrees;
   unique = λ db x h. present _ (and_parts _ _ h).0;
-}
-
-abbrev pub seat_params : SeatKey → ℤ → Row
-seat_params = λ key value. Text key.0 ∷ Int key.1.0 ∷ Int key.1.1 ∷ Int value ∷ []
-
-abbrev terms : List Term
-terms = lit Null ∷ col 0 0 ∷ col 0 1 ∷ col 0 2 ∷ col 0 3 ∷ []
-
-put_is : command_of (understood store_schema put_seat) ≡ Insert 3 (Values terms 5)
-unfolding understood everything
-put_is = refl
-
-put_plain : IsPlain (understood store_schema put_seat)
-unfolding understood everything
-put_plain = (refl, refl)
-
-pub seat_adds : AddText store_schema seat_rows put_seat seat_params
-seat_adds = record {
-  at = 3;
-  terms = terms;
-  width = 5;
-  placed = refl;
-  is = put_is;
-  plain = put_plain;
-  one = λ key value. refl;
-  stored = λ rows key value. rw (cast_null, cast_int key.1.0, cast_int key.1.1, cast_int value)
-      refl;
 }
 
 abbrev project : List Term

@@ -31,16 +31,8 @@ put_device =
 abbrev pub list_device : List ℕ
 list_device = codes "SELECT * FROM device ORDER BY ring, id"
 
-abbrev pub put_seat : List ℕ
-put_seat =
-    codes "INSERT INTO seat VALUES (?1, ?2, ?3, ?4)"
-
 abbrev pub list_seat : List ℕ
 list_seat = codes "SELECT * FROM seat ORDER BY ring, part, replica"
-
-abbrev pub put_moved : List ℕ
-put_moved =
-    codes "INSERT INTO moved VALUES (?1, ?2, ?3)"
 
 abbrev pub list_moved : List ℕ
 list_moved = codes "SELECT * FROM moved ORDER BY ring, part"

@@ -2,7 +2,7 @@ use Rattle.std.proofs.Common.{◌≡◌, ◌∙◌, ap, arith, false, subst, sym
 use Rattle.sqlite_trees.specs.View.{IsClean, IsShaped}
 use Rattle.sqlite_trees.specs.declared.store.Shape.TheVariants as shape
 use Rattle.sqlite_catalog.specs.Listing.{IsSound}
-use Rattle.store_tables.proofs.Orders.{if_ok_three, tables_ordered}
+use Rattle.builder_store.proofs.Orders.{if_ok_three, tables_ordered}
 use Rattle.builder_store.proofs.Settled.{open_if}
 use Rattle.builder_store.proofs.adopting.take_over.Goals as goal
 
