@@ -68,6 +68,8 @@ impl<'a, R: AllocGlobal + Net + time::Clock> Server<'a, R> {
         ensures { OneServed K.content K.sound K.limit K.fault_count C.tells prefix.now suffix.now
             (clock.old, book.old) (clock.new, book.new) }
     {
+        // Answers that are written are sent at once. Where the machine can't, they come later.
+        let _ = stream.set_nodelay(true);
         let Ok(twin) = stream.try_clone() else {
             return;
         };
