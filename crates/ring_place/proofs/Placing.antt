@@ -4,3 +4,4 @@ pub mod RowSteps
 pub mod AllSteps
 pub mod Placeable
 pub mod SettledSeats
+pub mod RowPlaces

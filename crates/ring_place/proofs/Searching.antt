@@ -6,3 +6,4 @@ pub mod RoomyPlaces
 pub mod LessCrowded
 pub mod SeatCounts
 pub mod CalmPartitions
+pub mod TierCodes

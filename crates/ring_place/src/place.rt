@@ -1,15 +1,16 @@
 //! Where lifted seats are put.
 ghost use Rattle.std.specs.Prelude.{◌≡◌, ◌<◌, ◌≤◌, ◌+◌, ℕ, true, All, count_by, length, sum_by};
-ghost use Rattle.std.specs.Prelude.{IfSome};
+ghost use Rattle.std.specs.Prelude.{IfSome, take};
 ghost use Rattle.std.specs.List.{range_with_len};
 ghost use Rattle.std.specs.List.Sorted.{IsPermutation};
 ghost use Rattle.ring_model.specs.Ring.{has_device, has_present};
 ghost use Rattle.ring_share.specs.Crowd.{seats_on};
 ghost use Rattle.ring_share.specs.Want.{is_open as is_open_device};
-ghost use Rattle.ring_place.specs.Inner.SeatRows.{AreKnown, is_empty, row_at};
-ghost use Rattle.ring_place.specs.Load.{IsLeast, IsLoad, have_in, is_free_in, seats_of};
+ghost use Rattle.ring_place.specs.Inner.SeatRows.{AreKnown, row_at};
+ghost use Rattle.ring_place.specs.Load.{IsLeast, IsLoad, have_in};
 ghost use Rattle.ring_place.specs.Inner.Placing.{AllPlaced, CanPlace, IsChosen, OpenWant, OwnWins};
 ghost use Rattle.ring_place.specs.Inner.Placing.{RowPlaced, have_on};
+ghost use Rattle.ring_place.specs.Inner.Places.{ArePlacesOf, id_at, seats_at};
 
 use crate::rooms::Room;
 use crate::seats::{Seats, devices_on, has_empty, row_copy};
@@ -18,59 +19,69 @@ use rand_core::Rng;
 use rand_pcg::Pcg32;
 use ring_words::DeviceId;
 
-/// Whether a device of the ring has room and isn't among these.
-fn is_free(room: &Room, others: &[DeviceId], device: DeviceId) -> bool
-    requires { has_device device room.now.devices ≡ true }
-    ensures { result ≡ is_free_in room.now (seats_of others.now) device }
-{
-    room.has_room(device) && !others.contains(&device)
-}
-
-/// The seat's own device where that is as good as the best.
-fn own_or(room: &Room, others: &[DeviceId], own: Option<DeviceId>, best: DeviceId) -> DeviceId
-    requires others { All (λ id. has_device id room.now.devices ≡ true) others.now }
+/// The place of the seat's own device where that is as good as the best.
+fn own_or(room: &Room, others: &[usize], own: Option<DeviceId>, best: usize) -> usize
+    requires others { All (λ other. other < length room.now.devices) others.now }
     requires few { length others.now ≤ 5 }
     requires own { IfSome own (λ id. has_device id room.now.devices ≡ true) }
-    requires best { IsLeast room.now (seats_of others.now) best }
-    ensures least { IsLeast room.now (seats_of others.now) result }
-    ensures own_wins { OwnWins room.now (seats_of others.now) own result }
+    requires within { best < length room.now.devices }
+    requires best { IsLeast room.now (seats_at room.now.devices others.now)
+        (id_at room.now.devices best) }
+    ensures within { result < length room.now.devices }
+    ensures least { IsLeast room.now (seats_at room.now.devices others.now)
+        (id_at room.now.devices result) }
+    ensures own_wins { OwnWins room.now (seats_at room.now.devices others.now) own
+        (id_at room.now.devices result) }
 {
     let Some(own) = own else {
         return best;
     };
-    if !is_free(room, others, own) {
+    let own = room.place_of(own);
+    if !room.is_free_at(others, own) {
         return best;
     }
-    if is_less(room.crowd(others, best), room.crowd(others, own)) {
+    if is_less(room.crowd_at(others, best), room.crowd_at(others, own)) {
         return best;
     }
     own
 }
 
-/// Where a lifted seat goes: to a least crowded device outside its partition with room, its own
-/// first. Where there is none, back to its own if that isn't marked to be removed, and else to an
-/// open device outside.
-fn choose(room: &Room, row: &[Option<DeviceId>], own: Option<DeviceId>, draw: u32) -> DeviceId
-    requires known { AreKnown room.now.devices row.now }
-    requires few { length row.now ≤ 5 }
+/// Where a lifted seat goes, by its place: to a least crowded device with room that isn't among
+/// those of its partition's other seats, at `others`, its own first. Where there is none, back to
+/// its own if that isn't marked to be removed, and else to an open device outside.
+fn choose(room: &Room, others: &[usize], own: Option<DeviceId>, draw: u32) -> usize
+    requires others { All (λ other. other < length room.now.devices) others.now }
+    requires few { length others.now ≤ 5 }
     requires own { IfSome own (λ id. has_device id room.now.devices ≡ true) }
     requires apart { IfSome own (λ id. has_present id room.now.devices ≡ true →
-        seats_on id row.now ≡ 0) }
-    requires seat { 0 < count_by is_empty row.now }
-    requires enough { length row.now ≤ count_by is_open_device room.now.devices }
-    ensures { IsChosen room.now row.now own result }
+        seats_on id (seats_at room.now.devices others.now) ≡ 0) }
+    requires enough { length others.now < count_by is_open_device room.now.devices }
+    ensures within { result < length room.now.devices }
+    ensures chosen { IsChosen room.now (seats_at room.now.devices others.now) own
+        (id_at room.now.devices result) }
 {
-    let (ids, count) = devices_on(row);
-    let others = &ids[..count];
-    if let Some(best) = room.least(others, draw) {
+    if let Some(best) = room.least_at(others, draw) {
         return own_or(room, others, own, best);
     }
     if let Some(own) = own {
         if room.is_present(own) {
-            return own;
+            return room.place_of(own);
         }
     }
     room.any_open(others)
+}
+
+/// The places of the devices of a partition's seats, in any order, and how many they are. What
+/// stands behind them is left over.
+fn places_on(room: &Room, row: &[Option<DeviceId>]) -> ([usize; 5], usize)
+    requires row { AreKnown room.now.devices row.now }
+    requires few { length row.now ≤ 5 }
+    ensures long { length result.0 ≡ 5 }
+    ensures few { result.1 ≤ 5 }
+    ensures places { ArePlacesOf room.now.devices row.now (take result.1 result.0) }
+{
+    let (ids, count) = devices_on(row);
+    (room.places_of(&ids[..count]), count)
 }
 
 /// Puts the lifted seats of a partition one by one. `old` is the partition before any was lifted.
@@ -87,11 +98,14 @@ fn place_row(
         have_in room.old id + length row.old < 4294967295 }
     ensures { RowPlaced room.old room.new old.now row.old row.new }
 {
+    let (mut places, mut count) = places_on(room, row);
     for replica in 0..row.len() {
         if row[replica].is_none() {
-            let device = choose(room, row, old[replica], draws.next_u32());
-            room.put(device);
-            row[replica] = Some(device);
+            let place = choose(room, &places[..count], old[replica], draws.next_u32());
+            row[replica] = Some(room.id_of(place));
+            room.put_at(place);
+            places[count] = place;
+            count += 1;
         }
     }
 }

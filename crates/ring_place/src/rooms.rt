@@ -6,8 +6,8 @@ ghost use Rattle.ring_share.specs.Crowd.{is_outside};
 ghost use Rattle.ring_share.specs.Room.{has_open, have, place_of as place_of_device};
 ghost use Rattle.ring_share.specs.Want.{is_open as is_open_device, AreWanted};
 ghost use Rattle.ring_place.specs.Load.{Load, IsLoad, have_in, want_in, has_room_in, load_put};
-ghost use Rattle.ring_place.specs.Load.{load_take, seats_of, is_free_in, crowd_in, IsLeast};
-ghost use Rattle.ring_place.specs.Inner.Places.{id_at};
+ghost use Rattle.ring_place.specs.Load.{load_take, is_free_in, crowd_in, IsLeast};
+ghost use Rattle.ring_place.specs.Inner.Places.{id_at, seats_at};
 ghost use Rattle.ring_place.specs.Inner.Lists.{AreRoomy};
 ghost use Rattle.ring_share.specs.Tiers.{AreTier};
 
@@ -33,9 +33,11 @@ pub struct Room {
     pub(crate) regions: Vec<usize>,
     pub(crate) zones: Vec<usize>,
     pub(crate) servers: Vec<usize>,
-    /// For the device at each place a number that tells its region, and one that tells its zone.
+    /// For the device at each place a number that tells its region, one that tells its zone, and
+    /// one that tells its server.
     pub(crate) in_region: [u8; 256],
     pub(crate) in_zone: [u8; 256],
+    pub(crate) in_server: [u8; 256],
 }
 
 impl Model for Room {
@@ -57,7 +59,7 @@ impl Model for Room {
       counts = r.counts.items;
     })
         r.roomy.items r.count r.regions.items r.zones.items r.servers.items r.in_region
-        r.in_zone };
+        r.in_zone r.in_server };
 }
 
 /// Whether a device that wants and has so many seats is open and has fewer than it wants.
@@ -151,6 +153,7 @@ impl Room {
             servers: tier_places(alloc, devices, Tier::Server)?,
             in_region: tier_codes(devices, Tier::Region),
             in_zone: tier_codes(devices, Tier::Zone),
+            in_server: tier_codes(devices, Tier::Server),
         })
     }
 
@@ -169,6 +172,7 @@ impl Room {
             servers: Vec::from_slice(alloc, &self.servers)?,
             in_region: self.in_region,
             in_zone: self.in_zone,
+            in_server: self.in_server,
         })
     }
 
@@ -189,7 +193,15 @@ impl Room {
         ensures put { self.new ≡ load_put self.old device }
         ensures load { IsLoad self.new }
     {
-        let place = self.place_of(device);
+        self.put_at(self.place_of(device));
+    }
+
+    /// The device at a place has one seat more. The count 4294967295 stays.
+    pub(crate) fn put_at(&mut self, place: usize)
+        requires { place < length self.old.devices }
+        ensures put { self.new ≡ load_put self.old (id_at self.old.devices place) }
+        ensures load { IsLoad self.new }
+    {
         let count = self.counts[place];
         let more = if count < u32::MAX { count + 1 } else { count };
         self.set_count(place, more);
@@ -213,9 +225,10 @@ impl Room {
         } }
         ensures load { IsLoad self.new }
     {
-        let had_room = self.has_room_at(place);
+        let want = self.wanted[place];
+        let wanted_more = self.counts[place] < want;
         self.counts[place] = count;
-        if has_room_at(&self.devices, &self.wanted, &self.counts, place) != had_room {
+        if (count < want) != wanted_more {
             self.count = list_roomy(&self.devices, &self.wanted, &self.counts, &mut self.roomy);
         }
     }
@@ -237,6 +250,15 @@ impl Room {
         has_room_at(&self.devices, &self.wanted, &self.counts, place)
     }
 
+    /// The number of the device at a place.
+    pub(crate) fn id_of(&self, place: usize) -> DeviceId
+        requires { place < length self.now.devices }
+        ensures number { result ≡ id_at self.now.devices place }
+        ensures known { has_device result self.now.devices ≡ true }
+    {
+        self.devices[place].id
+    }
+
     /// Whether a device of the ring isn't marked to be removed.
     pub(crate) fn is_present(&self, device: DeviceId) -> bool
         requires { has_device device self.now.devices ≡ true }
@@ -254,15 +276,19 @@ impl Room {
         self.wanted[place] < self.counts[place]
     }
 
-    /// An open device that isn't among `others`, of which there are fewer than open devices.
-    pub(crate) fn any_open(&self, others: &[DeviceId]) -> DeviceId
-        requires { length others.now < count_by is_open_device self.now.devices }
-        ensures takes_seats { has_open result self.now.devices ≡ true }
-        ensures outside { is_outside (seats_of others.now) result ≡ true }
+    /// The place of an open device that isn't among those at `others`, which are fewer than open
+    /// devices.
+    pub(crate) fn any_open(&self, others: &[usize]) -> usize
+        requires others { All (λ other. other < length self.now.devices) others.now }
+        requires fewer { length others.now < count_by is_open_device self.now.devices }
+        ensures within { result < length self.now.devices }
+        ensures takes_seats { has_open (id_at self.now.devices result) self.now.devices ≡ true }
+        ensures outside { is_outside (seats_at self.now.devices others.now)
+            (id_at self.now.devices result) ≡ true }
     {
-        for device in &self.devices {
-            if is_open(device) && !others.contains(&device.id) {
-                return device.id;
+        for place in 0..self.devices.len() {
+            if is_open(&self.devices[place]) && !others.contains(&place) {
+                return place;
             }
         }
         prove!(false);

@@ -1,21 +1,23 @@
 //! The search of a room for a device that is least crowded for a seat.
 ghost use Rattle.std.specs.Prelude.{◌≡◌, ◌<◌, ◌≤◌, ◌+◌, ℕ, true, false, All, length, slice_index};
-ghost use Rattle.std.specs.Prelude.{IfSome, IfNone, List, Option};
+ghost use Rattle.std.specs.Prelude.{IfSome, IfNone, List, Option, if◌then◌else◌};
 ghost use Rattle.std.specs.List.{list_any};
 ghost use Rattle.ring_model.specs.Ring.{has_device};
 ghost use Rattle.ring_place.specs.Inner.Gathering.{AreUncrowded, has_free_in};
 ghost use Rattle.ring_place.specs.Inner.SeatRows.{AreKnown, is_empty};
-ghost use Rattle.ring_place.specs.Load.{IsLoad, IsLeast, crowd_in, is_free_in, seats_of};
+ghost use Rattle.ring_place.specs.Load.{IsLoad, IsLeast, crowd_in, has_room_in, is_free_in};
+ghost use Rattle.ring_place.specs.Load.{seats_of};
 ghost use Rattle.ring_place.specs.Inner.Places.{IsBestSoFar, id_at, is_within, place_after};
 ghost use Rattle.ring_place.specs.Inner.Places.{seats_at};
 ghost use Rattle.ring_place.specs.Inner.Lists.{IsFloor};
+ghost use Rattle.ring_share.specs.Crowd.{tiers_of};
 ghost use Rattle.ring_share.specs.Tiers.{AreTier};
 ghost use Rattle.ring_share.specs.declared.tiers.Tier.TheVariants.{Region};
 
 use crate::rooms::Room;
 use crate::seats::devices_on;
 use crate::tiers::{Crowd, cut, is_less, lesser};
-use ring_share::{Tier, shared_tiers, stand_apart};
+use ring_share::{Tier, stand_apart};
 use ring_words::DeviceId;
 
 /// After so many steps a search looks for a floor down to zones and servers.
@@ -48,7 +50,7 @@ fn is_within(best: Option<(usize, Crowd)>, floor: Crowd) -> bool
 
 impl Room {
     /// Whether the device at a place has room and isn't among those at these places.
-    fn is_free_at(&self, others: &[usize], place: usize) -> bool
+    pub(crate) fn is_free_at(&self, others: &[usize], place: usize) -> bool
         requires others { All (λ other. other < length self.now.devices) others.now }
         requires place { place < length self.now.devices }
         ensures { result ≡ is_free_in self.now (seats_at self.now.devices others.now)
@@ -57,9 +59,28 @@ impl Room {
         self.has_room_at(place) && !others.contains(&place)
     }
 
+    /// What a seat on the device at one place adds to the crowd of the one at another: 1 for each
+    /// tier that they share.
+    fn shares_at(&self, place: usize, other: usize) -> Crowd
+        requires place { place < length self.now.devices }
+        requires other { other < length self.now.devices }
+        ensures region { result.0 ≡ (if (tiers_of self.now.devices).region
+            (id_at self.now.devices place) (id_at self.now.devices other) then 1 else 0) }
+        ensures zone { result.1 ≡ (if (tiers_of self.now.devices).zone
+            (id_at self.now.devices place) (id_at self.now.devices other) then 1 else 0) }
+        ensures server { result.2 ≡ (if (tiers_of self.now.devices).server
+            (id_at self.now.devices place) (id_at self.now.devices other) then 1 else 0) }
+    {
+        (
+            u32::from(self.in_region[place] == self.in_region[other]),
+            u32::from(self.in_zone[place] == self.in_zone[other]),
+            u32::from(self.in_server[place] == self.in_server[other]),
+        )
+    }
+
     /// How crowded the device at a place is for a seat whose other seats are on the devices at
     /// these places.
-    fn crowd_at(&self, others: &[usize], place: usize) -> Crowd
+    pub(crate) fn crowd_at(&self, others: &[usize], place: usize) -> Crowd
         requires others { All (λ other. other < length self.now.devices) others.now }
         requires few { length others.now ≤ 5 }
         requires place { place < length self.now.devices }
@@ -68,14 +89,14 @@ impl Room {
     {
         let mut crowd = (0, 0, 0);
         for other in others {
-            let more = shared_tiers(&self.devices[place], &self.devices[*other]);
+            let more = self.shares_at(place, *other);
             crowd = (crowd.0 + more.0, crowd.1 + more.1, crowd.2 + more.2);
         }
         crowd
     }
 
     /// The places of at most five devices of the ring.
-    fn places_of(&self, ids: &[DeviceId]) -> [usize; 5]
+    pub(crate) fn places_of(&self, ids: &[DeviceId]) -> [usize; 5]
         requires known { All (λ id. has_device id self.now.devices ≡ true) ids.now }
         requires few { length ids.now ≤ 5 }
         ensures long { length result ≡ 5 }
@@ -157,15 +178,32 @@ impl Room {
         ensures none { IfNone result ((id : ℕ) → is_free_in self.now (seats_of others.now) id ≡
             false) }
     {
+        let places = self.places_of(others);
+        let others = &places[..others.len()];
+        let best = self.least_at(others, draw)?;
+        Some(self.id_of(best))
+    }
+
+    /// The place of a device with room that isn't among those at `others`, at most five, and than
+    /// which no other such device is less crowded for a seat whose other seats are on those at
+    /// `others`. `None` exactly where no device outside has room. Of several such devices the draw
+    /// takes one.
+    pub(crate) fn least_at(&self, others: &[usize], draw: u32) -> Option<usize>
+        requires others { All (λ other. other < length self.now.devices) others.now }
+        requires few { length others.now ≤ 5 }
+        ensures within { IfSome result (λ place. place < length self.now.devices) }
+        ensures found { IfSome result (λ place. IsLeast self.now
+            (seats_at self.now.devices others.now) (id_at self.now.devices place)) }
+        ensures none { IfNone result ((id : ℕ) → is_free_in self.now
+            (seats_at self.now.devices others.now) id ≡ false) }
+    {
         if self.count == 0 {
             return None;
         }
-        let places = self.places_of(others);
-        let others = &places[..others.len()];
         let floor = self.floor_for(others);
         let start = draw as usize % self.count;
         let best = self.least_of(&self.roomy[..self.count], start, others, floor)?;
-        Some(self.devices[best.0].id)
+        Some(best.0)
     }
 
     /// How crowded open devices are at the least, by their regions alone, for a seat whose other
@@ -192,7 +230,7 @@ impl Room {
     {
         let mut count = 0;
         for other in others {
-            count += shared_tiers(&self.devices[place], &self.devices[*other]).0;
+            count += self.shares_at(place, *other).0;
         }
         count
     }
@@ -257,10 +295,10 @@ impl Room {
         cut(tier, least)
     }
 
-    /// Of the devices at some places, the place of a free one than which no other is less crowded,
-    /// and how crowded it is. The search begins at one of the places, and ends at a device than
-    /// which no open device is less crowded by a floor. That by regions comes first, which mostly
-    /// some device reaches.
+    /// Of the devices at some places, each with room, the place of one outside than which no other
+    /// is less crowded, and how crowded it is. The search begins at one of the places, and ends at
+    /// a device than which no open device is less crowded by a floor. That by regions comes first,
+    /// which mostly some device reaches.
     fn least_of(
         &self,
         places: &[usize],
@@ -268,7 +306,10 @@ impl Room {
         others: &[usize],
         floor: Crowd,
     ) -> Option<(usize, Crowd)>
+        requires load { IsLoad self.now }
         requires places { All (λ place. place < length self.now.devices) places.now }
+        requires room { All (λ place. has_room_in self.now (id_at self.now.devices place) ≡ true)
+            places.now }
         requires start { start < length places.now }
         requires others { All (λ other. other < length self.now.devices) others.now }
         requires few { length others.now ≤ 5 }
@@ -289,8 +330,8 @@ impl Room {
         best
     }
 
-    /// The place at a step if the device there is free and less crowded than the best before it,
-    /// else that one, with how crowded it is.
+    /// The place at a step if the device there, which has room, is outside and less crowded than
+    /// the best before it, else that one, with how crowded it is.
     fn better(
         &self,
         places: &[usize],
@@ -299,7 +340,10 @@ impl Room {
         others: &[usize],
         best: Option<(usize, Crowd)>,
     ) -> Option<(usize, Crowd)>
+        requires load { IsLoad self.now }
         requires places { All (λ place. place < length self.now.devices) places.now }
+        requires room { All (λ place. has_room_in self.now (id_at self.now.devices place) ≡ true)
+            places.now }
         requires start { start < length places.now }
         requires step { step < length places.now }
         requires others { All (λ other. other < length self.now.devices) others.now }
@@ -310,7 +354,7 @@ impl Room {
             others.now) result }
     {
         let place = places[place_after(places.len(), start, step)];
-        if !self.is_free_at(others, place) {
+        if others.contains(&place) {
             return best;
         }
         let crowd = self.crowd_at(others, place);

@@ -22,18 +22,15 @@ use Rattle.ring_share.specs.Crowd.{is_less, is_on, is_outside, seats_on}
 use Rattle.ring_share.specs.Room.{has_open}
 use Rattle.ring_share.specs.Want.{is_open}
 use Rattle.ring_share.proofs.Sharing.{ids_rise}
-use Rattle.ring_place.specs.Inner.SeatRows.{is_empty}
 use Rattle.ring_place.specs.Load.{Load, IsLeast, crowd_in, has_room_in, is_free_in, seats_of}
 use Rattle.ring_place.specs.Inner.Lists.{AreRoomy}
 use Rattle.ring_place.specs.Inner.Places.{id_at}
 use Rattle.ring_place.specs.Inner.Placing.{IsChosen, OwnWins}
-use Rattle.ring_place.specs.Inner.SeatRows.{devices_on}
 use Rattle.ring_place.proofs.Searching.BestSoFar.{not_less_trans}
 use Rattle.ring_place.proofs.Placing.Filling.{free_outside, free_room, present_known, room_open}
 use Rattle.ring_place.proofs.Searching.DevicesAt.{id_at_is, read_in}
 use Rattle.ring_place.proofs.Searching.FreeOutside.{device_there}
 use Rattle.ring_place.proofs.Searching.LessCrowded.{open_known}
-use Rattle.ring_place.proofs.Rows.RowDevices.{count_taken, crowd_taken, free_taken, least_taken}
 
 -- ---- outside a list of devices
 
@@ -50,10 +47,6 @@ outside_ids (other ∷ ids) id =
     (seats_of ids) in
     ap (λ n. n == 0) cons ∙ one_more (other == id) (list_any (λ o. o == id) ids)
     (seats_on id (seats_of ids)) (outside_ids ids id)
-
-pub outside_found : (ids : List ℕ) (id : ℕ) (among : Bool) → among ≡ list_any (λ other. other == id)
-    ids → not among ≡ true → is_outside (seats_of ids) id ≡ true
-outside_found ids id among is fresh = outside_ids ids id ∙ ap not (sym is) ∙ fresh
 
 pub free_ids : (load : Load) (ids : List ℕ) (id : ℕ) (among : Bool) → has_room_in load id ≡ true →
     among ≡ list_any (λ other. other == id) ids → not among ≡ is_free_in load (seats_of ids) id
@@ -178,81 +171,56 @@ own_is_least load row o best is free no_less = record {
 
 -- ---- what is chosen
 
-own_taken : (load : Load) (row : List (Option ℕ)) (own : Option ℕ) (id : ℕ) →
-    OwnWins load (seats_of (devices_on row)) own id → OwnWins load row own id
-own_taken load row own id wins from at free ne =
-    ap (λ c. is_less c (crowd_in load row from)) (sym (crowd_taken load row id)) ∙ ap
-    (λ c. is_less (crowd_in load (seats_of (devices_on row)) id) c)
-    (sym (crowd_taken load row from))
-    ∙ wins from at (free_taken load row from ∙ free) ne
-
 always : (P : ℕ → Type 0) (own : Option ℕ) → ((x : ℕ) → own ≡ Some x → P x) → IfSome own P
 always P None all = tt
 always P (Some x) all = all x refl
 
-pub chosen_least : (load : Load) (row : List (Option ℕ)) (own : Option ℕ) (id : ℕ) (ids : List ℕ) →
-    ids ≡ devices_on row → IsLeast load (seats_of ids) id → OwnWins load (seats_of ids) own id →
-    IsChosen load row own id
-chosen_least load row own id ids are least wins =
-    let is = least_taken load row id (subst (λ xs. IsLeast load (seats_of xs) id) are least) in
-    record {
-      known = least_known load row id is;
-      outside = free_outside load row id is.free;
-      may_take = inl (room_open load id (free_room load row id is.free));
-      least = is.least;
-      own_wins = own_taken load row own id (subst (λ xs. OwnWins load (seats_of xs) own id) are
-          wins);
-      free = λ other free. is.free;
-      stays = always (λ from. has_present from load.devices ≡ true → id ≢ from →
-          is_free_in load row id ≡ true) own (λ x at present ne. is.free);
-    }
+pub chosen_least : (load : Load) (row : List (Option ℕ)) (own : Option ℕ) (id : ℕ) →
+    IsLeast load row id → OwnWins load row own id → IsChosen load row own id
+chosen_least load row own id is wins = record {
+  known = least_known load row id is;
+  outside = free_outside load row id is.free;
+  may_take = inl (room_open load id (free_room load row id is.free));
+  least = is.least;
+  own_wins = wins;
+  free = λ other free. is.free;
+  stays = always (λ from. has_present from load.devices ≡ true → id ≢ from →
+      is_free_in load row id ≡ true) own (λ x at present ne. is.free);
+}
 
-none_free : (load : Load) (row : List (Option ℕ)) (ids : List ℕ) → ids ≡ devices_on row →
-    ((id : ℕ) → is_free_in load (seats_of ids) id ≡ false) → (id : ℕ) →
-    is_free_in load row id ≡ true → ⊥
-none_free load row ids are none id free = let shut = sym (free_taken load row id) ∙ ap
-    (λ xs. is_free_in load (seats_of xs) id) (sym are) ∙ none id in cc (shut, free)
+none_free : (load : Load) (row : List (Option ℕ)) →
+    ((id : ℕ) → is_free_in load row id ≡ false) → (id : ℕ) → is_free_in load row id ≡ true → ⊥
+none_free load row none id free = let shut = none id in cc (shut, free)
 
 -- none is free: back to its own
-pub chosen_back : (load : Load) (row : List (Option ℕ)) (own : Option ℕ) (id : ℕ) (ids : List ℕ) →
-    ids ≡ devices_on row → ((x : ℕ) → is_free_in load (seats_of ids) x ≡ false) → own ≡ Some id
+pub chosen_back : (load : Load) (row : List (Option ℕ)) (own : Option ℕ) (id : ℕ) →
+    ((x : ℕ) → is_free_in load row x ≡ false) → own ≡ Some id
     → has_present id load.devices ≡ true → seats_on id row ≡ 0 → IsChosen load row own id
-chosen_back load row own id ids are none is present outside = record {
+chosen_back load row own id none is present outside = record {
   known = present_known load.devices id present;
   outside = outside;
   may_take = inr (ap Some is, present);
-  least = λ other free. absurd (none_free load row ids are none other free);
-  own_wins = λ from at free ne. absurd (none_free load row ids are none from free);
-  free = λ other free. absurd (none_free load row ids are none other free);
+  least = λ other free. absurd (none_free load row none other free);
+  own_wins = λ from at free ne. absurd (none_free load row none from free);
+  free = λ other free. absurd (none_free load row none other free);
   stays = always (λ from. has_present from load.devices ≡ true → id ≢ from →
       is_free_in load row id ≡ true) own (λ x at there ne. absurd
       (ne (same_Some id x (sym is ∙ at))));
 }
 
 -- and its own is gone: to an open device
-pub chosen_open : (load : Load) (row : List (Option ℕ)) (own : Option ℕ) (id : ℕ) (ids : List ℕ) →
-    ids ≡ devices_on row → ((x : ℕ) → is_free_in load (seats_of ids) x ≡ false)
+pub chosen_open : (load : Load) (row : List (Option ℕ)) (own : Option ℕ) (id : ℕ) →
+    ((x : ℕ) → is_free_in load row x ≡ false)
     → ((o : ℕ) → own ≡ Some o → has_present o load.devices ≡ false) →
-    has_open id load.devices ≡ true → is_outside (seats_of ids) id ≡ true →
-    IsChosen load row own id
-chosen_open load row own id ids are none gone opens outside = record {
+    has_open id load.devices ≡ true → is_outside row id ≡ true → IsChosen load row own id
+chosen_open load row own id none gone opens outside = record {
   known = open_known load.devices id opens;
-  outside = sym (count_taken (λ other. other == id) row) ∙ eqb-true _ 0
-      (subst (λ xs. is_outside (seats_of xs) id ≡ true) are outside);
+  outside = eqb-true _ 0 outside;
   may_take = inl opens;
-  least = λ other free. absurd (none_free load row ids are none other free);
-  own_wins = λ from at free ne. absurd (none_free load row ids are none from free);
-  free = λ other free. absurd (none_free load row ids are none other free);
+  least = λ other free. absurd (none_free load row none other free);
+  own_wins = λ from at free ne. absurd (none_free load row none from free);
+  free = λ other free. absurd (none_free load row none other free);
   stays = always (λ from. has_present from load.devices ≡ true → id ≢ from →
       is_free_in load row id ≡ true) own (λ x at there ne. absurd (let no = gone x at in
       cc (there, no)));
 }
-
--- a row has its devices and its empty seats
-pub taken_count : (row : List (Option ℕ)) → length (devices_on row) + count_by is_empty row ≡ length
-    row
-taken_count [] = refl
-taken_count (None ∷ row) = let one = sum_by-cons (λ (x : Option ℕ). cond (is_empty x) 1 0) None row
-    in omega (arith, one, taken_count row)
-taken_count (Some id ∷ row) = let one = sum_by-cons (λ (x : Option ℕ). cond (is_empty x) 1 0)
-    (Some id) row in omega (arith, one, taken_count row)

@@ -170,7 +170,7 @@ share_cases t laws d e f =
     ]
 
 -- a seat that is placed adds one where it stands
-count_put : (p : ℕ → Bool) (row : List (Option ℕ)) (j f : ℕ) → slice_get row j ≡ Some None →
+pub count_put : (p : ℕ → Bool) (row : List (Option ℕ)) (j f : ℕ) → slice_get row j ≡ Some None →
     count_by (is_on p) (set row j (Some f)) ≡ count_by (is_on p) row + cond (p f) 1 0
 count_put p row j f h =
     let within : j < length row = slice_get_within row j None h in

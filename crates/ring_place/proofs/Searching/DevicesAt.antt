@@ -101,7 +101,7 @@ room_at load is place x at =
     ap (λ id. has_room_in load id) (id_at_is load.devices place x at)
     ∙ rw (open_at load.devices is.rise place x at, place_is load.devices is.rise place x at) refl
 
-index_is : (xs : List ℕ) (place value : ℕ) → place < length xs → value ≡ get_or xs place value →
+pub index_is : (xs : List ℕ) (place value : ℕ) → place < length xs → value ≡ get_or xs place value →
     slice_index xs place ≡ value
 index_is xs place value lt is = get_or_from_slice_get xs place (get_or xs place value) 0
     (slice_get-get_or xs place value lt) ∙ sym is

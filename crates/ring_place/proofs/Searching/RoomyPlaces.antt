@@ -5,13 +5,14 @@ use Rattle.std.proofs.Math.Bool.{beq}
 use Rattle.std.specs.Prelude.{nat_lt}
 use Rattle.std.proofs.lemmas.Bool.{cases_eq}
 use Rattle.std.proofs.lemmas.Grind.{get_or_default_zero}
-use Rattle.std.proofs.lemmas.List.{length-set, length-take-le, get_or-set_other, get_or-take}
+use Rattle.std.proofs.lemmas.List.{length-set, length-take-le, get_or-set_other, get_or-set_same}
+use Rattle.std.proofs.lemmas.List.{get_or-take}
 use Rattle.ring_words.specs.declared.device.Device.{Device}
 use Rattle.ring_share.specs.Room.{has_open, place_of}
 use Rattle.ring_place.specs.Load.{Load, IsLoad, has_room_in, want_in}
 use Rattle.ring_place.specs.Inner.Lists.{AreRoomy, IsRoom}
 use Rattle.ring_place.specs.Inner.Places.{id_at}
-use Rattle.ring_place.proofs.Searching.DevicesAt.{id_at_is, place_is}
+use Rattle.ring_place.proofs.Searching.DevicesAt.{id_at_is, index_is, place_is}
 use Rattle.ring_place.proofs.Searching.FreeOutside.{device_there}
 
 pub same_if : (a b : Bool) → not (beq a b) ≡ false → a ≡ b
@@ -53,18 +54,34 @@ room_stays load is changed count same place lt = ⊎_elim
     (room_elsewhere load is changed count place lt)
     (cases_eq place changed)
 
-pub room_alike : (d e : List Device) (w v n m : List ℕ) (place : ℕ) → d ≡ e → w ≡ v → n ≡ m
-    → has_room_in (record { devices = d; wanted = w; counts = n }) (id_at d place) ≡ has_room_in
-    (record { devices = e; wanted = v; counts = m }) (id_at e place)
-room_alike d e w v n m place devices wanted counts = rw (devices, wanted, counts) refl
+-- a count that is below the want where the one before it was leaves a device's own room
+pub room_same : (load : Load) → IsLoad load → (place want have count : ℕ) →
+    place < length load.devices → want ≡ get_or load.wanted place want →
+    have ≡ get_or load.counts place have → nat_lt count want ≡ nat_lt have want
+    → has_room_in (with_count_at load place count) (id_at load.devices place) ≡ has_room_in load
+    (id_at load.devices place)
+room_same load is place want have count lt wants counts same =
+    let x = device_there load.devices place lt in
+    let here : place_of (id_at load.devices place) load.devices ≡ place =
+    ap (λ n. place_of n load.devices) (id_at_is load.devices place x.0 x.1) ∙ place_is
+    load.devices is.rise place x.0 x.1 in
+    let counted = is.counted in
+    let wanted = is.wants in
+    let has = get_or-set_same load.counts place count 0 (omega (arith, counted, lt)) in
+    let had = index_is load.counts place have (omega (arith, counted, lt)) counts in
+    let wants_it = index_is load.wanted place want (omega (arith, wanted, lt)) wants in
+    rw (here, has, had, wants_it, same) refl
 
 pub room_kept : (load : Load) (roomy : List ℕ) (listed : ℕ)
-    (regions zones servers in_region in_zone : List ℕ) →
-    IsRoom load roomy listed regions zones servers in_region in_zone → (changed count : ℕ)
+    (regions zones servers in_region in_zone in_server : List ℕ) →
+    IsRoom load roomy listed regions zones servers in_region in_zone in_server →
+    (changed count : ℕ)
     → has_room_in (with_count_at load changed count) (id_at load.devices changed) ≡ has_room_in load
     (id_at load.devices changed)
     → IsRoom (with_count_at load changed count) roomy listed regions zones servers in_region in_zone
-room_kept load roomy listed regions zones servers in_region in_zone is changed count same =
+    in_server
+room_kept load roomy listed regions zones servers in_region in_zone in_server is changed count
+    same =
     let before = is.counted in
     record {
       counted = record {
@@ -88,6 +105,7 @@ room_kept load roomy listed regions zones servers in_region in_zone is changed c
       servers_have = is.servers_have;
       regions_told = is.regions_told;
       zones_told = is.zones_told;
+      servers_told = is.servers_told;
     }
 
 -- the first of some places are places of devices

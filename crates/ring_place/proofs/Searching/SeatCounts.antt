@@ -12,7 +12,11 @@ use Rattle.ring_words.specs.declared.device.Device.{Device}
 use Rattle.ring_share.specs.Room.{have, place_of}
 use Rattle.ring_share.proofs.Standing.{found_device}
 use Rattle.ring_place.specs.Load.{Load, IsLoad, have_in, load_put}
+use Rattle.ring_place.specs.Inner.Places.{id_at}
+use Rattle.ring_place.proofs.Searching.DevicesAt.{id_at_is, index_is, is_load, place_is}
 use Rattle.ring_place.proofs.Searching.DevicesAt.{place_stands}
+use Rattle.ring_place.proofs.Searching.FreeOutside.{device_there}
+use Rattle.ring_place.proofs.Searching.RoomyPlaces.{with_count_at}
 
 -- the place of a device that is known
 pub place_within : (load : Load) → IsLoad load → (id : ℕ) → has_device id load.devices ≡ true →
@@ -55,8 +59,23 @@ counted_have ring load counts rise devices counted each id known =
     ∙ each found.place found.stands.device found.stands.at
     ∙ ap (have ring) found.stands.named
 
-more_if : (count : ℕ) → count < 4294967295 → (if nat_lt count 4294967295 then count + 1 else count)
-    ≡ count + 1
+-- one seat more at a place is one more of the device there
+pub put_there : (load now new : Load) → load ≡ now → IsLoad load → (place count more : ℕ) →
+    place < length now.devices → count ≡ get_or load.counts place count
+    → more ≡ (if nat_lt count 4294967295 then count + 1 else count) →
+    new ≡ with_count_at now place more → new ≡ load_put now (id_at now.devices place)
+put_there load now new same is place count more lt read more_is new_is =
+    let there = is_load load now same is in
+    let x = device_there now.devices place lt in
+    let here : place_of (id_at now.devices place) now.devices ≡ place =
+    ap (λ n. place_of n now.devices) (id_at_is now.devices place x.0 x.1) ∙ place_is now.devices
+    there.rise place x.0 x.1 in
+    let has = index_is now.counts place count (let n = there.counted in omega (arith, n, lt))
+    (read ∙ ap (λ (l : Load). get_or l.counts place count) same) in
+    new_is ∙ ap (with_count_at now place) more_is ∙ sym (rw (here, has) refl)
+
+pub more_if : (count : ℕ) → count < 4294967295 → (if nat_lt count 4294967295 then count + 1 else
+    count) ≡ count + 1
 more_if count lt = let yes : nat_lt count 4294967295 ≡ true = grind (arith, nat_tests) in
     rw yes refl
 

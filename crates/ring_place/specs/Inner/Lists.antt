@@ -31,9 +31,9 @@ pub record AreRoomy (load : Load) (places : List ℕ) : Type 0 where
 
 -- The devices that have room, and no others, stand at the first places of a list as long as that of
 -- the devices. Each region, zone and server that has an open device has one in a list. Numbers tell
--- in which region and in which zone each device is.
+-- in which region, in which zone and on which server each device is.
 pub record IsRoom (load : Load) (roomy : List ℕ) (count : ℕ)
-    (regions zones servers in_region in_zone : List ℕ) : Type 0 where
+    (regions zones servers in_region in_zone in_server : List ℕ) : Type 0 where
   pub counted : IsLoad load
   pub long : length roomy ≡ length load.devices
   pub few : count ≤ length roomy
@@ -43,3 +43,4 @@ pub record IsRoom (load : Load) (roomy : List ℕ) (count : ℕ)
   pub servers_have : AreTier Server load.devices servers
   pub regions_told : AreCodes Region load.devices in_region
   pub zones_told : AreCodes Zone load.devices in_zone
+  pub servers_told : AreCodes Server load.devices in_server

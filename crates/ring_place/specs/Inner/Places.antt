@@ -1,8 +1,9 @@
 -- Devices by their places among those of a ring, and the search among some of these places.
 use Rattle.std.specs.Prelude.{◌≡◌, not, Bool, ℕ, ◌+◌, ◌-◌, ◌<◌, nat_lt, if◌then◌else◌, false, true}
-use Rattle.std.specs.Prelude.{List, length, map, Option, Some, None, slice_get, slice_index}
+use Rattle.std.specs.Prelude.{All, List, count_by, length, map, Option, Some, None, slice_get}
+use Rattle.std.specs.Prelude.{slice_index}
 use Rattle.ring_words.specs.declared.device.Device.{Device}
-use Rattle.ring_share.specs.Crowd.{is_less}
+use Rattle.ring_share.specs.Crowd.{is_less, is_on}
 use Rattle.ring_place.specs.Load.{Load, is_free_in, crowd_in}
 
 -- the number of a device, 0 where there is none
@@ -17,6 +18,14 @@ id_at devices place = number_of (slice_get devices place)
 -- seats on the devices at these places
 abbrev pub seats_at : List Device → List ℕ → List (Option ℕ)
 seats_at devices places = map (λ place. Some (id_at devices place)) places
+
+-- These are the places of the devices of a partition's seats, in any order: as many are of devices
+-- that pass a test as seats are on such.
+pub record ArePlacesOf (devices : List Device) (row : List (Option ℕ)) (places : List ℕ) : Type 0
+  where
+    pub within : All (λ place. place < length devices) places
+    pub alike : (test : ℕ → Bool) → count_by (is_on test) (seats_at devices places) ≡
+        count_by (is_on test) row
 
 -- the place so many steps after another, where the first place comes after the last
 abbrev pub place_after : ℕ → ℕ → ℕ → ℕ

@@ -1,6 +1,13 @@
+use Rattle.std.proofs.Common.{◌≡◌, ◌≤◌, length, take}
+use Rattle.ring_place.specs.Inner.Places.{ArePlacesOf}
 use Rattle.ring_place.proofs.Placing.RowSteps.{PlacedUpTo}
 use Rattle.ring_place.proofs.place.place_row.Given as goal
 
--- the seats before this one are put
+-- the seats before this one are put, and their places are kept
 abbrev pub invariant-loop-replica : goal.invariant-loop-replica
-invariant-loop-replica l = PlacedUpTo l.replica l.fn.room l.room l.old l.fn.row l.row
+invariant-loop-replica l = record {
+  placed : PlacedUpTo l.replica l.fn.room l.room l.old l.fn.row l.row;
+  long : length l.places ≡ 5;
+  few : l.count ≤ 5;
+  are : ArePlacesOf l.room.devices l.row (take l.count l.places);
+}

@@ -5,7 +5,6 @@ use Rattle.ring_share.specs.Want.{is_open}
 use Rattle.ring_place.proofs.rooms.Room.any_open.Given as goal
 
 -- none so far is open and outside
-abbrev pub invariant-loop-device : goal.invariant-loop-device
-invariant-loop-device l = (k : ℕ) (d : Device) → k < l.device-index →
-    (is_open (get_or l.device-items k d) &&
-    not (list_any (λ other. other == (get_or l.device-items k d).id) l.others)) ≡ false
+abbrev pub invariant-loop-place : goal.invariant-loop-place
+invariant-loop-place l = (k : ℕ) (d : Device) → k < l.place-counter →
+    (is_open (get_or l.self.devices k d) && not (list_any (λ other. other == k) l.others)) ≡ false

@@ -1,59 +1,53 @@
-use Rattle.std.proofs.Common.{get_or, length, ◌<◌, arith}
-use Rattle.ring_share.specs.Crowd.{in_region, in_zone, on_server, tiers_of}
+use Rattle.std.proofs.Common.{refl, get_or, length, ◌<◌, arith}
+use Rattle.ring_share.specs.Crowd.{tiers_of}
 use Rattle.ring_place.specs.Inner.Places.{id_at}
-use Rattle.ring_place.proofs.Searching.DevicesAt.{is_load, read_in, tier_at, seats_more}
-use Rattle.ring_place.proofs.Searching.DevicesAt.{at_most_one}
+use Rattle.ring_place.proofs.Searching.DevicesAt.{at_most_one, seats_more}
 use Rattle.ring_place.proofs.rooms.Room.crowd_at.Goals as goal
 
 pub loop-other-preserved : goal.loop-other-preserved
 loop-other-preserved c =
     let now = c.args.self.now in
-    let rise = (is_load _ now c.self.view_is c.self.invariant.counted).rise in
+    let others = c.args.others.now in
     let i = c.loop-other.other-index in
-    let other = get_or c.args.others.now i 0 in
-    let lt : i < length c.args.others.now = omega arith in
-    let x = c.index.result.now in
-    let y = c.index-in-loop-other.result.now in
-    let at = read_in _ now c.self.view_is c.args.place x c.requires.place c.index.ensures in
-    let bt = read_in _ now c.self.view_is other y (c.requires.others i 0 lt)
-    c.index-in-loop-other.ensures in
+    let lt : i < length others = omega arith in
     let id = id_at now.devices c.args.place in
-    let region = seats_more ((tiers_of now.devices).region id) now.devices c.args.others.now i
-    (in_region x y) lt (tier_at in_region now.devices rise c.args.place other x y at bt) in
-    let zone = seats_more ((tiers_of now.devices).zone id) now.devices c.args.others.now i
-    (in_zone x y) lt (tier_at in_zone now.devices rise c.args.place other x y at bt) in
-    let server = seats_more ((tiers_of now.devices).server id) now.devices c.args.others.now i
-    (on_server x y) lt (tier_at on_server now.devices rise c.args.place other x y at bt) in
+    let other = id_at now.devices (get_or others i 0) in
+    let tiers = tiers_of now.devices in
+    let region = seats_more (tiers.region id) now.devices others i (tiers.region id other) lt refl
+    in
+    let zone = seats_more (tiers.zone id) now.devices others i (tiers.zone id other) lt refl in
+    let server = seats_more (tiers.server id) now.devices others i (tiers.server id other) lt refl
+    in
     record {
       region = omega (
         arith,
         region,
         c.loop-other.invariant.region,
-        c.shared_tiers-more.ensures.region,
+        c.shares_at-more.ensures.region,
       );
-      zone = omega (arith, zone, c.loop-other.invariant.zone, c.shared_tiers-more.ensures.zone);
+      zone = omega (arith, zone, c.loop-other.invariant.zone, c.shares_at-more.ensures.zone);
       server = omega (
         arith,
         server,
         c.loop-other.invariant.server,
-        c.shared_tiers-more.ensures.server,
+        c.shares_at-more.ensures.server,
       );
       regions = omega (
         arith,
-        at_most_one (in_region x y),
+        at_most_one (tiers.region id other),
         c.loop-other.invariant.regions,
-        c.shared_tiers-more.ensures.region,
+        c.shares_at-more.ensures.region,
       );
       zones = omega (
         arith,
-        at_most_one (in_zone x y),
+        at_most_one (tiers.zone id other),
         c.loop-other.invariant.zones,
-        c.shared_tiers-more.ensures.zone,
+        c.shares_at-more.ensures.zone,
       );
       servers = omega (
         arith,
-        at_most_one (on_server x y),
+        at_most_one (tiers.server id other),
         c.loop-other.invariant.servers,
-        c.shared_tiers-more.ensures.server,
+        c.shares_at-more.ensures.server,
       );
     }

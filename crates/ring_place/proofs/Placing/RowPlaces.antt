@@ -1,0 +1,189 @@
+-- The places of the devices of a partition's seats.
+use Rattle.std.proofs.Common.{◌≡◌, ◌≢◌, ◌==◌, ℕ, zero, suc, ◌+◌, ◌<◌, ◌≤◌, Bool, true, false, not}
+use Rattle.std.proofs.Common.{cond, ◌&&◌, All, List, [], ◌∷◌, length, get_or, map, set, take}
+use Rattle.std.proofs.Common.{count_by, Option, Some, None, IfSome, refl, sym, ap, subst, ◌∙◌}
+use Rattle.std.proofs.Common.{arith}
+use Rattle.std.specs.Prelude.{slice_get}
+use Rattle.std.specs.List.{list_any}
+use Rattle.std.specs.List.Sorted.{IsStrictlyIncreasing}
+use Rattle.std.proofs.lemmas.List.{length-map, map-append, take_more_set}
+use Rattle.std.proofs.lemmas.List.Elements.{All-append, All-cons, All-nil}
+use Rattle.std.proofs.lemmas.List.Sums.{sum_by-append, sum_by-cons}
+use Rattle.std.proofs.lemmas.Option.{slice_get-get_or}
+use Rattle.ring_model.specs.Ring.{has_present}
+use Rattle.ring_words.specs.declared.device.Device.{Device}
+use Rattle.ring_share.specs.Crowd.{is_less, is_on, is_outside, seats_on, tiers_of}
+use Rattle.ring_share.specs.Want.{is_open}
+use Rattle.ring_place.specs.Load.{Load, crowd_in, has_room_in, is_free_in, seats_of}
+use Rattle.ring_place.specs.Inner.Places.{ArePlacesOf, id_at, seats_at}
+use Rattle.ring_place.specs.Inner.Placing.{IsChosen}
+use Rattle.ring_place.specs.Inner.SeatRows.{devices_on, is_empty}
+use Rattle.ring_place.proofs.Searching.DevicesAt.{id_at_is}
+use Rattle.ring_place.proofs.Searching.FreeOutside.{outside_at, seats_first}
+use Rattle.ring_place.proofs.Searching.RoomyPlaces.{places_within}
+use Rattle.ring_place.proofs.Placing.ChosenDevices.{open_among, outside_ids}
+use Rattle.ring_place.proofs.Placing.SettledSeats.{count_put}
+use Rattle.ring_place.proofs.Rows.RowDevices.{count_taken}
+
+-- ---- what a partition's seats are for a device, those at the places are
+
+-- As many of the one seats as of the other are on devices that pass a test.
+abbrev pub AreAlike : List (Option ℕ) → List (Option ℕ) → Type 0
+AreAlike one other = (test : ℕ → Bool) → count_by (is_on test) one ≡ count_by (is_on test) other
+
+free_alike : (load : Load) (one other : List (Option ℕ)) (id : ℕ) → AreAlike one other →
+    is_free_in load one id ≡ is_free_in load other id
+free_alike load one other id alike = ap (λ (n : ℕ). has_room_in load id && (n == 0))
+    (alike (λ x. x == id))
+
+crowd_alike : (load : Load) (one other : List (Option ℕ)) (id : ℕ) → AreAlike one other →
+    crowd_in load one id ≡ crowd_in load other id
+crowd_alike load one other id alike =
+    rw (
+      alike ((tiers_of load.devices).region id),
+      alike ((tiers_of load.devices).zone id),
+      alike ((tiers_of load.devices).server id),
+    ) refl
+
+pub chosen_alike : (load : Load) (at row : List (Option ℕ)) (own : Option ℕ) (id : ℕ) →
+    AreAlike at row → IsChosen load at own id → IsChosen load row own id
+chosen_alike load at row own id alike is =
+    let crowd = λ (x : ℕ). crowd_alike load at row x alike in
+    let free = λ (x : ℕ). free_alike load at row x alike in
+    record {
+      known = is.known;
+      outside = sym (alike (λ other. other == id)) ∙ is.outside;
+      may_take = is.may_take;
+      least = λ other passes. ap (λ c. is_less c (crowd_in load row id)) (sym (crowd other))
+          ∙ ap (λ c. is_less (crowd_in load at other) c) (sym (crowd id))
+          ∙ is.least other (free other ∙ passes);
+      own_wins = λ from is_own passes ne. ap (λ c. is_less c (crowd_in load row from))
+          (sym (crowd id))
+          ∙ ap (λ c. is_less (crowd_in load at id) c) (sym (crowd from))
+          ∙ is.own_wins from is_own (free from ∙ passes) ne;
+      free = λ other passes. sym (free id) ∙ is.free other (free other ∙ passes);
+      stays = subst (λ b. IfSome own (λ from. has_present from load.devices ≡ true → id ≢ from →
+          b ≡ true)) (free id) is.stays;
+    }
+
+pub apart_alike : (devices : List Device) (at row : List (Option ℕ)) (own : Option ℕ) →
+    AreAlike at row → IfSome own (λ id. has_present id devices ≡ true → seats_on id row ≡ 0) →
+    IfSome own (λ id. has_present id devices ≡ true → seats_on id at ≡ 0)
+apart_alike devices at row None alike apart = tt
+apart_alike devices at row (Some id) alike apart = λ present. alike (λ other. other == id) ∙ apart
+    present
+
+-- ---- the places of a partition's seats, as seats are put
+
+pub places_first : (devices : List Device) (row : List (Option ℕ)) (ids places : List ℕ)
+    (count : ℕ) → ids ≡ devices_on row → length ids ≡ count → length ids ≤ 5 → length places ≡ 5
+    → ((k : ℕ) → k < length ids → (get_or places k 0 < length devices) ×
+    (id_at devices (get_or places k 0) ≡ get_or ids k 0)) →
+    ArePlacesOf devices row (take count places)
+places_first devices row ids places count are counted few long all =
+    subst (λ n. ArePlacesOf devices row (take n places)) counted record {
+      within = places_within devices ids places few long all;
+      alike = λ test. ap (count_by (is_on test)) (seats_first devices ids places few long all ∙ ap
+          seats_of are) ∙ count_taken test row;
+    }
+
+one_seat : (test : ℕ → Bool) (id : ℕ) → count_by (is_on test) (Some id ∷ []) ≡ cond (test id) 1 0
+one_seat test id =
+    let one = sum_by-cons (λ (s : Option ℕ). cond (is_on test s) 1 0) (Some id) [] in
+    omega (arith, one)
+
+pub places_more : (devices : List Device) (row : List (Option ℕ)) (places : List ℕ)
+    (count n place : ℕ) → ArePlacesOf devices row (take count places) → count < length places →
+    slice_get row n ≡ Some None → place < length devices
+    → ArePlacesOf devices (set row n (Some (id_at devices place))) (take (count + 1)
+    (set places count place))
+places_more devices row places count n place are within empty there =
+    let id = id_at devices place in
+    subst (λ ps. ArePlacesOf devices (set row n (Some id)) ps)
+    (sym (take_more_set places count place within)) record {
+      within = All-append (λ p. p < length devices) (take count places) (place ∷ []) are.within
+          (All-cons (λ p. p < length devices) place [] there (All-nil (λ p. p < length devices)));
+      alike = λ test.
+          let more = ap (count_by (is_on test)) (map-append (λ p. Some (id_at devices p))
+          (take count places) (place ∷ [])) in
+          let both = sum_by-append (λ (s : Option ℕ). cond (is_on test s) 1 0)
+          (seats_at devices (take count places)) (Some id ∷ []) in
+          let put = count_put test row n id empty in
+          omega (arith, more, both, one_seat test id, are.alike test, put);
+    }
+
+-- ---- how many they are
+
+all_on : (devices : List Device) (places : List ℕ) → count_by (is_on (λ id. true))
+    (seats_at devices places) ≡ length places
+all_on devices [] = refl
+all_on devices (place ∷ places) =
+    let one = sum_by-cons (λ (s : Option ℕ). cond (is_on (λ (id : ℕ). true) s) 1 0)
+    (Some (id_at devices place)) (seats_at devices places) in
+    omega (arith, one, all_on devices places)
+
+count_on : (row : List (Option ℕ)) → count_by (is_on (λ id. true)) row + count_by is_empty row ≡
+    length row
+count_on [] = refl
+count_on (None ∷ row) =
+    let one = sum_by-cons (λ (s : Option ℕ). cond (is_on (λ (id : ℕ). true) s) 1 0) None row in
+    let other = sum_by-cons (λ (s : Option ℕ). cond (is_empty s) 1 0) None row in
+    omega (arith, one, other, count_on row)
+count_on (Some id ∷ row) =
+    let one = sum_by-cons (λ (s : Option ℕ). cond (is_on (λ (id : ℕ). true) s) 1 0) (Some id) row in
+    let other = sum_by-cons (λ (s : Option ℕ). cond (is_empty s) 1 0) (Some id) row in
+    omega (arith, one, other, count_on row)
+
+some_empty : (row : List (Option ℕ)) (n : ℕ) → slice_get row n ≡ Some None → 0 < count_by is_empty
+    row
+some_empty [] n empty = absurd (cc)
+some_empty (None ∷ row) zero empty =
+    let one = sum_by-cons (λ (s : Option ℕ). cond (is_empty s) 1 0) None row in
+    omega (arith, one)
+some_empty (Some id ∷ row) zero empty = absurd (cc)
+some_empty (seat ∷ row) (suc n) empty =
+    let one = sum_by-cons (λ (s : Option ℕ). cond (is_empty s) 1 0) seat row in
+    omega (arith, one, some_empty row n empty)
+
+-- a partition with an empty seat has more seats than they are
+pub fewer_places : (devices : List Device) (row : List (Option ℕ)) (places : List ℕ) (n : ℕ) →
+    ArePlacesOf devices row places → slice_get row n ≡ Some None → length places < length row
+fewer_places devices row places n are empty = omega (
+  arith,
+  all_on devices places,
+  are.alike (λ id. true),
+  count_on row,
+  some_empty row n empty,
+)
+
+-- ---- an open device outside
+
+seats_ids : (devices : List Device) (places : List ℕ) → seats_of (map (id_at devices) places) ≡
+    seats_at devices places
+seats_ids devices [] = refl
+seats_ids devices (place ∷ places) = ap (λ seats. Some (id_at devices place) ∷ seats)
+    (seats_ids devices places)
+
+among_same : (devices : List Device) → IsStrictlyIncreasing (map (λ device. device.id) devices) →
+    (others : List ℕ) (k : ℕ) (x : Device) → All (λ other. other < length devices) others →
+    k < length devices → slice_get devices k ≡ Some x
+    → not (list_any (λ other. other == x.id) (map (id_at devices) others)) ≡ not
+    (list_any (λ other. other == k) others)
+among_same devices rise others k x all lt at =
+    sym (outside_ids (map (id_at devices) others) x.id)
+    ∙ ap (λ seats. is_outside seats x.id) (seats_ids devices others)
+    ∙ ap (is_outside (seats_at devices others)) (sym (id_at_is devices k x at))
+    ∙ outside_at devices rise others k all lt
+
+-- where each open device is at one of some places, these are no fewer than the open devices
+pub open_places : (devices : List Device) (others : List ℕ) →
+    IsStrictlyIncreasing (map (λ device. device.id) devices) →
+    All (λ other. other < length devices) others
+    → ((k : ℕ) (x : Device) → k < length devices → (is_open (get_or devices k x) &&
+    not (list_any (λ other. other == k) others)) ≡ false) →
+    count_by is_open devices ≤ length others
+open_places devices others rise all none =
+    let few = open_among devices (map (id_at devices) others) rise (λ k x lt.
+    ap (λ b. is_open (get_or devices k x) && b) (among_same devices rise others k
+    (get_or devices k x) all lt (slice_get-get_or devices k x lt)) ∙ none k x lt) in
+    omega (arith, few, length-map others (id_at devices))
