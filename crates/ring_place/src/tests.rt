@@ -16,6 +16,18 @@ use ring_words::{
 use std::alloc::Global;
 use std::test::Fail;
 
+/// The address 10.0.0.(S+1).
+fn address(alloc: Global, server: u8) -> Result<Address, Fail> {
+    let text = format!(in alloc; "10.0.0.{}", server.saturating_add(1))?;
+    Ok(Address::parse(text.as_str()).ok_or("an address")?)
+}
+
+/// The name `dN`.
+fn name(alloc: Global, number: u8) -> Result<DeviceName, Fail> {
+    let text = format!(in alloc; "d{number}")?;
+    Ok(DeviceName::new(alloc, text.as_str())?)
+}
+
 /// Device `dN` at 10.0.0.(S+1), port 6200, in a region and zone, of a weight in hundredths.
 fn device_at(
     alloc: Global,
@@ -25,18 +37,17 @@ fn device_at(
     server: u8,
     weight: u32,
 ) -> Result<Device, Fail> {
-    let address = format!(in alloc; "10.0.0.{}", server.saturating_add(1))?;
-    let name = format!(in alloc; "d{number}")?;
+    let row = Row {
+        region,
+        zone,
+        address: address(alloc, server)?,
+        port: Port::new(6200).ok_or("a port")?,
+        name: name(alloc, number)?,
+        weight: Weight::of(weight).ok_or("a weight")?,
+    };
     Ok(Device {
         id: u16::from(number),
-        row: Row {
-            region,
-            zone,
-            address: Address::parse(address.as_str()).ok_or("an address")?,
-            port: Port::new(6200).ok_or("a port")?,
-            name: DeviceName::new(alloc, name.as_str())?,
-            weight: Weight::of(weight).ok_or("a weight")?,
-        },
+        row,
         removed: false,
     })
 }
@@ -138,26 +149,90 @@ fn a_first_rebalance_takes_every_seat(rt: HostRuntime) -> Result<(), Fail> {
     let alloc = rt.alloc();
     let ring = ring(alloc, 1, 2, 0, [10_000, 10_000].as_slice())?;
     let (new, changed) = checked_rebalance(alloc, &ring, 5, 7)?;
-    assert_eq!(rt; changed, 4);
-    assert_eq!(rt; (have(&new, 0), have(&new, 1)), (2, 2));
+    assert_eq!(rt; (changed, have(&new, 0), have(&new, 1)), (4, 2, 2));
     assert_eq!(rt; new.moves(), [Some(5), Some(5)].as_slice());
     Ok(())
+}
+
+/// What is done to a ring before it is rebalanced.
+#[derive(Clone, Copy)]
+enum Change {
+    Nothing,
+    /// A device in a region, of a weight in hundredths, is added.
+    Adds(u16, u32),
+    Marks(u16),
+    /// A device gets another weight.
+    Weighs(u16, u32),
+}
+
+/// A rebalance, and what comes of it.
+#[derive(Clone, Copy)]
+struct Step {
+    before: [Change; 2],
+    hour: Hour,
+    seed: u32,
+    /// How many seats it changes.
+    changed: u32,
+    /// How many seats devices 0 to 3 have after it.
+    seats: [usize; 4],
+}
+
+/// The first rebalance at hour 0, which takes so many seats.
+const fn first(changed: u32, seats: [usize; 4]) -> Step {
+    Step {
+        before: [Change::Nothing; 2],
+        hour: 0,
+        seed: 7,
+        changed,
+        seats,
+    }
+}
+
+fn after(alloc: Global, ring: &Ring, change: Change) -> Result<Ring, Fail> {
+    match change {
+        Change::Nothing => Ok(Ring::build(alloc, ring.parts()?)?),
+        Change::Adds(region, weight) => {
+            let number = u8::try_from(ring.next_id()).unwrap_or(255);
+            with_device(alloc, ring, device(alloc, number, region, weight)?)
+        }
+        Change::Marks(id) => marked(alloc, ring, id),
+        Change::Weighs(id, weight) => weighed(alloc, ring, id, weight),
+    }
+}
+
+/// Whether devices 0 to 3 have so many seats.
+fn has_seats(ring: &Ring, seats: [usize; 4]) -> bool {
+    seats
+        .iter()
+        .enumerate()
+        .all(|(id, count)| have(ring, id as u16) == *count)
+}
+
+/// Whether the rebalances of a ring, one after another, are as their steps say.
+fn takes(alloc: Global, ring: Ring, steps: &[Step]) -> Result<bool, Fail> {
+    let mut ring = ring;
+    for step in steps {
+        ring = after(alloc, &ring, step.before[0])?;
+        ring = after(alloc, &ring, step.before[1])?;
+        let (new, changed) = checked_rebalance(alloc, &ring, step.hour, step.seed)?;
+        if changed != step.changed || !has_seats(&new, step.seats) {
+            return Ok(false);
+        }
+        ring = new;
+    }
+    Ok(true)
 }
 
 #[test]
 fn power_two_takes_eight_seats(rt: HostRuntime) -> Result<(), Fail> {
     let alloc = rt.alloc();
     let ring = ring(alloc, 2, 2, 24, [10_000, 10_000].as_slice())?;
-    let (ring, changed) = checked_rebalance(alloc, &ring, 0, 7)?;
-    assert_eq!(rt; changed, 8);
-    let third = device(alloc, 2, 1, 10_000)?;
-    let ring = marked(alloc, &with_device(alloc, &ring, third)?, 0)?;
-    let (ring, changed) = checked_rebalance(alloc, &ring, 1, 7)?;
-    assert_eq!(rt; changed, 4);
-    assert_eq!(rt;
-        (have(&ring, 1), have(&ring, 2), ring.devices().len()),
-        (4, 4, 2)
-    );
+    let leaves = Step {
+        before: [Change::Adds(1, 10_000), Change::Marks(0)],
+        hour: 1,
+        ..first(4, [0, 4, 4, 0])
+    };
+    assert!(rt; takes(alloc, ring, &[first(8, [4, 4, 0, 0]), leaves])?);
     Ok(())
 }
 
@@ -165,12 +240,17 @@ fn power_two_takes_eight_seats(rt: HostRuntime) -> Result<(), Fail> {
 fn a_moved_partition_stays_for_its_hours(rt: HostRuntime) -> Result<(), Fail> {
     let alloc = rt.alloc();
     let ring = ring(alloc, 2, 1, 24, [10_000].as_slice())?;
-    let (ring, _) = checked_rebalance(alloc, &ring, 100, 7)?;
-    let ring = with_device(alloc, &ring, device(alloc, 1, 1, 10_000)?)?;
-    let (ring, changed) = checked_rebalance(alloc, &ring, 123, 7)?;
-    assert_eq!(rt; changed, 0);
-    let (_, changed) = checked_rebalance(alloc, &ring, 124, 7)?;
-    assert_eq!(rt; changed, 2);
+    let at = |hour, step| Step { hour, ..step };
+    let locked = Step {
+        before: [Change::Adds(1, 10_000), Change::Nothing],
+        ..first(0, [4, 0, 0, 0])
+    };
+    let steps = [
+        at(100, first(4, [4, 0, 0, 0])),
+        at(123, locked),
+        at(124, first(2, [2, 2, 0, 0])),
+    ];
+    assert!(rt; takes(alloc, ring, &steps)?);
     Ok(())
 }
 
@@ -178,13 +258,17 @@ fn a_moved_partition_stays_for_its_hours(rt: HostRuntime) -> Result<(), Fail> {
 fn a_drained_device_keeps_its_seats_while_they_are_locked(rt: HostRuntime) -> Result<(), Fail> {
     let alloc = rt.alloc();
     let ring = ring(alloc, 2, 2, 24, [10_000, 10_000].as_slice())?;
-    let (ring, _) = checked_rebalance(alloc, &ring, 0, 7)?;
-    let ring = with_device(alloc, &ring, device(alloc, 2, 1, 10_000)?)?;
-    let ring = weighed(alloc, &ring, 1, 0)?;
-    let (ring, changed) = checked_rebalance(alloc, &ring, 1, 7)?;
-    assert_eq!(rt; (changed, have(&ring, 1)), (0, 4));
-    let (ring, changed) = checked_rebalance(alloc, &ring, 24, 7)?;
-    assert_eq!(rt; (changed, have(&ring, 1)), (4, 0));
+    let locked = Step {
+        before: [Change::Adds(1, 10_000), Change::Weighs(1, 0)],
+        hour: 1,
+        ..first(0, [4, 4, 0, 0])
+    };
+    let drained = Step {
+        hour: 24,
+        ..first(4, [4, 0, 4, 0])
+    };
+    let steps = [first(8, [4, 4, 0, 0]), locked, drained];
+    assert!(rt; takes(alloc, ring, &steps)?);
     Ok(())
 }
 
@@ -192,11 +276,8 @@ fn a_drained_device_keeps_its_seats_while_they_are_locked(rt: HostRuntime) -> Re
 fn a_want_beyond_reach_leaves_room(rt: HostRuntime) -> Result<(), Fail> {
     let alloc = rt.alloc();
     let ring = ring(alloc, 2, 2, 0, [30_000, 10_000].as_slice())?;
-    let (ring, changed) = checked_rebalance(alloc, &ring, 0, 7)?;
-    assert_eq!(rt; changed, 8);
-    assert_eq!(rt; (have(&ring, 0), have(&ring, 1)), (4, 4));
-    let (_, changed) = checked_rebalance(alloc, &ring, 0, 7)?;
-    assert_eq!(rt; changed, 0);
+    let steps = [first(8, [4, 4, 0, 0]), first(0, [4, 4, 0, 0])];
+    assert!(rt; takes(alloc, ring, &steps)?);
     Ok(())
 }
 
@@ -204,16 +285,15 @@ fn a_want_beyond_reach_leaves_room(rt: HostRuntime) -> Result<(), Fail> {
 fn one_seat_a_partition_leaves_overfull_devices(rt: HostRuntime) -> Result<(), Fail> {
     let alloc = rt.alloc();
     let ring = ring(alloc, 1, 2, 0, [10_000, 10_000].as_slice())?;
-    let (ring, _) = checked_rebalance(alloc, &ring, 0, 7)?;
-    let ring = with_device(alloc, &ring, device(alloc, 2, 1, 10_000)?)?;
-    let ring = with_device(alloc, &ring, device(alloc, 3, 1, 10_000)?)?;
-    let (ring, changed) = checked_rebalance(alloc, &ring, 0, 7)?;
-    assert_eq!(rt; changed, 2);
-    for id in 0..4 {
-        assert_eq!(rt; have(&ring, id), 1);
-    }
-    let (_, changed) = checked_rebalance(alloc, &ring, 0, 8)?;
-    assert_eq!(rt; changed, 0);
+    let spreads = Step {
+        before: [Change::Adds(1, 10_000); 2],
+        ..first(2, [1; 4])
+    };
+    let rests = Step {
+        seed: 8,
+        ..first(0, [1; 4])
+    };
+    assert!(rt; takes(alloc, ring, &[first(4, [2, 2, 0, 0]), spreads, rests])?);
     Ok(())
 }
 
@@ -221,10 +301,11 @@ fn one_seat_a_partition_leaves_overfull_devices(rt: HostRuntime) -> Result<(), F
 fn one_place_takes_one_of_two_seats(rt: HostRuntime) -> Result<(), Fail> {
     let alloc = rt.alloc();
     let ring = ring(alloc, 1, 2, 0, [10_000, 10_000].as_slice())?;
-    let (ring, _) = checked_rebalance(alloc, &ring, 0, 7)?;
-    let ring = with_device(alloc, &ring, device(alloc, 2, 2, 5_000)?)?;
-    let (ring, changed) = checked_rebalance(alloc, &ring, 0, 7)?;
-    assert_eq!(rt; (changed, have(&ring, 2)), (1, 1));
+    let far = Step {
+        before: [Change::Adds(2, 5_000), Change::Nothing],
+        ..first(1, [2, 1, 1, 0])
+    };
+    assert!(rt; takes(alloc, ring, &[first(4, [2, 2, 0, 0]), far])?);
     Ok(())
 }
 
@@ -395,40 +476,27 @@ fn the_least_crowded_of_256_devices_is_that_of_a_scan(rt: HostRuntime) -> Result
     Ok(())
 }
 
+/// Whether device 0, alone in a ring and wanted for two seats, has room until both are taken.
+fn has_room_for_two(alloc: Global, ring: &Ring) -> Result<bool, Fail> {
+    let wants = wanted(alloc, ring)?;
+    if !ring.has_device(0) || wants.as_slice() != [2].as_slice() {
+        return Ok(false);
+    }
+    let mut room = Room::of(alloc, ring, &wants)?;
+    let empty = room.least(&[], 7);
+    room.put(0);
+    let half = room.has_room(0);
+    room.put(0);
+    let full = room.least(&[], 7);
+    let is_full = !room.has_room(0) && full.is_none();
+    room.take(0);
+    Ok(empty == Some(0) && half && is_full && room.has_room(0))
+}
+
 #[test]
 fn a_room_is_filled_and_emptied(rt: HostRuntime) -> Result<(), Fail> {
     let alloc = rt.alloc();
-    let ring = Ring::new(
-        alloc,
-        Power::new(1).ok_or("a power")?,
-        Replicas::new(1).ok_or("replicas")?,
-        24,
-    )?;
-    let row = Row {
-        region: 1,
-        zone: 1,
-        address: Address::parse("10.0.0.1").ok_or("an address")?,
-        port: Port::new(6200).ok_or("a port")?,
-        name: DeviceName::new(alloc, "d0")?,
-        weight: Weight::parse("100.00").ok_or("a weight")?,
-    };
-    if ring.has_place(&row) || ring.devices().len() > 1 || ring.next_id() > 1 {
-        return Err(Fail::from("a new ring has no device"));
-    }
-    let ring = ring.with_device(&row)?;
-    if !ring.has_device(0) {
-        return Err(Fail::from("device 0 is there"));
-    }
-    let wants = wanted(alloc, &ring)?;
-    assert_eq!(rt; wants.as_slice(), [2].as_slice());
-    let mut room = Room::of(alloc, &ring, &wants)?;
-    assert_eq!(rt; room.least(&[], 7), Some(0));
-    room.put(0);
-    assert!(rt; room.has_room(0));
-    room.put(0);
-    assert!(rt; !room.has_room(0));
-    assert_eq!(rt; room.least(&[], 7), None);
-    room.take(0);
-    assert!(rt; room.has_room(0));
+    let ring = ring(alloc, 1, 1, 24, [10_000].as_slice())?;
+    assert!(rt; has_room_for_two(alloc, &ring)?);
     Ok(())
 }

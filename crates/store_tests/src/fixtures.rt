@@ -5,20 +5,31 @@ use std::alloc::{AllocError, Global};
 use std::rc::RcStr;
 use std::test::Fail;
 
+/// The address 10.0.0.(N+1).
+fn address(alloc: Global, number: u8) -> Result<Address, Fail> {
+    let text = format!(in alloc; "10.0.0.{}", number.saturating_add(1))?;
+    Ok(Address::parse(text.as_str()).ok_or("an address")?)
+}
+
+/// The name `dN`.
+fn name(alloc: Global, number: u8) -> Result<DeviceName, Fail> {
+    let text = format!(in alloc; "d{number}")?;
+    Ok(DeviceName::new(alloc, text.as_str())?)
+}
+
 /// Device `dN` at 10.0.0.(N+1), port 6200, in region 1 and zone 1, of weight 100.00.
 pub fn device(alloc: Global, number: u8) -> Result<Device, Fail> {
-    let address = format!(in alloc; "10.0.0.{}", number.saturating_add(1))?;
-    let name = format!(in alloc; "d{number}")?;
+    let row = Row {
+        region: 1,
+        zone: 1,
+        address: address(alloc, number)?,
+        port: Port::new(6200).ok_or("a port")?,
+        weight: Weight::of(10000).ok_or("a weight")?,
+        name: name(alloc, number)?,
+    };
     Ok(Device {
         id: u16::from(number),
-        row: Row {
-            region: 1,
-            zone: 1,
-            address: Address::parse(address.as_str()).ok_or("an address")?,
-            port: Port::new(6200).ok_or("a port")?,
-            name: DeviceName::new(alloc, name.as_str())?,
-            weight: Weight::of(10000).ok_or("a weight")?,
-        },
+        row,
         removed: false,
     })
 }

@@ -7,10 +7,10 @@ mod making;
 mod migrating;
 
 use builder::{MessageFault, RingMachine, Told, read_delivery, status_of, told_text};
-use builder_store::{SqlKeeper, open_memory};
+use builder_store::{OpenFault, SqlKeeper, open_memory};
 use request_book::{Book, Fault, Keeper};
 use ring_words::Limits;
-use sqlite::{Connection, Error, FileStore, Files, Options};
+use sqlite::{Alter, Connection, Error, FileStore, Files, Options};
 use sqlite_disk::Memory;
 use std::alloc::{AllocError, Global};
 use std::test::Fail;
@@ -86,18 +86,36 @@ pub fn book_of<K: Keeper<RingMachine>>(alloc: Global, keeper: K) -> Book<RingMac
     Book::open(alloc, RingMachine { limits }, keeper)
 }
 
+/// The keeper of what a connection's store holds.
+fn adopted<S: Alter + Drop>(alloc: Global, conn: Connection<S>) -> Result<SqlKeeper<S>, OpenFault>
+    ensures { IfOk result (λ k. k.faults ≡ 0) }
+{
+    match SqlKeeper::adopt(alloc, conn, Limits::full()) {
+        Ok(keeper) => Ok(keeper),
+        Err((fault, _)) => Err(fault),
+    }
+}
+
+/// Whether rows over a keeper are answered as they say, and its connection then.
+fn runs_over<S: Alter + Drop>(
+    alloc: Global,
+    keeper: SqlKeeper<S>,
+    rows: &[&[Row<'_>]],
+) -> Result<(bool, Connection<S>), MessageFault>
+    requires { keeper.faults ≡ 0 }
+{
+    let mut book = book_of(alloc, keeper);
+    let mut all = true;
+    for some in rows {
+        all = all && answers_all(alloc, &mut book, some)?;
+    }
+    Ok((all, book.into_keeper().close()))
+}
+
 /// Whether rows over memory are answered as they say.
 fn runs(alloc: Global, rows: &[&[Row<'_>]]) -> Result<bool, Fail> {
-    let Ok(keeper) = open_memory(alloc, Limits::full()) else {
-        return Ok(false);
-    };
-    let mut book = book_of(alloc, keeper);
-    for some in rows {
-        if !answers_all(alloc, &mut book, some)? {
-            return Ok(false);
-        }
-    }
-    Ok(true)
+    let (all, _) = runs_over(alloc, open_memory(alloc, Limits::full())?, rows)?;
+    Ok(all)
 }
 
 #[test]
@@ -119,6 +137,11 @@ pub fn open(alloc: Global, db: Memory) -> Result<Connection<FileStore<Memory>>, 
     }
 }
 
+/// A connection over a new file.
+fn new_file(alloc: Global) -> Result<Connection<FileStore<Memory>>, Error> {
+    open(alloc, Memory::new(alloc))
+}
+
 /// The file, closed.
 pub fn close(conn: Connection<FileStore<Memory>>) -> Result<Memory, Error>
     ensures { IfOk result (λ db. IsTrue (memory_is_usable db)) }
@@ -130,31 +153,26 @@ pub fn close(conn: Connection<FileStore<Memory>>) -> Result<Memory, Error>
 }
 
 /// Whether rows over a file are answered so, and the file as it is then.
-fn runs_over(alloc: Global, db: Memory, rows: &[Row<'_>]) -> Result<(bool, Memory), Fail>
+fn runs_in_file(alloc: Global, db: Memory, rows: &[Row<'_>]) -> Result<(bool, Memory), Fail>
     requires { IsTrue (memory_is_usable db) }
     ensures { IfOk result (λ it. IsTrue (memory_is_usable it.1)) }
 {
-    let conn = open(alloc, db)?;
-    let Ok(keeper) = SqlKeeper::adopt(alloc, conn, Limits::full()) else {
-        return Err(Fail::new(format_args!("not opened")));
-    };
-    let mut book = book_of(alloc, keeper);
-    let all = answers_all(alloc, &mut book, rows)?;
-    let db = close(book.into_keeper().close())?;
-    Ok((all, db))
+    let keeper = adopted(alloc, open(alloc, db)?)?;
+    let (all, conn) = runs_over(alloc, keeper, &[rows])?;
+    Ok((all, close(conn)?))
 }
 
 #[test]
 fn a_file_that_is_opened_again_goes_on(rt: HostRuntime) -> Result<(), Fail> {
     let alloc = rt.alloc();
-    let (first, db) = runs_over(alloc, Memory::new(alloc), &FIRST)?;
+    let (first, db) = runs_in_file(alloc, Memory::new(alloc), &FIRST)?;
     assert!(rt; first);
     // Each request that comes again gets its reply, and what is new is decided.
-    let (again, db) = runs_over(alloc, db, &FIRST)?;
+    let (again, db) = runs_in_file(alloc, db, &FIRST)?;
     assert!(rt; again);
-    let (locked, db) = runs_over(alloc, db, &LOCKED)?;
+    let (locked, db) = runs_in_file(alloc, db, &LOCKED)?;
     assert!(rt; locked);
-    let (all, _) = runs_over(alloc, db, &AT_THE_HOUR)?;
+    let (all, _) = runs_in_file(alloc, db, &AT_THE_HOUR)?;
     assert!(rt; all);
     Ok(())
 }

@@ -1,11 +1,13 @@
 //! Disks that fail at some call, and are opened again.
+ghost use Rattle.std.specs.Prelude.{◌≡◌, IfOk};
+
 use super::migrating::old_file;
 use super::{answer, book_of, is_answer};
 use builder::{RingMachine, Told};
 use builder_store::SqlKeeper;
 use request_book::{Book, Keeper};
 use ring_words::Limits;
-use sqlite::{Connection, FileStore, Files, Options};
+use sqlite::{Alter, Connection, FileStore, Files, Options};
 use sqlite_disk::{Disk, Fuse, Memory};
 use std::alloc::Global;
 use std::test::Fail;
@@ -59,27 +61,60 @@ fn deliver<K: Keeper<RingMachine>>(
     Ok(ended)
 }
 
-/// The files of a connection, as they are.
-fn files_of(conn: Connection<FileStore<Fuse<Memory>>>) -> Fused {
-    conn.into_store().close()
+/// Runs rows over a keeper, and gives its store as the run left it.
+fn run_kept<S: Alter + Drop>(
+    alloc: Global,
+    keeper: SqlKeeper<S>,
+    rows: &[Row<'_>],
+) -> Result<(Ended, S), Fail>
+    requires { keeper.faults ≡ 0 }
+{
+    let mut book = book_of(alloc, keeper);
+    let ended = deliver(alloc, &mut book, rows)?;
+    Ok((ended, book.into_keeper().close().into_store()))
+}
+
+/// The keeper of what a connection's store holds, or the store where it isn't opened.
+fn kept<S: Alter + Drop>(alloc: Global, conn: Connection<S>) -> Result<SqlKeeper<S>, S>
+    ensures { IfOk result (λ k. k.faults ≡ 0) }
+{
+    match SqlKeeper::adopt(alloc, conn, Limits::full()) {
+        Ok(keeper) => Ok(keeper),
+        Err((_, left)) => Err(left.into_store()),
+    }
+}
+
+/// Runs rows over a connection, and gives its store as the run left it.
+fn run_over<S: Alter + Drop>(
+    alloc: Global,
+    conn: Connection<S>,
+    rows: &[Row<'_>],
+) -> Result<(Ended, S), Fail> {
+    match kept(alloc, conn) {
+        Ok(keeper) => run_kept(alloc, keeper, rows),
+        Err(store) => Ok((Ended::Failed, store)),
+    }
+}
+
+/// A connection over files, or the files where there is none.
+fn opened(alloc: Global, files: Fused) -> Result<Connection<FileStore<Fuse<Memory>>>, Fused> {
+    if !files.log.may_be_used() || !files.db.may_be_used() {
+        return Err(files);
+    }
+    match Connection::open_files(alloc, files, Options::new(1)) {
+        Ok(conn) => Ok(conn),
+        Err((_, left)) => Err(left.into_files()),
+    }
 }
 
 /// Runs rows over files, and gives the files as the run left them.
 fn run(alloc: Global, files: Fused, rows: &[Row<'_>]) -> Result<(Ended, Fused), Fail> {
-    if !files.log.may_be_used() || !files.db.may_be_used() {
-        return Ok((Ended::Wrong, files));
-    }
-    let conn = match Connection::open_files(alloc, files, Options::new(1)) {
-        Ok(conn) => conn,
-        Err((_, left)) => return Ok((Ended::Failed, left.into_files())),
-    };
-    match SqlKeeper::adopt(alloc, conn, Limits::full()) {
-        Ok(keeper) => {
-            let mut book = book_of(alloc, keeper);
-            let ended = deliver(alloc, &mut book, rows)?;
-            Ok((ended, files_of(book.into_keeper().close())))
+    match opened(alloc, files) {
+        Ok(conn) => {
+            let (ended, store) = run_over(alloc, conn, rows)?;
+            Ok((ended, store.close()))
         }
-        Err((_, left)) => Ok((Ended::Failed, left.into_store().close())),
+        Err(files) => Ok((Ended::Failed, files)),
     }
 }
 

@@ -1,7 +1,6 @@
 //! Stores of schema 1, and stores that are none.
-use super::{answers_all, book_of, close, open};
-use builder_store::{OpenFault, SqlKeeper};
-use ring_words::Limits;
+use super::{adopted, close, new_file, runs_over};
+use builder_store::OpenFault;
 use sqlite::{Alter, Connection, Error, MemStore};
 use sqlite_disk::Memory;
 use std::alloc::Global;
@@ -92,59 +91,37 @@ const BREAKS: [&str; 14] = [
 ];
 
 /// Makes a store of schema 1.
-fn make_old<S: Alter>(conn: &mut Connection<S>) -> Result<(), Error> {
+fn make_old<S: Alter + Drop>(conn: Connection<S>) -> Result<Connection<S>, Error> {
+    let mut conn = conn;
     for text in TABLES {
         conn.execute(text, &[])?;
     }
     for text in OLD_ROWS {
         conn.execute(text, &[])?;
     }
-    Ok(())
+    Ok(conn)
 }
 
 /// A connection with a store of schema 1.
 fn old_store(alloc: Global) -> Result<Connection<MemStore>, Error> {
-    let mut conn = Connection::open_in_memory(alloc)?;
-    make_old(&mut conn)?;
-    Ok(conn)
+    make_old(Connection::open_in_memory(alloc)?)
 }
 
 /// A closed file with a store of schema 1.
 pub fn old_file(alloc: Global) -> Result<Memory, Error> {
-    let mut conn = open(alloc, Memory::new(alloc))?;
-    make_old(&mut conn)?;
-    close(conn)
-}
-
-/// Whether rows over a connection are answered so, and the connection then.
-fn runs_over(
-    alloc: Global,
-    conn: Connection<MemStore>,
-    rows: &[&[Row<'_>]],
-) -> Result<(bool, Connection<MemStore>), Fail> {
-    let keeper = match SqlKeeper::adopt(alloc, conn, Limits::full()) {
-        Ok(keeper) => keeper,
-        Err((fault, _)) => return Err(Fail::new(format_args!("{fault:?}"))),
-    };
-    let mut book = book_of(alloc, keeper);
-    for some in rows {
-        if !answers_all(alloc, &mut book, some)? {
-            return Err(Fail::new(format_args!("another answer")));
-        }
-    }
-    Ok((true, book.into_keeper().close()))
+    close(make_old(new_file(alloc)?)?)
 }
 
 #[test]
 fn a_store_of_schema_1_goes_on_as_one_of_schema_2(rt: HostRuntime) -> Result<(), Fail> {
     let alloc = rt.alloc();
     let kept: [&[Row]; 3] = [&FIRST, &LOCKED, &AT_THE_HOUR];
-    let (same, conn) = runs_over(alloc, old_store(alloc)?, &kept)?;
+    let (same, conn) = runs_over(alloc, adopted(alloc, old_store(alloc)?)?, &kept)?;
     assert!(rt; same);
     // Opened a second time it is the same, and goes on.
-    let (again, conn) = runs_over(alloc, conn, &kept)?;
+    let (again, conn) = runs_over(alloc, adopted(alloc, conn)?, &kept)?;
     assert!(rt; again);
-    let (on, _) = runs_over(alloc, conn, &[&LATER])?;
+    let (on, _) = runs_over(alloc, adopted(alloc, conn)?, &[&LATER])?;
     assert!(rt; on);
     Ok(())
 }
@@ -153,10 +130,7 @@ fn a_store_of_schema_1_goes_on_as_one_of_schema_2(rt: HostRuntime) -> Result<(),
 fn refused_after(alloc: Global, text: &str) -> Result<Option<OpenFault>, Error> {
     let mut conn = old_store(alloc)?;
     conn.execute(text, &[])?;
-    match SqlKeeper::adopt(alloc, conn, Limits::full()) {
-        Ok(_) => Ok(None),
-        Err((fault, _)) => Ok(Some(fault)),
-    }
+    Ok(adopted(alloc, conn).err())
 }
 
 #[test]
