@@ -43,8 +43,49 @@ impl Handler for Echo {
     }
 }
 
+/// What serving came to.
+#[derive(Drop)]
+struct Served {
+    answered: Result<u32, StreamFault>,
+    written: Vec<u8>,
+    /// How many lines were heard of.
+    heard: u32,
+    /// How often the reader and the writer failed.
+    faults: (u64, u64),
+}
+
+/// Serves what a reader gives to a writer that takes so many bytes at a time, and fails at one of
+/// its calls.
+fn serve(alloc: Global, giver: Giver<'_>, size: usize, fails_at: u32) -> Served {
+    let mut heard = 0;
+    let mut reader = CountedReader::new(giver);
+    let mut writer = CountedWriter::new(Taker::new(alloc, size, fails_at));
+    let answered = serve_lines::<_, _, Echo>(alloc, &mut reader, &mut writer, &mut heard);
+    Served {
+        answered,
+        faults: (reader.faults(), writer.faults()),
+        written: writer.into_inner().taken,
+        heard,
+    }
+}
+
+impl Served {
+    fn is(
+        &self,
+        answered: Result<u32, StreamFault>,
+        written: &[u8],
+        heard: u32,
+        faults: (u64, u64),
+    ) -> bool {
+        self.answered == answered
+            && self.written.as_slice() == written
+            && self.heard == heard
+            && self.faults == faults
+    }
+}
+
 #[test]
-fn each_line_is_answered_however_the_reads_are_cut(rt: HostRuntime) -> Result<(), Fail> {
+fn each_line_is_answered_however_the_reads_are_cut(rt: HostRuntime) {
     let cases = [
         (b"".as_slice(), b"".as_slice(), 0),
         (b"\n".as_slice(), b"\n".as_slice(), 1),
@@ -57,24 +98,11 @@ fn each_line_is_answered_however_the_reads_are_cut(rt: HostRuntime) -> Result<()
     ];
     for (input, want, lines) in cases {
         for size in [1, 2, 3, 4, 100] {
-            let mut heard = 0;
-            let mut reader = CountedReader::new(Giver::new(input, size, u32::MAX));
-            let mut taker = Taker::new(rt.alloc(), size, u32::MAX);
-            let mut writer = CountedWriter::new(&mut taker);
-            let answered = serve_lines::<_, _, Echo>(
-                rt.alloc(),
-                &mut reader,
-                &mut writer,
-                &mut heard,
-            );
-            assert_eq!(rt; reader.faults(), 0, "at {size}");
-            assert_eq!(rt; writer.faults(), 0, "at {size}");
-            assert_eq!(rt; answered, Ok(lines), "at {size}");
-            assert_eq!(rt; taker.taken.as_slice(), want, "at {size}");
-            assert_eq!(rt; heard, lines, "at {size}");
+            let giver = Giver::new(input, size, u32::MAX);
+            let served = serve(rt.alloc(), giver, size, u32::MAX);
+            assert!(rt; served.is(Ok(lines), want, lines, (0, 0)), "at {size}");
         }
     }
-    Ok(())
 }
 
 #[test]
@@ -109,33 +137,27 @@ fn a_line_that_is_too_long_is_skipped(rt: HostRuntime) -> Result<(), Fail> {
 const FOUR: &[u8] = b"one\ntwo\nthree\nfour\n";
 
 #[test]
-fn a_read_that_fails_leaves_the_answers_so_far(rt: HostRuntime) -> Result<(), Fail> {
+fn a_read_that_fails_leaves_the_answers_so_far(rt: HostRuntime) {
     // Three bytes a read: the eighth read would find the end.
-    for (fails_at, written) in [
-        (1, 0),
-        (2, 0),
-        (3, 4),
-        (4, 8),
-        (5, 8),
-        (6, 14),
-        (7, 14),
-        (8, 19),
+    for (fails_at, written, hears) in [
+        (1, 0, 0),
+        (2, 0, 0),
+        (3, 4, 1),
+        (4, 8, 2),
+        (5, 8, 2),
+        (6, 14, 3),
+        (7, 14, 3),
+        (8, 19, 4),
     ] {
-        let mut heard = 0;
-        let mut reader = CountedReader::new(Giver::new(FOUR, 3, fails_at));
-        let mut output = Vec::new(rt.alloc());
-        let mut writer = CountedWriter::new(&mut output);
-        let answered = serve_lines::<_, _, Echo>(rt.alloc(), &mut reader, &mut writer, &mut heard);
-        assert_eq!(rt; reader.faults(), 1, "at {fails_at}");
-        assert_eq!(rt; writer.faults(), 0, "at {fails_at}");
-        assert_eq!(rt; answered, Err(StreamFault::ReadFailed), "at {fails_at}");
-        assert_eq!(rt; output.as_slice(), &FOUR[..written], "at {fails_at}");
+        let served = serve(rt.alloc(), Giver::new(FOUR, 3, fails_at), 100, u32::MAX);
+        let written = FOUR.get(..written).unwrap_or(b"");
+        let fault = Err(StreamFault::ReadFailed);
+        assert!(rt; served.is(fault, written, hears, (1, 0)), "at {fails_at}");
     }
-    Ok(())
 }
 
 #[test]
-fn a_write_that_fails_leaves_a_beginning(rt: HostRuntime) -> Result<(), Fail> {
+fn a_write_that_fails_leaves_a_beginning(rt: HostRuntime) {
     // Two bytes a write, and a flush after each line.
     for (fails_at, written, hears) in [
         (1, 0, 1),
@@ -153,18 +175,11 @@ fn a_write_that_fails_leaves_a_beginning(rt: HostRuntime) -> Result<(), Fail> {
         (13, 18, 4),
         (14, 19, 4),
     ] {
-        let mut heard = 0;
-        let mut reader = CountedReader::new(Giver::new(FOUR, 1, u32::MAX));
-        let mut taker = Taker::new(rt.alloc(), 2, fails_at);
-        let mut writer = CountedWriter::new(&mut taker);
-        let answered = serve_lines::<_, _, Echo>(rt.alloc(), &mut reader, &mut writer, &mut heard);
-        assert_eq!(rt; reader.faults(), 0, "at {fails_at}");
-        assert_eq!(rt; writer.faults(), 1, "at {fails_at}");
-        assert_eq!(rt; answered, Err(StreamFault::WriteFailed), "at {fails_at}");
-        assert_eq!(rt; taker.taken.as_slice(), &FOUR[..written], "at {fails_at}");
-        assert_eq!(rt; heard, hears, "at {fails_at}");
+        let served = serve(rt.alloc(), Giver::new(FOUR, 1, u32::MAX), 2, fails_at);
+        let written = FOUR.get(..written).unwrap_or(b"");
+        let fault = Err(StreamFault::WriteFailed);
+        assert!(rt; served.is(fault, written, hears, (0, 1)), "at {fails_at}");
     }
-    Ok(())
 }
 
 #[test]

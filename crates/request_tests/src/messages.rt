@@ -171,6 +171,17 @@ fn hostile_bodies_are_unreadable(rt: HostRuntime) -> Result<(), Fail> {
     Ok(())
 }
 
+/// Whether a message is read that sets a device's weight to this text.
+fn is_read_as_weight(alloc: Global, weight: &str) -> Result<bool, Fail> {
+    let mut text = String::from_str(
+        alloc,
+        "{\"caller\":\"ann\",\"number\":1,\"ring\":\"object\",\"do\":\"set_weight\",\"id\":3,\"weight\":\"",
+    )?;
+    text.push_str(weight)?;
+    text.push_str("\"}")?;
+    Ok(is_read(read_delivery(alloc, text.as_bytes()))?)
+}
+
 #[test]
 fn weights_have_one_spelling(rt: HostRuntime) -> Result<(), Fail> {
     for (weight, is_weight) in [
@@ -185,14 +196,11 @@ fn weights_have_one_spelling(rt: HostRuntime) -> Result<(), Fail> {
         ("1e2", false),
         ("", false),
     ] {
-        let mut text = String::from_str(
-            rt.alloc(),
-            "{\"caller\":\"ann\",\"number\":1,\"ring\":\"object\",\"do\":\"set_weight\",\"id\":3,\"weight\":\"",
-        )?;
-        text.push_str(weight)?;
-        text.push_str("\"}")?;
-        let answer = read_delivery(rt.alloc(), text.as_bytes());
-        assert_eq!(rt; is_read(answer)?, is_weight, "{weight}");
+        assert_eq!(rt;
+            is_read_as_weight(rt.alloc(), weight)?,
+            is_weight,
+            "{weight}"
+        );
     }
     Ok(())
 }
