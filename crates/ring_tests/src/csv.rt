@@ -36,6 +36,11 @@ fn rows_of(alloc: Global, rows: &str) -> Result<String, Fail> {
     told(alloc, &found)
 }
 
+/// Whether rows behind the names of the columns are told so.
+fn are_told(alloc: Global, rows: &str, text: &str) -> Result<bool, Fail> {
+    Ok(rows_of(alloc, rows)?.as_str() == text)
+}
+
 /// What is wrong with rows behind the names of the columns.
 fn fault_in(alloc: Global, rows: &[u8]) -> Result<Option<CsvFault>, Fail> {
     let mut text = Vec::new(alloc);
@@ -52,8 +57,8 @@ const TWO_ROWS: &str =
 #[test]
 fn rows_are_told_in_order(rt: HostRuntime) -> Result<(), Fail> {
     let alloc = rt.alloc();
-    assert_eq!(rt; rows_of(alloc, TWO_ROWS)?.as_str(), TWO_ROWS);
-    assert_eq!(rt; rows_of(alloc, "")?.as_str(), "");
+    assert!(rt; are_told(alloc, TWO_ROWS, TWO_ROWS)?);
+    assert!(rt; are_told(alloc, "", "")?);
     assert!(rt; rows_in(alloc, NAMES.as_bytes())?.is_empty());
     Ok(())
 }
@@ -67,7 +72,7 @@ fn quotes_and_line_ends_are_those_of_csv(rt: HostRuntime) -> Result<(), Fail> {
         "1,1,10.0.0.1,6200,d0,50.00\r65535,0,255.255.255.255,65535,Sd_9-z,1000000.00\r",
         "\n\n1,1,10.0.0.1,6200,d0,50.00\n\r\n65535,0,\"255.255.255.255\",65535,Sd_9-z,1000000.00\n\n",
     ] {
-        assert_eq!(rt; rows_of(alloc, rows)?.as_str(), TWO_ROWS);
+        assert!(rt; are_told(alloc, rows, TWO_ROWS)?);
     }
     let quoted = b"\xef\xbb\xbf\"region\",zone,address,port,\"name\",weight\n7,8,10.0.0.1,1,d,0.00";
     let rows = rows_in(alloc, quoted.as_slice())?;

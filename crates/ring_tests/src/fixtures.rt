@@ -1,20 +1,31 @@
 //! Rows, devices and rings that the tests start from.
 use ring_model::{Ring, RingParts};
-use ring_words::{Address, Device, DeviceName, Port, Power, Replicas, Row, Weight};
+use ring_text::{Snapshot, snapshot};
+use ring_words::{Address, Device, DeviceName, Port, Power, Replicas, RingName, Row, Weight};
 use std::alloc::Global;
 use std::test::Fail;
 
+/// The address 10.0.0.(N+1).
+fn address(alloc: Global, number: u8) -> Result<Address, Fail> {
+    let text = format!(in alloc; "10.0.0.{}", number.saturating_add(1))?;
+    Ok(Address::parse(text.as_str()).ok_or("an address")?)
+}
+
+/// The name `dN`.
+fn name(alloc: Global, number: u8) -> Result<DeviceName, Fail> {
+    let text = format!(in alloc; "d{number}")?;
+    Ok(DeviceName::new(alloc, text.as_str())?)
+}
+
 /// Device `dN` at 10.0.0.(N+1), port 6200, in region 1 and zone 1.
 pub fn row(alloc: Global, number: u8, weight: &str) -> Result<Row, Fail> {
-    let address = format!(in alloc; "10.0.0.{}", number.saturating_add(1))?;
-    let name = format!(in alloc; "d{number}")?;
     Ok(Row {
         region: 1,
         zone: 1,
-        address: Address::parse(address.as_str()).ok_or("an address")?,
+        address: address(alloc, number)?,
         port: Port::new(6200).ok_or("a port")?,
-        name: DeviceName::new(alloc, name.as_str())?,
         weight: Weight::parse(weight).ok_or("a weight")?,
+        name: name(alloc, number)?,
     })
 }
 
@@ -69,4 +80,12 @@ pub fn ring(
         published: Vec::new(alloc),
     };
     Ok(Ring::build(alloc, parts)?)
+}
+
+/// The snapshot of an assigned ring under a name.
+pub fn taken(alloc: Global, name: &str, ring: &Ring) -> Result<Snapshot, Fail> {
+    if !ring.is_assigned() {
+        return Err(Fail::from("the ring is assigned"));
+    }
+    Ok(snapshot(alloc, &RingName::new(alloc, name)?, ring)?)
 }

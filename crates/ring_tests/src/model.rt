@@ -28,6 +28,11 @@ fn small_parts(alloc: Global) -> Result<RingParts, Fail> {
     })
 }
 
+/// That ring.
+fn small_ring(alloc: Global) -> Result<Ring, Fail> {
+    Ok(Ring::build(alloc, small_parts(alloc)?)?)
+}
+
 #[test]
 fn a_new_ring_is_empty(rt: HostRuntime) -> Result<(), Fail> {
     let power = Power::new(2).ok_or("power")?;
@@ -45,58 +50,71 @@ fn a_new_ring_is_empty(rt: HostRuntime) -> Result<(), Fail> {
     Ok(())
 }
 
+/// Whether a ring is that of the small parts.
+fn is_small(ring: &Ring) -> bool {
+    ring.power().get() == 1
+        && ring.replicas().get() == 2
+        && ring.is_assigned()
+        && ring.published(3) == Some("text")
+        && ring.published(2).is_none()
+        && ring.seats() == [0, 1, 1, 0].as_slice()
+        && ring.moves() == [Some(7), None].as_slice()
+}
+
 #[test]
 fn a_ring_is_built_and_read(rt: HostRuntime) -> Result<(), Fail> {
-    let alloc = rt.alloc();
-    let ring = Ring::build(alloc, small_parts(alloc)?)?;
-    assert_eq!(rt; (ring.power().get(), ring.replicas().get()), (1, 2));
-    assert!(rt; ring.is_assigned());
-    assert_eq!(rt;
-        (ring.published(3), ring.published(2)),
-        (Some("text"), None)
-    );
-    assert_eq!(rt; ring.seats(), [0, 1, 1, 0].as_slice());
-    assert_eq!(rt; ring.moves(), [Some(7), None].as_slice());
+    let ring = small_ring(rt.alloc())?;
+    assert!(rt; is_small(&ring));
     Ok(())
 }
 
 #[test]
 fn the_parts_of_a_ring_are_those_it_was_built_of(rt: HostRuntime) -> Result<(), Fail> {
     let alloc = rt.alloc();
-    let parts = Ring::build(alloc, small_parts(alloc)?)?.parts()?;
+    let parts = small_ring(alloc)?.parts()?;
     assert_eq!(rt; parts.seats.as_slice(), [0, 1, 1, 0].as_slice());
     assert_eq!(rt; parts.moved.as_slice(), [Some(7), None].as_slice());
     assert_eq!(rt; (parts.devices.len(), parts.published.len()), (2, 1));
     Ok(())
 }
 
-#[test]
-fn a_text_is_published_once(rt: HostRuntime) -> Result<(), Fail> {
-    let alloc = rt.alloc();
+/// A ring at version 2 with texts of versions 1 and 3.
+fn ring_of_two_texts(alloc: Global) -> Result<Ring, Fail> {
     let mut parts = small_parts(alloc)?;
     parts.version = 2;
     parts.published = vec![in alloc;
         (1, RcStr::from_str(alloc, "first")?),
         (3, RcStr::from_str(alloc, "third")?),
     ]?;
-    let ring = Ring::build(alloc, parts)?;
+    Ok(Ring::build(alloc, parts)?)
+}
+
+/// A ring with a text of its version.
+fn published(alloc: Global, ring: &Ring, text: &str) -> Result<Ring, Fail> {
     if ring.published_list().len() >= 1000 {
         return Err("too many texts".into());
     }
-    assert!(rt; !ring.is_published());
-    let published = ring.with_published(alloc, "second")?;
-    if published.published_list().len() >= 1000 {
-        return Err("too many texts".into());
-    }
-    let again = published.with_published(alloc, "another")?;
-    for ring in [&published, &again] {
-        assert!(rt; ring.is_published());
-        assert_eq!(rt; (ring.version(), ring.published_list().len()), (2, 3));
-        assert_eq!(rt; ring.published(1), Some("first"));
-        assert_eq!(rt; ring.published(2), Some("second"));
-        assert_eq!(rt; ring.published(3), Some("third"));
-    }
-    assert_eq!(rt; ring.published(2), None);
+    Ok(ring.with_published(alloc, text)?)
+}
+
+/// Whether versions 1 to 3 have their texts, and no other version has one.
+fn has_three_texts(ring: &Ring) -> bool {
+    ring.is_published()
+        && ring.version() == 2
+        && ring.published_list().len() == 3
+        && ring.published(1) == Some("first")
+        && ring.published(2) == Some("second")
+        && ring.published(3) == Some("third")
+}
+
+#[test]
+fn a_text_is_published_once(rt: HostRuntime) -> Result<(), Fail> {
+    let alloc = rt.alloc();
+    let ring = ring_of_two_texts(alloc)?;
+    let first = published(alloc, &ring, "second")?;
+    let again = published(alloc, &first, "another")?;
+    assert!(rt; has_three_texts(&first) && has_three_texts(&again));
+    assert!(rt; !ring.is_published() && ring.published(2).is_none());
     Ok(())
 }
 
@@ -185,7 +203,7 @@ fn more_than_1000_texts_make_no_ring(rt: HostRuntime) -> Result<(), Fail> {
 #[test]
 fn a_device_is_added_and_reweighed(rt: HostRuntime) -> Result<(), Fail> {
     let alloc = rt.alloc();
-    let ring = Ring::build(alloc, small_parts(alloc)?)?;
+    let ring = small_ring(alloc)?;
     let added = row(alloc, 2, "70.00")?;
     assert_eq!(rt; (ring.devices().len(), ring.next_id()), (2, 2));
     if ring.has_place(&added) || !ring.has_present(1) {
@@ -206,23 +224,35 @@ fn a_device_is_added_and_reweighed(rt: HostRuntime) -> Result<(), Fail> {
     Ok(())
 }
 
+/// Whether a ring is that of the small parts, raised once.
+fn is_small_raised(ring: &Ring) -> bool {
+    ring.power().get() == 2
+        && ring.version() == 4
+        && ring.seats() == [0, 1, 0, 1, 1, 0, 1, 0].as_slice()
+        && ring.moves() == [Some(7), Some(7), None, None].as_slice()
+}
+
 #[test]
 fn both_halves_stay_on_their_devices(rt: HostRuntime) -> Result<(), Fail> {
-    let ring = Ring::build(rt.alloc(), small_parts(rt.alloc())?)?;
-    let raised = ring.raised()?;
-    let parts = raised.parts()?;
-    assert_eq!(rt; (raised.power().get(), raised.version()), (2, 4));
-    assert_eq!(rt; parts.seats.as_slice(), [0, 1, 0, 1, 1, 0, 1, 0].as_slice());
-    assert_eq!(rt;
-        parts.moved.as_slice(),
-        [Some(7), Some(7), None, None].as_slice()
-    );
-    let mut greatest = raised;
-    for _ in 2..14 {
-        greatest = greatest.raised()?;
+    let raised = small_ring(rt.alloc())?.raised()?;
+    assert!(rt; is_small_raised(&raised));
+    Ok(())
+}
+
+/// A ring raised to the greatest power.
+fn raised_to_14(ring: Ring) -> Result<Ring, Fail> {
+    let mut ring = ring;
+    for _ in ring.power().get()..14 {
+        ring = ring.raised()?;
     }
-    assert_eq!(rt; greatest.power().get(), 14);
-    assert_eq!(rt; greatest.raised().err(), Some(RaiseFault::PowerLimit));
+    Ok(ring)
+}
+
+#[test]
+fn no_ring_is_raised_past_power_14(rt: HostRuntime) -> Result<(), Fail> {
+    let greatest = raised_to_14(small_ring(rt.alloc())?)?;
+    assert!(rt; greatest.power().get() == 14);
+    assert!(rt; greatest.raised().err() == Some(RaiseFault::PowerLimit));
     Ok(())
 }
 
@@ -264,61 +294,79 @@ fn the_largest_ring_is_built_and_read_back(rt: HostRuntime) -> Result<(), Fail> 
     Ok(())
 }
 
+/// Rings with one more.
+fn with_ring(alloc: Global, rings: &Rings, name: &str, ring: Ring) -> Result<Rings, Fail> {
+    let name = RingName::new(alloc, name)?;
+    if rings.get(&name).is_some() || rings.list().len() >= 16 {
+        return Err(Fail::from("there is room for the ring"));
+    }
+    Ok(rings.with(name, ring)?)
+}
+
+/// The version of the ring of a name.
+fn version_of(alloc: Global, rings: &Rings, name: &str) -> Result<Option<u32>, Fail> {
+    let name = RingName::new(alloc, name)?;
+    Ok(rings.get(&name).map(|ring| ring.version()))
+}
+
+/// The names of rings in their order, each with a blank behind it.
+fn names(alloc: Global, rings: &Rings) -> Result<String, Fail> {
+    let mut names = String::new(alloc);
+    for entry in rings.list() {
+        names.push_str(entry.0.as_str())?;
+        names.push(' ')?;
+    }
+    Ok(names)
+}
+
 #[test]
 fn rings_are_kept_by_name(rt: HostRuntime) -> Result<(), Fail> {
     let alloc = rt.alloc();
     let none = Rings::new(alloc);
-    assert!(rt; none.list().is_empty());
-    let object = RingName::new(alloc, "object")?;
-    assert!(rt; none.get(&object).is_none());
-    let one = none.with(object, Ring::build(alloc, small_parts(alloc)?)?)?;
-    if one.get(&RingName::new(alloc, "account")?).is_some() || one.list().len() >= 16 {
-        return Err(Fail::from("there is one ring"));
-    }
-    let empty = Ring::new(
+    assert_eq!(rt; version_of(alloc, &none, "object")?, None);
+    let one = with_ring(alloc, &none, "object", small_ring(alloc)?)?;
+    let two = with_ring(
         alloc,
-        Power::new(1).ok_or("power")?,
-        Replicas::new(1).ok_or("replicas")?,
-        0,
+        &one,
+        "account",
+        small_ring(alloc)?.with_min_hours(0)?,
     )?;
-    let two = one.with(RingName::new(alloc, "account")?, empty)?;
-    let mut names = String::new(alloc);
-    for entry in two.list() {
-        names.push_str(entry.0.as_str())?;
-        names.push(' ')?;
+    assert_eq!(rt; names(alloc, &two)?.as_str(), "account object ");
+    assert_eq!(rt; version_of(alloc, &two, "object")?, Some(3));
+    assert_eq!(rt; (none.list().len(), one.list().len()), (0, 1));
+    Ok(())
+}
+
+/// A ring whose device 1 is marked.
+fn marked(ring: &Ring) -> Result<Ring, Fail> {
+    if !ring.has_present(1) {
+        return Err(Fail::from("device 1 is there"));
     }
-    assert_eq!(rt; names.as_str(), "account object ");
-    assert_eq!(rt;
-        two.get(&RingName::new(alloc, "object")?)
-            .map(|ring| ring.version()),
-        Some(3)
-    );
-    assert_eq!(rt; one.list().len(), 1);
+    Ok(ring.with_mark(1)?)
+}
+
+#[test]
+fn a_marked_device_stays_and_is_not_present(rt: HostRuntime) -> Result<(), Fail> {
+    let ring = small_ring(rt.alloc())?;
+    let marked = marked(&ring)?;
+    assert!(rt; marked.version() == 4 && marked.has_device(1) && !marked.has_present(1));
+    assert!(rt; ring.version() == 3 && ring.has_present(1));
     Ok(())
 }
 
 #[test]
-fn marks_hours_and_moves_are_changed(rt: HostRuntime) -> Result<(), Fail> {
-    let ring = Ring::build(rt.alloc(), small_parts(rt.alloc())?)?;
-    if !ring.has_present(1) {
-        return Err(Fail::from("device 1 is there"));
-    }
-    let marked = ring.with_mark(1)?;
-    assert_eq!(rt;
-        (
-            marked.version(),
-            marked.has_present(1),
-            marked.has_device(1)
-        ),
-        (4, false, true)
-    );
-    assert_eq!(rt; (ring.version(), ring.has_present(1)), (3, true));
-    let set = ring.with_min_hours(9)?;
+fn hours_are_set(rt: HostRuntime) -> Result<(), Fail> {
+    let set = small_ring(rt.alloc())?.with_min_hours(9)?;
     assert_eq!(rt; (set.version(), set.min_hours()), (4, 9));
+    Ok(())
+}
+
+#[test]
+fn moves_are_forgotten_where_hours_have_passed(rt: HostRuntime) -> Result<(), Fail> {
+    let ring = small_ring(rt.alloc())?;
     let passed = ring.with_hours_passed()?;
-    assert_eq!(rt; passed.version(), 4);
-    assert_eq!(rt; passed.moves(), [None, None].as_slice());
-    assert_eq!(rt; ring.moves(), [Some(7), None].as_slice());
+    assert!(rt; passed.version() == 4 && passed.moves() == [None, None].as_slice());
+    assert!(rt; ring.moves() == [Some(7), None].as_slice());
     Ok(())
 }
 
@@ -334,31 +382,46 @@ fn after(ring: &Ring, rows: &[Row]) -> Result<Ring, Fail> {
     Ok(draft.finish())
 }
 
+/// Whether rows that are put into a draft of a ring give it these weights, in hundredths, with
+/// numbers from this one on for those to come.
+fn gives(ring: &Ring, rows: &[Row], weights: [u32; 3], next_id: u32) -> Result<bool, Fail> {
+    let after = after(ring, rows)?;
+    let same = after
+        .devices()
+        .iter()
+        .map(|device| device.row.weight.hundredths())
+        .eq(weights);
+    Ok(same && after.version() == 4 && after.next_id() == next_id)
+}
+
 #[test]
 fn rows_are_put_into_a_draft(rt: HostRuntime) -> Result<(), Fail> {
     let alloc = rt.alloc();
-    let ring = Ring::build(alloc, small_parts(alloc)?)?;
     let rows = vec![in alloc; row(alloc, 0, "1.00")?, row(alloc, 2, "7.00")?]?;
-    let after = after(&ring, Rows::new(rows).as_slice())?;
-    assert_eq!(rt; (after.version(), after.next_id()), (4, 3));
-    let mut weights = Vec::new(alloc);
-    for device in after.devices() {
-        weights.push(device.row.weight.hundredths())?;
-    }
-    assert_eq!(rt; weights.as_slice(), [100, 10_000, 700].as_slice());
-    assert_eq!(rt; ring.devices().len(), 2);
+    let ring = small_ring(alloc)?;
+    assert!(rt; gives(&ring, Rows::new(rows).as_slice(), [100, 10_000, 700], 3)?);
+    assert!(rt; ring.devices().len() == 2);
     Ok(())
+}
+
+/// The number of the device of a draft that has a row's place.
+fn number_at(ring: &Ring, row: &Row) -> Result<Option<u16>, Fail> {
+    let draft = Draft::of(ring)?;
+    Ok(draft.device_at(row).map(|device| device.id))
 }
 
 #[test]
 fn a_draft_knows_its_devices_by_their_place(rt: HostRuntime) -> Result<(), Fail> {
     let alloc = rt.alloc();
-    let ring = Ring::build(alloc, small_parts(alloc)?)?;
-    let draft = Draft::of(&ring)?;
-    let same = row(alloc, 0, "1.00")?;
-    let other = row(alloc, 2, "7.00")?;
-    assert_eq!(rt; draft.device_at(&same).map(|device| device.id), Some(0));
-    assert!(rt; draft.device_at(&other).is_none());
+    let ring = small_ring(alloc)?;
+    assert_eq!(rt; number_at(&ring, &row(alloc, 0, "1.00")?)?, Some(0));
+    assert_eq!(rt; number_at(&ring, &row(alloc, 2, "7.00")?)?, None);
+    Ok(())
+}
+
+#[test]
+fn a_draft_begins_with_the_devices_of_its_ring(rt: HostRuntime) -> Result<(), Fail> {
+    let draft = Draft::of(&small_ring(rt.alloc())?)?;
     assert_eq!(rt; (draft.device_count(), draft.next_id()), (2, 2));
     Ok(())
 }

@@ -16,9 +16,9 @@ fn shares_are_by_weight(rt: HostRuntime) -> Result<(), Fail> {
     let ring = ring(alloc, (3, 2), 1, devices(alloc, &weights)?, Vec::new(alloc))?;
     assert_eq!(rt; wanted(alloc, &ring)?.as_slice(), [9, 5, 2, 0].as_slice());
     for (id, figure) in [(0, 10_000), (1, 10_000), (2, 10_000), (3, 0)] {
-        assert_eq!(rt; balance_of(&ring, id), Some(figure));
+        assert!(rt; balance_of(&ring, id) == Some(figure));
     }
-    assert_eq!(rt; balance_of(&ring, 4), None);
+    assert!(rt; balance_of(&ring, 4).is_none());
     assert_eq!(rt; (balance(&ring), dispersion(&ring)), (10_000, 0));
     Ok(())
 }
@@ -32,50 +32,43 @@ fn ties_go_to_the_lower_number(rt: HostRuntime) -> Result<(), Fail> {
     Ok(())
 }
 
+/// A ring of power 1 with two replicas in two regions, on these seats.
+fn in_two_regions(alloc: Global, seats: &[u16]) -> Result<Ring, Fail> {
+    let seats = Vec::from_slice(alloc, seats)?;
+    ring(alloc, (1, 2), 1, two_regions(alloc)?, seats)
+}
+
+/// Whether a device would be so crowded on the first seat of the first partition.
+fn is_so_crowded(ring: &Ring, id: u16, figure: (u32, u32, u32)) -> bool {
+    ring.has_device(id) && ring.replicas().get() == 2 && crowd(ring, 0, 0, id) == figure
+}
+
 #[test]
 fn a_far_device_is_less_crowded(rt: HostRuntime) -> Result<(), Fail> {
     let alloc = rt.alloc();
-    let near = ring(
-        alloc,
-        (1, 2),
-        1,
-        two_regions(alloc)?,
-        vec![in alloc; 0, 1, 0, 1]?,
-    )?;
+    let near = in_two_regions(alloc, &[0, 1, 0, 1])?;
     assert_eq!(rt; wanted(alloc, &near)?.as_slice(), [1, 1, 2].as_slice());
     assert_eq!(rt; dispersion(&near), 10_000);
     for (id, figure) in [(0, (1, 1, 0)), (1, (1, 1, 1)), (2, (0, 0, 0))] {
-        if near.has_device(id) && near.replicas().get() == 2 {
-            assert_eq!(rt; crowd(&near, 0, 0, id), figure);
-        } else {
-            return Err(Fail::from("a device of two replicas"));
-        }
+        assert!(rt; is_so_crowded(&near, id, figure));
     }
-    let far = ring(
-        alloc,
-        (1, 2),
-        1,
-        two_regions(alloc)?,
-        vec![in alloc; 0, 1, 0, 2]?,
-    )?;
-    assert_eq!(rt; dispersion(&far), 5000);
+    Ok(())
+}
+
+#[test]
+fn a_seat_in_each_region_disperses(rt: HostRuntime) -> Result<(), Fail> {
+    let far = in_two_regions(rt.alloc(), &[0, 1, 0, 2])?;
     for (id, figure) in [(0, 10_000), (1, 0), (2, 5000)] {
-        assert_eq!(rt; balance_of(&far, id), Some(figure));
+        assert!(rt; balance_of(&far, id) == Some(figure));
     }
-    assert_eq!(rt; balance(&far), 10_000);
+    assert_eq!(rt; (balance(&far), dispersion(&far)), (10_000, 5000));
     Ok(())
 }
 
 #[test]
 fn room_is_up_to_the_want(rt: HostRuntime) -> Result<(), Fail> {
     let alloc = rt.alloc();
-    let ring = ring(
-        alloc,
-        (1, 2),
-        1,
-        two_regions(alloc)?,
-        vec![in alloc; 0, 1, 0, 2]?,
-    )?;
+    let ring = in_two_regions(alloc, &[0, 1, 0, 2])?;
     let wants = wanted(alloc, &ring)?;
     for (id, room) in [(0, false), (1, false), (2, true)] {
         if !ring.has_device(id) {
@@ -86,6 +79,11 @@ fn room_is_up_to_the_want(rt: HostRuntime) -> Result<(), Fail> {
     Ok(())
 }
 
+/// Whether a device stands at a place of the list and has so many seats.
+fn is_at(ring: &Ring, id: u16, place: usize, seats: u32) -> bool {
+    ring.has_device(id) && place_in(ring.devices(), id) == place && have(ring, id) == seats
+}
+
 #[test]
 fn devices_close_up_where_one_was_dropped(rt: HostRuntime) -> Result<(), Fail> {
     let alloc = rt.alloc();
@@ -94,11 +92,7 @@ fn devices_close_up_where_one_was_dropped(rt: HostRuntime) -> Result<(), Fail> {
     devices.push(device(alloc, 3, "100.00")?)?;
     let ring = ring(alloc, (2, 1), 1, devices, vec![in alloc; 0, 3, 3, 2]?)?;
     for (id, place, seats) in [(0, 0, 1), (2, 1, 1), (3, 2, 2)] {
-        if !ring.has_device(id) {
-            return Err(Fail::from("a device"));
-        }
-        assert_eq!(rt; place_in(ring.devices(), id), place);
-        assert_eq!(rt; have(&ring, id), seats);
+        assert!(rt; is_at(&ring, id, place, seats));
     }
     Ok(())
 }
@@ -121,7 +115,7 @@ fn a_seat_is_too_much_for_a_removed_device(rt: HostRuntime) -> Result<(), Fail> 
     }
     let ring = ring(alloc, (1, 1), 1, devices, vec![in alloc; 0, 1]?)?;
     for (id, figure) in [(0, 99_999), (1, 5000), (2, 0)] {
-        assert_eq!(rt; balance_of(&ring, id), Some(figure));
+        assert!(rt; balance_of(&ring, id) == Some(figure));
     }
     assert_eq!(rt; balance(&ring), 99_999);
     assert_eq!(rt; wanted(alloc, &ring)?.as_slice(), [0, 2, 0].as_slice());

@@ -1,7 +1,6 @@
 //! Swift's ring file: bytes that Swift's own code wrote, and weights as Swift writes them.
-use crate::fixtures::{device, ring};
-use ring_text::{Snapshot, snapshot};
-use ring_words::{Device, RingName};
+use crate::fixtures::{device, ring, taken};
+use ring_words::Device;
 use std::alloc::Global;
 use std::test::Fail;
 use swift_ring::write_swift_ring;
@@ -10,19 +9,15 @@ use swift_ring::write_swift_ring;
 const JSON: &str =
     "{\"byteorder\": \"little\", \"devs\": [null, {\"device\": \"d1\", \"id\": 1, \"ip\": \"10.0.0.2\", \"meta\": \"\", \"port\": 6200, \"region\": 1, \"replication_ip\": \"10.0.0.2\", \"replication_port\": 6200, \"weight\": 100.0, \"zone\": 1}, null, {\"device\": \"d3\", \"id\": 3, \"ip\": \"10.0.0.4\", \"meta\": \"\", \"port\": 6200, \"region\": 1, \"replication_ip\": \"10.0.0.4\", \"replication_port\": 6200, \"weight\": 12.25, \"zone\": 1}], \"part_shift\": 31, \"replica_count\": 2, \"version\": 7}";
 
-/// The snapshot of a ring of power 1 at version 7 with these seats.
-fn taken(
+/// The file of a ring of power 1 at version 7 with these seats.
+fn written(
     alloc: Global,
     replicas: u16,
     devices: Vec<Device>,
     seats: Vec<u16>,
-) -> Result<Snapshot, Fail> {
-    let name = RingName::new(alloc, "small")?;
+) -> Result<Vec<u8>, Fail> {
     let ring = ring(alloc, (1, replicas), 7, devices, seats)?;
-    if !ring.is_assigned() {
-        return Err(Fail::from("the ring is assigned"));
-    }
-    Ok(snapshot(alloc, &name, &ring)?)
+    Ok(write_swift_ring(alloc, &taken(alloc, "small", &ring)?)?)
 }
 
 #[test]
@@ -36,7 +31,7 @@ fn a_ring_with_a_gap_and_a_marked_device_has_the_bytes_that_swift_writes(
     marked.removed = true;
     devices.push(marked)?;
     let seats = vec![in alloc; 1, 3, 3, 1]?;
-    let bytes = write_swift_ring(alloc, &taken(alloc, 2, devices, seats)?)?;
+    let bytes = written(alloc, 2, devices, seats)?;
     assert_eq!(rt; bytes.len(), 451);
     let (head, rest) = bytes.split_at(10);
     assert_eq!(rt; head, [82, 49, 78, 71, 0, 1, 0, 0, 1, 177].as_slice());
@@ -51,8 +46,8 @@ fn has_member(alloc: Global, weight: &str, member: &str) -> Result<bool, Fail> {
     let mut devices = Vec::new(alloc);
     devices.push(device(alloc, 0, weight)?)?;
     let seats = vec![in alloc; 0, 0]?;
-    let bytes = write_swift_ring(alloc, &taken(alloc, 1, devices, seats)?)?;
-    let (_head, rest) = bytes.split_at(10);
+    let bytes = written(alloc, 1, devices, seats)?;
+    let rest = bytes.get(10..).ok_or("the JSON")?;
     let text = str::from_utf8(rest).map_err(|_| "text")?;
     Ok(text.contains(member))
 }

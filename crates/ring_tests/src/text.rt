@@ -1,12 +1,7 @@
 //! What no contract says: worked examples, and that calls succeed where there is memory.
-ghost use Rattle.std.specs.Prelude.{◌≡◌, IfOk};
-ghost use Rattle.ring_model.specs.Parts.{record_of};
-
-use ring_model::{Ring, RingParts};
-use ring_text::{Snapshot, TextFault, read_ring, snapshot, write_ring};
-use ring_words::{
-    Address, Device, DeviceId, DeviceName, Port, Power, Replicas, RingName, Row, Weight,
-};
+use crate::fixtures::{self, device, taken};
+use ring_model::Ring;
+use ring_text::{Snapshot, TextFault, read_ring, write_ring};
 use std::alloc::Global;
 use std::test::Fail;
 
@@ -14,32 +9,11 @@ use std::test::Fail;
 const TINY: &str =
     "swift-ring-text 1\nring tiny\nversion 2\npower 1\nreplicas 1\ndevices 1\n0 1 1 10.0.0.1 6200 100.00 present d0\nseats\n0\n0\nend\n";
 
-/// Device `dN` at 10.0.0.1, port 6200, in region 1 and zone 1, with weight 100.00.
-fn device(alloc: Global, id: DeviceId, removed: bool) -> Result<Device, Fail> {
-    let name = format!(in alloc; "d{id}")?;
-    let row = Row {
-        region: 1,
-        zone: 1,
-        address: Address::parse("10.0.0.1").ok_or("an address")?,
-        port: Port::new(6200).ok_or("a port")?,
-        name: DeviceName::new(alloc, name.as_str())?,
-        weight: Weight::parse("100.00").ok_or("a weight")?,
-    };
-    Ok(Device { id, row, removed })
-}
-
-/// A ring of so many devices, whose seats are on them in turn.
-fn ring(alloc: Global, power: u16, replicas: u16, devices: u16) -> Result<Ring, Fail> {
-    let power = Power::new(power).ok_or("a power")?;
-    let replicas = Replicas::new(replicas).ok_or("replicas")?;
-    let partitions = 1usize << power.get();
-    let mut list = Vec::new(alloc);
-    for id in 0..devices {
-        list.push(device(alloc, id, false)?)?;
-    }
+/// Seats on so many devices in turn.
+fn seats_in_turn(alloc: Global, count: usize, devices: u16) -> Result<Vec<u16>, Fail> {
     let mut seats = Vec::new(alloc);
     let mut next = 0;
-    for _seat in 0..partitions * usize::from(replicas.get()) {
+    for _seat in 0..count {
         seats.push(next)?;
         next = if next < u16::MAX && next + 1 < devices {
             next + 1
@@ -47,36 +21,37 @@ fn ring(alloc: Global, power: u16, replicas: u16, devices: u16) -> Result<Ring, 
             0
         };
     }
-    let parts = RingParts {
-        power,
-        replicas,
-        min_hours: 0,
-        next_id: u32::from(devices),
-        version: 2,
-        devices: list,
-        seats,
-        moved: vec![in alloc; Some(0); partitions]?,
-        published: Vec::new(alloc),
-    };
-    Ok(Ring::build(alloc, parts)?)
+    Ok(seats)
+}
+
+/// A ring of so many devices at version 2, whose seats are on them in turn.
+fn ring(alloc: Global, power: u16, replicas: u16, devices: u16) -> Result<Ring, Fail> {
+    let count = (1usize << power.min(14)).saturating_mul(usize::from(replicas));
+    let mut list = Vec::new(alloc);
+    for id in 0..devices {
+        let number = u8::try_from(id).unwrap_or(255);
+        list.push(device(alloc, number, "100.00")?)?;
+    }
+    let seats = seats_in_turn(alloc, count, devices)?;
+    fixtures::ring(alloc, (power, replicas), 2, list, seats)
+}
+
+/// Whether a snapshot is that of `tiny`.
+fn is_tiny(taken: &Snapshot) -> bool {
+    taken.name().as_str() == "tiny"
+        && taken.version() == 2
+        && taken.power().get() == 1
+        && taken.replicas().get() == 1
+        && taken.devices().len() == 1
+        && taken.seats() == [0, 0].as_slice()
 }
 
 #[test]
 fn a_tiny_ring_is_written(rt: HostRuntime) -> Result<(), Fail> {
     let alloc = rt.alloc();
-    let name = RingName::new(alloc, "tiny")?;
-    let ring = ring(alloc, 1, 1, 1)?;
-    assert!(rt; ring.is_assigned());
-    let taken = snapshot(alloc, &name, &ring)?;
-    let text = write_ring(alloc, &taken)?;
-    assert_eq!(rt; text.as_str(), TINY);
-    assert_eq!(rt; text.len(), 119);
-    assert_eq!(rt; taken.name().as_str(), "tiny");
-    assert_eq!(rt; taken.version(), 2);
-    assert_eq!(rt; taken.power().get(), 1);
-    assert_eq!(rt; taken.replicas().get(), 1);
-    assert_eq!(rt; taken.devices().len(), 1);
-    assert_eq!(rt; taken.seats(), [0, 0].as_slice());
+    let taken = taken(alloc, "tiny", &ring(alloc, 1, 1, 1)?)?;
+    assert_eq!(rt; write_ring(alloc, &taken)?.as_str(), TINY);
+    assert!(rt; TINY.len() == 119 && is_tiny(&taken));
     Ok(())
 }
 
@@ -85,9 +60,9 @@ fn is_bad(alloc: Global, bytes: &[u8]) -> bool {
     matches!(read_ring(alloc, bytes), Err(TextFault::Bad))
 }
 
-/// The text of `tiny` with another text in place of a part of it.
-fn changed(alloc: Global, part: &str, other: &str) -> Result<String, Fail> {
-    let (front, back) = TINY.split_once(part).ok_or("the part")?;
+/// A text with another text in place of a part of it.
+fn changed(alloc: Global, text: &str, part: &str, other: &str) -> Result<String, Fail> {
+    let (front, back) = text.split_once(part).ok_or("the part")?;
     Ok(format!(in alloc; "{front}{other}{back}")?)
 }
 
@@ -100,17 +75,10 @@ fn rewritten(alloc: Global, bytes: &[u8]) -> Result<String, Fail> {
 #[test]
 fn a_tiny_ring_is_read(rt: HostRuntime) -> Result<(), Fail> {
     let alloc = rt.alloc();
+    assert_eq!(rt; rewritten(alloc, TINY.as_bytes())?.as_str(), TINY);
+    let own = device(alloc, 0, "100.00")?;
     let read = read_ring(alloc, TINY.as_bytes())?;
-    assert_eq!(rt; read.name().as_str(), "tiny");
-    assert_eq!(rt; read.version(), 2);
-    assert_eq!(rt; read.power().get(), 1);
-    assert_eq!(rt; read.replicas().get(), 1);
-    assert_eq!(rt; read.seats(), [0, 0].as_slice());
-    let devices = read.devices();
-    assert_eq!(rt; devices.len(), 1);
-    assert_eq!(rt; devices[0], device(alloc, 0, false)?);
-    let text = write_ring(alloc, &read)?;
-    assert_eq!(rt; text.as_str(), TINY);
+    assert!(rt; is_tiny(&read) && read.devices().first() == Some(&own));
     Ok(())
 }
 
@@ -122,10 +90,10 @@ fn no_beginning_is_read(rt: HostRuntime) {
     }
 }
 
-/// Whether the text of `tiny` is refused after each of these changes.
-fn are_refused(alloc: Global, changes: &[(&str, &str)]) -> Result<bool, Fail> {
+/// Whether a text is refused after each of these changes.
+fn are_refused(alloc: Global, text: &str, changes: &[(&str, &str)]) -> Result<bool, Fail> {
     for (part, other) in changes {
-        let text = changed(alloc, part, other)?;
+        let text = changed(alloc, text, part, other)?;
         if !is_bad(alloc, text.as_bytes()) {
             return Ok(false);
         }
@@ -136,7 +104,7 @@ fn are_refused(alloc: Global, changes: &[(&str, &str)]) -> Result<bool, Fail> {
 /// Whether the text of `tiny` is read after each of these changes, and written as it was then.
 fn are_read(alloc: Global, changes: &[(&str, &str)]) -> Result<bool, Fail> {
     for (part, other) in changes {
-        let text = changed(alloc, part, other)?;
+        let text = changed(alloc, TINY, part, other)?;
         let again = rewritten(alloc, text.as_bytes())?;
         if again != text {
             return Ok(false);
@@ -153,7 +121,7 @@ fn nothing_follows_the_end(rt: HostRuntime) -> Result<(), Fail> {
         ("end\n", "end\r\n"),
         ("end\n", "End\n"),
     ];
-    assert!(rt; are_refused(rt.alloc(), &changes)?);
+    assert!(rt; are_refused(rt.alloc(), TINY, &changes)?);
     Ok(())
 }
 
@@ -168,7 +136,7 @@ fn a_power_needs_its_seats(rt: HostRuntime) -> Result<(), Fail> {
         ("replicas 1\n", "replicas 2\n"),
         ("replicas 1\n", "replicas 6\n"),
     ];
-    assert!(rt; are_refused(rt.alloc(), &changes)?);
+    assert!(rt; are_refused(rt.alloc(), TINY, &changes)?);
     Ok(())
 }
 
@@ -183,7 +151,7 @@ fn a_seat_is_a_device_of_the_text(rt: HostRuntime) -> Result<(), Fail> {
         ("devices 1\n", "devices 0\n"),
         ("devices 1\n", "devices 2\n"),
     ];
-    assert!(rt; are_refused(rt.alloc(), &changes)?);
+    assert!(rt; are_refused(rt.alloc(), TINY, &changes)?);
     Ok(())
 }
 
@@ -199,7 +167,7 @@ fn a_word_has_one_spelling(rt: HostRuntime) -> Result<(), Fail> {
         ("present", "Present"),
         ("text 1", "text 2"),
     ];
-    assert!(rt; are_refused(rt.alloc(), &changes)?);
+    assert!(rt; are_refused(rt.alloc(), TINY, &changes)?);
     Ok(())
 }
 
@@ -215,7 +183,7 @@ fn fields_are_within_limits(rt: HostRuntime) -> Result<(), Fail> {
         ("d0", "d.0"),
         ("tiny", "Tiny"),
     ];
-    assert!(rt; are_refused(rt.alloc(), &changes)?);
+    assert!(rt; are_refused(rt.alloc(), TINY, &changes)?);
     assert!(rt; is_bad(rt.alloc(), b"\xff"));
     Ok(())
 }
@@ -238,7 +206,7 @@ fn the_limits_are_read(rt: HostRuntime) -> Result<(), Fail> {
 #[test]
 fn a_removed_device_holds_seats(rt: HostRuntime) -> Result<(), Fail> {
     let alloc = rt.alloc();
-    let text = changed(alloc, "present", "removed")?;
+    let text = changed(alloc, TINY, "present", "removed")?;
     let again = rewritten(alloc, text.as_bytes())?;
     assert_eq!(rt; again.as_str(), text.as_str());
     let read = read_ring(alloc, text.as_bytes())?;
@@ -246,43 +214,47 @@ fn a_removed_device_holds_seats(rt: HostRuntime) -> Result<(), Fail> {
     Ok(())
 }
 
+/// The text of a ring of power 1 with two replicas, on two devices.
+fn text_of_two(alloc: Global) -> Result<String, Fail> {
+    let taken = taken(alloc, "pair", &ring(alloc, 1, 2, 2)?)?;
+    Ok(write_ring(alloc, &taken)?)
+}
+
 #[test]
 fn devices_and_seats_keep_the_rules_of_a_ring(rt: HostRuntime) -> Result<(), Fail> {
     let alloc = rt.alloc();
-    let name = RingName::new(alloc, "pair")?;
-    let ring = ring(alloc, 1, 2, 2)?;
-    assert!(rt; ring.is_assigned());
-    let taken = snapshot(alloc, &name, &ring)?;
-    let text = write_ring(alloc, &taken)?;
-    let again = rewritten(alloc, text.as_bytes())?;
-    assert_eq!(rt; again.as_str(), text.as_str());
-    for (part, other) in [
+    let text = text_of_two(alloc)?;
+    let again = rewritten(alloc, text.as_str().as_bytes())?;
+    assert!(rt; again == text);
+    let changes = [
         // two devices at one address, port and name
-        ("present d1", "present d0"),
+        (
+            "10.0.0.2 6200 100.00 present d1",
+            "10.0.0.1 6200 100.00 present d0",
+        ),
         // numbers that don't rise
         ("\n1 1 1", "\n0 1 1"),
         // both replicas of a partition on one device
         ("seats\n0 1", "seats\n0 0"),
-    ] {
-        let (front, back) = text.as_str().split_once(part).ok_or("the part")?;
-        let bad = format!(in alloc; "{front}{other}{back}")?;
-        assert!(rt; is_bad(alloc, bad.as_bytes()), "{bad}");
-    }
+    ];
+    assert!(rt; are_refused(alloc, text.as_str(), &changes)?);
     Ok(())
+}
+
+/// Whether a snapshot is written, read, and written the same again.
+fn is_read_back(alloc: Global, taken: &Snapshot) -> Result<bool, Fail> {
+    let text = write_ring(alloc, taken)?;
+    let read = read_ring(alloc, text.as_str().as_bytes())?;
+    let same = read.seats() == taken.seats() && read.devices() == taken.devices();
+    Ok(same && write_ring(alloc, &read)? == text)
 }
 
 #[test]
 fn the_greatest_ring_is_written_and_read(rt: HostRuntime) -> Result<(), Fail> {
     let alloc = rt.alloc();
-    let name = RingName::new(alloc, "great")?;
     let ring = ring(alloc, 14, 5, 256)?;
-    assert!(rt; ring.is_assigned());
-    let taken = snapshot(alloc, &name, &ring)?;
-    let text = write_ring(alloc, &taken)?;
-    let read: Snapshot = read_ring(alloc, text.as_str().as_bytes())?;
-    assert_eq!(rt; read.seats(), ring.seats());
-    assert_eq!(rt; read.devices(), ring.devices());
-    let again = write_ring(alloc, &read)?;
-    assert!(rt; again == text);
+    let taken = taken(alloc, "great", &ring)?;
+    assert!(rt; taken.seats() == ring.seats() && taken.devices() == ring.devices());
+    assert!(rt; is_read_back(alloc, &taken)?);
     Ok(())
 }

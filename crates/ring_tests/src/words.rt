@@ -6,6 +6,13 @@ use ring_words::{
 use std::alloc::Global;
 use std::test::Fail;
 
+/// Whether a text spells a weight of so many hundredths.
+fn is_weight(alloc: Global, text: &str, hundredths: u32) -> Result<bool, Fail> {
+    let weight = Weight::parse(text).ok_or("a weight")?;
+    let is_same = weight.hundredths() == hundredths && Weight::of(hundredths) == Some(weight);
+    Ok(is_same && weight.to_string(alloc)?.as_str() == text)
+}
+
 #[test]
 fn a_weight_has_one_spelling(rt: HostRuntime) -> Result<(), Fail> {
     for (text, hundredths) in [
@@ -15,10 +22,7 @@ fn a_weight_has_one_spelling(rt: HostRuntime) -> Result<(), Fail> {
         ("999999.99", 99_999_999),
         ("1000000.00", 100_000_000),
     ] {
-        let weight = Weight::parse(text).ok_or("a weight")?;
-        assert_eq!(rt; weight.hundredths(), hundredths);
-        assert_eq!(rt; weight.to_string(rt.alloc())?.as_str(), text);
-        assert_eq!(rt; Weight::of(hundredths), Some(weight));
+        assert!(rt; is_weight(rt.alloc(), text, hundredths)?, "{text}");
     }
     for text in [
         "1000000.01",
@@ -36,17 +40,22 @@ fn a_weight_has_one_spelling(rt: HostRuntime) -> Result<(), Fail> {
         "1,00",
         " 1.00",
     ] {
-        assert_eq!(rt; Weight::parse(text), None, "{text}");
+        assert!(rt; Weight::parse(text).is_none(), "{text}");
     }
-    assert_eq!(rt; Weight::of(100_000_001), None);
+    assert!(rt; Weight::of(100_000_001).is_none());
     Ok(())
+}
+
+/// Whether a text spells an address that is written as that text.
+fn is_address(alloc: Global, text: &str) -> Result<bool, Fail> {
+    let address = Address::parse(text).ok_or("an address")?;
+    Ok(address.to_string(alloc)?.as_str() == text)
 }
 
 #[test]
 fn an_address_has_one_spelling(rt: HostRuntime) -> Result<(), Fail> {
     for text in ["0.0.0.0", "10.0.0.1", "255.255.255.255", "1.20.30.4"] {
-        let address = Address::parse(text).ok_or("an address")?;
-        assert_eq!(rt; address.to_string(rt.alloc())?.as_str(), text);
+        assert!(rt; is_address(rt.alloc(), text)?, "{text}");
     }
     for text in [
         "",
@@ -61,18 +70,18 @@ fn an_address_has_one_spelling(rt: HostRuntime) -> Result<(), Fail> {
         "a.b.c.d",
         "1.2.3.4 ",
     ] {
-        assert_eq!(rt; Address::parse(text), None, "{text}");
+        assert!(rt; Address::parse(text).is_none(), "{text}");
     }
     Ok(())
 }
 
 #[test]
 fn numbers_keep_their_bounds(rt: HostRuntime) -> Result<(), Fail> {
-    assert_eq!(rt; (Power::new(0), Power::new(15)), (None, None));
-    assert_eq!(rt; Power::new(14).ok_or("14")?.get(), 14);
-    assert_eq!(rt; (Replicas::new(0), Replicas::new(6)), (None, None));
-    assert_eq!(rt; Replicas::new(5).ok_or("5")?.get(), 5);
-    assert_eq!(rt; Port::new(0), None);
+    assert!(rt; Power::new(0).is_none() && Power::new(15).is_none());
+    assert!(rt; Power::new(14).is_some_and(|power| power.get() == 14));
+    assert!(rt; Replicas::new(0).is_none() && Replicas::new(6).is_none());
+    assert!(rt; Replicas::new(5).is_some_and(|replicas| replicas.get() == 5));
+    assert!(rt; Port::new(0).is_none());
     let port = Port::new(65535).ok_or("65535")?;
     assert_eq!(rt; port.to_string(rt.alloc())?.as_str(), "65535");
     Ok(())
