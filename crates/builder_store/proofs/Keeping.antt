@@ -1,7 +1,8 @@
 -- From one connection of a keeper to the next.
-use Rattle.std.proofs.Common.{◌≡◌, ◌≢◌, ◌+◌, Err, Ok, ap, arith, refl, rules, subst, sym}
+use Rattle.std.proofs.Common.{◌≡◌, ◌≢◌, ◌+◌, ◌<◌, ◌∙◌, Err, Ok, ap, arith, refl, rules, subst, sym}
+use Rattle.std.proofs.Math.Logic.{∥∥₁_map}
 use Rattle.std.specs.Prelude.{◌++◌, ◌∷◌, [], Bool, List, length, ◌≤◌, ◌↔◌, ℕ, IsTrue, Result, cond}
-use Rattle.std.specs.Prelude.{nat_le, nat_lt}
+use Rattle.std.specs.Prelude.{None, nat_le, nat_lt}
 use Rattle.request_book.specs.declared.keeper.KeepFault.{KeepFault}
 use Rattle.request_book.specs.declared.keeper.KeepFault.TheVariants.{NoMemory, Store}
 use Rattle.request_book.specs.Keeper.{Gains}
@@ -10,11 +11,15 @@ use Rattle.sqlite_trees.specs.View.{doubt}
 use Rattle.sqlite_trees.specs.declared.store.Store.{Ghosts}
 use Rattle.sqlite.specs.Held.{Held, state}
 use Rattle.sqlite.specs.State.{HasCleanDisk}
+use Rattle.request_book.specs.Content.{entry_of}
 use Rattle.store_rows.specs.RingRows.{NamedRings}
 use Rattle.store_rows.specs.Stands.{DecidedRequest, RingContent, gained}
 use Rattle.store_rows.specs.Differences.{with_state}
+use Rattle.builder_store.specs.Keepers.{content_of_keeper}
 use Rattle.builder_store.specs.Standing.{Holds, IsKnown, StandsAlone, content_told, is_known}
-use Rattle.builder_store.specs.Inner.Known.{told_is, told_stands, whole_trees}
+use Rattle.builder_store.specs.Inner.Gains.{GainsIn}
+use Rattle.builder_store.specs.Inner.Known.{told_agrees, told_is, told_stands, whole_trees}
+use Rattle.builder_store.specs.declared.keeper.SqlKeeper.{SqlKeeper}
 
 pub ok_other : {A : Type 0} (x : A) → ◌≢◌ {A = Result A KeepFault} (Ok x) (Err Store)
 ok_other x e = cc
@@ -59,16 +64,69 @@ pub one_more : {A : Type 0} (xs : List A) (x : A) (count : ℕ) → length xs �
 one_more [] x count e = omega (arith, e)
 one_more (y ∷ ys) x count e = let rest = one_more ys x (length ys) refl in omega (arith, e, rest)
 
--- where the tables stand for what a content gains, that is what is told
-pub gains_told : (db : Trees) (clean : Bool) (known : doubt clean ≡ 0 → IsKnown db)
-    (other content : RingContent) (entry : DecidedRequest) (after : NamedRings) → doubt clean ≡ 0
-    → ∥ StandsAlone db (gained (with_state content after) entry) ∥₁ → Gains content entry after
-    (content_told db clean known other)
-gains_told db clean known other content entry after is h =
+-- where the tables stand for what a content gains, that is what is told of equal ones
+pub gains_told : (db found : Trees) (clean : Bool) (known : doubt clean ≡ 0 → IsKnown db)
+    (other content : RingContent) (entry : DecidedRequest) (after : NamedRings) → db ≡ found
+    → doubt clean ≡ 0 → ∥ StandsAlone found (gained (with_state content after) entry) ∥₁
+    → Gains content entry after (content_told db clean known other)
+gains_told db found clean known other content entry after same is h =
+    let stands : ∥ StandsAlone db (gained (with_state content after) entry) ∥₁ = subst
+    (λ t. ∥ StandsAlone t (gained (with_state content after) entry) ∥₁) (sym same) h in
     subst (λ x. Gains content entry after x) (sym (told_is db clean known other (gained
-    (with_state content after) entry) is h)) (record {
+    (with_state content after) entry) is stands)) (record {
       appended = refl;
       reached = refl;
       latest =
           refl;
     })
+
+module _ {S : Type 0} {g : Ghosts S} (k : SqlKeeper S g) where
+  -- what is committed stands for the content of a keeper whose store hasn't failed
+  pub stands_now : k.faults ≡ 0 → HasCleanDisk (state g k.conn) → ∥ StandsAlone (state g
+      k.conn).committed.trees (content_of_keeper k) ∥₁
+  stands_now none was = told_now g k.faults k.last.value k.conn k.rings k.count k.hour
+      (λ it. k.holds it) (record { state = k.rings; book = []; hour = k.hour }) none was
+
+  -- and that has as many requests as the keeper counts
+  pub counted_now : HasCleanDisk (state g k.conn) → length (content_of_keeper k).book ≡ k.count
+  counted_now was = (told_agrees (state g (cond
+      (nat_lt 0 k.faults) k.last.value k.conn)).committed.trees (state g k.conn).is_clean k.rings
+      k.count k.hour (λ it. k.holds it) (record { state = k.rings; book = []; hour = k.hour })
+      was).1
+
+  -- trees in which a request is gained stand for that content with the request
+  pub gains_now : {entry : DecidedRequest} {after : NamedRings} {db : Trees} → k.faults ≡ 0
+      → HasCleanDisk (state g k.conn) → length (content_of_keeper k).book < k.limit
+      → entry_of entry.key (content_of_keeper k).book ≡ None
+      → (content_of_keeper k).hour ≤ entry.hour
+      → GainsIn (state g k.conn).committed.trees k.rings k.count k.limit k.hour entry after db
+      → ∥ StandsAlone db (gained (with_state (content_of_keeper k) after) entry) ∥₁
+  gains_now none was room unknown later gains =
+      let agrees = told_agrees (state g (cond
+      (nat_lt 0 k.faults) k.last.value k.conn)).committed.trees (state g k.conn).is_clean k.rings
+      k.count k.hour (λ it. k.holds it) (record { state = k.rings; book = []; hour = k.hour })
+      was in
+      ∥∥₁_map (stands_now none was) (λ h. gains (content_of_keeper k) h.0 (record {
+        held = agrees.0;
+        counted = agrees.1;
+        reached = agrees.2;
+        room = omega (arith, agrees.1, room);
+        unknown = unknown;
+        later = later;
+      }))
+
+  -- a call that commits nothing leaves the keeper's trees
+  pub kept_trees : (value conn : Held S) → k.faults ≡ 0
+      → (state g conn).committed.trees ≡ (state g k.conn).committed.trees
+      → (state g (cond (nat_lt 0 k.faults) value conn)).committed.trees ≡ (state g (cond
+      (nat_lt 0 k.faults) k.last.value k.conn)).committed.trees
+  kept_trees value conn none same = whole_trees g k.faults value conn none ∙ same ∙ sym
+      (whole_trees g k.faults k.last.value k.conn none)
+
+  -- and one in which the store fails leaves those that it found
+  pub lost_trees : {last : Held S} (conn : Held S) → k.faults ≡ 0 → last ≡ k.conn
+      → (state g (cond (nat_lt 0 (k.faults + 1)) last conn)).committed.trees ≡ (state g (cond
+      (nat_lt 0 k.faults) k.last.value k.conn)).committed.trees
+  lost_trees {last = last} conn none same = failed_trees g k.faults last conn none ∙ ap
+      (λ h. (state g h).committed.trees) same ∙ sym
+      (whole_trees g k.faults k.last.value k.conn none)

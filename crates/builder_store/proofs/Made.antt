@@ -1,5 +1,5 @@
 -- What is written for rings where no row is stands for them alone.
-use Rattle.std.proofs.Common.{◌≡◌, ◌∙◌, ◌<◌, ◌^◌, ◌∷◌, List, [], ap, refl, subst, sym, ℕ}
+use Rattle.std.proofs.Common.{◌≡◌, ◌∙◌, ◌∷◌, List, [], ap, refl, sym, ℕ}
 use Rattle.std.specs.Prelude.{pos}
 use Rattle.std.specs.FinMap.{FinMap, empty, from_entries, insert}
 use Rattle.std.specs.Ordering.{int_cmp}
@@ -11,7 +11,7 @@ use Rattle.store_tables.specs.declared.changes.RowChange.{RowChange}
 use Rattle.store_tables.specs.declared.changes.RowChange.TheVariants.{AddDevice, DropDevice}
 use Rattle.store_tables.specs.declared.changes.RowChange.TheVariants.{PutPart, PutPublished}
 use Rattle.store_tables.specs.declared.changes.RowChange.TheVariants.{PutRing}
-use Rattle.store_rows.specs.Differences.{IsChange, with_state}
+use Rattle.store_rows.specs.Differences.{IsChange}
 use Rattle.store_rows.specs.Judging.{meta_now}
 use Rattle.store_rows.specs.RingRows.{NamedRings}
 use Rattle.store_tables.specs.declared.rows.MetaRow.{MetaRow}

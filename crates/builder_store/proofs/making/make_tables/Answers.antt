@@ -1,6 +1,6 @@
 use Rattle.std.proofs.Common.{◌∙◌, ap, sym}
 use Rattle.sqlite.specs.Held.{state}
-use Rattle.sqlite.proofs.StateLemmas.{survives_then, survives_weaker}
+use Rattle.sqlite.proofs.StateLemmas.{survives_weaker}
 use Rattle.store_tables.specs.Contents.{contents_of}
 use Rattle.builder_store.proofs.Made.{made_stands}
 use Rattle.builder_store.proofs.Settled.{tables_from}

@@ -3,10 +3,11 @@ use Rattle.std.proofs.Math.Logic.{∥∥₁_elim}
 use Rattle.sqlite.specs.Held.{state}
 use Rattle.sqlite.specs.State.{HasCleanDisk}
 use Rattle.builder_store.specs.Standing.{Holds}
-use Rattle.builder_store.specs.Inner.Known.{told_same, whole_trees}
+use Rattle.builder_store.specs.Inner.Known.{told_same}
 use Rattle.builder_store.specs.Inner.Leaves.{quiet_leaves}
 use Rattle.builder_store.proofs.Found.{found_prop}
-use Rattle.builder_store.proofs.Keeping.{failed_trees, memory_other, never, ok_other, told_now}
+use Rattle.builder_store.proofs.Keeping.{kept_trees, lost_trees, memory_other, never, ok_other}
+use Rattle.builder_store.proofs.Keeping.{stands_now}
 use Rattle.builder_store.proofs.Settled.{quiet_commit}
 use Rattle.builder_store.proofs.keeper.SqlKeeperKeeperRingMachine.look.Goals as goal
 
@@ -26,9 +27,8 @@ invariant_of-self g c =
           (k.tables c.requires was).0 may)
           (g.met.S.Store.stays c.find.new.conn.store (c.find.ensures.tables clean
           (λ e. ok_other c.in-Ok.found (sym c.in-Ok.is ∙ e))).0) c.find.ensures.survives in
-          let after = whole_trees g.S.Store k.faults c.of.result.value c.find.new.conn c.requires
-          ∙ same ∙ sym (whole_trees g.S.Store k.faults k.last.value k.conn c.requires) in
-          subst (λ db. Holds db k.rings k.count k.hour) (sym after) (k.holds was);
+          subst (λ db. Holds db k.rings k.count k.hour) (sym (kept_trees k _ _ c.requires same))
+          (k.holds was);
     }
 
 pub invariant_of-self-in-Err-NoMemory : goal.invariant_of-self-in-Err-NoMemory
@@ -48,9 +48,8 @@ invariant_of-self-in-Err-NoMemory g c =
           (g.met.S.Store.stays c.find.new.conn.store (c.find.ensures.tables clean
           (λ e. memory_other (sym (c.in-Err-NoMemory.is ∙ ap Err c.in-Err-NoMemory.field-0-is)
           ∙ e))).0) c.find.ensures.survives in
-          let after = whole_trees g.S.Store k.faults c.of.result.value c.find.new.conn c.requires
-          ∙ same ∙ sym (whole_trees g.S.Store k.faults k.last.value k.conn c.requires) in
-          subst (λ db. Holds db k.rings k.count k.hour) (sym after) (k.holds was);
+          subst (λ db. Holds db k.rings k.count k.hour) (sym (kept_trees k _ _ c.requires same))
+          (k.holds was);
     }
 
 pub invariant_of-self-in-Err-Store : goal.invariant_of-self-in-Err-Store
@@ -64,10 +63,8 @@ invariant_of-self-in-Err-Store g c =
       tables = λ none clean. absurd (never k.faults none);
       holds = λ clean.
           let was : HasCleanDisk old = omega (arith, c.find.ensures.survives.clean, clean) in
-          let after = failed_trees g.S.Store k.faults c.of.result.value c.find.new.conn c.requires
-          ∙ ap (λ h. (state g.S.Store h).committed.trees) c.of.ensures ∙ sym
-          (whole_trees g.S.Store k.faults k.last.value k.conn c.requires) in
-          subst (λ db. Holds db k.rings k.count k.hour) (sym after) (k.holds was);
+          subst (λ db. Holds db k.rings k.count k.hour)
+          (sym (lost_trees k _ c.requires c.of.ensures)) (k.holds was);
     }
 
 pub returns-in-Ok-clause-found : goal.returns-in-Ok-clause-found
@@ -76,8 +73,7 @@ returns-in-Ok-clause-found g c = λ clean.
     let old = state g.S.Store k.conn in
     let new = state g.S.Store c.find.new.conn in
     let was : HasCleanDisk old = omega (arith, c.find.ensures.survives.clean, clean) in
-    ∥∥₁_elim (told_now g.S.Store k.faults k.last.value k.conn k.rings k.count k.hour
-    (λ it. k.holds it) _ c.requires was) (found_prop _ _ _)
+    ∥∥₁_elim (stands_now k c.requires was) (found_prop _ _ _)
     (λ h. c.in-Ok.ensures.found clean _ h.0)
 
 pub returns-in-Ok-clause-content : goal.returns-in-Ok-clause-content
@@ -90,9 +86,7 @@ returns-in-Ok-clause-content g c = λ clean.
     (k.tables c.requires was).0 may)
     (g.met.S.Store.stays c.find.new.conn.store (c.find.ensures.tables clean
     (λ e. ok_other c.in-Ok.found (sym c.in-Ok.is ∙ e))).0) c.find.ensures.survives in
-    let after = whole_trees g.S.Store k.faults c.of.result.value c.find.new.conn c.requires ∙ same
-    ∙ sym (whole_trees g.S.Store k.faults k.last.value k.conn c.requires) in
-    told_same _ _ _ _ _ _ _ _ after was clean
+    told_same _ _ _ _ _ _ _ _ (kept_trees k _ _ c.requires same) was clean
 
 pub returns-in-Ok-clause-left : goal.returns-in-Ok-clause-left
 returns-in-Ok-clause-left g c = λ clean.
@@ -103,8 +97,7 @@ returns-in-Ok-clause-left g c = λ clean.
     quiet_leaves old new _ clean (g.met.S.Store.survives c.find.new.conn.store clean)
     c.find.ensures.survives
     (λ db may. g.met.S.Store.settled k.conn.store db (k.tables c.requires was).0 may)
-    (told_now g.S.Store k.faults k.last.value k.conn k.rings k.count k.hour
-    (λ it. k.holds it) _ c.requires was)
+    (stands_now k c.requires was)
 
 pub returns-in-Err-NoMemory-clause-content : goal.returns-in-Err-NoMemory-clause-content
 returns-in-Err-NoMemory-clause-content g c = λ clean.
@@ -117,9 +110,7 @@ returns-in-Err-NoMemory-clause-content g c = λ clean.
     (g.met.S.Store.stays c.find.new.conn.store (c.find.ensures.tables clean (λ e. memory_other (sym
     (c.in-Err-NoMemory.is ∙ ap Err c.in-Err-NoMemory.field-0-is)
     ∙ e))).0) c.find.ensures.survives in
-    let after = whole_trees g.S.Store k.faults c.of.result.value c.find.new.conn c.requires ∙ same
-    ∙ sym (whole_trees g.S.Store k.faults k.last.value k.conn c.requires) in
-    told_same _ _ _ _ _ _ _ _ after was clean
+    told_same _ _ _ _ _ _ _ _ (kept_trees k _ _ c.requires same) was clean
 
 pub returns-in-Err-NoMemory-clause-left : goal.returns-in-Err-NoMemory-clause-left
 returns-in-Err-NoMemory-clause-left g c = λ clean.
@@ -130,8 +121,7 @@ returns-in-Err-NoMemory-clause-left g c = λ clean.
     quiet_leaves old new _ clean (g.met.S.Store.survives c.find.new.conn.store clean)
     c.find.ensures.survives
     (λ db may. g.met.S.Store.settled k.conn.store db (k.tables c.requires was).0 may)
-    (told_now g.S.Store k.faults k.last.value k.conn k.rings k.count k.hour
-    (λ it. k.holds it) _ c.requires was)
+    (stands_now k c.requires was)
 
 pub returns-in-Err-Store-clause-content : goal.returns-in-Err-Store-clause-content
 returns-in-Err-Store-clause-content g c = λ clean.
@@ -139,10 +129,7 @@ returns-in-Err-Store-clause-content g c = λ clean.
     let old = state g.S.Store k.conn in
     let new = state g.S.Store c.find.new.conn in
     let was : HasCleanDisk old = omega (arith, c.find.ensures.survives.clean, clean) in
-    let after = failed_trees g.S.Store k.faults c.of.result.value c.find.new.conn c.requires ∙ ap
-    (λ h. (state g.S.Store h).committed.trees) c.of.ensures ∙ sym
-    (whole_trees g.S.Store k.faults k.last.value k.conn c.requires) in
-    told_same _ _ _ _ _ _ _ _ after was clean
+    told_same _ _ _ _ _ _ _ _ (lost_trees k _ c.requires c.of.ensures) was clean
 
 pub returns-in-Err-Store-clause-left : goal.returns-in-Err-Store-clause-left
 returns-in-Err-Store-clause-left g c = λ clean.
@@ -153,5 +140,4 @@ returns-in-Err-Store-clause-left g c = λ clean.
     quiet_leaves old new _ clean (g.met.S.Store.survives c.find.new.conn.store clean)
     c.find.ensures.survives
     (λ db may. g.met.S.Store.settled k.conn.store db (k.tables c.requires was).0 may)
-    (told_now g.S.Store k.faults k.last.value k.conn k.rings k.count k.hour
-    (λ it. k.holds it) _ c.requires was)
+    (stands_now k c.requires was)
