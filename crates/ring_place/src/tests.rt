@@ -175,6 +175,8 @@ struct Step {
     changed: u32,
     /// How many seats devices 0 to 3 have after it.
     seats: [usize; 4],
+    /// How many devices there are then, where a test asks.
+    devices: Option<usize>,
 }
 
 /// The first rebalance at hour 0, which takes so many seats.
@@ -185,6 +187,7 @@ const fn first(changed: u32, seats: [usize; 4]) -> Step {
         seed: 7,
         changed,
         seats,
+        devices: None,
     }
 }
 
@@ -215,7 +218,9 @@ fn takes(alloc: Global, ring: Ring, steps: &[Step]) -> Result<bool, Fail> {
         ring = after(alloc, &ring, step.before[0])?;
         ring = after(alloc, &ring, step.before[1])?;
         let (new, changed) = checked_rebalance(alloc, &ring, step.hour, step.seed)?;
-        if changed != step.changed || !has_seats(&new, step.seats) {
+        let devices = step.devices.unwrap_or(new.devices().len());
+        let is_so = has_seats(&new, step.seats) && new.devices().len() == devices;
+        if changed != step.changed || !is_so {
             return Ok(false);
         }
         ring = new;
@@ -230,6 +235,7 @@ fn power_two_takes_eight_seats(rt: HostRuntime) -> Result<(), Fail> {
     let leaves = Step {
         before: [Change::Adds(1, 10_000), Change::Marks(0)],
         hour: 1,
+        devices: Some(2),
         ..first(4, [0, 4, 4, 0])
     };
     assert!(rt; takes(alloc, ring, &[first(8, [4, 4, 0, 0]), leaves])?);

@@ -96,14 +96,17 @@ fn run_over<S: Alter + Drop>(
     }
 }
 
-/// A connection over files, or the files where there is none.
-fn opened(alloc: Global, files: Fused) -> Result<Connection<FileStore<Fuse<Memory>>>, Fused> {
+/// A connection over files, or why there is none and the files.
+fn opened(
+    alloc: Global,
+    files: Fused,
+) -> Result<Connection<FileStore<Fuse<Memory>>>, (Ended, Fused)> {
     if !files.log.may_be_used() || !files.db.may_be_used() {
-        return Err(files);
+        return Err((Ended::Wrong, files));
     }
     match Connection::open_files(alloc, files, Options::new(1)) {
         Ok(conn) => Ok(conn),
-        Err((_, left)) => Err(left.into_files()),
+        Err((_, left)) => Err((Ended::Failed, left.into_files())),
     }
 }
 
@@ -114,7 +117,7 @@ fn run(alloc: Global, files: Fused, rows: &[Row<'_>]) -> Result<(Ended, Fused), 
             let (ended, store) = run_over(alloc, conn, rows)?;
             Ok((ended, store.close()))
         }
-        Err(files) => Ok((Ended::Failed, files)),
+        Err(why) => Ok(why),
     }
 }
 
