@@ -1,5 +1,5 @@
 //! The programs, for `clap`.
-ghost use Rattle.std.specs.Prelude.{◌≡◌, IfOk, false};
+ghost use Rattle.std.specs.Prelude.{◌≡◌, IfOk, MatchResult, false};
 ghost use Rattle.clap.specs.Simple.{app_of, shape_of, with_rule, with_subcommand};
 ghost use Rattle.clap.specs.Walk.{rule_of};
 ghost use Rattle.clap.specs.declared.builder.command.Command.TheViews.{out-Command};
@@ -194,39 +194,36 @@ fn renew_command<'a>(alloc: Global) -> Result<Command<'a>, AllocError>
     with_two(command, needed(alloc, "FILE"), needed(alloc, "NEW"))
 }
 
-/// The command with two more programs.
-fn with_programs<'a>(
+/// The command with one more program, if that could be made.
+fn with_program<'a>(
     command: Command<'a>,
-    one: Command<'a>,
-    two: Command<'a>,
+    program: Result<Command<'a>, AllocError>,
 ) -> Result<Command<'a>, AllocError>
-    requires one { (out-Command one).has_globals ≡ false }
-    requires two { (out-Command two).has_globals ≡ false }
-    ensures app { IfOk result (λ c. app_of c ≡ with_subcommand (with_subcommand
-        (app_of command.entry) (shape_of one.entry)) (shape_of two.entry)) }
+    requires { IfOk program (λ it. (out-Command it).has_globals ≡ false) }
+    ensures { IfOk result (λ c. MatchResult program.entry (λ it. app_of c ≡ with_subcommand
+        (app_of command.entry) (shape_of it)) (λ _. ⊥)) }
 {
-    let command = command.subcommand(one)?;
-    command.subcommand(two)
+    command.subcommand(program?)
 }
 
 /// The programs that answer requests.
 fn with_services<'a>(alloc: Global, command: Command<'a>) -> Result<Command<'a>, AllocError>
     ensures { IfOk result (λ c. app_of c ≡ with_services (app_of command.entry)) }
 {
-    let command = with_programs(command, run_command(alloc)?, serve_command(alloc)?)?;
-    with_programs(
-        command,
-        looping_command(alloc)?,
-        import_rows_command(alloc)?,
-    )
+    let with_run = with_program(command, run_command(alloc))?;
+    let with_serve = with_program(with_run, serve_command(alloc))?;
+    let with_loop = with_program(with_serve, looping_command(alloc))?;
+    with_program(with_loop, import_rows_command(alloc))
 }
 
 /// The programs that read what is kept, to show it or to go on from it.
 fn with_readers<'a>(alloc: Global, command: Command<'a>) -> Result<Command<'a>, AllocError>
     ensures { IfOk result (λ c. app_of c ≡ with_readers (app_of command.entry)) }
 {
-    let command = with_programs(command, table_command(alloc)?, nodes_command(alloc)?)?;
-    with_programs(command, export_command(alloc)?, renew_command(alloc)?)
+    let with_table = with_program(command, table_command(alloc))?;
+    let with_nodes = with_program(with_table, nodes_command(alloc))?;
+    let with_export = with_program(with_nodes, export_command(alloc))?;
+    with_program(with_export, renew_command(alloc))
 }
 
 /// The programs.

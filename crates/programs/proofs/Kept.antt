@@ -3,17 +3,18 @@ use Rattle.std.proofs.Common.{◌≡◌, List, Option, ℕ, subst, sym}
 use Rattle.byte_streams.specs.declared.counted.CountedReader.{CountedReader}
 use Rattle.byte_streams.specs.declared.counted.CountedWriter.{CountedWriter}
 use Rattle.byte_streams.specs.declared.fault.StreamFault.{StreamFault}
+use Rattle.builder.specs.Step.{State}
 use Rattle.ring_messages.specs.declared.told.Told.{Told}
 use Rattle.ring_words.specs.declared.device.Row.{Row}
 use Rattle.sqlite_wal.specs.Recovery.{Image}
 use Rattle.programs.specs.Importing.{Imports}
 use Rattle.programs.specs.Opened.{IsKept, IsNew, Keeping}
 use Rattle.programs.specs.Running.{AnswersLines, StopsLines}
-use Rattle.programs.specs.Showing.{FailsToShow, Shows}
+use Rattle.programs.specs.Showing.{FailsToShow, IsAsked, Shows}
 use Rattle.programs.specs.declared.faults.ProgramFault.{ProgramFault}
 use Rattle.programs.specs.declared.importing.ImportAsk.{ImportAsk}
 use Rattle.programs.specs.declared.showing.Question.{Question}
-use Rattle.programs.proofs.Runs.{answers, fails_to_show, imports, shows, stops}
+use Rattle.programs.proofs.Runs.{answers, asked, fails_to_show, imports, shows, stops}
 
 module _ {K : Type 0} (g : Keeping K) (kept : K) (is : IsNew g kept) where
   same_new : (keeper : K) → keeper ≡ kept → IsNew g keeper
@@ -63,6 +64,10 @@ module _ {K : Type 0} (g : Keeping K) (image : Image) (kept : K) (is : IsKept g 
         → FailsToShow g (IsKept g image) contents writer later question why
     fails_kept why f = fails_to_show g (λ k. k ≡ kept) (IsKept g image) same_kept contents writer
         later question why f
+
+  pub asked_kept : (Tells : State → Type 0)
+      → IsAsked g (λ k. k ≡ kept) Tells → IsAsked g (IsKept g image) Tells
+  asked_kept Tells a = asked g (λ k. k ≡ kept) (IsKept g image) same_kept Tells a
 
   pub imports_kept : (ask : ImportAsk) (rows : List Row) (hour : ℕ) (t : Told)
       → Imports g (λ k. k ≡ kept) ask rows hour t → Imports g (IsKept g image) ask rows hour t

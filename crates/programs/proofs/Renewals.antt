@@ -5,8 +5,24 @@ use Rattle.builder_store.specs.Making.{rings_alone}
 use Rattle.request_book.specs.Keeper.{LeavesOnly}
 use Rattle.store_rows.specs.RingRows.{NamedRings}
 use Rattle.store_rows.specs.Stands.{RingContent}
-use Rattle.programs.specs.Opened.{Keeping}
+use Rattle.sqlite_wal.specs.Recovery.{Image}
+use Rattle.programs.specs.Inner.Left.{IsLeft}
+use Rattle.programs.specs.Opened.{IsKept, Keeping}
 use Rattle.programs.specs.Renewing.{IsMade, IsRead, Renews}
+
+-- a keeper that is known was read, and less is known of it
+pub read_kept : {K : Type 0} (g : Keeping K) (image : Image) (kept : K) → IsKept g image kept
+    → (IsSo : RingContent → Type 0) → IsRead g (λ k. k ≡ kept) IsSo
+    → IsRead g (IsKept g image) IsSo
+read_kept g image kept is IsSo read = record {
+  keeper = read.keeper;
+  later = read.later;
+  opened = subst (IsKept g image) (sym read.opened) is;
+  stays_sound = read.stays_sound;
+  stays = read.stays;
+  left = read.left;
+  is_so = read.is_so;
+}
 
 -- a store that was read, and one that was made of what was read
 pub renews : {K N : Type 0} (old : Keeping K) (new : Keeping N) (Begins : K → Type 0)
@@ -29,13 +45,12 @@ renews old new Begins rings hour read made = record {
 pub is_made : {N A E : Type 0} (g : Keeping N) (content : RingContent) (result : Result A E)
     (keeper : N) → g.limit keeper ≡ 100000 → g.fault_count keeper ≡ 0
     → (g.sound keeper → g.content keeper ≡ content)
-    → (g.sound keeper → LeavesOnly (g.may_leave keeper) (g.content keeper))
-    → OnOk result (IsMade g content)
+    → IsLeft g keeper → OnOk result (IsMade g content)
 is_made g content (Ok value) keeper limit faults is left = record {
   keeper = keeper;
   limit = limit;
   faults = faults;
   is = is;
-  left = λ sound. subst (LeavesOnly (g.may_leave keeper)) (is sound) (left sound);
+  left = λ sound. subst (LeavesOnly (g.may_leave keeper)) (is sound) (left.left sound);
 }
 is_made g content (Err why) keeper limit faults is left = tt

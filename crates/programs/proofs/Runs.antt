@@ -42,6 +42,10 @@ pub at_ok : {A E : Type 0} (result : Result A E) (value : A) (whole : Type 0) �
     → OnOk result whole → whole
 at_ok result value whole is holds = subst (λ r. OnOk r whole) is holds
 
+pub at_value : {A E : Type 0} (result : Result A E) (value : A) (Whole : A → Type 0)
+    → result ≡ Ok value → IfOk result Whole → Whole value
+at_value result value Whole is holds = subst (λ r. IfOk r Whole) is holds
+
 pub at_err : {A E : Type 0} (result : Result A E) (why : E) (Whole : E → Type 0)
     → result ≡ Err why → IfErr result Whole → Whole why
 at_err result why Whole is holds = subst (λ r. IfErr r Whole) is holds
@@ -71,7 +75,7 @@ module _ {K : Type 0} (g : Keeping K) (Begins Early : K → Type 0)
     stops why all = let run = all.0 in
         ((run.0, run.1, begun run.0 run.2, run.3, run.4), all.1, all.2)
 
-  asked : (Tells : State → Type 0) → IsAsked g Begins Tells → IsAsked g Early Tells
+  pub asked : (Tells : State → Type 0) → IsAsked g Begins Tells → IsAsked g Early Tells
   asked Tells a = record {
     keeper = a.keeper;
     later = a.later;

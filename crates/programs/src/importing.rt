@@ -108,7 +108,7 @@ fn write_told<W: Write>(
 }
 
 /// Delivers rows as an import to what a keeper holds.
-fn deliver_rows<K: Keeper<RingMachine> + Drop>(
+fn deliver_rows<K: Keeper<RingMachine>>(
     alloc: Global,
     keeper: K,
     ask: ImportAsk,

@@ -20,7 +20,7 @@ use std::io::{Read, Write};
 pub(crate) type MemoryKeeper = MemKeeper<Rings, Command, Reply>;
 
 /// Answers the lines of a reader over what a keeper holds, and gives the keeper back.
-fn answer_lines<R: Read, W: Write, K: Keeper<RingMachine> + Drop>(
+fn answer_lines<R: Read, W: Write, K: Keeper<RingMachine>>(
     alloc: Global,
     keeper: K,
     reader: &mut CountedReader<R>,

@@ -5,6 +5,7 @@ ghost use Rattle.builder_store.specs.Making.{rings_alone};
 ghost use Rattle.request_book.specs.Keeper.{LeavesOnly};
 ghost use Rattle.programs.specs.Opened.{IsKept, IsStoreFault};
 ghost use Rattle.programs.specs.Renewing.{IsMade, IsRead, Renews};
+ghost use Rattle.programs.specs.Inner.Left.{IsLeft};
 
 use crate::faults::ProgramFault;
 use crate::opening::{FileKeeper, close_store, open_store};
@@ -96,6 +97,18 @@ fn rings_and_hour<K: Keeper<RingMachine>>(keeper: &mut K) -> Result<(Rings, Hour
     }
 }
 
+/// The rings and the greatest hour that a keeper holds, and the keeper as it is then.
+fn found_in<K: Keeper<RingMachine>>(keeper: K) -> (Result<(Rings, Hour), ProgramFault>, K)
+    requires { K.fault_count keeper ≡ 0 }
+    ensures found { IfOk result.0 (λ found. IsRead K.Keeper (λ k. k ≡ keeper)
+        (λ content. (content.state ≡ found.0) × (content.hour ≡ found.1))) }
+    ensures fault { IfErr result.0 IsStoreFault }
+{
+    let mut keeper = keeper;
+    let found = rings_and_hour(&mut keeper);
+    (found, keeper)
+}
+
 /// The rings and the greatest hour of the store in a file, which is closed then.
 fn read_store<S: Start>(
     rt: &HostRuntime,
@@ -107,11 +120,11 @@ fn read_store<S: Start>(
         (λ content. (content.state ≡ found.0) × (content.hour ≡ found.1))) }
     ensures fault { IfErr result IsStoreFault }
 {
-    let mut keeper = match open_store(rt, file, start) {
+    let keeper = match open_store(rt, file, start) {
         Ok(keeper) => keeper,
         Err(fault) => return Err(fault),
     };
-    let found = rings_and_hour(&mut keeper);
+    let (found, keeper) = found_in(keeper);
     let closed = close_store(keeper);
     match found {
         Ok(found) => match closed {
@@ -122,12 +135,14 @@ fn read_store<S: Start>(
     }
 }
 
-/// A crash leaves what a keeper holds whose store has not failed.
-fn stands<K: Keeper<RingMachine>>(keeper: &K)
-    requires { K.fault_count keeper.now ≡ 0 }
-    ensures { K.sound keeper.now → LeavesOnly (K.may_leave keeper.now) (K.content keeper.now) }
+/// The keeper as it is. A crash leaves what it holds, as its store has not failed.
+fn stands<K: Keeper<RingMachine>>(keeper: K) -> K
+    requires { K.fault_count keeper ≡ 0 }
+    ensures same { result ≡ keeper }
+    ensures left { IsLeft K.Keeper keeper }
 {
     let _faults = keeper.faults();
+    keeper
 }
 
 /// Makes a store of these rings in a file that is not there, and closes it. It has no request, and
@@ -147,8 +162,7 @@ fn make_store<S: Start>(
         Ok(keeper) => keeper,
         Err(fault) => return Err(make_fault(fault)),
     };
-    stands(&keeper);
-    close_store(keeper)
+    close_store(stands(keeper))
 }
 
 /// Makes a store in the file `new`, which is not there, of the rings and the hour of the store in

@@ -30,7 +30,7 @@ fn new_clock(rt: &HostRuntime, given: Option<Hour>) -> HourClock<&HostRuntime>
 }
 
 /// Serves connections of a port over what a keeper holds, and gives the keeper back.
-fn serve_port<K: Keeper<RingMachine> + Drop>(
+fn serve_port<K: Keeper<RingMachine>>(
     rt: &HostRuntime,
     keeper: K,
     port: Port,
@@ -84,7 +84,7 @@ pub(crate) fn serve_file<S: Start>(
 
 /// Serves an input by way of a socket over what a keeper holds, writes the answers, and gives the
 /// keeper back.
-fn loop_input<W: Write, K: Keeper<RingMachine> + Drop>(
+fn loop_input<W: Write, K: Keeper<RingMachine>>(
     rt: &HostRuntime,
     keeper: K,
     input: &[u8],

@@ -258,6 +258,23 @@ fn kept_bytes<K: Keeper<RingMachine>>(
     }
 }
 
+/// What is shown of the rings that a keeper holds, and the keeper as it is then.
+fn told_bytes<K: Keeper<RingMachine>>(
+    alloc: Global,
+    keeper: K,
+    question: &Question<'_>,
+) -> (Result<Vec<u8>, ProgramFault>, K)
+    requires { K.fault_count keeper ≡ 0 }
+    ensures shown { IfOk result.0 (λ bytes. IsAsked K.Keeper (λ k. k ≡ keeper)
+        (λ rings. ShowsOf rings question.now bytes.items)) }
+    ensures fault { IfErr result.0 (λ why. IsStoreFault why ⊎ IsAsked K.Keeper (λ k. k ≡ keeper)
+        (λ rings. HidesOf rings question.now why)) }
+{
+    let mut keeper = keeper;
+    let bytes = kept_bytes(alloc, &mut keeper, question);
+    (bytes, keeper)
+}
+
 /// What is shown of the rings in a file, which is closed then.
 fn file_bytes<S: Start>(
     rt: &HostRuntime,
@@ -273,11 +290,11 @@ fn file_bytes<S: Start>(
         (IsKept ⟦<FileKeeper<S> as Keeper<RingMachine>>⟧ (image_at S.Start))
         (λ rings. HidesOf rings question.now why)) }
 {
-    let mut keeper = match open_store(rt, file, start) {
+    let keeper = match open_store(rt, file, start) {
         Ok(keeper) => keeper,
         Err(fault) => return Err(fault),
     };
-    let bytes = kept_bytes(rt.alloc(), &mut keeper, question);
+    let (bytes, keeper) = told_bytes(rt.alloc(), keeper, question);
     let closed = close_store(keeper);
     match bytes {
         Ok(bytes) => match closed {

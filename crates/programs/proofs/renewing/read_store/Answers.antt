@@ -1,12 +1,8 @@
+use Rattle.programs.proofs.Renewals.{read_kept}
+use Rattle.programs.proofs.Runs.{at_value}
 use Rattle.programs.proofs.renewing.read_store.Goals as goal
 
 pub returns-in-Ok-closed-clause-found : goal.returns-in-Ok-closed-clause-found
-returns-in-Ok-closed-clause-found g c = let told = c.rings_and_hour-found in record {
-  keeper = c.in-Ok.keeper;
-  later = told.new.keeper;
-  opened = c.in-Ok.ensures.kept;
-  stays_sound = told.ensures.sound;
-  stays = told.ensures.content;
-  left = told.ensures.left;
-  is_so = c.in-Ok-found.ensures.found;
-}
+returns-in-Ok-closed-clause-found g c = let told = c.found_in-found in
+    read_kept _ _ _ c.in-Ok.ensures.kept _
+    (at_value told.result.0 c.in-Ok-found.found _ c.in-Ok-found.is told.ensures.found)
