@@ -82,86 +82,80 @@ const EARLY_ADD: &str =
 const ADD: &str =
     "{\"address\":\"10.0.0.1\",\"caller\":\"ops\",\"do\":\"add\",\"name\":\"d0\",\"number\":3,\"port\":6200,\"region\":1,\"ring\":\"object\",\"weight\":\"100.00\",\"zone\":1}";
 
-#[test]
-fn a_request_that_came_too_early_keeps_its_refusal(rt: HostRuntime) -> Result<(), Fail> {
-    let lines = format!(in rt.alloc(); "0 {EARLY_ADD}\n0 {CREATE}\n0 {EARLY_ADD}\n0 {ADD}\n")?;
-    let want =
-        "422 {\"refused\":\"NoRing\",\"rule\":1}\n200 {\"done\":\"create\",\"version\":0}\n422 {\"refused\":\"NoRing\",\"rule\":1}\n200 {\"done\":\"add\",\"id\":0,\"version\":1}\n";
-    assert_eq!(rt; answers(rt.alloc(), &lines)?.as_slice(), want.as_bytes());
-    Ok(())
+/// What deliveries in one call are answered.
+fn answers_in_one_call(
+    alloc: Global,
+    texts: &[&str],
+) -> Result<Vec<Result<Reply, request_book::Fault>>, Fail> {
+    let mut deliveries = Vec::new(alloc);
+    for text in texts {
+        deliveries.push(delivery(alloc, 0, text)?)?;
+    }
+    let mut book = open(alloc, Limits::full());
+    Ok(book.run(deliveries)?)
 }
 
 #[test]
 fn deliveries_in_one_call_are_answered_alike(rt: HostRuntime) -> Result<(), Fail> {
-    let mut book = open(rt.alloc(), Limits::full());
-    let mut deliveries = Vec::new(rt.alloc());
-    for text in [EARLY_ADD, CREATE, EARLY_ADD, ADD] {
-        deliveries.push(delivery(rt.alloc(), 0, text)?)?;
-    }
-    let answers = book.run(deliveries)?;
-    let [early, create, again, add] = answers.as_slice() else {
-        return Err(Fail::new(format_args!("{} answers", answers.len())));
-    };
-    assert_eq!(rt; early, &Ok(Reply::Refused(Refusal::NoRing)));
-    assert_eq!(rt; create, &Ok(Reply::Done(Done::Create { version: 0 })));
-    assert_eq!(rt; again, &Ok(Reply::Refused(Refusal::NoRing)));
-    assert_eq!(rt; add, &Ok(Reply::Done(Done::Add { id: 0, version: 1 })));
+    let answers = answers_in_one_call(rt.alloc(), &[EARLY_ADD, CREATE, EARLY_ADD, ADD])?;
+    let want = [
+        Ok(Reply::Refused(Refusal::NoRing)),
+        Ok(Reply::Done(Done::Create { version: 0 })),
+        Ok(Reply::Refused(Refusal::NoRing)),
+        Ok(Reply::Done(Done::Add { id: 0, version: 1 })),
+    ];
+    assert!(rt; answers.as_slice() == want.as_slice());
     Ok(())
 }
 
-#[test]
-fn a_full_book_still_gives_its_replies(rt: HostRuntime) -> Result<(), Fail> {
-    let limits = Limits {
-        rings: 16,
-        devices: 256,
-        ids: 65536,
-        versions: 1000,
-        numbers: 2,
-    };
-    let mut book = open(rt.alloc(), limits);
-    let lines = format!(in rt.alloc();
-        "0 {CREATE}\n0 {EARLY_ADD}\n0 {ADD}\n0 {CREATE}\n0 {EARLY_ADD}\n"
+const WEIGHTS: [(&str, bool); 9] = [
+    ("0.00", true),
+    ("1000000.00", true),
+    ("1000000.01", false),
+    ("100.0", false),
+    ("0100.00", false),
+    (".50", false),
+    ("+1.00", false),
+    ("1e2", false),
+    ("", false),
+];
+
+/// Whether a command to a ring that is not there is read with this weight, or is none.
+fn is_weight(alloc: Global, weight: &str, is_read: bool) -> Result<bool, Fail> {
+    let line = format!(in alloc;
+        "0 {{\"caller\":\"ops\",\"do\":\"set_weight\",\"id\":0,\"number\":1,\"ring\":\"object\",\"weight\":\"{weight}\"}}\n"
     )?;
-    let want =
-        "200 {\"done\":\"create\",\"version\":0}\n200 {\"done\":\"add\",\"id\":0,\"version\":1}\n507 {\"fault\":\"BookFull\",\"rule\":22}\n200 {\"done\":\"create\",\"version\":0}\n200 {\"done\":\"add\",\"id\":0,\"version\":1}\n";
-    let got = ask(rt.alloc(), &mut book, lines.as_bytes())?;
-    assert_eq!(rt; got.as_slice(), want.as_bytes());
-    Ok(())
+    let want = if is_read {
+        "422 {\"refused\":\"NoRing\",\"rule\":1}\n"
+    } else {
+        UNREADABLE
+    };
+    Ok(answers(alloc, &line)?.as_slice() == want.as_bytes())
 }
 
 #[test]
 fn a_weight_has_one_spelling(rt: HostRuntime) -> Result<(), Fail> {
-    for (weight, is_read) in [
-        ("0.00", true),
-        ("1000000.00", true),
-        ("1000000.01", false),
-        ("100.0", false),
-        ("0100.00", false),
-        (".50", false),
-        ("+1.00", false),
-        ("1e2", false),
-        ("", false),
-    ] {
-        let line = format!(in rt.alloc();
-            "0 {{\"caller\":\"ops\",\"do\":\"set_weight\",\"id\":0,\"number\":1,\"ring\":\"object\",\"weight\":\"{weight}\"}}\n"
-        )?;
-        let want = if is_read {
-            "422 {\"refused\":\"NoRing\",\"rule\":1}\n"
-        } else {
-            UNREADABLE
-        };
-        assert_eq!(rt;
-            answers(rt.alloc(), &line)?.as_slice(),
-            want.as_bytes(),
-            "{weight}"
-        );
+    for (weight, is_read) in WEIGHTS {
+        assert!(rt; is_weight(rt.alloc(), weight, is_read)?, "{weight}");
     }
     Ok(())
 }
 
-/// Lines that are no requests. Each is answered so, and changes nothing.
-fn hostile_lines(alloc: Global) -> Result<Vec<u8>, AllocError> {
-    let mut lines = Vec::new(alloc);
+/// Numbers and hours that are none.
+const BAD_NUMBERS: [&str; 7] = [
+    "1.0",
+    "1e0",
+    "4294967296",
+    "\"1\"",
+    "-1",
+    "01",
+    "1,\"more\":1",
+];
+
+const BAD_HOURS: [&str; 6] = ["01", "00", "+1", "4294967296", "1.0", ""];
+
+/// A message nested 200 deep, behind an hour.
+fn push_nested(lines: &mut Vec<u8>) -> Result<(), AllocError> {
     lines.extend_from_slice(b"0 ")?;
     for _ in 0..200 {
         lines.push(b'[')?;
@@ -169,27 +163,33 @@ fn hostile_lines(alloc: Global) -> Result<Vec<u8>, AllocError> {
     for _ in 0..200 {
         lines.push(b']')?;
     }
-    lines.extend_from_slice(
-        b"\n0 {\"caller\":\"\xff\"}\n\xff\n\r\n0\n0 \n {}\n-1 {}\n4294967296 {}\n\n",
-    )?;
-    for number in [
-        "1.0",
-        "1e0",
-        "4294967296",
-        "\"1\"",
-        "-1",
-        "01",
-        "1,\"more\":1",
-    ] {
+    lines.push(b'\n')?;
+    Ok(())
+}
+
+/// Commands under numbers that are none, and deliveries at hours that are none.
+fn push_misnumbered(alloc: Global, lines: &mut Vec<u8>) -> Result<(), AllocError> {
+    for number in BAD_NUMBERS {
         let line = format!(in alloc;
             "0 {{\"caller\":\"ops\",\"do\":\"set_weight\",\"id\":0,\"ring\":\"object\",\"weight\":\"1.00\",\"number\":{number}}}\n"
         )?;
         lines.extend_from_slice(line.as_bytes())?;
     }
-    for hour in ["01", "00", "+1", "4294967296", "1.0", ""] {
+    for hour in BAD_HOURS {
         let line = format!(in alloc; "{hour} {CREATE}\n")?;
         lines.extend_from_slice(line.as_bytes())?;
     }
+    Ok(())
+}
+
+/// Lines that are no requests. Each is answered so, and changes nothing.
+fn hostile_lines(alloc: Global) -> Result<Vec<u8>, AllocError> {
+    let mut lines = Vec::new(alloc);
+    push_nested(&mut lines)?;
+    lines.extend_from_slice(
+        b"0 {\"caller\":\"\xff\"}\n\xff\n\r\n0\n0 \n {}\n-1 {}\n4294967296 {}\n\n",
+    )?;
+    push_misnumbered(alloc, &mut lines)?;
     lines.extend_from_slice(
         b"0 {\"caller\":\"ops\",\"do\":\"set_weight\",\"number\":1,\"ring\":\"object\",\"weight\":\"1.00\"}\n",
     )?;
@@ -197,95 +197,132 @@ fn hostile_lines(alloc: Global) -> Result<Vec<u8>, AllocError> {
     Ok(lines)
 }
 
-#[test]
-fn hostile_lines_are_unreadable(rt: HostRuntime) -> Result<(), Fail> {
-    let mut book = open(rt.alloc(), Limits::full());
-    let lines = hostile_lines(rt.alloc())?;
-    let got = ask(rt.alloc(), &mut book, &lines)?;
-    let mut want = String::new(rt.alloc());
-    for byte in &lines {
+/// As many times that a line can't be read as there are lines.
+fn unreadable_each(alloc: Global, lines: &[u8]) -> Result<Vec<u8>, AllocError> {
+    let mut want = Vec::new(alloc);
+    for byte in lines {
         if *byte == b'\n' {
-            want.push_str(UNREADABLE)?;
+            want.extend_from_slice(UNREADABLE.as_bytes())?;
         }
     }
-    assert_eq!(rt; got.as_slice(), want.as_bytes());
-    let after = ask(
-        rt.alloc(),
-        &mut book,
-        format!(in rt.alloc(); "0 {CREATE}")?.as_bytes(),
-    )?;
-    assert_eq!(rt;
-        after.as_slice(),
-        b"200 {\"done\":\"create\",\"version\":0}\n".as_slice()
-    );
+    Ok(want)
+}
+
+#[test]
+fn hostile_lines_are_unreadable(rt: HostRuntime) -> Result<(), Fail> {
+    let mut lines = hostile_lines(rt.alloc())?;
+    let mut want = unreadable_each(rt.alloc(), &lines)?;
+    // the book is as it was
+    lines.extend_from_slice(b"0 ")?;
+    lines.extend_from_slice(CREATE.as_bytes())?;
+    want.extend_from_slice(b"200 {\"done\":\"create\",\"version\":0}\n")?;
+    let got = ask(rt.alloc(), &mut open(rt.alloc(), Limits::full()), &lines)?;
+    assert!(rt; got.as_slice() == want.as_slice());
     Ok(())
 }
+
+/// A delivery twice: with white space around the message, and with a key that comes twice.
+const SPACED: &str =
+    "0  {\"caller\":\"ops\",\"do\":\"create\",\"min_hours\":24,\"number\":1,\"power\":2,\"replicas\":1,\"ring\":\"object\"} \r
+0 {\"number\":7,\"caller\":\"ops\",\"do\":\"create\",\"min_hours\":24,\"number\":1,\"power\":2,\"replicas\":1,\"ring\":\"object\"}";
 
 #[test]
 fn white_space_and_a_doubled_key_are_read_as_json_reads_them(rt: HostRuntime) -> Result<(), Fail> {
-    let lines = format!(in rt.alloc(); "0  {CREATE} \r\n0 {{\"number\":7,{}", &CREATE[1..])?;
     let want = "200 {\"done\":\"create\",\"version\":0}\n200 {\"done\":\"create\",\"version\":0}\n";
-    assert_eq!(rt; answers(rt.alloc(), &lines)?.as_slice(), want.as_bytes());
+    assert!(rt; answers(rt.alloc(), SPACED)?.as_slice() == want.as_bytes());
     Ok(())
 }
 
-#[test]
-fn a_line_of_65537_bytes_is_skipped(rt: HostRuntime) -> Result<(), Fail> {
-    let mut lines = format!(in rt.alloc(); "0 {CREATE}\n")?;
+/// A line of 65537 bytes between two deliveries.
+fn too_long(alloc: Global) -> Result<String, AllocError> {
+    let mut lines = format!(in alloc; "0 {CREATE}\n")?;
     for _ in 0..65_537 {
         lines.push('1')?;
     }
     lines.push_str("\n0 ")?;
     lines.push_str(ADD)?;
+    Ok(lines)
+}
+
+#[test]
+fn a_line_of_65537_bytes_is_skipped(rt: HostRuntime) -> Result<(), Fail> {
     let want =
         "200 {\"done\":\"create\",\"version\":0}\n400 {\"fault\":\"Unreadable\",\"rule\":20}\n200 {\"done\":\"add\",\"id\":0,\"version\":1}\n";
-    assert_eq!(rt; answers(rt.alloc(), &lines)?.as_slice(), want.as_bytes());
+    let lines = too_long(rt.alloc())?;
+    assert!(rt; answers(rt.alloc(), &lines)?.as_slice() == want.as_bytes());
     Ok(())
+}
+
+/// What came of a stream that fails.
+#[derive(Drop)]
+struct Failed {
+    answered: Result<u32, StreamFault>,
+    read_faults: u64,
+    write_faults: u64,
+    taken: Vec<u8>,
+}
+
+/// The first run over a reader that gives so many bytes a read and a writer that takes 30 a write,
+/// each of which fails at one of its calls.
+fn run_failing(
+    alloc: Global,
+    book: &mut Book<RingMachine, Memory>,
+    size: usize,
+    read_fails_at: u32,
+    write_fails_at: u32,
+) -> Failed {
+    let giver = Giver::new(FIRST_RUN.as_bytes(), size, read_fails_at);
+    let mut reader = CountedReader::new(giver);
+    let mut writer = CountedWriter::new(Taker::new(alloc, 30, write_fails_at));
+    let answered = run_lines(alloc, &mut reader, &mut writer, book);
+    Failed {
+        answered,
+        read_faults: reader.faults(),
+        write_faults: writer.faults(),
+        taken: writer.into_inner().taken,
+    }
+}
+
+/// Whether a failed read left whole answers to lines before it.
+fn leaves_answers(failed: &Failed) -> bool {
+    failed.answered == Err(StreamFault::ReadFailed)
+        && failed.read_faults == 1
+        && failed.write_faults == 0
+        && FIRST_ANSWERS.as_bytes().starts_with(&failed.taken)
+        && (failed.taken.is_empty() || failed.taken.ends_with(b"\n"))
 }
 
 #[test]
 fn a_failed_read_leaves_the_answers_so_far(rt: HostRuntime) -> Result<(), Fail> {
     for fails_at in 1..12 {
         let mut book = open(rt.alloc(), Limits::full());
-        let giver = Giver::new(FIRST_RUN.as_bytes(), 100, fails_at);
-        let mut reader = CountedReader::new(giver);
-        let mut output = Vec::new(rt.alloc());
-        let mut writer = CountedWriter::new(&mut output);
-        let answered = run_lines(rt.alloc(), &mut reader, &mut writer, &mut book);
-        assert_eq!(rt; reader.faults(), 1, "at {fails_at}");
-        assert_eq!(rt; writer.faults(), 0, "at {fails_at}");
-        assert_eq!(rt; answered, Err(StreamFault::ReadFailed), "at {fails_at}");
-        assert!(rt;
-            FIRST_ANSWERS.as_bytes().starts_with(&output),
-            "at {fails_at}"
-        );
-        assert!(rt;
-            output.is_empty() || output.ends_with(b"\n"),
-            "at {fails_at}"
-        );
+        let failed = run_failing(rt.alloc(), &mut book, 100, fails_at, u32::MAX);
+        assert!(rt; leaves_answers(&failed), "at {fails_at}");
     }
     Ok(())
+}
+
+/// Whether a failed write left a beginning of the answers.
+fn leaves_a_beginning(failed: &Failed) -> bool {
+    failed.answered == Err(StreamFault::WriteFailed)
+        && failed.read_faults == 0
+        && failed.write_faults == 1
+        && FIRST_ANSWERS.as_bytes().starts_with(&failed.taken)
+}
+
+/// Whether a failed write left a beginning of the answers, and what was decided stayed decided: the
+/// repeats get the same answers.
+fn answers_repeats(alloc: Global, fails_at: u32) -> Result<bool, Fail> {
+    let mut book = open(alloc, Limits::full());
+    let failed = run_failing(alloc, &mut book, 200, u32::MAX, fails_at);
+    let got = ask(alloc, &mut book, FIRST_RUN.as_bytes())?;
+    Ok(leaves_a_beginning(&failed) && got.as_slice() == FIRST_ANSWERS.as_bytes())
 }
 
 #[test]
 fn a_failed_write_leaves_a_beginning_of_the_answers(rt: HostRuntime) -> Result<(), Fail> {
     for fails_at in 1..10 {
-        let mut book = open(rt.alloc(), Limits::full());
-        let giver = Giver::new(FIRST_RUN.as_bytes(), 200, u32::MAX);
-        let mut reader = CountedReader::new(giver);
-        let mut taker = Taker::new(rt.alloc(), 30, fails_at);
-        let mut writer = CountedWriter::new(&mut taker);
-        let answered = run_lines(rt.alloc(), &mut reader, &mut writer, &mut book);
-        assert_eq!(rt; reader.faults(), 0, "at {fails_at}");
-        assert_eq!(rt; writer.faults(), 1, "at {fails_at}");
-        assert_eq!(rt; answered, Err(StreamFault::WriteFailed), "at {fails_at}");
-        assert!(rt;
-            FIRST_ANSWERS.as_bytes().starts_with(&taker.taken),
-            "at {fails_at}"
-        );
-        // What was decided stays decided: the repeats get the same answers.
-        let got = ask(rt.alloc(), &mut book, FIRST_RUN.as_bytes())?;
-        assert_eq!(rt; got.as_slice(), FIRST_ANSWERS.as_bytes(), "at {fails_at}");
+        assert!(rt; answers_repeats(rt.alloc(), fails_at)?, "at {fails_at}");
     }
     Ok(())
 }
@@ -302,80 +339,126 @@ fn ask_again(
     }
 }
 
+/// Whether a line is answered so, asked again where its answer found no memory.
+fn is_given(
+    alloc: Global,
+    book: &mut Book<RingMachine, Memory>,
+    line: &str,
+    want: &str,
+) -> Result<bool, Fail> {
+    Ok(ask_again(alloc, book, line)?.as_slice() == want.as_bytes())
+}
+
 #[test]
 fn a_lost_answer_is_given_to_the_repeat(rt: HostRuntime) -> Result<(), Fail> {
     let mut book = open(rt.alloc(), Limits::full());
-    let mut wants = FIRST_ANSWERS.split_inclusive('\n');
-    for line in FIRST_RUN.split_inclusive('\n') {
-        let got = ask_again(rt.alloc(), &mut book, line)?;
-        assert_eq!(rt;
-            Some(got.as_slice()),
-            wants.next().map(|want| want.as_bytes())
-        );
+    let mut all = true;
+    let wants = FIRST_ANSWERS.split_inclusive('\n');
+    for (line, want) in FIRST_RUN.split_inclusive('\n').zip(wants) {
+        all = all && is_given(rt.alloc(), &mut book, line, want)?;
     }
-    assert!(rt; wants.next().is_none());
+    assert!(rt; all);
     Ok(())
 }
 
-/// What `perform` answers to words over the first run, with what it wrote and told.
+/// What `perform` came to: the status, what it wrote, and what it told.
+#[derive(Drop)]
+struct Ended {
+    status: u8,
+    taken: Vec<u8>,
+    errors: Vec<u8>,
+}
+
+/// The words, each as its own text.
+fn owned(alloc: Global, words: &[&str]) -> Result<Vec<String>, AllocError> {
+    let mut owned = Vec::new(alloc);
+    for word in words {
+        owned.push(String::from_str(alloc, word)?)?;
+    }
+    Ok(owned)
+}
+
+/// What `perform` comes to for these words over the first run.
 fn performed(
     rt: &HostRuntime,
     words: &[&str],
     reads: u32,
     writes: u32,
-) -> Result<(u8, Vec<u8>, Vec<u8>), AllocError> {
-    let mut owned = Vec::new(rt.alloc());
-    for word in words {
-        owned.push(String::from_str(rt.alloc(), word)?)?;
-    }
+) -> Result<Ended, AllocError> {
+    let words = owned(rt.alloc(), words)?;
     let mut reader = CountedReader::new(Giver::new(FIRST_RUN.as_bytes(), 1000, reads));
-    let mut taker = Taker::new(rt.alloc(), 1000, writes);
-    let mut writer = CountedWriter::new(&mut taker);
+    let mut writer = CountedWriter::new(Taker::new(rt.alloc(), 1000, writes));
     let mut errors = CountedWriter::new(Vec::new(rt.alloc()));
-    let status = perform(rt, &owned, &mut reader, &mut writer, &mut errors, Unknown);
-    Ok((status, taker.taken, errors.into_inner()))
+    let status = perform(rt, &words, &mut reader, &mut writer, &mut errors, Unknown);
+    Ok(Ended {
+        status,
+        taken: writer.into_inner().taken,
+        errors: errors.into_inner(),
+    })
+}
+
+/// Whether the first run comes to this: the status, what is written at most, and what is told.
+fn comes_to(
+    rt: &HostRuntime,
+    fails_at: (u32, u32),
+    status: u8,
+    most: &str,
+    told: &str,
+) -> Result<bool, AllocError> {
+    let done = performed(rt, &["ringd", "run"], fails_at.0, fails_at.1)?;
+    Ok(
+        done.status == status
+            && most.as_bytes().starts_with(&done.taken)
+            && (status != 0 || done.taken.len() == most.len())
+            && done.errors.as_slice() == told.as_bytes(),
+    )
 }
 
 #[test]
 fn the_first_run_is_done(rt: HostRuntime) -> Result<(), Fail> {
-    let (status, taken, errors) = performed(&rt, &["ringd", "run"], u32::MAX, u32::MAX)?;
-    assert_eq!(rt; status, 0);
-    assert_eq!(rt; taken.as_slice(), FIRST_ANSWERS.as_bytes());
-    assert!(rt; errors.is_empty());
+    assert!(rt; comes_to(&rt, (u32::MAX, u32::MAX), 0, FIRST_ANSWERS, "")?);
     Ok(())
 }
 
 #[test]
 fn a_fault_is_told_by_name_and_number(rt: HostRuntime) -> Result<(), Fail> {
-    let (status, taken, errors) = performed(&rt, &["ringd", "run"], 2, u32::MAX)?;
-    assert_eq!(rt; status, 1);
-    assert!(rt; FIRST_ANSWERS.as_bytes().starts_with(&taken));
-    assert_eq!(rt; errors.as_slice(), b"ringd: ReadFailed 50\n".as_slice());
-    let (status, taken, errors) = performed(&rt, &["ringd", "run"], u32::MAX, 1)?;
-    assert_eq!(rt; status, 1);
-    assert!(rt; taken.is_empty());
-    assert_eq!(rt; errors.as_slice(), b"ringd: WriteFailed 51\n".as_slice());
+    assert!(rt;
+        comes_to(
+            &rt,
+            (2, u32::MAX),
+            1,
+            FIRST_ANSWERS,
+            "ringd: ReadFailed 50\n"
+        )?
+    );
+    assert!(rt; comes_to(&rt, (u32::MAX, 1), 1, "", "ringd: WriteFailed 51\n")?);
     Ok(())
 }
 
+const ASK_FOR_NOTHING: [&[&str]; 11] = [
+    &["ringd", "--help"],
+    &["ringd", "run", "--help"],
+    &["ringd", "help", "run"],
+    &["ringd", "serve", "/no/folder/f", "0", "1"],
+    &["ringd", "serve", "/no/folder/f", "8642", "65536"],
+    &["ringd", "serve", "/no/folder/f", "8642"],
+    &["ringd", "loop", "/no/folder/f"],
+    &["ringd", "run", "more"],
+    &["ringd", "run", "--files", "x"],
+    &["ringd"],
+    &[],
+];
+
 /// Whether words are refused with a text, before anything is read or written.
 fn are_refused(rt: &HostRuntime, words: &[&str]) -> Result<bool, AllocError> {
-    let (status, taken, errors) = performed(rt, words, u32::MAX, u32::MAX)?;
-    Ok(status == 2 && taken.is_empty() && !errors.is_empty())
+    let done = performed(rt, words, u32::MAX, u32::MAX)?;
+    Ok(done.status == 2 && done.taken.is_empty() && !done.errors.is_empty())
 }
 
 #[test]
 fn other_words_and_calls_for_help_touch_nothing(rt: HostRuntime) -> Result<(), Fail> {
-    assert!(rt; are_refused(&rt, &["ringd", "--help"])?);
-    assert!(rt; are_refused(&rt, &["ringd", "run", "--help"])?);
-    assert!(rt; are_refused(&rt, &["ringd", "help", "run"])?);
-    assert!(rt; are_refused(&rt, &["ringd", "serve", "/no/folder/f", "0", "1"])?);
-    assert!(rt; are_refused(&rt, &["ringd", "serve", "/no/folder/f", "8642", "65536"])?);
-    assert!(rt; are_refused(&rt, &["ringd", "serve", "/no/folder/f", "8642"])?);
-    assert!(rt; are_refused(&rt, &["ringd", "loop", "/no/folder/f"])?);
-    assert!(rt; are_refused(&rt, &["ringd", "run", "more"])?);
-    assert!(rt; are_refused(&rt, &["ringd", "run", "--files", "x"])?);
-    assert!(rt; are_refused(&rt, &["ringd"])?);
-    assert!(rt; are_refused(&rt, &[])?);
+    for words in ASK_FOR_NOTHING {
+        assert!(rt; are_refused(&rt, words)?, "{words:?}");
+    }
     Ok(())
 }
