@@ -16,7 +16,7 @@ ghost use Rattle.ring_messages.specs.Replies.{row_refused_data, reply_data, repl
 ghost use Rattle.ring_messages.specs.Inner.Says.{SaysDone, SaysRefusal, SaysReply, SaysWhy};
 
 use crate::MessageFault;
-use crate::parts::{number, number16, number32, value_of};
+use crate::parts::{number, number16, number32, text, value_of};
 use ring_words::{DeviceId, Done, Refusal, Reply, RowCause};
 use serde_json::{Value, json};
 use std::alloc::{AllocError, Global};
@@ -153,6 +153,16 @@ pub fn reply_text(alloc: Global, reply: &Reply) -> Result<String, AllocError>
     reply_value(alloc, *reply)?.to_string(alloc)
 }
 
+/// What an addition's reply tells, at this version of the ring.
+fn added(value: &Value, version: u32) -> Result<Done, MessageFault>
+    requires word { get (codes "done") (view value.now) ≡ Some (string (codes "add")) }
+    requires version { IsNumber (get (codes "version") (view value.now)) 0 4294967295 version }
+    ensures { Reads (SaysDone (view value.now)) result }
+{
+    let id = number16(value.get("id"))?;
+    Ok(Done::Add { id, version })
+}
+
 /// What an import's reply tells, at this version of the ring.
 fn imported(value: &Value, version: u32) -> Result<Done, MessageFault>
     requires word { get (codes "done") (view value.now) ≡ Some (string (codes "import")) }
@@ -185,25 +195,34 @@ fn rebalanced(value: &Value, version: u32) -> Result<Done, MessageFault>
     })
 }
 
+/// What a reply with this word under the key `done` tells, at this version of the ring.
+fn done_by_word(value: &Value, word: &str, version: u32) -> Result<Done, MessageFault>
+    requires word { get (codes "done") (view value.now) ≡ Some (string word.now) }
+    requires version { IsNumber (get (codes "version") (view value.now)) 0 4294967295 version }
+    ensures { Reads (SaysDone (view value.now)) result }
+{
+    match word {
+        "create" => Ok(Done::Create { version }),
+        "add" => added(value, version),
+        "set_weight" => Ok(Done::SetWeight { version }),
+        "remove" => Ok(Done::Remove { version }),
+        "set_hours" => Ok(Done::SetHours { version }),
+        "pretend_passed" => Ok(Done::PretendPassed { version }),
+        "raise_power" => Ok(Done::RaisePower { version }),
+        "publish" => Ok(Done::Publish { version }),
+        "rebalance" => rebalanced(value, version),
+        "import" => imported(value, version),
+        _ => Err(MessageFault::Bad),
+    }
+}
+
 fn done(value: &Value) -> Result<Done, MessageFault>
     ensures { Reads (SaysDone (view value.now)) result }
 {
     let version = number32(value.get("version"))?;
-    match value.get("done").and_then(Value::as_str) {
-        Some("create") => Ok(Done::Create { version }),
-        Some("add") => {
-            let id = number16(value.get("id"))?;
-            Ok(Done::Add { id, version })
-        }
-        Some("set_weight") => Ok(Done::SetWeight { version }),
-        Some("remove") => Ok(Done::Remove { version }),
-        Some("set_hours") => Ok(Done::SetHours { version }),
-        Some("pretend_passed") => Ok(Done::PretendPassed { version }),
-        Some("raise_power") => Ok(Done::RaisePower { version }),
-        Some("publish") => Ok(Done::Publish { version }),
-        Some("rebalance") => rebalanced(value, version),
-        Some("import") => imported(value, version),
-        _ => Err(MessageFault::Bad),
+    match text(value.get("done")) {
+        Some(word) => done_by_word(value, word, version),
+        None => Err(MessageFault::Bad),
     }
 }
 
