@@ -1,15 +1,15 @@
 //! What no contract says: worked examples, the digests of MD5, and that calls succeed where there
 //! is memory. Expected digests are those of Python's hashlib.
-use crate::fixtures::{device, ring};
+mod lookups;
+
 use md5::{Digest, Md5};
-use path_lookup::{NodesFault, Path, PathFault, hash_path, nodes, partition_of};
-use ring_model::Ring;
-use ring_words::{Power, Replicas};
-use std::alloc::Global;
+use path_lookup::{Path, PathFault, hash_path, partition_of};
+use ring_words::Power;
+use std::alloc::{AllocError, Global};
 use std::test::Fail;
 
 /// The digests of the first 0 to 130 bytes that count up from 0, one behind another.
-fn counting_digests(alloc: Global) -> Result<Vec<u8>, Fail> {
+fn counting_digests(alloc: Global) -> Result<Vec<u8>, AllocError> {
     let mut digests = Vec::new(alloc);
     let mut text = Vec::new(alloc);
     for byte in 0..131u8 {
@@ -20,7 +20,7 @@ fn counting_digests(alloc: Global) -> Result<Vec<u8>, Fail> {
 }
 
 /// The hashes of a path behind, or before, the same bytes.
-fn counting_hashes(alloc: Global, path: &Path, is_behind: bool) -> Result<Vec<u8>, Fail> {
+fn counting_hashes(alloc: Global, path: &Path, is_behind: bool) -> Result<Vec<u8>, AllocError> {
     let mut hashes = Vec::new(alloc);
     let mut text = Vec::new(alloc);
     for byte in 0..131u8 {
@@ -50,12 +50,15 @@ const OF_HASHES_BEFORE: [u8; 16] = [
     0x71, 0xde, 0x7b, 0x04, 0x16, 0x54, 0x5b, 0x1e, 0x88, 0xd9, 0xfc, 0x00, 0xc0, 0x4b, 0xf4, 0xc6,
 ];
 
+/// Whether the digests of counting bytes are those of MD5.
+fn are_md5_digests(alloc: Global) -> Result<bool, AllocError> {
+    let digests = counting_digests(alloc)?;
+    Ok(digests.len() == 2096 && Md5::digest(digests.as_slice()) == OF_DIGESTS)
+}
+
 #[test]
 fn digests_are_those_of_md5(rt: HostRuntime) -> Result<(), Fail> {
-    let alloc = rt.alloc();
-    let digests = counting_digests(alloc)?;
-    assert_eq!(rt; digests.len(), 2096);
-    assert_eq!(rt; Md5::digest(digests.as_slice()), OF_DIGESTS);
+    assert!(rt; are_md5_digests(rt.alloc())?);
     Ok(())
 }
 
@@ -74,10 +77,13 @@ const OF_ABC: [u8; 16] = [
     0x90, 0x01, 0x50, 0x98, 0x3c, 0xd2, 0x4f, 0xb0, 0xd6, 0x96, 0x3f, 0x7d, 0x28, 0xe1, 0x7f, 0x72,
 ];
 
+/// Texts and their digests.
+static SHORT_TEXTS: [(&str, [u8; 16]); 3] = [("", OF_NOTHING), ("a", OF_A), ("abc", OF_ABC)];
+
 #[test]
 fn short_texts_have_the_digests_of_md5(rt: HostRuntime) {
-    for (text, digest) in [("", OF_NOTHING), ("a", OF_A), ("abc", OF_ABC)] {
-        assert!(rt; Md5::digest(text.as_bytes()) == digest, "{text}");
+    for (text, digest) in &SHORT_TEXTS {
+        assert!(rt; Md5::digest(text.as_bytes()) == *digest, "{text}");
     }
 }
 
@@ -90,14 +96,18 @@ fn pieces_have_the_digest_of_the_whole(rt: HostRuntime) {
     assert!(rt; pieces.finalize() == OF_ABC);
 }
 
+/// Whether the digest of the hashes of `/a/c/o` behind, or before, counting bytes is this one.
+fn has_hashes(alloc: Global, is_behind: bool, digest: &[u8; 16]) -> Result<bool, PathFault> {
+    let path = Path::new(alloc, b"a", Some(b"c"), Some(b"o"))?;
+    let hashes = counting_hashes(alloc, &path, is_behind)?;
+    Ok(Md5::digest(hashes.as_slice()) == *digest)
+}
+
 #[test]
 fn hashes_are_digests_of_prefix_path_and_suffix(rt: HostRuntime) -> Result<(), Fail> {
-    let alloc = rt.alloc();
-    let path = Path::new(alloc, b"a", Some(b"c"), Some(b"o"))?;
-    let behind = counting_hashes(alloc, &path, true)?;
-    assert_eq!(rt; Md5::digest(behind.as_slice()), OF_HASHES_BEHIND);
-    let before = counting_hashes(alloc, &path, false)?;
-    assert_eq!(rt; Md5::digest(before.as_slice()), OF_HASHES_BEFORE);
+    for (is_behind, digest) in &[(true, OF_HASHES_BEHIND), (false, OF_HASHES_BEFORE)] {
+        assert!(rt; has_hashes(rt.alloc(), *is_behind, digest)?);
+    }
     Ok(())
 }
 
@@ -116,21 +126,39 @@ const OF_OBJECT: [u8; 16] = [
     0x56, 0x13, 0x54, 0xee, 0x2a, 0x12, 0x22, 0x4c, 0x6e, 0x7e, 0xdb, 0x6d, 0x20, 0xd3, 0xca, 0xa9,
 ];
 
+/// The names of a path.
+type Names = (&'static [u8], Option<&'static [u8]>, Option<&'static [u8]>);
+
+/// A prefix, names, a suffix, and the hash of the path between the two.
+static HASHES: [(&[u8], Names, &[u8], [u8; 16]); 3] = [
+    (b"", (b"a", None, None), b"", OF_ACCOUNT),
+    (b"x", (b"a", Some(b"c"), None), b"y", OF_CONTAINER),
+    (b"x", (b"a", Some(b"c"), Some(b"/o")), b"y", OF_OBJECT),
+];
+
+/// Whether the path of names has this hash between a prefix and a suffix.
+fn has_hash(
+    alloc: Global,
+    prefix: &[u8],
+    names: &Names,
+    suffix: &[u8],
+    hash: &[u8; 16],
+) -> Result<bool, PathFault> {
+    let path = Path::new(alloc, names.0, names.1, names.2)?;
+    Ok(hash_path(prefix, &path, suffix) == *hash)
+}
+
 #[test]
 fn each_name_is_hashed_behind_a_slash(rt: HostRuntime) -> Result<(), Fail> {
-    let alloc = rt.alloc();
-    let account = Path::new(alloc, b"a", None, None)?;
-    assert_eq!(rt; hash_path(b"", &account, b""), OF_ACCOUNT);
-    let container = Path::new(alloc, b"a", Some(b"c"), None)?;
-    assert_eq!(rt; hash_path(b"x", &container, b"y"), OF_CONTAINER);
-    let object = Path::new(alloc, b"a", Some(b"c"), Some(b"/o"))?;
-    assert_eq!(rt; hash_path(b"x", &object, b"y"), OF_OBJECT);
+    for (prefix, names, suffix, hash) in &HASHES {
+        assert!(rt; has_hash(rt.alloc(), prefix, names, suffix, hash)?);
+    }
     Ok(())
 }
 
 /// Powers, and the partitions in rings of these powers of the digests of `abc`, of `a` and of the
 /// empty text.
-const PARTITIONS: [(u16, [u32; 3]); 6] = [
+static PARTITIONS: [(u16, [u32; 3]); 6] = [
     (1, [1, 0, 1]),
     (4, [9, 0, 13]),
     (8, [144, 12, 212]),
@@ -139,85 +167,74 @@ const PARTITIONS: [(u16, [u32; 3]); 6] = [
     (14, [9216, 816, 13575]),
 ];
 
+/// Whether the digests of the three texts have these partitions in rings of a power.
+fn are_partitions(power: Power, partitions: &[u32; 3]) -> bool {
+    partition_of(Md5::digest(b"abc"), power) == partitions[0]
+        && partition_of(Md5::digest(b"a"), power) == partitions[1]
+        && partition_of(Md5::digest(b""), power) == partitions[2]
+}
+
 #[test]
 fn a_partition_is_the_front_of_a_hash(rt: HostRuntime) -> Result<(), Fail> {
-    for (power, partitions) in PARTITIONS {
-        let power = Power::new(power).ok_or("a power")?;
-        let found = [
-            partition_of(Md5::digest(b"abc"), power),
-            partition_of(Md5::digest(b"a"), power),
-            partition_of(Md5::digest(b""), power),
-        ];
-        assert_eq!(rt; found, partitions);
+    for (power, partitions) in &PARTITIONS {
+        assert!(rt;
+            are_partitions(Power::new(*power).ok_or("a power")?, partitions),
+            "{power}"
+        );
     }
     Ok(())
 }
 
+/// The longest name of an account or a container, and one that is too long.
+const LONGEST: [u8; 256] = [255; 256];
+
+const TOO_LONG: [u8; 257] = [b'a'; 257];
+
+/// The longest name of an object, and one that is too long.
+const LONGEST_OBJECT: [u8; 1024] = [b'/'; 1024];
+
+const TOO_LONG_OBJECT: [u8; 1025] = [b'a'; 1025];
+
+/// Names, and whether they make a path.
+static LIMITS: [(&str, Names, bool); 11] = [
+    (
+        "the longest names",
+        (&LONGEST, Some(&LONGEST), Some(&LONGEST_OBJECT)),
+        true,
+    ),
+    ("any bytes", (b"\0", Some(b"\n"), Some(b" ")), true),
+    ("no account", (b"", None, None), false),
+    ("a slash in an account", (b"a/b", None, None), false),
+    ("an account too long", (&TOO_LONG, None, None), false),
+    ("an empty container", (b"a", Some(b""), None), false),
+    (
+        "a slash in a container",
+        (b"a", Some(b"c/"), Some(b"o")),
+        false,
+    ),
+    ("a container too long", (b"a", Some(&TOO_LONG), None), false),
+    ("an empty object", (b"a", Some(b"c"), Some(b"")), false),
+    (
+        "an object too long",
+        (b"a", Some(b"c"), Some(&TOO_LONG_OBJECT)),
+        false,
+    ),
+    ("an object in no container", (b"a", None, Some(b"o")), false),
+];
+
+/// Whether names make a path, or are refused as none.
+fn make_path(alloc: Global, names: &Names) -> Result<bool, PathFault> {
+    match Path::new(alloc, names.0, names.1, names.2) {
+        Ok(_) => Ok(true),
+        Err(PathFault::BadPath) => Ok(false),
+        Err(fault) => Err(fault),
+    }
+}
+
 #[test]
 fn names_at_their_limits(rt: HostRuntime) -> Result<(), Fail> {
-    let alloc = rt.alloc();
-    let longest = vec![in alloc; 255u8; 256]?;
-    let longest_object = vec![in alloc; b'/'; 1024]?;
-    let too_long = vec![in alloc; b'a'; 257]?;
-    let too_long_object = vec![in alloc; b'a'; 1025]?;
-    assert!(rt; Path::new(alloc, &longest, Some(&longest), Some(&longest_object)).is_ok());
-    assert!(rt; Path::new(alloc, b"\0", Some(b"\n"), Some(b" ")).is_ok());
-    assert!(rt; is_bad(alloc, b"", None, None));
-    assert!(rt; is_bad(alloc, b"a/b", None, None));
-    assert!(rt; is_bad(alloc, &too_long, None, None));
-    assert!(rt; is_bad(alloc, b"a", Some(b""), None));
-    assert!(rt; is_bad(alloc, b"a", Some(b"c/"), Some(b"o")));
-    assert!(rt; is_bad(alloc, b"a", Some(&too_long), None));
-    assert!(rt; is_bad(alloc, b"a", Some(b"c"), Some(b"")));
-    assert!(rt; is_bad(alloc, b"a", Some(b"c"), Some(&too_long_object)));
-    assert!(rt; is_bad(alloc, b"a", None, Some(b"o")));
-    Ok(())
-}
-
-/// Whether names make no path.
-fn is_bad(alloc: Global, account: &[u8], container: Option<&[u8]>, object: Option<&[u8]>) -> bool {
-    Path::new(alloc, account, container, object).err() == Some(PathFault::BadPath)
-}
-
-/// A ring of power 1 with two replicas, on devices 3 and 5.
-fn small_ring(alloc: Global) -> Result<Ring, Fail> {
-    let mut devices = Vec::new(alloc);
-    devices.push(device(alloc, 3, "1.00")?)?;
-    devices.push(device(alloc, 5, "1.00")?)?;
-    ring(alloc, (1, 2), 3, devices, vec![in alloc; 3, 5, 5, 3]?)
-}
-
-#[test]
-fn nodes_are_in_order_of_replica(rt: HostRuntime) -> Result<(), Fail> {
-    let alloc = rt.alloc();
-    let ring = small_ring(alloc)?;
-    assert_eq!(rt; (ring.power().get(), ring.replicas().get()), (1, 2));
-    assert_eq!(rt; nodes(alloc, &ring, 0)?.as_slice(), [3, 5].as_slice());
-    assert_eq!(rt; nodes(alloc, &ring, 1)?.as_slice(), [5, 3].as_slice());
-    Ok(())
-}
-
-#[test]
-fn a_raised_ring_keeps_the_nodes(rt: HostRuntime) -> Result<(), Fail> {
-    let alloc = rt.alloc();
-    let ring = small_ring(alloc)?;
-    let raised = ring.raised()?;
-    let path = Path::new(alloc, b"a", Some(b"c"), None)?;
-    let hash = hash_path(b"x", &path, b"y");
-    let before = nodes(alloc, &ring, partition_of(hash, ring.power()))?;
-    let after = nodes(alloc, &raised, partition_of(hash, raised.power()))?;
-    assert_eq!(rt; before.as_slice(), [5, 3].as_slice());
-    assert_eq!(rt; after.as_slice(), [5, 3].as_slice());
-    Ok(())
-}
-
-#[test]
-fn a_ring_without_seats_has_no_nodes(rt: HostRuntime) -> Result<(), Fail> {
-    let alloc = rt.alloc();
-    let power = Power::new(14).ok_or("a power")?;
-    let ring = Ring::new(alloc, power, Replicas::new(1).ok_or("replicas")?, 0)?;
-    assert_eq!(rt; ring.power().get(), 14);
-    let found = nodes(alloc, &ring, 16383);
-    assert_eq!(rt; found.err(), Some(NodesFault::NotAssigned));
+    for (shows, names, is_path) in &LIMITS {
+        assert!(rt; make_path(rt.alloc(), names)? == *is_path, "{shows}");
+    }
     Ok(())
 }

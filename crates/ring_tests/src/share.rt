@@ -1,253 +1,214 @@
 //! What no contract says: worked examples, that calls succeed where there is memory, and the fast
 //! figures against plain scans.
-ghost use Rattle.std.specs.Prelude.{◌<◌};
+mod scans;
 
-use crate::fixtures::{device, devices, ring, two_regions};
+use crate::fixtures::{
+    DEVICE_0, DEVICE_1, DEVICE_2, DEVICE_3, DeviceRow, FAR, NEAR, OF_FOUR_WEIGHTS, OF_ONE_WEIGHT,
+    RingRow, WITHOUT_DEVICES, spelled_ring,
+};
 use ring_model::Ring;
 use ring_share::{balance, balance_of, crowd, dispersion, has_room, have, place_in, wanted};
-use ring_words::{Device, Port};
-use std::alloc::Global;
+use std::alloc::{AllocError, Global};
 use std::test::Fail;
 
-#[test]
-fn shares_are_by_weight(rt: HostRuntime) -> Result<(), Fail> {
-    let alloc = rt.alloc();
-    let weights = ["100.00", "50.00", "25.00", "0.00"];
-    let ring = ring(alloc, (3, 2), 1, devices(alloc, &weights)?, Vec::new(alloc))?;
-    assert_eq!(rt; wanted(alloc, &ring)?.as_slice(), [9, 5, 2, 0].as_slice());
-    for (id, figure) in [(0, 10_000), (1, 10_000), (2, 10_000), (3, 0)] {
-        assert!(rt; balance_of(&ring, id) == Some(figure));
+/// The figures of a ring: the seats that its devices want, the balance of each device, the ring's
+/// own, and its dispersion.
+struct Figures {
+    wanted: &'static [u32],
+    balances: &'static [u32],
+    balance: u32,
+    dispersion: u32,
+}
+
+/// Device 0, which is marked to be removed, and an empty device 2 beside device 1.
+const WITH_A_REMOVED_DEVICE: RingRow = RingRow {
+    version: 1,
+    devices: &[
+        DeviceRow {
+            removed: true,
+            ..DEVICE_0
+        },
+        DEVICE_1,
+        DeviceRow {
+            weight: "0.00",
+            ..DEVICE_2
+        },
+    ],
+    seats: &[0, 1],
+    ..WITHOUT_DEVICES
+};
+
+/// Rings and their figures.
+static FIGURES: [(&str, RingRow, Figures); 6] = [
+    (
+        "shares are by weight",
+        OF_FOUR_WEIGHTS,
+        Figures {
+            wanted: &[9, 5, 2, 0],
+            balances: &[10_000, 10_000, 10_000, 0],
+            balance: 10_000,
+            dispersion: 0,
+        },
+    ),
+    (
+        "ties go to the lower number",
+        OF_ONE_WEIGHT,
+        Figures {
+            wanted: &[3, 3, 2],
+            balances: &[10_000, 10_000, 10_000],
+            balance: 10_000,
+            dispersion: 0,
+        },
+    ),
+    (
+        "seats in one region do not disperse",
+        NEAR,
+        Figures {
+            wanted: &[1, 1, 2],
+            balances: &[10_000, 10_000, 10_000],
+            balance: 10_000,
+            dispersion: 10_000,
+        },
+    ),
+    (
+        "a seat in each region disperses",
+        FAR,
+        Figures {
+            wanted: &[1, 1, 2],
+            balances: &[10_000, 0, 5000],
+            balance: 10_000,
+            dispersion: 5000,
+        },
+    ),
+    (
+        "a ring without devices has figures 0",
+        WITHOUT_DEVICES,
+        Figures {
+            wanted: &[],
+            balances: &[],
+            balance: 0,
+            dispersion: 0,
+        },
+    ),
+    (
+        "a seat is too much for a removed device",
+        WITH_A_REMOVED_DEVICE,
+        Figures {
+            wanted: &[0, 2, 0],
+            balances: &[99_999, 5000, 0],
+            balance: 99_999,
+            dispersion: 0,
+        },
+    ),
+];
+
+/// Whether devices 0, 1 and so on have these balances, and device 4 has none.
+fn has_balances(ring: &Ring, balances: &[u32]) -> bool {
+    let mut id = 0u16;
+    for figure in balances {
+        if balance_of(ring, id) != Some(*figure) {
+            return false;
+        }
+        id = id.saturating_add(1);
     }
-    assert!(rt; balance_of(&ring, 4).is_none());
-    assert_eq!(rt; (balance(&ring), dispersion(&ring)), (10_000, 0));
-    Ok(())
+    balance_of(ring, 4).is_none()
+}
+
+/// Whether a ring has these figures.
+fn has_figures(alloc: Global, row: &RingRow, figures: &Figures) -> Result<bool, Fail> {
+    let ring = spelled_ring(alloc, row)?;
+    let wants = wanted(alloc, &ring)?;
+    Ok(
+        wants.as_slice() == figures.wanted
+            && has_balances(&ring, figures.balances)
+            && balance(&ring) == figures.balance
+            && dispersion(&ring) == figures.dispersion,
+    )
 }
 
 #[test]
-fn ties_go_to_the_lower_number(rt: HostRuntime) -> Result<(), Fail> {
-    let alloc = rt.alloc();
-    let weights = ["100.00", "100.00", "100.00"];
-    let ring = ring(alloc, (2, 2), 1, devices(alloc, &weights)?, Vec::new(alloc))?;
-    assert_eq!(rt; wanted(alloc, &ring)?.as_slice(), [3, 3, 2].as_slice());
+fn rings_have_their_figures(rt: HostRuntime) -> Result<(), Fail> {
+    for (shows, row, figures) in &FIGURES {
+        assert!(rt; has_figures(rt.alloc(), row, figures)?, "{shows}");
+    }
     Ok(())
 }
 
-/// A ring of power 1 with two replicas in two regions, on these seats.
-fn in_two_regions(alloc: Global, seats: &[u16]) -> Result<Ring, Fail> {
-    let seats = Vec::from_slice(alloc, seats)?;
-    ring(alloc, (1, 2), 1, two_regions(alloc)?, seats)
-}
+/// A ring all of whose seats are in region 1.
+static IN_ONE_REGION: RingRow = NEAR;
 
-/// Whether a device would be so crowded on the first seat of the first partition.
-fn is_so_crowded(ring: &Ring, id: u16, figure: (u32, u32, u32)) -> bool {
-    ring.has_device(id) && ring.replicas().get() == 2 && crowd(ring, 0, 0, id) == figure
+/// How crowded devices would be on the first seat of the first partition.
+static CROWDS: [(u16, (u32, u32, u32)); 3] = [(0, (1, 1, 0)), (1, (1, 1, 1)), (2, (0, 0, 0))];
+
+/// Whether devices of a ring are so crowded.
+fn are_so_crowded(ring: &Ring) -> bool {
+    for (id, figure) in &CROWDS {
+        let is_known = ring.has_device(*id) && ring.replicas().get() == 2;
+        if !is_known || crowd(ring, 0, 0, *id) != *figure {
+            return false;
+        }
+    }
+    true
 }
 
 #[test]
 fn a_far_device_is_less_crowded(rt: HostRuntime) -> Result<(), Fail> {
-    let alloc = rt.alloc();
-    let near = in_two_regions(alloc, &[0, 1, 0, 1])?;
-    assert_eq!(rt; wanted(alloc, &near)?.as_slice(), [1, 1, 2].as_slice());
-    assert_eq!(rt; dispersion(&near), 10_000);
-    for (id, figure) in [(0, (1, 1, 0)), (1, (1, 1, 1)), (2, (0, 0, 0))] {
-        assert!(rt; is_so_crowded(&near, id, figure));
-    }
+    let near = spelled_ring(rt.alloc(), &IN_ONE_REGION)?;
+    assert!(rt; are_so_crowded(&near));
     Ok(())
 }
 
-#[test]
-fn a_seat_in_each_region_disperses(rt: HostRuntime) -> Result<(), Fail> {
-    let far = in_two_regions(rt.alloc(), &[0, 1, 0, 2])?;
-    for (id, figure) in [(0, 10_000), (1, 0), (2, 5000)] {
-        assert!(rt; balance_of(&far, id) == Some(figure));
+/// A ring with a seat in region 2.
+static IN_TWO_REGIONS: RingRow = FAR;
+
+/// Which devices have room for one more seat.
+static ROOMS: [(u16, bool); 3] = [(0, false), (1, false), (2, true)];
+
+/// Whether devices of a ring have such room.
+fn have_room(alloc: Global, ring: &Ring) -> Result<bool, AllocError> {
+    let wants = wanted(alloc, ring)?;
+    for (id, room) in &ROOMS {
+        if !ring.has_device(*id) || has_room(ring, &wants, *id) != *room {
+            return Ok(false);
+        }
     }
-    assert_eq!(rt; (balance(&far), dispersion(&far)), (10_000, 5000));
-    Ok(())
+    Ok(true)
 }
 
 #[test]
 fn room_is_up_to_the_want(rt: HostRuntime) -> Result<(), Fail> {
-    let alloc = rt.alloc();
-    let ring = in_two_regions(alloc, &[0, 1, 0, 2])?;
-    let wants = wanted(alloc, &ring)?;
-    for (id, room) in [(0, false), (1, false), (2, true)] {
-        if !ring.has_device(id) {
-            return Err(Fail::from("a device"));
-        }
-        assert_eq!(rt; has_room(&ring, &wants, id), room);
-    }
+    let ring = spelled_ring(rt.alloc(), &IN_TWO_REGIONS)?;
+    assert!(rt; have_room(rt.alloc(), &ring)?);
     Ok(())
 }
 
-/// Whether a device stands at a place of the list and has so many seats.
-fn is_at(ring: &Ring, id: u16, place: usize, seats: u32) -> bool {
-    ring.has_device(id) && place_in(ring.devices(), id) == place && have(ring, id) == seats
+/// A ring whose device 1 was dropped.
+static WITH_A_GAP: RingRow = RingRow {
+    power: 2,
+    version: 1,
+    devices: &[DEVICE_0, DEVICE_2, DEVICE_3],
+    seats: &[0, 3, 3, 2],
+    moved: &[None; 4],
+    ..WITHOUT_DEVICES
+};
+
+/// Devices, their places in the list, and their seats.
+static PLACES: [(u16, usize, u32); 3] = [(0, 0, 1), (2, 1, 1), (3, 2, 2)];
+
+/// Whether devices of a ring stand at such places of its list and have so many seats.
+fn are_in_place(ring: &Ring) -> bool {
+    for (id, place, seats) in &PLACES {
+        let is_at = ring.has_device(*id) && place_in(ring.devices(), *id) == *place;
+        if !is_at || have(ring, *id) != *seats {
+            return false;
+        }
+    }
+    true
 }
 
 #[test]
 fn devices_close_up_where_one_was_dropped(rt: HostRuntime) -> Result<(), Fail> {
-    let alloc = rt.alloc();
-    let mut devices = devices(alloc, &["100.00"])?;
-    devices.push(device(alloc, 2, "100.00")?)?;
-    devices.push(device(alloc, 3, "100.00")?)?;
-    let ring = ring(alloc, (2, 1), 1, devices, vec![in alloc; 0, 3, 3, 2]?)?;
-    for (id, place, seats) in [(0, 0, 1), (2, 1, 1), (3, 2, 2)] {
-        assert!(rt; is_at(&ring, id, place, seats));
-    }
-    Ok(())
-}
-
-#[test]
-fn a_ring_without_devices_has_figures_0(rt: HostRuntime) -> Result<(), Fail> {
-    let alloc = rt.alloc();
-    let ring = ring(alloc, (1, 1), 1, Vec::new(alloc), Vec::new(alloc))?;
-    assert_eq!(rt; (balance(&ring), dispersion(&ring)), (0, 0));
-    assert!(rt; wanted(alloc, &ring)?.is_empty());
-    Ok(())
-}
-
-#[test]
-fn a_seat_is_too_much_for_a_removed_device(rt: HostRuntime) -> Result<(), Fail> {
-    let alloc = rt.alloc();
-    let mut devices = devices(alloc, &["100.00", "100.00", "0.00"])?;
-    if devices.len() == 3 {
-        devices[0].removed = true;
-    }
-    let ring = ring(alloc, (1, 1), 1, devices, vec![in alloc; 0, 1]?)?;
-    for (id, figure) in [(0, 99_999), (1, 5000), (2, 0)] {
-        assert!(rt; balance_of(&ring, id) == Some(figure));
-    }
-    assert_eq!(rt; balance(&ring), 99_999);
-    assert_eq!(rt; wanted(alloc, &ring)?.as_slice(), [0, 2, 0].as_slice());
-    Ok(())
-}
-
-/// Numbers that look random.
-#[derive(Drop)]
-struct Draw {
-    state: u64,
-}
-
-impl Draw {
-    fn below(&mut self, bound: u64) -> u64
-        ensures { 0 < bound → result < bound }
-    {
-        self.state = self
-            .state
-            .wrapping_mul(6_364_136_223_846_793_005)
-            .wrapping_add(1_442_695_040_888_963_407);
-        if bound == 0 {
-            return 0;
-        }
-        (self.state >> 33) % bound
-    }
-}
-
-/// A small assigned ring: some devices closed, on few regions, zones and servers.
-fn drawn_ring(alloc: Global, draw: &mut Draw) -> Result<Ring, Fail> {
-    let replicas = draw.below(4).saturating_add(1);
-    let count = draw.below(8).saturating_add(replicas);
-    let power = draw.below(3).saturating_add(1);
-    let mut devices = Vec::new(alloc);
-    for number in 0..count {
-        let region = draw.below(3) as u16;
-        let weight = if draw.below(4) == 0 { "0.00" } else { "70.00" };
-        let mut device = device(alloc, draw.below(3) as u8, weight)?;
-        device.row.region = region;
-        device.id = (3 * (number % 100) + 1) as u16;
-        device.row.zone = draw.below(2) as u16;
-        device.row.port = Port::new((6200 + number % 100) as u16).ok_or("a port")?;
-        device.removed = draw.below(6) == 0;
-        devices.push(device)?;
-    }
-    let mut seats: Vec<u16> = Vec::new(alloc);
-    for _ in 0..1u64 << power.min(14) {
-        let first = draw.below(count);
-        for replica in 0..replicas {
-            seats.push((3 * ((first.saturating_add(replica) % count.max(1)) % 100) + 1) as u16)?;
-        }
-    }
-    ring(alloc, (power as u16, replicas as u16), 1, devices, seats)
-}
-
-/// How crowded a device is for a seat of a row, by looking at each other seat.
-fn scanned_crowd(
-    devices: &[Device],
-    row: &[u16],
-    replica: usize,
-    device: &Device,
-) -> (u32, u32, u32) {
-    let mut crowd = (0u32, 0u32, 0u32);
-    for (other, id) in row.iter().enumerate() {
-        let Some(near) = devices.iter().find(|device| device.id == *id) else {
-            continue;
-        };
-        if other == replica || near.row.region != device.row.region {
-            continue;
-        }
-        crowd.0 = crowd.0.saturating_add(1);
-        if near.row.zone == device.row.zone {
-            crowd.1 = crowd.1.saturating_add(1);
-            if near.row.address == device.row.address {
-                crowd.2 = crowd.2.saturating_add(1);
-            }
-        }
-    }
-    crowd
-}
-
-/// Whether an open device outside a row is less crowded for one of its seats, by looking at each
-/// device for each seat.
-fn is_scanned_crowded(devices: &[Device], row: &[u16]) -> bool {
-    for (replica, id) in row.iter().enumerate() {
-        let Some(own) = devices.iter().find(|device| device.id == *id) else {
-            continue;
-        };
-        let least = scanned_crowd(devices, row, replica, own);
-        for device in devices {
-            let is_open = !device.removed && device.row.weight.hundredths() > 0;
-            if is_open
-                && !row.contains(&device.id)
-                && scanned_crowd(devices, row, replica, device) < least
-            {
-                return true;
-            }
-        }
-    }
-    false
-}
-
-#[test]
-fn figures_are_those_of_plain_scans(rt: HostRuntime) -> Result<(), Fail> {
-    let alloc = rt.alloc();
-    let mut draw = Draw { state: 7 };
-    let mut crowded_rings = 0u32;
-    for _ in 0..300 {
-        let ring = drawn_ring(alloc, &mut draw)?;
-        let mut crowded = 0u32;
-        let mut rows = 0u32;
-        for row in ring.seats().chunks(usize::from(ring.replicas().get())) {
-            rows = rows.saturating_add(1);
-            if is_scanned_crowded(ring.devices(), row) {
-                crowded = crowded.saturating_add(1);
-            }
-        }
-        assert_eq!(rt;
-            dispersion(&ring),
-            crowded.saturating_mul(10_000) / rows.max(1)
-        );
-        crowded_rings = crowded_rings.saturating_add(crowded.min(1));
-        let mut greatest = 0;
-        for device in ring.devices() {
-            greatest = balance_of(&ring, device.id)
-                .ok_or("a device")?
-                .max(greatest);
-        }
-        assert_eq!(rt; balance(&ring), greatest);
-    }
-    assert!(rt;
-        crowded_rings > 50 && crowded_rings < 250,
-        "{crowded_rings}"
-    );
+    let ring = spelled_ring(rt.alloc(), &WITH_A_GAP)?;
+    assert!(rt; are_in_place(&ring));
     Ok(())
 }
