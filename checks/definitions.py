@@ -189,8 +189,9 @@ def page(names, words, users, reached):
             out.append(f"\n### `specs/{file.replace('.', '/')}.antt`\n\n| Word | What it says | In the contracts of |\n|---|---|---|\n")
             for key, word in words.items():
                 if key in reached and key[:2] == (crate, file):
-                    calls = ", ".join(f"`{function}`" for _, function in users.get(key, [])[:6])
-                    more = len(users.get(key, [])) - 6
+                    citing = list(dict.fromkeys(function for _, function in users.get(key, [])))
+                    calls = ", ".join(f"`{function}`" for function in citing[:6])
+                    more = len(citing) - 6
                     calls += f" and {more} more" if more > 0 else ""
                     told = word.told[:1].upper() + word.told[1:] if word.told else ""
                     out.append(f"| `{word.name}` | {told.replace('|', chr(92) + '|')} | {calls} |\n")

@@ -5,27 +5,33 @@ use Rattle.std.specs.Prelude.{◌++◌, ◌∷◌, [], Bool, List, length, ◌�
 use Rattle.std.specs.Prelude.{None, nat_le, nat_lt}
 use Rattle.request_book.specs.declared.keeper.KeepFault.{KeepFault}
 use Rattle.request_book.specs.declared.keeper.KeepFault.TheVariants.{NoMemory, Store}
-use Rattle.request_book.specs.Keeper.{Gains}
+use Rattle.request_book.specs.Keeper.{Gains, LeavesOnly}
 use Rattle.sqlite_trees.specs.Tree.{Trees}
-use Rattle.sqlite_trees.specs.View.{doubt}
+use Rattle.sqlite_trees.specs.View.{IsClean, doubt}
 use Rattle.sqlite_trees.specs.declared.store.Store.{Ghosts}
 use Rattle.sqlite.specs.Held.{Held, state}
-use Rattle.sqlite.specs.State.{HasCleanDisk}
+use Rattle.sqlite.specs.State.{HasCleanDisk, Survives}
 use Rattle.request_book.specs.Content.{entry_of}
 use Rattle.store_rows.specs.RingRows.{NamedRings}
 use Rattle.store_rows.specs.Stands.{DecidedRequest, RingContent, gained}
 use Rattle.store_rows.specs.Differences.{with_state}
 use Rattle.builder_store.specs.Keepers.{content_of_keeper}
-use Rattle.builder_store.specs.Standing.{Holds, IsKnown, StandsAlone, content_told, is_known}
+use Rattle.builder_store.specs.Standing.{Holds, IsKnown, MayLeave, StandsAlone, content_told}
+use Rattle.builder_store.specs.Standing.{is_known}
 use Rattle.builder_store.specs.Inner.Gains.{GainsIn}
 use Rattle.builder_store.specs.Inner.Known.{told_agrees, told_is, told_stands, whole_trees}
+use Rattle.builder_store.specs.Inner.Leaves.{quiet_leaves}
+use Rattle.builder_store.specs.Inner.Tables.{HasTables}
+use Rattle.builder_store.proofs.Settled.{quiet_commit}
 use Rattle.builder_store.specs.declared.keeper.SqlKeeper.{SqlKeeper}
 
-pub ok_other : {A : Type 0} (x : A) → ◌≢◌ {A = Result A KeepFault} (Ok x) (Err Store)
-ok_other x e = cc
+-- a call whose store hasn't failed answers otherwise
+pub not_failed : {A : Type 0} {x : A} {r : Result A KeepFault} → r ≡ Ok x → r ≢ Err Store
+not_failed is e = cc
 
-pub memory_other : {A : Type 0} → ◌≢◌ {A = Result A KeepFault} (Err NoMemory) (Err Store)
-memory_other e = cc
+pub only_memory : {A : Type 0} {fault : KeepFault} {r : Result A KeepFault} → r ≡ Err fault
+    → fault ≡ NoMemory → r ≢ Err Store
+only_memory is memory e = cc
 
 -- the connection of a keeper whose store has failed
 failed : {A : Type 0} (n : ℕ) (last conn : A) → n ≡ 0 → cond (nat_lt 0 (n + 1)) last conn ≡ last
@@ -130,3 +136,45 @@ module _ {S : Type 0} {g : Ghosts S} (k : SqlKeeper S g) where
   lost_trees {last = last} conn none same = failed_trees g k.faults last conn none ∙ ap
       (λ h. (state g h).committed.trees) same ∙ sym
       (whole_trees g k.faults k.last.value k.conn none)
+
+  -- what a store that is open leaves, and that any store leaves something
+  abbrev Settles : Type 0
+  Settles = (s : S) (db : Trees) → IsTrue (g.view s).is_open → g.recovers s db
+      → db ≡ (g.view s).committed
+
+  abbrev Stays : Type 0
+  Stays = (s : S) → IsTrue (g.view s).is_open → g.recovers s (g.view s).committed
+
+  abbrev Leaves : Type 0
+  Leaves = (s : S) → IsClean (g.view s) → ∥ ((db : Trees) × g.recovers s db) ∥₁
+
+  -- a call that commits nothing, and after which the tables are seen, leaves the keeper's trees
+  pub quiet_trees : (value conn : Held S) → Settles → Stays → k.faults ≡ 0
+      → Survives (state g k.conn) (state g conn) (λ _. ⊥) → HasCleanDisk (state g conn)
+      → HasTables (state g conn)
+      → (state g (cond (nat_lt 0 k.faults) value conn)).committed.trees ≡ (state g (cond
+      (nat_lt 0 k.faults) k.last.value k.conn)).committed.trees
+  quiet_trees value conn settles stays none call clean has =
+      let was : HasCleanDisk (state g k.conn) = omega (arith, call.clean, clean) in
+      kept_trees value conn none (quiet_commit (state g k.conn) (state g conn) clean (λ db may.
+      settles k.conn.store db (k.tables none was).0 may) (stays conn.store has.0) call)
+
+  -- and they still stand for what the keeper holds
+  pub quiet_holds : (value conn : Held S) → Settles → Stays → k.faults ≡ 0
+      → Survives (state g k.conn) (state g conn) (λ _. ⊥) → HasCleanDisk (state g conn)
+      → HasTables (state g conn)
+      → Holds (state g (cond (nat_lt 0 k.faults) value conn)).committed.trees k.rings k.count k.hour
+  quiet_holds value conn settles stays none call clean has =
+      let was : HasCleanDisk (state g k.conn) = omega (arith, call.clean, clean) in
+      subst (λ db. Holds db k.rings k.count k.hour)
+      (sym (quiet_trees value conn settles stays none call clean has)) (k.holds was)
+
+  -- a crash after a call that commits nothing leaves the keeper's content
+  pub quiet_left : (conn : Held S) → Settles → Leaves → k.faults ≡ 0
+      → Survives (state g k.conn) (state g conn) (λ _. ⊥) → HasCleanDisk (state g conn)
+      → LeavesOnly (MayLeave (state g conn)) (content_of_keeper k)
+  quiet_left conn settles leaves none call clean =
+      let was : HasCleanDisk (state g k.conn) = omega (arith, call.clean, clean) in
+      quiet_leaves (state g k.conn) (state g conn) (content_of_keeper k) clean
+      (leaves conn.store clean) call (λ db may. settles k.conn.store db (k.tables none was).0 may)
+      (stands_now none was)

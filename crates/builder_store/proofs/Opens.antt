@@ -1,9 +1,9 @@
 -- What the steps of an opening lead to.
 use Rattle.std.proofs.Common.{◌≡◌, ◌∙◌, [], List, None, Option, Some, ap, arith, inl, inr, refl}
-use Rattle.std.proofs.Common.{subst}
-use Rattle.std.specs.Prelude.{◌⊎◌, IfOk, MatchOption, Result}
+use Rattle.std.proofs.Common.{subst, sym, ◌≤◌, ℕ}
+use Rattle.std.specs.Prelude.{◌⊎◌, IfOk, IfSome, IsTrue, MatchOption, Result}
 use Rattle.sqlite_trees.specs.Tree.{Trees}
-use Rattle.sqlite.specs.Effect.{Database}
+use Rattle.sqlite.specs.Effect.{Database, IsDatabase}
 use Rattle.sqlite.specs.State.{HasCleanDisk, State, Survives}
 use Rattle.sqlite.proofs.StateLemmas.{survives_then}
 use Rattle.std.specs.declared.alloc.Global.{Global}
@@ -12,13 +12,14 @@ use Rattle.store_tables.specs.declared.changes.RowChange.{RowChange}
 use Rattle.store_tables.specs.declared.rows.MetaRow.{MetaRow}
 use Rattle.store_tables.specs.Changes.{prepared}
 use Rattle.store_tables.specs.Contents.{Contents, contents_of}
-use Rattle.store_tables.specs.Store.{IsBegun, IsStore}
+use Rattle.store_tables.specs.Store.{AreOrdered, IsBegun, IsStore}
+use Rattle.store_tables.specs.Tables.{schema_of_first}
 use Rattle.store_tables.proofs.Living.{lives_in}
 use Rattle.store_rows.specs.Judging.{IsFoundIn, meta_now}
 use Rattle.store_rows.specs.Stands.{IsHoldable, RingContent, contents_for, first_contents_for}
 use Rattle.store_rows.specs.declared.judging.Judged.{Judged}
-use Rattle.builder_store.specs.Opening.{OpensAs, no_contents, nothing}
-use Rattle.builder_store.specs.Inner.Opened.{Leads, LeadsTo, OpensRows}
+use Rattle.builder_store.specs.Opening.{AreDeclared, OpensAs, no_contents, nothing}
+use Rattle.builder_store.specs.Inner.Opened.{IsFresh, Leads, LeadsTo, OpensRows}
 use Rattle.builder_store.specs.declared.fault.OpenFault.{OpenFault}
 use Rattle.builder_store.specs.declared.reading.Opened.{Opened}
 
@@ -79,20 +80,55 @@ found_opens c content judged found = record {
     by_schema None is = inl is
     by_schema (Some changes) is = inr (inl is.0)
 
--- tables that were migrated stand for the content that was found in them
-pub migrated_leads : (c : Contents) (judged : Judged) (changes : Vec RowChange Global)
+-- and what is held of it, where these tables stand for it
+pub found_leads : (c : Contents) (content : RingContent) (judged : Judged) (db : Trees)
+    → IsFoundIn c content judged → contents_of db ≡ contents_for content
+    → LeadsTo c db (record { rings = judged.rings; count = judged.count; hour = judged.hour })
+found_leads c content judged db found stands = record {
+  content = content;
+  opens = found_opens c content judged found;
+  stands = stands;
+  rings = sym found.rings;
+  count = sym found.count;
+  hour = sym found.hour;
+}
+
+-- where nothing is to be migrated, the rows stand for it
+pub found_stands : (c : Contents) (content : RingContent) (judged : Judged)
+    → judged.migration ≡ None → IsFoundIn c content judged → c ≡ contents_for content
+found_stands c content judged none found = subst (λ o. MatchOption o (c ≡ contents_for content) (λ
+    (xs : Vec RowChange Global). (c ≡ first_contents_for content) × (prepared c xs.items
+    (meta_now content.hour) ≡ contents_for content))) none found.stands
+
+-- and tables that were migrated do
+pub migrated_stands : (c : Contents) (judged : Judged) (changes : Vec RowChange Global)
     (made : List RowChange) (meta : MetaRow) (db : Trees) → judged.migration ≡ Some changes
     → made ≡ changes.items → meta ≡ meta_now judged.hour
     → contents_of db ≡ prepared c made meta → (content : RingContent) → IsFoundIn c content judged
-    → Leads c db
-migrated_leads c judged changes made meta db some same is stands content found =
+    → contents_of db ≡ contents_for content
+migrated_stands c judged changes made meta db some same is stands content found =
     let both : (c ≡ first_contents_for content) × (prepared c changes.items
     (meta_now content.hour) ≡ contents_for content) =
     subst (λ o. MatchOption o (c ≡ contents_for content) (λ (xs : Vec RowChange Global).
     (c ≡ first_contents_for content) × (prepared c xs.items
-    (meta_now content.hour) ≡ contents_for content))) some found.stands in (
-      content,
-      found_opens c content judged found,
-      stands ∙ ap (λ xs. prepared c xs meta) same ∙ ap
-          (prepared c changes.items) (is ∙ ap meta_now found.hour) ∙ both.1,
+    (meta_now content.hour) ≡ contents_for content))) some found.stands in
+    stands ∙ ap (λ xs. prepared c xs meta) same ∙ ap
+    (prepared c changes.items) (is ∙ ap meta_now found.hour) ∙ both.1
+
+-- tables that were counted are declared in what is committed
+pub declared_as : (s : State) (found : Option ℕ) (made : ℕ) → found ≡ Some made
+    → IfSome found (λ n. (n ≤ 8) × (s.now.schema ≡ schema_of_first n)) → IsFresh s
+    → (IsTrue s.is_open → AreOrdered s.now → IfSome found (λ n. IsBegun n s.now))
+    → AreDeclared made s.committed.trees
+declared_as s found made is told fresh begun =
+    let it : (made ≤ 8) × (s.now.schema ≡ schema_of_first made) = subst (λ o. IfSome o
+    (λ n. (n ≤ 8) × (s.now.schema ≡ schema_of_first n))) is told in
+    let sound : IsDatabase s.now = (subst (λ o. IfSome o (λ n. IsBegun n s.now)) is
+    (begun fresh.is_open fresh.ordered)).sound in (
+      it.0,
+      subst (λ schema. IsDatabase (record { schema = schema; trees = s.committed.trees })) it.1
+          (subst (λ (d : Database). IsDatabase (record {
+            schema = s.now.schema;
+            trees = d.trees;
+          })) fresh.committed sound),
     )

@@ -121,10 +121,7 @@ impl<S: Alter + Drop> SqlKeeper<S> {
 
 impl<S: Alter + Drop> SqlKeeper<S> {
     ghost use Rattle.std.specs.Prelude.{IfOk};
-    ghost use Rattle.sqlite_trees.specs.View.{doubt};
-    ghost use Rattle.builder_store.specs.Keepers.{content_of_keeper};
-    ghost use Rattle.builder_store.specs.Opening.{IsOpenedAs};
-    ghost use Rattle.builder_store.specs.Inner.Opened.{IsFresh};
+    ghost use Rattle.builder_store.specs.Inner.Begins.{BeginsOver, IsJustMade};
 
     /// Opens what a connection holds that was just made over its store, as `adopt` does, but
     /// without reading the store a second time. A refused opening drops the connection.
@@ -133,14 +130,8 @@ impl<S: Alter + Drop> SqlKeeper<S> {
         conn: Connection<S>,
         limits: Limits,
     ) -> Result<SqlKeeper<S>, OpenFault>
-        requires mode { conn.in_transaction ≡ false }
-        requires fresh { HasCleanDisk (state S.Store conn) → IsFresh (state S.Store conn) }
-        ensures limit { IfOk result (λ k. k.limit ≡ limits.numbers) }
-        ensures faults { IfOk result (λ k. k.faults ≡ 0) }
-        ensures clean { IfOk result (λ k. doubt (state S.Store conn).is_clean ≤ doubt
-            (state S.Store k.conn).is_clean) }
-        ensures found { IfOk result (λ k. HasCleanDisk (state S.Store k.conn)
-            → IsOpenedAs (state S.Store conn).committed.trees (content_of_keeper k)) }
+        requires { IsJustMade S.Store conn }
+        ensures { IfOk result (BeginsOver S.Store conn limits.numbers) }
     {
         one_content();
         let mut conn = conn;

@@ -8,12 +8,13 @@ ghost use Rattle.sqlite_wal.specs.Files.{image_at};
 ghost use Rattle.builder_store.specs.Keepers.{content_of_keeper};
 ghost use Rattle.builder_store.specs.Making.{rings_alone};
 ghost use Rattle.builder_store.specs.Opening.{IsOpenedFrom, nothing};
+ghost use Rattle.builder_store.specs.Inner.Begins.{BeginsWith, IsMadeOver};
 
 use crate::fault::{FileFault, MakeFault, OpenFault};
 use crate::keeper::SqlKeeper;
 use ring_model::Rings;
 use ring_words::{Hour, Limits};
-use sqlite::{Connection, Error, ErrorCode, FileFrom, FileStore, MemStore, Start};
+use sqlite::{Alter, Connection, Error, ErrorCode, FileFrom, FileStore, MemStore, Start};
 use std::alloc::Global;
 use std::fs::symlink_metadata;
 use std::io::ErrorKind;
@@ -46,6 +47,21 @@ fn file_fault(error: &Error) -> FileFault {
     }
 }
 
+/// A connection to the database file at a path and the log beside it, which are made where they are
+/// missing.
+fn open_files<S: Start>(
+    rt: &HostRuntime,
+    path: &str,
+    start: S,
+) -> Result<Connection<FileStore<FileFrom<S>>>, FileFault>
+    ensures { IfOk result (IsMadeOver (image_at S.Start)) }
+{
+    match Connection::open_from(rt, path, false, start) {
+        Ok(conn) => Ok(conn),
+        Err((error, _)) => Err(file_fault(&error)),
+    }
+}
+
 /// Opens the database file at a path and the log beside it, and makes them where they are missing.
 /// Keeps at most `limits.numbers` requests. A refused opening drops the connection.
 ///
@@ -61,9 +77,9 @@ pub fn open_from<S: Start>(
     ensures found { IfOk result (λ k. HasCleanDisk (file_state k.conn) → IsOpenedFrom
         (image_at S.Start) (content_of_keeper k)) }
 {
-    let conn = match Connection::open_from(rt, path, false, start) {
+    let conn = match open_files(rt, path, start) {
         Ok(conn) => conn,
-        Err((error, _)) => return Err(file_fault(&error)),
+        Err(fault) => return Err(fault),
     };
     match SqlKeeper::over(rt.alloc(), conn, limits) {
         Ok(keeper) => Ok(keeper),
@@ -80,6 +96,23 @@ fn is_taken(rt: &HostRuntime, path: &str) -> Result<bool, FileFault> {
             ErrorKind::OutOfMemory => Err(FileFault::Opening(OpenFault::NoMemory)),
             _ => Err(FileFault::CannotOpen),
         },
+    }
+}
+
+/// Makes a store of these rings over a connection, as `SqlKeeper::make` does. A refusal drops what
+/// is left.
+fn make_over<S: Alter + Drop>(
+    alloc: Global,
+    conn: Connection<S>,
+    rings: Rings,
+    hour: Hour,
+    limits: Limits,
+) -> Result<SqlKeeper<S>, MakeFault>
+    ensures { IfOk result (BeginsWith S.Store rings hour limits.numbers) }
+{
+    match SqlKeeper::make(alloc, conn, rings, hour, limits) {
+        Ok(keeper) => Ok(keeper),
+        Err((fault, _)) => Err(fault),
     }
 }
 
@@ -106,12 +139,9 @@ pub fn make_at<S: Start>(
         Ok(true) => return Err(MakeFault::Taken),
         Err(fault) => return Err(MakeFault::Opening(fault)),
     }
-    let conn = match Connection::open_from(rt, path, false, start) {
+    let conn = match open_files(rt, path, start) {
         Ok(conn) => conn,
-        Err((error, _)) => return Err(MakeFault::Opening(file_fault(&error))),
+        Err(fault) => return Err(MakeFault::Opening(fault)),
     };
-    match SqlKeeper::make(rt.alloc(), conn, rings, hour, limits) {
-        Ok(keeper) => Ok(keeper),
-        Err((fault, _)) => Err(fault),
-    }
+    make_over(rt.alloc(), conn, rings, hour, limits)
 }

@@ -14,8 +14,7 @@ use sqlite::{Alter, Connection, Error};
 use std::alloc::Global;
 use store_rows::StoreRows;
 use store_tables::{
-    DeviceRow, MetaRow, MovedRow, PartRow, PublishedRow, RequestRow, RingRow, SeatRow, all_devices,
-    all_meta, all_moved, all_parts, all_published, all_requests, all_rings, all_seats,
+    DeviceRow, MetaRow, MovedRow, PartRow, PublishedRow, RequestRow, RingRow, SeatRow, all_rows,
 };
 
 /// What a keeper holds in memory of a content.
@@ -39,10 +38,10 @@ fn read_first<S: Alter>(
         (map seat_of rows.3.items ≡ entries c.seats)) }
     ensures mode { conn.new.in_transaction ≡ false }
 {
-    let meta = all_meta(alloc, conn)?;
-    let rings = all_rings(alloc, conn)?;
-    let devices = all_devices(alloc, conn)?;
-    let seats = all_seats(alloc, conn)?;
+    let meta = all_rows::<MetaRow, S>(alloc, conn)?;
+    let rings = all_rows::<RingRow, S>(alloc, conn)?;
+    let devices = all_rows::<DeviceRow, S>(alloc, conn)?;
+    let seats = all_rows::<SeatRow, S>(alloc, conn)?;
     Ok((meta, rings, devices, seats))
 }
 
@@ -67,10 +66,10 @@ fn read_rest<S: Alter>(
         (map part_of rows.3.items ≡ entries c.parts)) }
     ensures mode { conn.new.in_transaction ≡ false }
 {
-    let moved = all_moved(alloc, conn)?;
-    let published = all_published(alloc, conn)?;
-    let requests = all_requests(alloc, conn)?;
-    let parts = all_parts(alloc, conn)?;
+    let moved = all_rows::<MovedRow, S>(alloc, conn)?;
+    let published = all_rows::<PublishedRow, S>(alloc, conn)?;
+    let requests = all_rows::<RequestRow, S>(alloc, conn)?;
+    let parts = all_rows::<PartRow, S>(alloc, conn)?;
     Ok((moved, published, requests, parts))
 }
 

@@ -1,6 +1,5 @@
 -- Words of contracts of private functions and of proofs. No public contract rests on them.
 pub mod Told
-pub mod Shown
 pub mod Texts
 pub mod Making
 pub mod Writing

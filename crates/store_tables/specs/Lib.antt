@@ -4,4 +4,5 @@ pub mod Entries
 pub mod Contents
 pub mod Changes
 pub mod Store
+pub mod Shown
 pub mod Inner

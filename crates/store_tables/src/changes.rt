@@ -13,8 +13,7 @@ ghost use Rattle.store_tables.specs.Store.{begun_contents};
 use crate::creating::create_missing;
 use crate::rows::{DeviceKey, DeviceRow, MetaRow, PartRow, PublishedRow, RequestRow, RingRow};
 use crate::writes::{
-    add_device, add_request, clear_moved, clear_seats, drop_device, put_meta, put_part,
-    put_published, put_ring,
+    add_device, add_request, clear_moved, clear_seats, drop_device, put, put_published,
 };
 use sqlite::{Alter, Connection, Error, Transaction};
 
@@ -38,9 +37,9 @@ fn apply_one<S: Alter>(tx: &mut Transaction<'_, S>, change: &RowChange) -> Resul
 {
     match change {
         RowChange::DropDevice(key) => drop_device(tx, key),
-        RowChange::PutRing(row) => put_ring(tx, row),
+        RowChange::PutRing(row) => put(tx, row),
         RowChange::AddDevice(row) => add_device(tx, row),
-        RowChange::PutPart(row) => put_part(tx, row),
+        RowChange::PutPart(row) => put(tx, row),
         RowChange::PutPublished(row) => put_published(tx, row),
     }
 }
@@ -75,7 +74,7 @@ fn write_decided<S: Alter>(
 {
     apply(tx, changes)?;
     add_request(tx, request)?;
-    put_meta(tx, meta)
+    put(tx, meta)
 }
 
 /// Keeps a decided request with the changes that it made, in one transaction: all of it or
@@ -152,7 +151,7 @@ fn write_prepared<S: Alter>(
     apply(tx, changes)?;
     clear_seats(tx)?;
     clear_moved(tx)?;
-    put_meta(tx, meta)
+    put(tx, meta)
 }
 
 /// Makes a store of what is there, in one transaction: makes the tables that are missing, where

@@ -12,10 +12,7 @@ mod writes;
 pub use changes::{RowChange, commit_decided, commit_request, prepare_store};
 pub use creating::{TABLE_COUNT, create_missing};
 pub use opening::{is_blank, tables_made};
-pub use reads::{
-    all_devices, all_meta, all_moved, all_parts, all_published, all_requests, all_rings, all_seats,
-    find_request,
-};
+pub use reads::{all_rows, find_request};
 pub use rows::{
     DeviceKey, DeviceRow, KeptRequest, MetaRow, MovedRow, PartRow, PublishedRow, RequestRow,
     RingRow, SeatRow,

@@ -1,14 +1,11 @@
 //! The statements that read.
 
 ghost use Rattle.std.specs.Prelude.{◌≡◌, false, pos, map, option_map, slice_get, IfOk};
-ghost use Rattle.std.specs.FinMap.{entries, get};
+ghost use Rattle.std.specs.FinMap.{get};
 ghost use Rattle.sqlite.specs.Held.{state};
-ghost use Rattle.store_tables.specs.Contents.{device_of, kept_of, meta_of, moved_of, part_of};
-ghost use Rattle.store_tables.specs.Contents.{published_of, request_of, ring_of, seat_of};
+ghost use Rattle.store_tables.specs.Contents.{kept_of};
 ghost use Rattle.store_tables.specs.Inner.Told.{told};
-ghost use Rattle.store_tables.specs.Entries.{device_rows, meta_rows, moved_rows, part_rows};
-ghost use Rattle.store_tables.specs.Entries.{published_rows, request_rows, ring_rows, seat_rows};
-ghost use Rattle.store_tables.specs.Inner.Shown.{shown_as};
+ghost use Rattle.store_tables.specs.Shown.{Lists, shown_as};
 ghost use Rattle.store_tables.specs.Store.{ReadsTables, SeesStore};
 
 use crate::rows::{
@@ -17,298 +14,310 @@ use crate::rows::{
 use sqlite::{Alter, Connection, Error, Row, params};
 use std::alloc::Global;
 
-/// A row of `meta`, from its columns.
-fn meta_in(row: &Row) -> Result<MetaRow, Error>
-    ensures { IfOk result (λ it. shown_as meta_rows row.now ≡ meta_of it) }
-{
-    Ok(MetaRow {
-        one: row.get(0)?,
-        schema: row.get(1)?,
-        hour: row.get(2)?,
-    })
+/// A row of a table that a statement lists whole.
+pub trait Listed: Sized {
+    ghost use Rattle.std.specs.Prelude.{List};
+    ghost use Rattle.store_tables.specs.Contents.{Contents};
+    ghost use Rattle.store_tables.specs.Entries.{Layout};
+
+    /// A key of the table.
+    ghost Key: { Type 0 };
+
+    /// What the table has for a key.
+    ghost Value: { Type 0 };
+
+    /// How its columns stand for an entry.
+    ghost layout: { Layout Key Value };
+
+    /// The entry that a row stands for.
+    ghost entry: { Self → Key × Value };
+
+    /// The entries of the table, by rising key.
+    ghost listed: { Contents → List (Key × Value) };
+
+    /// The statement that lists the table.
+    fn query() -> &'static str
+        ensures { Lists result.now layout listed };
+
+    /// The row, from its columns.
+    fn read(row: &Row) -> Result<Self, Error>
+        ensures { IfOk result (λ it. shown_as layout row.now ≡ entry it) };
 }
 
-/// Rows of `meta`, each from its columns.
-fn meta_rows_in(alloc: Global, shown: &[Row]) -> Result<Vec<MetaRow>, Error>
-    ensures { IfOk result (λ rows. map meta_of rows.items ≡ map (shown_as meta_rows) shown.now) }
+// All rows of `meta`, by rising key.
+impl Listed for MetaRow {
+    ghost use Rattle.std.specs.Prelude.{ℤ};
+    ghost use Rattle.std.specs.FinMap.{entries};
+    ghost use Rattle.store_tables.specs.Contents.{meta_of};
+    ghost use Rattle.store_tables.specs.Entries.{Meta, meta_rows};
+
+    ghost Key = { ℤ };
+
+    ghost Value = { Meta };
+
+    ghost layout = { meta_rows };
+
+    ghost entry = { meta_of };
+
+    ghost listed = { λ c. entries c.meta };
+
+    fn query() -> &'static str {
+        "SELECT * FROM meta ORDER BY one"
+    }
+
+    fn read(row: &Row) -> Result<MetaRow, Error> {
+        Ok(MetaRow {
+            one: row.get(0)?,
+            schema: row.get(1)?,
+            hour: row.get(2)?,
+        })
+    }
+}
+
+// All rings, by rising name.
+impl Listed for RingRow {
+    ghost use Rattle.std.specs.Prelude.{ℕ, List};
+    ghost use Rattle.std.specs.FinMap.{entries};
+    ghost use Rattle.store_tables.specs.Contents.{ring_of};
+    ghost use Rattle.store_tables.specs.Entries.{Ring, ring_rows};
+
+    ghost Key = { List ℕ };
+
+    ghost Value = { Ring };
+
+    ghost layout = { ring_rows };
+
+    ghost entry = { ring_of };
+
+    ghost listed = { λ c. entries c.rings };
+
+    fn query() -> &'static str {
+        "SELECT * FROM ring ORDER BY name"
+    }
+
+    fn read(row: &Row) -> Result<RingRow, Error> {
+        Ok(RingRow {
+            name: row.get(0)?,
+            power: row.get(1)?,
+            replicas: row.get(2)?,
+            min_hours: row.get(3)?,
+            next_id: row.get(4)?,
+            version: row.get(5)?,
+        })
+    }
+}
+
+// All devices, by ring and rising id.
+impl Listed for DeviceRow {
+    ghost use Rattle.std.specs.FinMap.{entries};
+    ghost use Rattle.store_tables.specs.Contents.{device_of};
+    ghost use Rattle.store_tables.specs.Entries.{NameNumber, Device, device_rows};
+
+    ghost Key = { NameNumber };
+
+    ghost Value = { Device };
+
+    ghost layout = { device_rows };
+
+    ghost entry = { device_of };
+
+    ghost listed = { λ c. entries c.devices };
+
+    fn query() -> &'static str {
+        "SELECT * FROM device ORDER BY ring, id"
+    }
+
+    fn read(row: &Row) -> Result<DeviceRow, Error> {
+        Ok(DeviceRow {
+            ring: row.get(0)?,
+            id: row.get(1)?,
+            region: row.get(2)?,
+            zone: row.get(3)?,
+            address: row.get(4)?,
+            port: row.get(5)?,
+            name: row.get(6)?,
+            weight: row.get(7)?,
+            removed: row.get(8)?,
+        })
+    }
+}
+
+// All seats of schema 1, by ring, partition and replica.
+impl Listed for SeatRow {
+    ghost use Rattle.std.specs.Prelude.{ℤ};
+    ghost use Rattle.std.specs.FinMap.{entries};
+    ghost use Rattle.store_tables.specs.Contents.{seat_of};
+    ghost use Rattle.store_tables.specs.Entries.{SeatKey, seat_rows};
+
+    ghost Key = { SeatKey };
+
+    ghost Value = { ℤ };
+
+    ghost layout = { seat_rows };
+
+    ghost entry = { seat_of };
+
+    ghost listed = { λ c. entries c.seats };
+
+    fn query() -> &'static str {
+        "SELECT * FROM seat ORDER BY ring, part, replica"
+    }
+
+    fn read(row: &Row) -> Result<SeatRow, Error> {
+        Ok(SeatRow {
+            ring: row.get(0)?,
+            part: row.get(1)?,
+            replica: row.get(2)?,
+            device: row.get(3)?,
+        })
+    }
+}
+
+// All hours of moves of schema 1, by ring and partition.
+impl Listed for MovedRow {
+    ghost use Rattle.std.specs.Prelude.{ℤ};
+    ghost use Rattle.std.specs.FinMap.{entries};
+    ghost use Rattle.store_tables.specs.Contents.{moved_of};
+    ghost use Rattle.store_tables.specs.Entries.{NameNumber, moved_rows};
+
+    ghost Key = { NameNumber };
+
+    ghost Value = { ℤ };
+
+    ghost layout = { moved_rows };
+
+    ghost entry = { moved_of };
+
+    ghost listed = { λ c. entries c.moved };
+
+    fn query() -> &'static str {
+        "SELECT * FROM moved ORDER BY ring, part"
+    }
+
+    fn read(row: &Row) -> Result<MovedRow, Error> {
+        Ok(MovedRow {
+            ring: row.get(0)?,
+            part: row.get(1)?,
+            hour: row.get(2)?,
+        })
+    }
+}
+
+// All published texts, by ring and rising version.
+impl Listed for PublishedRow {
+    ghost use Rattle.std.specs.Prelude.{ℕ, List};
+    ghost use Rattle.std.specs.FinMap.{entries};
+    ghost use Rattle.store_tables.specs.Contents.{published_of};
+    ghost use Rattle.store_tables.specs.Entries.{NameNumber, published_rows};
+
+    ghost Key = { NameNumber };
+
+    ghost Value = { List ℕ };
+
+    ghost layout = { published_rows };
+
+    ghost entry = { published_of };
+
+    ghost listed = { λ c. entries c.published };
+
+    fn query() -> &'static str {
+        "SELECT * FROM published ORDER BY ring, version"
+    }
+
+    fn read(row: &Row) -> Result<PublishedRow, Error> {
+        Ok(PublishedRow {
+            ring: row.get(0)?,
+            version: row.get(1)?,
+            body: row.get(2)?,
+        })
+    }
+}
+
+// All decided requests, by caller and rising number.
+impl Listed for RequestRow {
+    ghost use Rattle.std.specs.FinMap.{entries};
+    ghost use Rattle.store_tables.specs.Contents.{request_of};
+    ghost use Rattle.store_tables.specs.Entries.{NameNumber, Request, request_rows};
+
+    ghost Key = { NameNumber };
+
+    ghost Value = { Request };
+
+    ghost layout = { request_rows };
+
+    ghost entry = { request_of };
+
+    ghost listed = { λ c. entries c.requests };
+
+    fn query() -> &'static str {
+        "SELECT * FROM request ORDER BY caller, number"
+    }
+
+    fn read(row: &Row) -> Result<RequestRow, Error> {
+        Ok(RequestRow {
+            caller: row.get(0)?,
+            number: row.get(1)?,
+            place: row.get(2)?,
+            hour: row.get(3)?,
+            command: row.get(4)?,
+            reply: row.get(5)?,
+        })
+    }
+}
+
+// All partitions, by ring and rising number.
+impl Listed for PartRow {
+    ghost use Rattle.std.specs.FinMap.{entries};
+    ghost use Rattle.store_tables.specs.Contents.{part_of};
+    ghost use Rattle.store_tables.specs.Entries.{NameNumber, Part, part_rows};
+
+    ghost Key = { NameNumber };
+
+    ghost Value = { Part };
+
+    ghost layout = { part_rows };
+
+    ghost entry = { part_of };
+
+    ghost listed = { λ c. entries c.parts };
+
+    fn query() -> &'static str {
+        "SELECT * FROM part ORDER BY ring, part"
+    }
+
+    fn read(row: &Row) -> Result<PartRow, Error> {
+        Ok(PartRow {
+            ring: row.get(0)?,
+            part: row.get(1)?,
+            devices: row.get(2)?,
+            hour: row.get(3)?,
+        })
+    }
+}
+
+/// Rows of a table, each from its columns.
+fn rows_in<T: Listed + Drop>(alloc: Global, shown: &[Row]) -> Result<Vec<T>, Error>
+    ensures { IfOk result (λ rows. map T.entry rows.items ≡ map (shown_as T.layout) shown.now) }
 {
     let mut rows = Vec::new(alloc);
     'rows: for row in shown {
-        rows.push(meta_in(row)?)?;
+        rows.push(T::read(row)?)?;
     }
     Ok(rows)
 }
 
-/// All rows of `meta`, by rising key. A text that is no UTF-8 is refused with `Utf8Error`.
-pub fn all_meta<S: Alter>(alloc: Global, conn: &mut Connection<S>) -> Result<Vec<MetaRow>, Error>
-    requires { SeesStore (state S.Store conn.old) }
-    ensures reads { ReadsTables (state S.Store conn.old) (state S.Store conn.new) result
-        (λ c rows. map meta_of rows.items ≡ entries c.meta) }
-    ensures mode { conn.old.in_transaction ≡ false → conn.new.in_transaction ≡ false }
-{
-    let shown = conn.query_all("SELECT * FROM meta ORDER BY one", &[])?;
-    meta_rows_in(alloc, &shown)
-}
-
-/// A row of `ring`, from its columns.
-fn ring_in(row: &Row) -> Result<RingRow, Error>
-    ensures { IfOk result (λ it. shown_as ring_rows row.now ≡ ring_of it) }
-{
-    Ok(RingRow {
-        name: row.get(0)?,
-        power: row.get(1)?,
-        replicas: row.get(2)?,
-        min_hours: row.get(3)?,
-        next_id: row.get(4)?,
-        version: row.get(5)?,
-    })
-}
-
-/// Rows of `ring`, each from its columns.
-fn ring_rows_in(alloc: Global, shown: &[Row]) -> Result<Vec<RingRow>, Error>
-    ensures { IfOk result (λ rows. map ring_of rows.items ≡ map (shown_as ring_rows) shown.now) }
-{
-    let mut rows = Vec::new(alloc);
-    'rows: for row in shown {
-        rows.push(ring_in(row)?)?;
-    }
-    Ok(rows)
-}
-
-/// All rings, by rising name. A text that is no UTF-8 is refused with `Utf8Error`.
-pub fn all_rings<S: Alter>(alloc: Global, conn: &mut Connection<S>) -> Result<Vec<RingRow>, Error>
-    requires { SeesStore (state S.Store conn.old) }
-    ensures reads { ReadsTables (state S.Store conn.old) (state S.Store conn.new) result
-        (λ c rows. map ring_of rows.items ≡ entries c.rings) }
-    ensures mode { conn.old.in_transaction ≡ false → conn.new.in_transaction ≡ false }
-{
-    let shown = conn.query_all("SELECT * FROM ring ORDER BY name", &[])?;
-    ring_rows_in(alloc, &shown)
-}
-
-/// A row of `device`, from its columns.
-fn device_in(row: &Row) -> Result<DeviceRow, Error>
-    ensures { IfOk result (λ it. shown_as device_rows row.now ≡ device_of it) }
-{
-    Ok(DeviceRow {
-        ring: row.get(0)?,
-        id: row.get(1)?,
-        region: row.get(2)?,
-        zone: row.get(3)?,
-        address: row.get(4)?,
-        port: row.get(5)?,
-        name: row.get(6)?,
-        weight: row.get(7)?,
-        removed: row.get(8)?,
-    })
-}
-
-/// Rows of `device`, each from its columns.
-fn device_rows_in(alloc: Global, shown: &[Row]) -> Result<Vec<DeviceRow>, Error>
-    ensures { IfOk result (λ rows. map device_of rows.items
-        ≡ map (shown_as device_rows) shown.now) }
-{
-    let mut rows = Vec::new(alloc);
-    'rows: for row in shown {
-        rows.push(device_in(row)?)?;
-    }
-    Ok(rows)
-}
-
-/// All devices, by ring and rising id. A text that is no UTF-8 is refused with `Utf8Error`.
-pub fn all_devices<S: Alter>(
+/// All rows of a table, by rising key. A text that is no UTF-8 is refused with `Utf8Error`.
+pub fn all_rows<T: Listed + Drop, S: Alter>(
     alloc: Global,
     conn: &mut Connection<S>,
-) -> Result<Vec<DeviceRow>, Error>
+) -> Result<Vec<T>, Error>
     requires { SeesStore (state S.Store conn.old) }
     ensures reads { ReadsTables (state S.Store conn.old) (state S.Store conn.new) result
-        (λ c rows. map device_of rows.items ≡ entries c.devices) }
+        (λ c rows. map T.entry rows.items ≡ T.listed c) }
     ensures mode { conn.old.in_transaction ≡ false → conn.new.in_transaction ≡ false }
 {
-    let shown = conn.query_all("SELECT * FROM device ORDER BY ring, id", &[])?;
-    device_rows_in(alloc, &shown)
-}
-
-/// A row of `seat`, from its columns.
-fn seat_in(row: &Row) -> Result<SeatRow, Error>
-    ensures { IfOk result (λ it. shown_as seat_rows row.now ≡ seat_of it) }
-{
-    Ok(SeatRow {
-        ring: row.get(0)?,
-        part: row.get(1)?,
-        replica: row.get(2)?,
-        device: row.get(3)?,
-    })
-}
-
-/// Rows of `seat`, each from its columns.
-fn seat_rows_in(alloc: Global, shown: &[Row]) -> Result<Vec<SeatRow>, Error>
-    ensures { IfOk result (λ rows. map seat_of rows.items ≡ map (shown_as seat_rows) shown.now) }
-{
-    let mut rows = Vec::new(alloc);
-    'rows: for row in shown {
-        rows.push(seat_in(row)?)?;
-    }
-    Ok(rows)
-}
-
-/// All seats of schema 1, by ring, partition and replica. A text that is no UTF-8 is refused with
-/// `Utf8Error`.
-pub fn all_seats<S: Alter>(alloc: Global, conn: &mut Connection<S>) -> Result<Vec<SeatRow>, Error>
-    requires { SeesStore (state S.Store conn.old) }
-    ensures reads { ReadsTables (state S.Store conn.old) (state S.Store conn.new) result
-        (λ c rows. map seat_of rows.items ≡ entries c.seats) }
-    ensures mode { conn.old.in_transaction ≡ false → conn.new.in_transaction ≡ false }
-{
-    let shown = conn.query_all("SELECT * FROM seat ORDER BY ring, part, replica", &[])?;
-    seat_rows_in(alloc, &shown)
-}
-
-/// A row of `moved`, from its columns.
-fn moved_in(row: &Row) -> Result<MovedRow, Error>
-    ensures { IfOk result (λ it. shown_as moved_rows row.now ≡ moved_of it) }
-{
-    Ok(MovedRow {
-        ring: row.get(0)?,
-        part: row.get(1)?,
-        hour: row.get(2)?,
-    })
-}
-
-/// Rows of `moved`, each from its columns.
-fn moved_rows_in(alloc: Global, shown: &[Row]) -> Result<Vec<MovedRow>, Error>
-    ensures { IfOk result (λ rows. map moved_of rows.items ≡ map (shown_as moved_rows) shown.now) }
-{
-    let mut rows = Vec::new(alloc);
-    'rows: for row in shown {
-        rows.push(moved_in(row)?)?;
-    }
-    Ok(rows)
-}
-
-/// All hours of moves of schema 1, by ring and partition. A text that is no UTF-8 is refused with
-/// `Utf8Error`.
-pub fn all_moved<S: Alter>(alloc: Global, conn: &mut Connection<S>) -> Result<Vec<MovedRow>, Error>
-    requires { SeesStore (state S.Store conn.old) }
-    ensures reads { ReadsTables (state S.Store conn.old) (state S.Store conn.new) result
-        (λ c rows. map moved_of rows.items ≡ entries c.moved) }
-    ensures mode { conn.old.in_transaction ≡ false → conn.new.in_transaction ≡ false }
-{
-    let shown = conn.query_all("SELECT * FROM moved ORDER BY ring, part", &[])?;
-    moved_rows_in(alloc, &shown)
-}
-
-/// A row of `published`, from its columns.
-fn published_in(row: &Row) -> Result<PublishedRow, Error>
-    ensures { IfOk result (λ it. shown_as published_rows row.now ≡ published_of it) }
-{
-    Ok(PublishedRow {
-        ring: row.get(0)?,
-        version: row.get(1)?,
-        body: row.get(2)?,
-    })
-}
-
-/// Rows of `published`, each from its columns.
-fn published_rows_in(alloc: Global, shown: &[Row]) -> Result<Vec<PublishedRow>, Error>
-    ensures { IfOk result (λ rows. map published_of rows.items
-        ≡ map (shown_as published_rows) shown.now) }
-{
-    let mut rows = Vec::new(alloc);
-    'rows: for row in shown {
-        rows.push(published_in(row)?)?;
-    }
-    Ok(rows)
-}
-
-/// All published texts, by ring and rising version. A text that is no UTF-8 is refused with
-/// `Utf8Error`.
-pub fn all_published<S: Alter>(
-    alloc: Global,
-    conn: &mut Connection<S>,
-) -> Result<Vec<PublishedRow>, Error>
-    requires { SeesStore (state S.Store conn.old) }
-    ensures reads { ReadsTables (state S.Store conn.old) (state S.Store conn.new) result
-        (λ c rows. map published_of rows.items ≡ entries c.published) }
-    ensures mode { conn.old.in_transaction ≡ false → conn.new.in_transaction ≡ false }
-{
-    let shown = conn.query_all("SELECT * FROM published ORDER BY ring, version", &[])?;
-    published_rows_in(alloc, &shown)
-}
-
-/// A row of `request`, from its columns.
-fn request_in(row: &Row) -> Result<RequestRow, Error>
-    ensures { IfOk result (λ it. shown_as request_rows row.now ≡ request_of it) }
-{
-    Ok(RequestRow {
-        caller: row.get(0)?,
-        number: row.get(1)?,
-        place: row.get(2)?,
-        hour: row.get(3)?,
-        command: row.get(4)?,
-        reply: row.get(5)?,
-    })
-}
-
-/// Rows of `request`, each from its columns.
-fn request_rows_in(alloc: Global, shown: &[Row]) -> Result<Vec<RequestRow>, Error>
-    ensures { IfOk result (λ rows. map request_of rows.items
-        ≡ map (shown_as request_rows) shown.now) }
-{
-    let mut rows = Vec::new(alloc);
-    'rows: for row in shown {
-        rows.push(request_in(row)?)?;
-    }
-    Ok(rows)
-}
-
-/// All decided requests, by caller and rising number. A text that is no UTF-8 is refused with
-/// `Utf8Error`.
-pub fn all_requests<S: Alter>(
-    alloc: Global,
-    conn: &mut Connection<S>,
-) -> Result<Vec<RequestRow>, Error>
-    requires { SeesStore (state S.Store conn.old) }
-    ensures reads { ReadsTables (state S.Store conn.old) (state S.Store conn.new) result
-        (λ c rows. map request_of rows.items ≡ entries c.requests) }
-    ensures mode { conn.old.in_transaction ≡ false → conn.new.in_transaction ≡ false }
-{
-    let shown = conn.query_all("SELECT * FROM request ORDER BY caller, number", &[])?;
-    request_rows_in(alloc, &shown)
-}
-
-/// A row of `part`, from its columns.
-fn part_in(row: &Row) -> Result<PartRow, Error>
-    ensures { IfOk result (λ it. shown_as part_rows row.now ≡ part_of it) }
-{
-    Ok(PartRow {
-        ring: row.get(0)?,
-        part: row.get(1)?,
-        devices: row.get(2)?,
-        hour: row.get(3)?,
-    })
-}
-
-/// Rows of `part`, each from its columns.
-fn part_rows_in(alloc: Global, shown: &[Row]) -> Result<Vec<PartRow>, Error>
-    ensures { IfOk result (λ rows. map part_of rows.items ≡ map (shown_as part_rows) shown.now) }
-{
-    let mut rows = Vec::new(alloc);
-    'rows: for row in shown {
-        rows.push(part_in(row)?)?;
-    }
-    Ok(rows)
-}
-
-/// All partitions, by ring and rising number. A text that is no UTF-8 is refused with `Utf8Error`.
-pub fn all_parts<S: Alter>(alloc: Global, conn: &mut Connection<S>) -> Result<Vec<PartRow>, Error>
-    requires { SeesStore (state S.Store conn.old) }
-    ensures reads { ReadsTables (state S.Store conn.old) (state S.Store conn.new) result
-        (λ c rows. map part_of rows.items ≡ entries c.parts) }
-    ensures mode { conn.old.in_transaction ≡ false → conn.new.in_transaction ≡ false }
-{
-    let shown = conn.query_all("SELECT * FROM part ORDER BY ring, part", &[])?;
-    part_rows_in(alloc, &shown)
+    let shown = conn.query_all(T::query(), &[])?;
+    rows_in(alloc, &shown)
 }
 
 /// What a row of the four columns tells of a request.

@@ -4,11 +4,9 @@ ghost use Rattle.std.specs.Prelude.{◌≡◌, ◌<◌, IfOk, OnOk, ℕ, Ok};
 ghost use Rattle.sqlite.specs.Held.{state};
 ghost use Rattle.sqlite.specs.State.{Executes, HasCleanDisk, KeepsCommit, Survives};
 ghost use Rattle.sqlite.specs.Values.{bound};
-ghost use Rattle.store_tables.specs.Contents.{contents_of};
-ghost use Rattle.store_tables.specs.Contents.{device_key, device_of, meta_of, part_of};
-ghost use Rattle.store_tables.specs.Contents.{published_of, request_of, ring_of};
-ghost use Rattle.store_tables.specs.Contents.{with_device, with_meta, with_part};
-ghost use Rattle.store_tables.specs.Contents.{with_published, with_request, with_ring};
+ghost use Rattle.store_tables.specs.Contents.{contents_of, device_key, device_of};
+ghost use Rattle.store_tables.specs.Contents.{published_of, request_of, with_device};
+ghost use Rattle.store_tables.specs.Contents.{with_published, with_request};
 ghost use Rattle.store_tables.specs.Contents.{without_device, without_moved, without_seats};
 ghost use Rattle.store_tables.specs.Inner.Writing.{Writes};
 ghost use Rattle.store_tables.specs.Store.{Becomes, SeesStore};
@@ -59,127 +57,135 @@ fn count<S: Alter>(
     tx.execute(sql, params)
 }
 
-/// Writes the row on the whole store over the row with its key, and tells how many rows that were: 1, or 0 where there
-/// is none, and then nothing changed.
-fn set_meta<S: Alter>(tx: &mut Transaction<'_, S>, row: &MetaRow) -> Result<usize, Error>
-    requires { SeesStore (state S.Store tx.old.conn.now) }
-    ensures same_reference { tx.new.conn.ghost_name ≡ tx.old.conn.ghost_name }
-    ensures none { HasCleanDisk (state S.Store tx.new.conn.now) → IfOk result (λ count. count ≡ 0
-        → Becomes (state S.Store tx.new.conn.now).now
-        (contents_of (state S.Store tx.old.conn.now).now.trees)) }
-    ensures set { HasCleanDisk (state S.Store tx.new.conn.now) → IfOk result (λ count. 0 < count
-        → Becomes (state S.Store tx.new.conn.now).now
-        (with_meta (contents_of (state S.Store tx.old.conn.now).now.trees) (meta_of row.now).0 (meta_of row.now).1)) }
-    ensures inside { HasCleanDisk (state S.Store tx.new.conn.now)
-        → OnOk result ((state S.Store tx.new.conn.now).in_transaction
-        ≡ (state S.Store tx.old.conn.now).in_transaction) }
-    ensures kept { HasCleanDisk (state S.Store tx.new.conn.now)
-        → KeepsCommit (state S.Store tx.old.conn.now) (state S.Store tx.new.conn.now) }
-    ensures survives { Survives (state S.Store tx.old.conn.now) (state S.Store tx.new.conn.now)
-        (λ _. ⊥) }
-{
-    count(
-        tx,
-        "UPDATE meta SET schema = ?2, hour = ?3 WHERE one = ?1",
-        params![&row.one, &row.schema, &row.hour],
-    )
+/// A row that is written over the one with its key, or beside the others.
+pub(crate) trait Replaces {
+    ghost use Rattle.store_tables.specs.Contents.{Contents};
+
+    /// The contents with this row, in place of one with its key.
+    ghost with_row: { Contents → Self → Contents };
+
+    /// Writes it over the row with its key, and tells how many rows that were: 1, or 0 where there
+    /// is none, and then nothing changed.
+    fn set<S: Alter>(&self, tx: &mut Transaction<'_, S>) -> Result<usize, Error>
+        requires { SeesStore (state S.Store tx.old.conn.now) }
+        ensures same_reference { tx.new.conn.ghost_name ≡ tx.old.conn.ghost_name }
+        ensures set { HasCleanDisk (state S.Store tx.new.conn.now) → IfOk result (λ count. (count ≡ 0
+            → Becomes (state S.Store tx.new.conn.now).now
+            (contents_of (state S.Store tx.old.conn.now).now.trees))
+            × (0 < count → Becomes (state S.Store tx.new.conn.now).now
+            (with_row (contents_of (state S.Store tx.old.conn.now).now.trees) self.now))) }
+        ensures inside { HasCleanDisk (state S.Store tx.new.conn.now)
+            → OnOk result ((state S.Store tx.new.conn.now).in_transaction
+            ≡ (state S.Store tx.old.conn.now).in_transaction) }
+        ensures kept { HasCleanDisk (state S.Store tx.new.conn.now)
+            → KeepsCommit (state S.Store tx.old.conn.now) (state S.Store tx.new.conn.now) }
+        ensures survives { Survives (state S.Store tx.old.conn.now) (state S.Store tx.new.conn.now)
+            (λ _. ⊥) };
+
+    /// Puts it beside the rows that are there.
+    fn add<S: Alter>(&self, tx: &mut Transaction<'_, S>) -> Result<(), Error>
+        requires { SeesStore (state S.Store tx.old.conn.now) }
+        ensures same_reference { tx.new.conn.ghost_name ≡ tx.old.conn.ghost_name }
+        ensures writes { Writes (state S.Store tx.old.conn.now) (state S.Store tx.new.conn.now) result
+            (λ c. with_row c self.now) };
 }
 
-/// Puts the row on the whole store beside those that are there, in place of the row with its key.
-fn replace_meta<S: Alter>(tx: &mut Transaction<'_, S>, row: &MetaRow) -> Result<(), Error>
+impl Replaces for MetaRow {
+    ghost use Rattle.store_tables.specs.Contents.{meta_of, with_meta};
+
+    ghost with_row = { λ c row. with_meta c (meta_of row).0 (meta_of row).1 };
+
+    fn set<S: Alter>(&self, tx: &mut Transaction<'_, S>) -> Result<usize, Error> {
+        count(
+            tx,
+            "UPDATE meta SET schema = ?2, hour = ?3 WHERE one = ?1",
+            params![&self.one, &self.schema, &self.hour],
+        )
+    }
+
+    fn add<S: Alter>(&self, tx: &mut Transaction<'_, S>) -> Result<(), Error> {
+        run(
+            tx,
+            "INSERT OR REPLACE INTO meta VALUES (?1, ?2, ?3)",
+            params![&self.one, &self.schema, &self.hour],
+        )
+    }
+}
+
+impl Replaces for RingRow {
+    ghost use Rattle.store_tables.specs.Contents.{ring_of, with_ring};
+
+    ghost with_row = { λ c row. with_ring c (ring_of row).0 (ring_of row).1 };
+
+    fn set<S: Alter>(&self, tx: &mut Transaction<'_, S>) -> Result<usize, Error> {
+        count(
+            tx,
+            "UPDATE ring SET power = ?2, replicas = ?3, min_hours = ?4, next_id = ?5, version = ?6 \
+             WHERE name = ?1",
+            params![
+                &self.name,
+                &self.power,
+                &self.replicas,
+                &self.min_hours,
+                &self.next_id,
+                &self.version
+            ],
+        )
+    }
+
+    fn add<S: Alter>(&self, tx: &mut Transaction<'_, S>) -> Result<(), Error> {
+        run(
+            tx,
+            "INSERT OR REPLACE INTO ring VALUES (?1, ?2, ?3, ?4, ?5, ?6)",
+            params![
+                &self.name,
+                &self.power,
+                &self.replicas,
+                &self.min_hours,
+                &self.next_id,
+                &self.version
+            ],
+        )
+    }
+}
+
+impl Replaces for PartRow {
+    ghost use Rattle.store_tables.specs.Contents.{part_of, with_part};
+
+    ghost with_row = { λ c row. with_part c (part_of row).0 (part_of row).1 };
+
+    fn set<S: Alter>(&self, tx: &mut Transaction<'_, S>) -> Result<usize, Error> {
+        count(
+            tx,
+            "UPDATE part SET devices = ?3, hour = ?4 WHERE ring = ?1 AND part = ?2",
+            params![&self.ring, &self.part, &self.devices, &self.hour],
+        )
+    }
+
+    fn add<S: Alter>(&self, tx: &mut Transaction<'_, S>) -> Result<(), Error> {
+        run(
+            tx,
+            "INSERT INTO part VALUES (?1, ?2, ?3, ?4)",
+            params![&self.ring, &self.part, &self.devices, &self.hour],
+        )
+    }
+}
+
+/// Puts a row, in place of the one with its key.
+///
+/// A row that is there is written over: to take it out and put another in its place would change
+/// its entry in the index too.
+pub(crate) fn put<T: Replaces, S: Alter>(tx: &mut Transaction<'_, S>, row: &T) -> Result<(), Error>
     requires { SeesStore (state S.Store tx.old.conn.now) }
     ensures same_reference { tx.new.conn.ghost_name ≡ tx.old.conn.ghost_name }
     ensures writes { Writes (state S.Store tx.old.conn.now) (state S.Store tx.new.conn.now) result
-        (λ c. with_meta c (meta_of row.now).0 (meta_of row.now).1) }
+        (λ c. T.with_row c row.now) }
 {
-    run(
-        tx,
-        "INSERT OR REPLACE INTO meta VALUES (?1, ?2, ?3)",
-        params![&row.one, &row.schema, &row.hour],
-    )
-}
-
-/// Puts the row on the whole store, in place of the one with its key.
-pub(crate) fn put_meta<S: Alter>(tx: &mut Transaction<'_, S>, row: &MetaRow) -> Result<(), Error>
-    requires { SeesStore (state S.Store tx.old.conn.now) }
-    ensures same_reference { tx.new.conn.ghost_name ≡ tx.old.conn.ghost_name }
-    ensures writes { Writes (state S.Store tx.old.conn.now) (state S.Store tx.new.conn.now) result
-        (λ c. with_meta c (meta_of row.now).0 (meta_of row.now).1) }
-{
-    let set = set_meta(tx, row)?;
+    let set = row.set(tx)?;
     if set > 0 {
         return Ok(());
     }
-    replace_meta(tx, row)
-}
-
-/// Writes a ring over the row with its key, and tells how many rows that were: 1, or 0 where there
-/// is none, and then nothing changed.
-fn set_ring<S: Alter>(tx: &mut Transaction<'_, S>, row: &RingRow) -> Result<usize, Error>
-    requires { SeesStore (state S.Store tx.old.conn.now) }
-    ensures same_reference { tx.new.conn.ghost_name ≡ tx.old.conn.ghost_name }
-    ensures none { HasCleanDisk (state S.Store tx.new.conn.now) → IfOk result (λ count. count ≡ 0
-        → Becomes (state S.Store tx.new.conn.now).now
-        (contents_of (state S.Store tx.old.conn.now).now.trees)) }
-    ensures set { HasCleanDisk (state S.Store tx.new.conn.now) → IfOk result (λ count. 0 < count
-        → Becomes (state S.Store tx.new.conn.now).now
-        (with_ring (contents_of (state S.Store tx.old.conn.now).now.trees) (ring_of row.now).0 (ring_of row.now).1)) }
-    ensures inside { HasCleanDisk (state S.Store tx.new.conn.now)
-        → OnOk result ((state S.Store tx.new.conn.now).in_transaction
-        ≡ (state S.Store tx.old.conn.now).in_transaction) }
-    ensures kept { HasCleanDisk (state S.Store tx.new.conn.now)
-        → KeepsCommit (state S.Store tx.old.conn.now) (state S.Store tx.new.conn.now) }
-    ensures survives { Survives (state S.Store tx.old.conn.now) (state S.Store tx.new.conn.now)
-        (λ _. ⊥) }
-{
-    count(
-        tx,
-        "UPDATE ring SET power = ?2, replicas = ?3, min_hours = ?4, next_id = ?5, version = ?6 \
-         WHERE name = ?1",
-        params![
-            &row.name,
-            &row.power,
-            &row.replicas,
-            &row.min_hours,
-            &row.next_id,
-            &row.version
-        ],
-    )
-}
-
-/// Puts a ring beside those that are there, in place of the row with its key.
-fn replace_ring<S: Alter>(tx: &mut Transaction<'_, S>, row: &RingRow) -> Result<(), Error>
-    requires { SeesStore (state S.Store tx.old.conn.now) }
-    ensures same_reference { tx.new.conn.ghost_name ≡ tx.old.conn.ghost_name }
-    ensures writes { Writes (state S.Store tx.old.conn.now) (state S.Store tx.new.conn.now) result
-        (λ c. with_ring c (ring_of row.now).0 (ring_of row.now).1) }
-{
-    run(
-        tx,
-        "INSERT OR REPLACE INTO ring VALUES (?1, ?2, ?3, ?4, ?5, ?6)",
-        params![
-            &row.name,
-            &row.power,
-            &row.replicas,
-            &row.min_hours,
-            &row.next_id,
-            &row.version
-        ],
-    )
-}
-
-/// Puts a ring, in place of the one with its name.
-pub(crate) fn put_ring<S: Alter>(tx: &mut Transaction<'_, S>, row: &RingRow) -> Result<(), Error>
-    requires { SeesStore (state S.Store tx.old.conn.now) }
-    ensures same_reference { tx.new.conn.ghost_name ≡ tx.old.conn.ghost_name }
-    ensures writes { Writes (state S.Store tx.old.conn.now) (state S.Store tx.new.conn.now) result
-        (λ c. with_ring c (ring_of row.now).0 (ring_of row.now).1) }
-{
-    let set = set_ring(tx, row)?;
-    if set > 0 {
-        return Ok(());
-    }
-    replace_ring(tx, row)
+    row.add(tx)
 }
 
 /// Puts a published text, in place of the one with its key. Its ring has to be there.
@@ -197,63 +203,6 @@ pub(crate) fn put_published<S: Alter>(
         "INSERT OR REPLACE INTO published VALUES (?1, ?2, ?3)",
         params![&row.ring, &row.version, &row.body],
     )
-}
-
-/// Writes a partition over the row with its key, and tells how many rows that were: 1, or 0 where
-/// there is none, and then nothing changed.
-fn set_part<S: Alter>(tx: &mut Transaction<'_, S>, row: &PartRow) -> Result<usize, Error>
-    requires { SeesStore (state S.Store tx.old.conn.now) }
-    ensures same_reference { tx.new.conn.ghost_name ≡ tx.old.conn.ghost_name }
-    ensures none { HasCleanDisk (state S.Store tx.new.conn.now) → IfOk result (λ count. count ≡ 0
-        → Becomes (state S.Store tx.new.conn.now).now
-        (contents_of (state S.Store tx.old.conn.now).now.trees)) }
-    ensures set { HasCleanDisk (state S.Store tx.new.conn.now) → IfOk result (λ count. 0 < count
-        → Becomes (state S.Store tx.new.conn.now).now
-        (with_part (contents_of (state S.Store tx.old.conn.now).now.trees) (part_of row.now).0 (part_of row.now).1)) }
-    ensures inside { HasCleanDisk (state S.Store tx.new.conn.now)
-        → OnOk result ((state S.Store tx.new.conn.now).in_transaction
-        ≡ (state S.Store tx.old.conn.now).in_transaction) }
-    ensures kept { HasCleanDisk (state S.Store tx.new.conn.now)
-        → KeepsCommit (state S.Store tx.old.conn.now) (state S.Store tx.new.conn.now) }
-    ensures survives { Survives (state S.Store tx.old.conn.now) (state S.Store tx.new.conn.now)
-        (λ _. ⊥) }
-{
-    count(
-        tx,
-        "UPDATE part SET devices = ?3, hour = ?4 WHERE ring = ?1 AND part = ?2",
-        params![&row.ring, &row.part, &row.devices, &row.hour],
-    )
-}
-
-/// Adds a partition. Its ring has to be there, and no row may have its key, else it is refused.
-fn add_part<S: Alter>(tx: &mut Transaction<'_, S>, row: &PartRow) -> Result<(), Error>
-    requires { SeesStore (state S.Store tx.old.conn.now) }
-    ensures same_reference { tx.new.conn.ghost_name ≡ tx.old.conn.ghost_name }
-    ensures writes { Writes (state S.Store tx.old.conn.now) (state S.Store tx.new.conn.now) result
-        (λ c. with_part c (part_of row.now).0 (part_of row.now).1) }
-{
-    run(
-        tx,
-        "INSERT INTO part VALUES (?1, ?2, ?3, ?4)",
-        params![&row.ring, &row.part, &row.devices, &row.hour],
-    )
-}
-
-/// Puts a partition, in place of the one with its key. Its ring has to be there.
-///
-/// A row that is there is written over: to take it out and put another in its place would change
-/// its entry in the index too.
-pub(crate) fn put_part<S: Alter>(tx: &mut Transaction<'_, S>, row: &PartRow) -> Result<(), Error>
-    requires { SeesStore (state S.Store tx.old.conn.now) }
-    ensures same_reference { tx.new.conn.ghost_name ≡ tx.old.conn.ghost_name }
-    ensures writes { Writes (state S.Store tx.old.conn.now) (state S.Store tx.new.conn.now) result
-        (λ c. with_part c (part_of row.now).0 (part_of row.now).1) }
-{
-    let set = set_part(tx, row)?;
-    if set > 0 {
-        return Ok(());
-    }
-    add_part(tx, row)
 }
 
 /// Adds a device. Its ring has to be there. No row may have its key, nor its address, port and

@@ -21,6 +21,7 @@ use Rattle.sqlite_sql.specs.Term.{Env, Term, holds}
 use Rattle.sqlite.specs.Term.{lit}
 use Rattle.sqlite.specs.Query.{Query, inner, end}
 use Rattle.sqlite.specs.Command.TheVariants.{Select}
+use Rattle.sqlite.specs.Effect.{Database, Reads}
 use Rattle.sqlite.specs.Listing.{understood, reads_listing}
 use Rattle.sqlite.specs.Program.{overlay}
 use Rattle.sqlite.specs.State.{State, Shown}
@@ -243,16 +244,14 @@ module _ (schema : Schema) {K V : Type 0} (l : Layout K V) (f : Facts schema l) 
           sym (entries_are f.total f.exact es fs permuted apart up)
 
     -- the rows are the entries of the map, in the order of the keys
-    pub lists_all : (old new : State) (rows : List Row) → Lives schema old.now
-        → Shown sql [] old new rows
-        → map (λ r. l.entry (Null ∷ r)) rows ≡ entries (map_of l (old.now.trees l.plain.tree))
-    lists_all old new rows lives h =
-        let read = reads_as sql [] old new schema lives.schema_is _ text.is.0 text.plain text.is.1
-        rows h in
-        let a = read.answer Null in
-        let all = overlay old.now.trees [] l.plain.tree in
-        let base = f.based old.now.trees in
-        let are : AreRows l all = subst (AreRows l) (sym base) (rows_in schema l f old.now lives) in
+    pub lists_all : (db : Database) (rows : List Row) → Lives schema db
+        → Reads (command_of (understood schema sql)) db [] rows
+        → map (λ r. l.entry (Null ∷ r)) rows ≡ entries (map_of l (db.trees l.plain.tree))
+    lists_all db rows lives h =
+        let a = (subst (λ k. Reads k db [] rows) text.is.0 h).answer Null in
+        let all = overlay db.trees [] l.plain.tree in
+        let base = f.based db.trees in
+        let are : AreRows l all = subst (AreRows l) (sym base) (rows_in schema l f db lives) in
         let staged : a.staged ≡ map (env_of []) all = a.grouped ∙ each (env_of []) all in
         let kept : a.kept ≡ map shown_of all = a.distinct ∙ ap (map (output q)) staged ∙ map-map
         (output q) (env_of []) all in

@@ -1,5 +1,5 @@
 -- What an UPDATE of the row of a key makes of the map of a table.
-use Rattle.std.proofs.Common.{◌≡◌, inl, inr, ℕ, ◌<◌, ℤ, true, false, List, [], ◌∷◌, map, filter, drop}
+use Rattle.std.proofs.Common.{◌≡◌, inl, inr, ℕ, ◌<◌, ℤ, true, List, [], ◌∷◌, map, filter, drop}
 use Rattle.std.proofs.Common.{length, slice_get, Some, None, Option, Ok, Result, refl, sym, ap, subst}
 use Rattle.std.proofs.Common.{◌∙◌, arith, unwrap_or}
 use Rattle.std.specs.List.Sorted.{IsPermutation}
@@ -9,7 +9,7 @@ use Rattle.std.proofs.lemmas.List.Sorted.{IsPermutation-sym}
 use Rattle.sqlite_value.specs.declared.value.Value.TheVariants.{Null}
 use Rattle.sqlite_value.specs.Order.{Row}
 use Rattle.sqlite_trees.specs.Tree.{Trees, rowid, put_row}
-use Rattle.sqlite_trees.specs.View.{IsShaped, is_int}
+use Rattle.sqlite_trees.specs.View.{IsShaped}
 use Rattle.sqlite_trees.specs.declared.store.Shape.TheVariants as shape
 use Rattle.sqlite_trees.proofs.TreeLemmas.{IsShaped-put_row}
 use Rattle.sqlite_rules.specs.declared.error.Rowids.TheVariants.{Given}

@@ -1,23 +1,20 @@
 -- What the statements on `device` make of the store, and show of it.
-use Rattle.std.proofs.Common.{◌≡◌, ℕ, List, [], ◌∷◌, map, Ok}
-use Rattle.std.specs.FinMap.{FinMap, entries}
-use Rattle.sqlite_value.specs.declared.value.Value.TheVariants.{Null}
-use Rattle.sqlite_value.specs.Order.{Row}
+use Rattle.std.proofs.Common.{◌≡◌, ℕ, Ok}
+use Rattle.std.specs.FinMap.{FinMap}
 use Rattle.sqlite_trees.specs.Tree.{Trees}
-use Rattle.sqlite.specs.State.{State, Executes, Shown}
+use Rattle.sqlite.specs.State.{State, Executes}
 use Rattle.store_tables.specs.Tables.{store_schema}
 use Rattle.store_tables.specs.Entries.{map_of, NameNumber, Device, meta_rows, ring_rows}
 use Rattle.store_tables.specs.Entries.{device_rows, seat_rows, moved_rows, published_rows}
 use Rattle.store_tables.specs.Entries.{request_rows, part_rows}
 use Rattle.store_tables.specs.Contents.{contents_of, with_device, without_device}
 use Rattle.store_tables.specs.Store.{IsStore, Becomes}
-use Rattle.store_tables.specs.Inner.Texts.{put_device, list_device, drop_device}
+use Rattle.store_tables.specs.Inner.Texts.{put_device, drop_device}
 use Rattle.store_tables.proofs.Plain.Writes.{Spares}
 use Rattle.store_tables.proofs.Plain.Adds.{adds_row}
-use Rattle.store_tables.proofs.Plain.Queries.{lists_all}
 use Rattle.store_tables.proofs.Plain.Drops.{drops_row}
 use Rattle.store_tables.proofs.Tables.Device.{device_facts, device_params, device_adds}
-use Rattle.store_tables.proofs.Tables.Device.{device_lists as lists, device_drops, key_params}
+use Rattle.store_tables.proofs.Tables.Device.{device_drops, key_params}
 use Rattle.store_tables.proofs.Tables.Device.{by_key}
 use Rattle.store_tables.proofs.Living.{lives_in, store_from}
 
@@ -47,12 +44,6 @@ adds_device old new key value count is h =
       contents = device_only old.now.trees new.now.trees
           it.1 _ it.2;
     }
-
-pub lists_device : (old new : State) (rows : List Row) → IsStore old.now
-    → Shown list_device [] old new rows
-    → map (λ r. device_rows.entry (Null ∷ r)) rows ≡ entries (contents_of old.now.trees).devices
-lists_device old new rows is h = lists_all store_schema device_rows device_facts list_device lists
-    old new rows (lives_in old.now is) h
 
 pub drops_device : (old new : State) (key : NameNumber) (count : ℕ) → IsStore old.now
     → Executes drop_device (key_params key) old new (Ok count)

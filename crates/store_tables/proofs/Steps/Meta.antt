@@ -1,22 +1,19 @@
 -- What the statements on `meta` make of the store, and show of it.
-use Rattle.std.proofs.Common.{◌≡◌, ◌<◌, ℕ, ℤ, List, [], ◌∷◌, map, Ok}
-use Rattle.std.specs.FinMap.{FinMap, entries}
-use Rattle.sqlite_value.specs.declared.value.Value.TheVariants.{Null}
-use Rattle.sqlite_value.specs.Order.{Row}
+use Rattle.std.proofs.Common.{◌≡◌, ◌<◌, ℕ, ℤ, Ok}
+use Rattle.std.specs.FinMap.{FinMap}
 use Rattle.sqlite_trees.specs.Tree.{Trees}
-use Rattle.sqlite.specs.State.{State, Executes, Shown}
+use Rattle.sqlite.specs.State.{State, Executes}
 use Rattle.store_tables.specs.Tables.{store_schema}
 use Rattle.store_tables.specs.Entries.{map_of, Meta, meta_rows, ring_rows, device_rows, seat_rows}
 use Rattle.store_tables.specs.Entries.{moved_rows, published_rows, request_rows, part_rows}
 use Rattle.store_tables.specs.Contents.{contents_of, with_meta}
 use Rattle.store_tables.specs.Store.{IsStore, Becomes}
-use Rattle.store_tables.specs.Inner.Texts.{put_meta, set_meta, list_meta}
+use Rattle.store_tables.specs.Inner.Texts.{put_meta, set_meta}
 use Rattle.store_tables.proofs.Plain.Writes.{Spares}
 use Rattle.store_tables.proofs.Plain.Puts.{puts_row}
 use Rattle.store_tables.proofs.Plain.Updates.{sets_row}
-use Rattle.store_tables.proofs.Plain.Queries.{lists_all}
 use Rattle.store_tables.proofs.Tables.Meta.{meta_sets}
-use Rattle.store_tables.proofs.Tables.Meta.{meta_facts, meta_params, meta_puts, meta_lists as lists}
+use Rattle.store_tables.proofs.Tables.Meta.{meta_facts, meta_params, meta_puts}
 use Rattle.store_tables.proofs.Living.{lives_in, store_from}
 
 -- only this table changed
@@ -63,9 +60,3 @@ sets_meta old new key value count is h =
         contents = meta_only old.now.trees new.now.trees it.1 _ (it.3 some);
       },
     )
-
-pub lists_meta : (old new : State) (rows : List Row) → IsStore old.now
-    → Shown list_meta [] old new rows
-    → map (λ r. meta_rows.entry (Null ∷ r)) rows ≡ entries (contents_of old.now.trees).meta
-lists_meta old new rows is h = lists_all store_schema meta_rows meta_facts list_meta lists old new
-    rows (lives_in old.now is) h

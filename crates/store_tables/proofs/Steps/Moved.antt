@@ -1,22 +1,19 @@
 -- What the statements on `moved` make of the store, and show of it.
-use Rattle.std.proofs.Common.{◌≡◌, ◌∙◌, ℕ, ℤ, List, [], ◌∷◌, map, Ok}
-use Rattle.std.specs.FinMap.{FinMap, entries}
-use Rattle.sqlite_value.specs.declared.value.Value.TheVariants.{Null}
-use Rattle.sqlite_value.specs.Order.{Row}
+use Rattle.std.proofs.Common.{◌≡◌, ◌∙◌, ℕ, ℤ, [], Ok}
+use Rattle.std.specs.FinMap.{FinMap}
 use Rattle.sqlite_trees.specs.Tree.{Trees}
-use Rattle.sqlite.specs.State.{State, Executes, Shown}
+use Rattle.sqlite.specs.State.{State, Executes}
 use Rattle.store_tables.specs.Tables.{store_schema}
 use Rattle.store_tables.specs.Entries.{map_of, meta_rows, ring_rows, device_rows}
 use Rattle.store_tables.specs.Entries.{seat_rows, moved_rows, published_rows, request_rows}
 use Rattle.store_tables.specs.Entries.{part_rows}
 use Rattle.store_tables.specs.Contents.{contents_of, without_moved}
 use Rattle.store_tables.specs.Store.{IsStore, Becomes}
-use Rattle.store_tables.specs.Inner.Texts.{list_moved, clear_moved}
+use Rattle.store_tables.specs.Inner.Texts.{clear_moved}
 use Rattle.store_tables.proofs.Plain.Writes.{Spares}
-use Rattle.store_tables.proofs.Plain.Queries.{lists_all}
 use Rattle.store_tables.proofs.Plain.Drops.{drops_all}
 use Rattle.store_tables.proofs.Tables.Moved.{moved_facts}
-use Rattle.store_tables.proofs.Tables.Moved.{moved_lists as lists, moved_clears, all_pass}
+use Rattle.store_tables.proofs.Tables.Moved.{moved_clears, all_pass}
 use Rattle.store_tables.proofs.Living.{lives_in, store_from, no_entries}
 
 -- only this table changed
@@ -33,12 +30,6 @@ moved_only old new h m is = λ j. record {
   requests = map_of request_rows (h.1.1.1.1.1.1.0 (λ e. cc) j);
   parts = map_of part_rows (h.1.1.1.1.1.1.1.0 (λ e. cc) j);
 }
-
-pub lists_moved : (old new : State) (rows : List Row) → IsStore old.now
-    → Shown list_moved [] old new rows
-    → map (λ r. moved_rows.entry (Null ∷ r)) rows ≡ entries (contents_of old.now.trees).moved
-lists_moved old new rows is h = lists_all store_schema moved_rows moved_facts list_moved lists old
-    new rows (lives_in old.now is) h
 
 pub clears_moved : (old new : State) (count : ℕ) → IsStore old.now
     → Executes clear_moved [] old new (Ok count)

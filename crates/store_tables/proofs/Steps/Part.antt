@@ -1,23 +1,19 @@
 -- What the statements on `part` make of the store, and show of it.
-use Rattle.std.proofs.Common.{◌≡◌, ◌<◌, ℕ, List, [], ◌∷◌, map, Ok}
-use Rattle.std.specs.FinMap.{FinMap, entries}
-use Rattle.sqlite_value.specs.declared.value.Value.TheVariants.{Null}
-use Rattle.sqlite_value.specs.Order.{Row}
+use Rattle.std.proofs.Common.{◌≡◌, ◌<◌, ℕ, Ok}
+use Rattle.std.specs.FinMap.{FinMap}
 use Rattle.sqlite_trees.specs.Tree.{Trees}
-use Rattle.sqlite.specs.State.{State, Executes, Shown}
+use Rattle.sqlite.specs.State.{State, Executes}
 use Rattle.store_tables.specs.Tables.{store_schema}
 use Rattle.store_tables.specs.Entries.{map_of, NameNumber, Part, meta_rows, ring_rows, device_rows}
 use Rattle.store_tables.specs.Entries.{seat_rows, moved_rows, published_rows, request_rows}
 use Rattle.store_tables.specs.Entries.{part_rows}
 use Rattle.store_tables.specs.Contents.{contents_of, with_part}
 use Rattle.store_tables.specs.Store.{IsStore, Becomes}
-use Rattle.store_tables.specs.Inner.Texts.{add_part, set_part, list_part}
+use Rattle.store_tables.specs.Inner.Texts.{add_part, set_part}
 use Rattle.store_tables.proofs.Plain.Writes.{Spares}
 use Rattle.store_tables.proofs.Plain.Adds.{adds_row}
 use Rattle.store_tables.proofs.Plain.Updates.{sets_row}
-use Rattle.store_tables.proofs.Plain.Queries.{lists_all}
 use Rattle.store_tables.proofs.Tables.Part.{part_facts, part_params, part_adds, part_sets}
-use Rattle.store_tables.proofs.Tables.Part.{part_lists as lists}
 use Rattle.store_tables.proofs.Living.{lives_in, store_from}
 
 -- only this table changed
@@ -64,9 +60,3 @@ sets_part old new key value count is h =
         contents = part_only old.now.trees new.now.trees it.1 _ (it.3 some);
       },
     )
-
-pub lists_part : (old new : State) (rows : List Row) → IsStore old.now
-    → Shown list_part [] old new rows
-    → map (λ r. part_rows.entry (Null ∷ r)) rows ≡ entries (contents_of old.now.trees).parts
-lists_part old new rows is h = lists_all store_schema part_rows part_facts list_part lists old new
-    rows (lives_in old.now is) h

@@ -1,22 +1,18 @@
 -- What the statements on `published` make of the store, and show of it.
-use Rattle.std.proofs.Common.{◌≡◌, ℕ, List, [], ◌∷◌, map, Ok}
-use Rattle.std.specs.FinMap.{FinMap, entries}
-use Rattle.sqlite_value.specs.declared.value.Value.TheVariants.{Null}
-use Rattle.sqlite_value.specs.Order.{Row}
+use Rattle.std.proofs.Common.{◌≡◌, ℕ, List, Ok}
+use Rattle.std.specs.FinMap.{FinMap}
 use Rattle.sqlite_trees.specs.Tree.{Trees}
-use Rattle.sqlite.specs.State.{State, Executes, Shown}
+use Rattle.sqlite.specs.State.{State, Executes}
 use Rattle.store_tables.specs.Tables.{store_schema}
 use Rattle.store_tables.specs.Entries.{map_of, NameNumber, meta_rows, ring_rows, device_rows}
 use Rattle.store_tables.specs.Entries.{seat_rows, moved_rows, published_rows, request_rows}
 use Rattle.store_tables.specs.Entries.{part_rows}
 use Rattle.store_tables.specs.Contents.{contents_of, with_published}
 use Rattle.store_tables.specs.Store.{IsStore, Becomes}
-use Rattle.store_tables.specs.Inner.Texts.{put_published, list_published}
+use Rattle.store_tables.specs.Inner.Texts.{put_published}
 use Rattle.store_tables.proofs.Plain.Writes.{Spares}
 use Rattle.store_tables.proofs.Plain.Puts.{puts_row}
-use Rattle.store_tables.proofs.Plain.Queries.{lists_all}
 use Rattle.store_tables.proofs.Tables.Published.{published_facts, published_params, published_puts}
-use Rattle.store_tables.proofs.Tables.Published.{published_lists as lists}
 use Rattle.store_tables.proofs.Living.{lives_in, store_from}
 
 -- only this table changed
@@ -46,10 +42,3 @@ puts_published old new key value count is h =
       contents = published_only old.now.trees new.now.trees
           it.1 _ it.2;
     }
-
-pub lists_published : (old new : State) (rows : List Row) → IsStore old.now
-    → Shown list_published [] old new rows
-    → map (λ r. published_rows.entry (Null ∷ r)) rows
-    ≡ entries (contents_of old.now.trees).published
-lists_published old new rows is h = lists_all store_schema published_rows published_facts
-    list_published lists old new rows (lives_in old.now is) h

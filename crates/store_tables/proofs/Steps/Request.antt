@@ -1,7 +1,6 @@
 -- What the statements on `request` make of the store, and show of it.
-use Rattle.std.proofs.Common.{◌≡◌, ℕ, List, [], ◌∷◌, map, Ok, slice_get, option_map}
-use Rattle.std.specs.FinMap.{FinMap, entries, get}
-use Rattle.sqlite_value.specs.declared.value.Value.TheVariants.{Null}
+use Rattle.std.proofs.Common.{◌≡◌, ℕ, List, Ok, slice_get, option_map}
+use Rattle.std.specs.FinMap.{FinMap, get}
 use Rattle.sqlite_value.specs.Order.{Row}
 use Rattle.sqlite_trees.specs.Tree.{Trees}
 use Rattle.sqlite.specs.State.{State, Executes, Shown}
@@ -12,12 +11,12 @@ use Rattle.store_tables.specs.Entries.{request_rows, part_rows}
 use Rattle.store_tables.specs.Contents.{contents_of, with_request}
 use Rattle.store_tables.specs.Inner.Told.{told}
 use Rattle.store_tables.specs.Store.{IsStore, Becomes}
-use Rattle.store_tables.specs.Inner.Texts.{put_request, list_request, pick_request}
+use Rattle.store_tables.specs.Inner.Texts.{put_request, pick_request}
 use Rattle.store_tables.proofs.Plain.Writes.{Spares}
 use Rattle.store_tables.proofs.Plain.Adds.{adds_row}
-use Rattle.store_tables.proofs.Plain.Queries.{lists_all, shows_one}
+use Rattle.store_tables.proofs.Plain.Queries.{shows_one}
 use Rattle.store_tables.proofs.Tables.Request.{request_facts, request_params, request_adds}
-use Rattle.store_tables.proofs.Tables.Request.{request_lists as lists, request_picks, key_params}
+use Rattle.store_tables.proofs.Tables.Request.{request_picks, key_params}
 use Rattle.store_tables.proofs.Living.{lives_in, store_from}
 
 -- only this table changed
@@ -47,12 +46,6 @@ adds_request old new key value count is h =
       contents = request_only old.now.trees new.now.trees
           it.1 _ it.2;
     }
-
-pub lists_request : (old new : State) (rows : List Row) → IsStore old.now
-    → Shown list_request [] old new rows
-    → map (λ r. request_rows.entry (Null ∷ r)) rows ≡ entries (contents_of old.now.trees).requests
-lists_request old new rows is h = lists_all store_schema request_rows request_facts list_request
-    lists old new rows (lives_in old.now is) h
 
 pub picks_request : (old new : State) (key : NameNumber) (rows : List Row) → IsStore old.now
     → Shown pick_request (key_params key) old new rows

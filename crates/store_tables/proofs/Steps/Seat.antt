@@ -1,21 +1,18 @@
 -- What the statements on `seat` make of the store, and show of it.
-use Rattle.std.proofs.Common.{◌≡◌, ◌∙◌, ℕ, ℤ, List, [], ◌∷◌, map, Ok}
-use Rattle.std.specs.FinMap.{FinMap, entries}
-use Rattle.sqlite_value.specs.declared.value.Value.TheVariants.{Null}
-use Rattle.sqlite_value.specs.Order.{Row}
+use Rattle.std.proofs.Common.{◌≡◌, ◌∙◌, ℕ, ℤ, [], Ok}
+use Rattle.std.specs.FinMap.{FinMap}
 use Rattle.sqlite_trees.specs.Tree.{Trees}
-use Rattle.sqlite.specs.State.{State, Executes, Shown}
+use Rattle.sqlite.specs.State.{State, Executes}
 use Rattle.store_tables.specs.Tables.{store_schema}
 use Rattle.store_tables.specs.Entries.{map_of, meta_rows, ring_rows, device_rows}
 use Rattle.store_tables.specs.Entries.{seat_rows, moved_rows, published_rows, request_rows}
 use Rattle.store_tables.specs.Entries.{part_rows}
 use Rattle.store_tables.specs.Contents.{contents_of, without_seats}
 use Rattle.store_tables.specs.Store.{IsStore, Becomes}
-use Rattle.store_tables.specs.Inner.Texts.{list_seat, clear_seat}
+use Rattle.store_tables.specs.Inner.Texts.{clear_seat}
 use Rattle.store_tables.proofs.Plain.Writes.{Spares}
-use Rattle.store_tables.proofs.Plain.Queries.{lists_all}
 use Rattle.store_tables.proofs.Plain.Drops.{drops_all}
-use Rattle.store_tables.proofs.Tables.Seat.{seat_facts, seat_lists as lists}
+use Rattle.store_tables.proofs.Tables.Seat.{seat_facts}
 use Rattle.store_tables.proofs.Tables.Seat.{seat_clears, all_pass}
 use Rattle.store_tables.proofs.Living.{lives_in, store_from, no_entries}
 
@@ -33,12 +30,6 @@ seat_only old new h m is = λ j. record {
   requests = map_of request_rows (h.1.1.1.1.1.1.0 (λ e. cc) j);
   parts = map_of part_rows (h.1.1.1.1.1.1.1.0 (λ e. cc) j);
 }
-
-pub lists_seat : (old new : State) (rows : List Row) → IsStore old.now
-    → Shown list_seat [] old new rows
-    → map (λ r. seat_rows.entry (Null ∷ r)) rows ≡ entries (contents_of old.now.trees).seats
-lists_seat old new rows is h = lists_all store_schema seat_rows seat_facts list_seat lists old new
-    rows (lives_in old.now is) h
 
 pub clears_seat : (old new : State) (count : ℕ) → IsStore old.now
     → Executes clear_seat [] old new (Ok count)

@@ -1,9 +1,7 @@
 -- The rows of `part`, and what the statements on it mean.
 use Rattle.std.proofs.Common.{length, ◌==◌}
-use Rattle.std.proofs.Common.{◌≡◌, inl, inr, ℕ, ℤ, List, [], ◌∷◌, codes, Some, false, refl, ◌&&◌}
+use Rattle.std.proofs.Common.{◌≡◌, inl, inr, ℤ, List, [], ◌∷◌, codes, false, refl}
 use Rattle.std.specs.Ordering.{int_cmp, eq_by_cmp}
-use Rattle.std.specs.Cmp.{int_cmp_total}
-use Rattle.std.specs.FinMap.{int_cmp-IsAntisymmetric}
 use Rattle.sqlite.specs.declared.types.Value.TheVariants.{Null, Int, Text, Blob}
 use Rattle.sqlite_value.specs.Order.{Row}
 use Rattle.sqlite_value.proofs.OrderLemmas.{value_cmp-Int, value_cmp-Text}
@@ -29,7 +27,7 @@ use Rattle.store_tables.proofs.Plain.Facts.{Facts}
 use Rattle.store_tables.proofs.Plain.Adds.{AddText}
 use Rattle.store_tables.proofs.Plain.Updates.{SetText}
 use Rattle.store_tables.proofs.Plain.Queries.{ListText, of_table, passes}
-use Rattle.store_tables.proofs.Keys.{name_number_total, name_number_exact, then_equal, or_false}
+use Rattle.store_tables.proofs.Keys.{name_number_total, name_number_exact, then_equal}
 use Rattle.std.proofs.lemmas.Bool.{and_parts, cases_Bool}
 
 pub agrees : (id : ℤ) (k : NameNumber) (v : Part) (id′ : ℤ) (k′ : NameNumber) (v′ : Part)

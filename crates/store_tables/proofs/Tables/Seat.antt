@@ -1,7 +1,6 @@
 -- The rows of `seat`, and what the statements on it mean.
 use Rattle.std.proofs.Common.{◌≡◌, inl, inr, ℤ, List, [], ◌∷◌, codes, true, false, refl}
 use Rattle.std.specs.Ordering.{int_cmp, eq_by_cmp}
-use Rattle.sqlite.specs.declared.types.Value.TheVariants.{Int, Text}
 use Rattle.sqlite_value.specs.Order.{Row}
 use Rattle.sqlite_value.proofs.OrderLemmas.{value_cmp-Int, value_cmp-Text}
 use Rattle.sqlite_value.specs.Keys.{ascending, first_key}

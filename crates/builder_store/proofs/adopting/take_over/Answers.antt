@@ -2,6 +2,7 @@ use Rattle.std.proofs.Common.{◌≡◌, ◌∙◌, ap, arith, false, subst, sym
 use Rattle.sqlite_trees.specs.View.{IsClean, IsShaped}
 use Rattle.sqlite_trees.specs.declared.store.Shape.TheVariants as shape
 use Rattle.sqlite_catalog.specs.Listing.{IsSound}
+use Rattle.std.proofs.lemmas.Result.{IfErr-weaker, IfOk-weaker}
 use Rattle.builder_store.proofs.Orders.{if_ok_three, tables_ordered}
 use Rattle.builder_store.proofs.Settled.{open_if}
 use Rattle.builder_store.proofs.adopting.take_over.Goals as goal
@@ -53,3 +54,35 @@ returns-clause-crash g c =
     (g.met.S.Store.settled conn.store db was.0.is_open may ∙ same))
     (g.met.S.Store.stays c.args.conn.store ((undone.kept early).was_open is_open)))
     c.over.ensures.opens c.over.ensures.trees c.over.ensures.clean
+
+pub over-requires : goal.over-requires
+over-requires g c = λ early.
+    let v = g.S.Store.view c.into_store-store.result in
+    let whole : v.is_broken ≡ false = sym (c.is_broken.ensures early) ∙ c.if-is_broken.false in
+    let is_open = open_if v.is_open v.is_broken (g.met.S.Store.broken_if_shut
+    c.into_store-store.result) whole in
+    let undone = c.into_store-store.ensures.undone in
+    record {
+      sound = whole;
+      numbered = c.into_store-store.ensures.numbered early;
+      clean = (undone.undone is_open).0 ∙ sym ((undone.kept early).committed is_open);
+      unmarked = (undone.kept early).marks is_open;
+    }
+
+pub returns-clause-mode : goal.returns-clause-mode
+returns-clause-mode g c = IfOk-weaker c.over.result _ _ (λ conn new. new.autocommit)
+    c.over.ensures.fresh
+
+pub returns-clause-clean : goal.returns-clause-clean
+returns-clause-clean g c = IfOk-weaker c.over.result _ _
+    (λ conn least. omega (arith, least, c.into_store-store.ensures.quiet.clean))
+    c.over.ensures.clean
+
+pub returns-clause-left : goal.returns-clause-left
+returns-clause-left g c = IfErr-weaker c.over.result _ _ (λ e quiet db may.
+    c.into_store-store.ensures.quiet.outcomes db (quiet.outcomes db may))
+    c.over.ensures.unharmed
+
+pub returns-then-is_broken-clause-left : goal.returns-then-is_broken-clause-left
+returns-then-is_broken-clause-left g c = λ db may.
+    c.into_store-store.ensures.quiet.outcomes db may

@@ -1,8 +1,9 @@
 use Rattle.std.proofs.Common.{◌∙◌, ap, sym}
 use Rattle.sqlite.specs.Held.{state}
-use Rattle.sqlite.proofs.StateLemmas.{survives_weaker}
+use Rattle.sqlite.proofs.StateLemmas.{survives_then, survives_weaker}
 use Rattle.store_tables.specs.Contents.{contents_of}
 use Rattle.builder_store.proofs.Made.{made_stands}
+use Rattle.builder_store.proofs.Opens.{survives_same}
 use Rattle.builder_store.proofs.Settled.{tables_from}
 use Rattle.builder_store.proofs.making.make_tables.Goals as goal
 
@@ -28,3 +29,22 @@ returns-in-Ok-prepare_store-clause-survives g c =
     c.args.hour c.in-Ok.change.0 c.rows.result.now c.meta_row-meta.result c.rows.ensures
     c.meta_row-meta.ensures (c.in-Ok.ensures c.args.hour c.ranges.hour.fits))
     c.in-Ok-prepare_store.ensures.commits.survives
+
+pub returns-then-not-is_blank-clause-survives : goal.returns-then-not-is_blank-clause-survives
+returns-then-not-is_blank-clause-survives g c = survives_same (state g.S.Store c.args.conn.now) _
+
+pub returns-in_default-clause-survives : goal.returns-in_default-clause-survives
+returns-in_default-clause-survives g c = survives_same (state g.S.Store c.args.conn.now) _
+
+pub returns-clause-survives : goal.returns-clause-survives
+returns-clause-survives g c =
+    survives_then (state g.S.Store c.args.conn.now) (state g.S.Store c.prepare_store.new.conn)
+    (state g.S.Store c.refused.new.conn) _ (λ _. ⊥) _
+    (λ clean db. made_stands db (state g.S.Store c.args.conn.now).now.trees c.args.rings.now
+    c.args.hour c.in-Ok.change.0 c.rows.result.now c.meta_row-meta.result c.rows.ensures
+    c.meta_row-meta.ensures (c.in-Ok.ensures c.args.hour c.ranges.hour.fits))
+    (λ clean db none. absurd none) c.in-Err.ensures.commits.survives c.refused.ensures.survives
+
+pub prepare_store-requires-clause-begun : goal.prepare_store-requires-clause-begun
+prepare_store-requires-clause-begun g c = λ clean. c.is_blank.ensures.begun c.if-not-is_blank.false
+    (c.requires.fresh clean).is_open

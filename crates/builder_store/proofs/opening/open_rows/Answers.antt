@@ -2,7 +2,8 @@ use Rattle.std.proofs.Common.{◌≡◌, ◌∙◌, ap, arith, subst, sym}
 use Rattle.std.specs.Prelude.{IfOk}
 use Rattle.sqlite.specs.Held.{state}
 use Rattle.sqlite.specs.State.{HasCleanDisk}
-use Rattle.sqlite.proofs.StateLemmas.{survives_then}
+use Rattle.sqlite.proofs.StateLemmas.{survives_then, survives_weaker}
+use Rattle.store_tables.proofs.Inside.{quiet_on}
 use Rattle.store_tables.specs.Contents.{Contents, contents_of}
 use Rattle.store_tables.specs.Store.{IsStore}
 use Rattle.store_rows.specs.Judging.{IsFoundIn}
@@ -58,4 +59,58 @@ returns-in-Ok-judge-clause-opens g c =
           (λ clean db leads. subst (λ x. Leads x db) (same clean) (leads (judged clean).0
           (is clean)))
           reads.survives c.migrate.ensures.survives;
+    }
+
+pub returns-in-Err-clause-opens : goal.returns-in-Err-clause-opens
+returns-in-Err-clause-opens g c =
+    let old = state g.S.Store c.args.conn.now in
+    let mid = state g.S.Store c.read_rows.new.conn in
+    let new = state g.S.Store c.refused.new.conn in
+    record {
+      tables = λ _. tt;
+      found = λ _. tt;
+      survives = survives_weaker old new _ _ (λ _ db none. absurd none)
+          (quiet_on old mid new c.in-Err.ensures.reads.survives c.refused.ensures.survives);
+    }
+
+pub returns-in-Err-NoMemory-clause-opens : goal.returns-in-Err-NoMemory-clause-opens
+returns-in-Err-NoMemory-clause-opens g c = record {
+  tables = λ _. tt;
+  found = λ _. tt;
+  survives = survives_weaker (state g.S.Store c.args.conn.now)
+      (state g.S.Store c.read_rows.new.conn) _ _ (λ _ db none. absurd none)
+      c.in-Ok.ensures.reads.survives;
+}
+
+pub returns-in-Err-Bad-clause-opens : goal.returns-in-Err-Bad-clause-opens
+returns-in-Err-Bad-clause-opens g c = record {
+  tables = λ _. tt;
+  found = λ _. tt;
+  survives = survives_weaker (state g.S.Store c.args.conn.now)
+      (state g.S.Store c.read_rows.new.conn) _ _ (λ _ db none. absurd none)
+      c.in-Ok.ensures.reads.survives;
+}
+
+pub returns-in-Err-NoMemory-clause-quiet : goal.returns-in-Err-NoMemory-clause-quiet
+returns-in-Err-NoMemory-clause-quiet g c = λ _. c.in-Ok.ensures.reads.survives
+
+pub returns-in-Err-Bad-clause-quiet : goal.returns-in-Err-Bad-clause-quiet
+returns-in-Err-Bad-clause-quiet g c = λ _. c.in-Ok.ensures.reads.survives
+
+pub returns-in-Ok-judge-clause-quiet : goal.returns-in-Ok-judge-clause-quiet
+returns-in-Ok-judge-clause-quiet g c = λ bad. absurd (c.migrate.ensures.other.0 bad)
+
+pub returns-then-is_empty-clause-quiet : goal.returns-then-is_empty-clause-quiet
+returns-then-is_empty-clause-quiet g c = λ bad. absurd (c.begin.ensures.other.0 bad)
+
+pub migrate-requires-clause-tables : goal.migrate-requires-clause-tables
+migrate-requires-clause-tables g c = λ clean.
+    let old = state g.S.Store c.args.conn.now in
+    let was : HasCleanDisk old = omega (arith, c.in-Ok.ensures.reads.survives.clean, clean) in
+    let shown = (c.in-Ok.ensures.reads.same clean).0 in
+    let before = c.requires.tables was in
+    record {
+      is_open = shown.is_open;
+      store = subst IsStore (sym shown.now_is) before.store;
+      committed = shown.now_is ∙ before.committed ∙ sym shown.committed_is;
     }

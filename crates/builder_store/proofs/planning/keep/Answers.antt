@@ -1,9 +1,10 @@
-use Rattle.std.proofs.Common.{◌==◌}
+use Rattle.std.proofs.Common.{◌==◌, arith, refl}
 use Rattle.std.proofs.lemmas.Result.{on_ok_weaker}
 use Rattle.std.proofs.lemmas.Bool.Decides.{Decides-eqb}
 use Rattle.sqlite.specs.Held.{state}
 use Rattle.sqlite.proofs.StateLemmas.{survives_weaker}
 use Rattle.builder_store.proofs.Gained.{gains_in}
+use Rattle.builder_store.proofs.Opens.{survives_same}
 use Rattle.builder_store.proofs.planning.keep.Goals as goal
 
 pub returns-clause-done : goal.returns-clause-done
@@ -25,3 +26,27 @@ returns-clause-survives g c =
     c.in-Ok.plan.change.0 c.rows.result.now c.in-Ok.plan.rows.request c.in-Ok.plan.rows.meta
     c.rows.ensures c.in-Ok.ensures)
     c.write.ensures.survives
+
+pub returns-then-count-limit-clause-survives : goal.returns-then-count-limit-clause-survives
+returns-then-count-limit-clause-survives g c = survives_same (state g.S.Store c.args.conn.now) _
+
+pub returns-in_default-clause-survives : goal.returns-in_default-clause-survives
+returns-in_default-clause-survives g c = survives_same (state g.S.Store c.args.conn.now) _
+
+pub returns-then-count-limit-clause-tables : goal.returns-then-count-limit-clause-tables
+returns-then-count-limit-clause-tables g c = λ clean other. absurd (other refl)
+
+pub returns-in_default-clause-tables : goal.returns-in_default-clause-tables
+returns-in_default-clause-tables g c = λ clean _. c.requires.tables clean
+
+pub planned-requires-clause-room : goal.planned-requires-clause-room
+planned-requires-clause-room g c = omega (arith, c.if-count-limit.false, c.requires.small)
+
+pub planned-requires-clause-grows : goal.planned-requires-clause-grows
+planned-requires-clause-grows g c = c.grows.ensures c.if-not-grows.false
+
+pub returns-clause-tables : goal.returns-clause-tables
+returns-clause-tables g c = c.write.ensures.tables
+
+pub returns-clause-none : goal.returns-clause-none
+returns-clause-none g c = c.write.ensures.none

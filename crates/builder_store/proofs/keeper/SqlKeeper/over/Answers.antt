@@ -1,4 +1,4 @@
-use Rattle.std.proofs.Common.{subst, sym}
+use Rattle.std.proofs.Common.{refl, subst, sym}
 use Rattle.sqlite.specs.Held.{state}
 use Rattle.builder_store.specs.Opening.{IsOpenedAs}
 use Rattle.builder_store.specs.Standing.{StandsAlone}
@@ -24,15 +24,22 @@ invariant_of-result g c =
           ∣ (it.content, alone, it.rings, it.count, it.hour) ∣₁;
     }
 
-pub returns-in-Ok-clause-found : goal.returns-in-Ok-clause-found
-returns-in-Ok-clause-found g c = λ clean.
+pub returns-in-Ok : goal.returns-in-Ok
+returns-in-Ok g c =
+    let old = state g.S.Store c.args.conn in
     let new = state g.S.Store c.open_tables.new.conn in
-    let it = c.in-Ok.ensures.found clean in
-    let alone : StandsAlone new.committed.trees it.content = alone_from c.one_content.ensures
-    new.committed.trees it.content (record {
-      holdable = it.opens.2.holdable;
-      contents =
-          it.stands;
-    }) in
-    subst (λ x. IsOpenedAs (state g.S.Store c.args.conn).committed.trees x) (sym
-    (told_is _ _ _ _ it.content clean ∣ alone ∣₁)) it.opens
+    record {
+      limit = refl;
+      faults = refl;
+      clean = c.open_tables.ensures.survives.clean;
+      found = λ clean.
+          let it = c.in-Ok.ensures.found clean in
+          let alone : StandsAlone new.committed.trees it.content = alone_from c.one_content.ensures
+          new.committed.trees it.content (record {
+            holdable = it.opens.2.holdable;
+            contents =
+                it.stands;
+          }) in
+          subst (λ x. IsOpenedAs old.committed.trees x) (sym (told_is _ _ _ _ it.content clean
+          ∣ alone ∣₁)) it.opens;
+    }

@@ -8,8 +8,8 @@ use Rattle.std.specs.Prelude.{◌+◌}
 use Rattle.builder_store.specs.Inner.Known.{told_same, whole_trees}
 use Rattle.builder_store.specs.Inner.Leaves.{after_call, leaves_one, open_leaves}
 use Rattle.builder_store.proofs.Keeping.{counted_now, gains_now, gains_told, kept_trees}
-use Rattle.builder_store.proofs.Keeping.{lost_trees, memory_other, never, ok_other, one_more}
-use Rattle.builder_store.proofs.Keeping.{stands_now}
+use Rattle.builder_store.proofs.Keeping.{lost_trees, never, not_failed, one_more}
+use Rattle.builder_store.proofs.Keeping.{only_memory, stands_now}
 use Rattle.builder_store.proofs.keeper.SqlKeeperKeeperRingMachine.commit.Goals as goal
 
 pub keep-requires-clause-mode : goal.keep-requires-clause-mode
@@ -39,8 +39,7 @@ invariant_of-self g c =
     record {
       small = k.small;
       idle = c.keep.ensures.mode;
-      tables = λ none clean. c.keep.ensures.tables clean (λ e. ok_other c.in-Ok.field-0
-          (sym c.in-Ok.is ∙ e));
+      tables = λ none clean. c.keep.ensures.tables clean (not_failed c.in-Ok.is);
       holds = λ clean.
           let was : HasCleanDisk old = omega (arith, c.keep.ensures.survives.clean, clean) in
           let made = gains_now k c.requires.faults was (c.requires.room was)
@@ -74,7 +73,7 @@ returns-in-Ok-clause-left g c = λ clean.
     let was : HasCleanDisk old = omega (arith, c.keep.ensures.survives.clean, clean) in
     let made = gains_now k c.requires.faults was (c.requires.room was)
     (c.requires.unknown was) (c.requires.hour was) (c.in-Ok.ensures.done clean) in
-    let has = c.keep.ensures.tables clean (λ e. ok_other c.in-Ok.field-0 (sym c.in-Ok.is ∙ e)) in
+    let has = c.keep.ensures.tables clean (not_failed c.in-Ok.is) in
     open_leaves new _ _ (λ db may. g.met.S.Store.settled c.keep.new.conn.store db has.0 may)
     (g.met.S.Store.stays c.keep.new.conn.store has.0) made
     (record { appended = refl; reached = refl; latest = refl })
@@ -87,8 +86,8 @@ invariant_of-self-in-Err-NoMemory g c =
     record {
       small = k.small;
       idle = c.keep.ensures.mode;
-      tables = λ none clean. c.keep.ensures.tables clean (λ e. memory_other (sym
-          (c.in-Err-NoMemory.is ∙ ap Err c.in-Err-NoMemory.field-0-is) ∙ e));
+      tables = λ none clean. c.keep.ensures.tables clean (only_memory
+          c.in-Err-NoMemory.is c.in-Err-NoMemory.field-0-is);
       holds = λ clean.
           let was : HasCleanDisk old = omega (arith, c.keep.ensures.survives.clean, clean) in
           let same = ap (λ d. d.trees) (c.keep.ensures.none clean (c.in-Err-NoMemory.is
@@ -114,8 +113,8 @@ returns-in-Err-NoMemory-clause-left g c = λ clean.
     let old = state g.S.Store k.conn in
     let new = state g.S.Store c.keep.new.conn in
     let was : HasCleanDisk old = omega (arith, c.keep.ensures.survives.clean, clean) in
-    let has = c.keep.ensures.tables clean (λ e. memory_other (sym (c.in-Err-NoMemory.is
-    ∙ ap Err c.in-Err-NoMemory.field-0-is) ∙ e)) in
+    let has = c.keep.ensures.tables clean (only_memory c.in-Err-NoMemory.is
+    c.in-Err-NoMemory.field-0-is) in
     let same = ap (λ d. d.trees) (c.keep.ensures.none clean (c.in-Err-NoMemory.is
     ∙ ap Err c.in-Err-NoMemory.field-0-is)) in
     let content = content_of_keeper k in

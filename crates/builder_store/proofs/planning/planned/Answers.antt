@@ -1,0 +1,21 @@
+use Rattle.std.proofs.Common.{◌∙◌, ap}
+use Rattle.store_rows.specs.Differences.{with_state}
+use Rattle.store_rows.specs.Stands.{RingContent}
+use Rattle.store_tables.specs.Changes.{with_decided}
+use Rattle.builder_store.proofs.planning.planned.Goals as goal
+
+pub returns : goal.returns
+returns c = λ content holdable held counted unknown later.
+    let change = c.in_ok-change.ensures in
+    let made = c.in_ok-rows.ensures in
+    let rows = c.in_ok-rows.rows in
+    let after : RingContent = with_state content c.args.new.now in (
+      ap (λ x. with_decided x rows.request rows.meta) (change.leads.applied content held) ∙
+          made.rows after counted unknown,
+      made.holdable after (record {
+        rings = change.rings;
+        book = holdable.book;
+        hour = holdable.hour;
+        small = holdable.small;
+      }) counted unknown later,
+    )

@@ -1,9 +1,0 @@
-use Rattle.std.proofs.Common.{◌≡◌, map, take}
-use Rattle.store_tables.specs.Contents.{ring_of}
-use Rattle.store_tables.specs.Entries.{ring_rows}
-use Rattle.store_tables.specs.Inner.Shown.{shown_as}
-use Rattle.store_tables.proofs.reads.ring_rows_in.Given as goal
-
--- the rows so far are those that were shown so far
-abbrev pub invariant-rows : goal.invariant-rows
-invariant-rows l = map ring_of l.rows.items ≡ map (shown_as ring_rows) (take l.row-index l.shown)

@@ -1,0 +1,15 @@
+use Rattle.sqlite.specs.Held.{state}
+use Rattle.store_tables.specs.Contents.{meta_of}
+use Rattle.store_tables.proofs.Steps.Meta.{puts_meta}
+use Rattle.store_tables.proofs.Writing.{writes_so}
+use Rattle.store_tables.proofs.writes.MetaRowReplaces.add.Goals as goal
+
+pub returns-clause-writes : goal.returns-clause-writes
+returns-clause-writes g c =
+    let old = state g.S.Store c.args.tx.now.conn.now in
+    let new = state g.S.Store c.run.new.tx.conn.now in
+    let row = meta_of c.args.self.now in
+    writes_so _ _ old new _ (puts_meta old new row.0 row.1) c.requires c.run.result
+    (λ clean. rw (c.params-to_sql.ensures, c.params-to_sql-2.ensures, c.params-to_sql-3.ensures) at
+    (c.run.ensures.done clean))
+    c.run.ensures.inside c.run.ensures.kept c.run.ensures.survives
