@@ -20,11 +20,11 @@ from common import program  # noqa: E402
 DOCS = TOP / "docs"
 # The layers, highest first: each stands on those below it. The tests stand beside, and are not drawn.
 LAYERS = (
-    ("the program", "ringd programs program_words"),
+    ("the program", "ringd programs keeper_programs program_words"),
     ("sockets", "http_sockets timed_streams"),
     ("what a line or a route asks", "line_api http_api http_routes node_text"),
     ("protocols", "line_stream http_stream http_answers http_requests"),
-    ("kept in a file", "builder_store store_rows store_tables"),
+    ("kept in a file", "builder_store store_rows store_tables store_contents"),
     ("the machine", "builder book_front request_book ring_messages"),
     ("rings", "ring_place ring_share ring_tables ring_text swift_ring path_lookup csv_import ring_model"),
     ("words and bytes", "ring_words byte_streams"),

@@ -6,17 +6,17 @@ use Rattle.std.specs.FinMap.{from_entries}
 use Rattle.std.specs.Ordering.{int_cmp}
 use Rattle.request_book.specs.Content.{entry_of}
 use Rattle.sqlite_trees.specs.Tree.{Trees}
-use Rattle.store_tables.specs.declared.changes.RowChange.{RowChange}
-use Rattle.store_tables.specs.declared.changes.RowChange.TheVariants.{DropDevice, PutRing}
-use Rattle.store_tables.specs.declared.changes.RowChange.TheVariants.{AddDevice, PutPart}
-use Rattle.store_tables.specs.declared.changes.RowChange.TheVariants.{PutPublished}
-use Rattle.store_tables.specs.declared.rows.MetaRow.{MetaRow}
-use Rattle.store_tables.specs.declared.rows.RequestRow.{RequestRow}
-use Rattle.store_tables.specs.Changes.{changed_all, with_decided, with_kept}
-use Rattle.store_tables.specs.Contents.{Contents, contents_of, device_key, device_of, part_of}
-use Rattle.store_tables.specs.Contents.{published_of, ring_of, with_device, with_part}
-use Rattle.store_tables.specs.Contents.{with_published}
-use Rattle.store_tables.specs.Contents.{with_ring, without_device}
+use Rattle.store_contents.specs.declared.change.RowChange.{RowChange}
+use Rattle.store_contents.specs.declared.change.RowChange.TheVariants.{DropDevice, PutRing}
+use Rattle.store_contents.specs.declared.change.RowChange.TheVariants.{AddDevice, PutPart}
+use Rattle.store_contents.specs.declared.change.RowChange.TheVariants.{PutPublished}
+use Rattle.store_contents.specs.declared.rows.MetaRow.{MetaRow}
+use Rattle.store_contents.specs.declared.rows.RequestRow.{RequestRow}
+use Rattle.store_contents.specs.Changes.{changed_all, with_decided, with_kept}
+use Rattle.store_contents.specs.Contents.{Contents, device_key, device_of, part_of, published_of}
+use Rattle.store_contents.specs.Contents.{ring_of, with_device, with_part, with_published}
+use Rattle.store_contents.specs.Contents.{with_ring, without_device}
+use Rattle.store_tables.specs.Contents.{contents_of}
 use Rattle.store_rows.specs.Differences.{with_state}
 use Rattle.store_rows.specs.RingRows.{NamedRings}
 use Rattle.store_rows.specs.Stands.{DecidedRequest, IsHoldable, RingContent, contents_for, gained}

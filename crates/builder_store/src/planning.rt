@@ -7,7 +7,7 @@ ghost use Rattle.store_tables.specs.Contents.{contents_of};
 ghost use Rattle.builder_store.specs.Inner.Gains.{GainsIn, written};
 ghost use Rattle.builder_store.specs.Inner.Tables.{HasTables};
 ghost use Rattle.request_book.specs.Content.{entry_of};
-ghost use Rattle.store_tables.specs.Changes.{changed_all, with_decided};
+ghost use Rattle.store_contents.specs.Changes.{changed_all, with_decided};
 ghost use Rattle.store_tables.specs.Store.{CommitsTables, SeesStore};
 ghost use Rattle.store_rows.specs.Differences.{Grows, with_state};
 ghost use Rattle.store_rows.specs.Stands.{IsHoldable, RingContent, contents_for, gained};
@@ -18,9 +18,10 @@ use ring_model::Rings;
 use ring_words::{Command, Hour, Reply};
 use sqlite::{Alter, Connection, Error};
 use std::alloc::{AllocError, Global};
+use store_contents::RowChange;
 use store_rows::laws::one_content;
 use store_rows::{Change, DecidedRows, decided_rows, grows};
-use store_tables::{RowChange, commit_decided, commit_request};
+use store_tables::{commit_decided, commit_request};
 
 /// What a commit writes: the rows of rings that differ, and those of the request.
 #[derive(Drop)]

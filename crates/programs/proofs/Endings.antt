@@ -5,13 +5,13 @@ use Rattle.byte_streams.specs.declared.counted.CountedReader.{CountedReader}
 use Rattle.byte_streams.specs.declared.counted.CountedWriter.{CountedWriter}
 use Rattle.program_words.specs.declared.task.Task.{Task}
 use Rattle.sqlite_wal.specs.Recovery.{Image}
-use Rattle.programs.specs.Opened.{Keeping}
+use Rattle.keeper_programs.specs.Begun.{Keeping}
 use Rattle.programs.specs.Performed.{EndsSo, FailsSo, FailsToImportFile, ShowsFile}
-use Rattle.programs.specs.declared.faults.ProgramFault.{ProgramFault}
-use Rattle.programs.specs.declared.importing.ImportAsk.{ImportAsk}
+use Rattle.keeper_programs.specs.declared.faults.ProgramFault.{ProgramFault}
+use Rattle.keeper_programs.specs.declared.importing.ImportAsk.{ImportAsk}
 use Rattle.programs.specs.declared.performing.Ending.{Ending}
 use Rattle.programs.specs.declared.performing.Ending.TheVariants.{Done}
-use Rattle.programs.specs.declared.showing.Question.{Question}
+use Rattle.keeper_programs.specs.declared.showing.Question.{Question}
 
 -- what is known of what was read
 read_well : {A E : Type 0} (read : Result A E) (Asks : A → Type 0) (value : A) → IfOk read Asks

@@ -1,7 +1,5 @@
-pub mod BadTables
 pub mod Endings
 pub mod Kept
 pub mod Renewals
-pub mod Runs
 pub mod Services
 pub mod Stores

@@ -7,7 +7,8 @@ use Rattle.store_rows.specs.RingRows.{NamedRings}
 use Rattle.store_rows.specs.Stands.{RingContent}
 use Rattle.sqlite_wal.specs.Recovery.{Image}
 use Rattle.programs.specs.Inner.Left.{IsLeft}
-use Rattle.programs.specs.Opened.{IsKept, Keeping}
+use Rattle.keeper_programs.specs.Begun.{Keeping}
+use Rattle.programs.specs.Opened.{IsKept}
 use Rattle.programs.specs.Renewing.{IsMade, IsRead, Renews}
 
 -- a keeper that is known was read, and less is known of it

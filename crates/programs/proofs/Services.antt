@@ -1,106 +1,37 @@
--- What serving does, over a keeper of which more or less is known.
-use Rattle.std.proofs.Common.{◌≡◌, ◌⊎◌, ◌≤◌, inl, inr, List, Option, Result, Ok, Err, ℕ, subst, sym}
-use Rattle.std.proofs.Common.{length}
-use Rattle.std.specs.Prelude.{IfErr, MatchResult, OnOk}
-use Rattle.builder.specs.Safety.{IsSafeRun}
-use Rattle.byte_streams.specs.Counted.{IsFlushed, one_more, write_faults}
+-- What was served over the keeper of a store.
+use Rattle.std.proofs.Common.{◌≡◌, List, Option, ℕ, subst, sym}
 use Rattle.byte_streams.specs.declared.counted.CountedWriter.{CountedWriter}
-use Rattle.byte_streams.specs.declared.fault.StreamFault.TheVariants.{WriteFailed}
-use Rattle.http_sockets.specs.Connections.{ConnectionsServed, ServedAtMost, ServedUpTo}
-use Rattle.http_sockets.specs.Hours.{TellsGiven}
 use Rattle.http_sockets.specs.declared.fault.ServeFault.{ServeFault}
-use Rattle.http_sockets.specs.declared.fault.ServeFault.TheVariants.{NetFailed, Stream}
 use Rattle.program_words.specs.declared.task.HashNames.{HashNames}
 use Rattle.sqlite_wal.specs.Recovery.{Image}
-use Rattle.programs.specs.Faults.{serve_fault}
-use Rattle.programs.specs.Opened.{IsBegun, IsKept, Keeping}
-use Rattle.programs.specs.Serving.{FailsToLoop, FailsToServe, IsServed, IsSet, LoopsOnce, Service}
-use Rattle.programs.specs.Serving.{ServesAtMost, ServesConnections, StopsLoop, TakesFew}
-use Rattle.programs.specs.declared.faults.ProgramFault.{ProgramFault}
-use Rattle.programs.specs.declared.faults.ProgramFault.TheVariants as fault
-use Rattle.programs.proofs.Runs.{begun}
-
--- a fact on a result that is known to be well, and to be ill
-pub match_ok : {A E : Type 0} (result : Result A E) (value : A) (Well : A → Type 0)
-    (Ill : E → Type 0) → result ≡ Ok value → MatchResult result Well Ill → Well value
-match_ok result value Well Ill is holds = subst (λ r. MatchResult r Well Ill) is holds
-
-pub match_err : {A E : Type 0} (result : Result A E) (why : E) (Well : A → Type 0)
-    (Ill : E → Type 0) → result ≡ Err why → MatchResult result Well Ill → Ill why
-match_err result why Well Ill is holds = subst (λ r. MatchResult r Well Ill) is holds
-
--- what holds anyway holds where a result is well
-pub on_ok : {A E : Type 0} (result : Result A E) (whole : Type 0) → whole → OnOk result whole
-on_ok (Ok value) whole holds = holds
-on_ok (Err why) whole holds = tt
-
-module _ {K : Type 0} (g : Keeping K) (Begins : K → Type 0) (given : Option ℕ) (names : HashNames)
-    (first last : Service K) (clock : IsSet given first.0) (opened : IsBegun Begins first.1)
-    (safe : g.sound last.1.keeper → IsSafeRun first.1.machine.limits (g.content first.1.keeper)
-    (g.content last.1.keeper)) where
-  -- a book that was led so was served
-  is_served : (Leads : Service K → Service K → Type 0) → Leads first last
-      → IsServed g Begins given names Leads
-  is_served Leads led = record {
-    first = first;
-    last = last;
-    clock = clock;
-    opened = opened;
-    led = led;
-    safe = safe;
-  }
-
-  -- what serving a port does
-  pub port_served : (count : ℕ) (result : Result (Unit {0}) ServeFault)
-      → ServedUpTo g.content g.sound g.limit g.fault_count TellsGiven names.prefix.now
-      names.suffix.now count first last result
-      → MatchResult result (λ _. ServesConnections g Begins given names count)
-      (λ cause. (cause ≡ NetFailed) × ServesAtMost g Begins given names count)
-  port_served count (Ok done) all = is_served _ all
-  port_served count (Err cause) all = (all.0, is_served _ all.1)
-
-  -- what serving an input does
-  pub input_served : {W : Type 0} (contents : W → Option (List ℕ)) (writer later : CountedWriter W)
-      (result : Result (Unit {0}) ServeFault)
-      → MatchResult result
-      (λ _. ConnectionsServed g.content g.sound g.limit g.fault_count TellsGiven names.prefix.now
-      names.suffix.now 1 first last)
-      (λ _. ServedAtMost g.content g.sound g.limit g.fault_count TellsGiven names.prefix.now
-      names.suffix.now 1 first last)
-      → TakesFew contents writer later
-      → MatchResult result (λ _. write_faults later ≡ write_faults writer)
-      (λ cause. (write_faults later ≡ write_faults writer)
-      ⊎ ((cause ≡ Stream WriteFailed) × (write_faults later ≡ one_more (write_faults writer))))
-      → OnOk result (IsFlushed later)
-      → MatchResult result (λ _. LoopsOnce g Begins given names contents writer later)
-      (StopsLoop g Begins given names contents writer later)
-  input_served contents writer later (Ok done) served few cause flushed =
-      (is_served _ served, few, cause, flushed)
-  input_served contents writer later (Err why) served few cause flushed =
-      (is_served _ served, few, cause)
+use Rattle.keeper_programs.specs.Begun.{IsAny, Keeping}
+use Rattle.programs.specs.Opened.{IsKept}
+use Rattle.keeper_programs.specs.Serving.{IsServed, LoopsOnce, Service, StopsLoop}
+use Rattle.keeper_programs.proofs.Runs.{begun}
 
 module _ {K : Type 0} (g : Keeping K) (image : Image) (kept : K) (is : IsKept g image kept)
-    (given : Option ℕ) (names : HashNames) where
+    (Ends : K → Type 0) (given : Option ℕ) (names : HashNames) where
   -- what was served over the keeper of a store was served over one that begins as its files stand
   pub kept_served : (Leads : Service K → Service K → Type 0)
-      → IsServed g (λ k. k ≡ kept) given names Leads
-      → IsServed g (IsKept g image) given names Leads
+      → IsServed g (λ k. k ≡ kept) Ends given names Leads
+      → IsServed g (IsKept g image) IsAny given names Leads
   kept_served Leads s = record {
     first = s.first;
     last = s.last;
     clock = s.clock;
-    opened = begun g (λ k. k ≡ kept) (IsKept g image)
+    opened = begun g (λ k. k ≡ kept) (IsKept g image) Ends
         (λ keeper same. subst (IsKept g image) (sym same) is) s.first.1 s.opened;
+    left = tt;
     led = s.led;
     safe = s.safe;
   }
 
   pub kept_loops : {W : Type 0} (contents : W → Option (List ℕ)) (writer later : CountedWriter W)
-      → LoopsOnce g (λ k. k ≡ kept) given names contents writer later
-      → LoopsOnce g (IsKept g image) given names contents writer later
+      → LoopsOnce g (λ k. k ≡ kept) Ends given names contents writer later
+      → LoopsOnce g (IsKept g image) IsAny given names contents writer later
   kept_loops contents writer later all = (kept_served _ all.0, all.1, all.2, all.3)
 
   pub kept_stops : {W : Type 0} (contents : W → Option (List ℕ)) (writer later : CountedWriter W)
-      (cause : ServeFault) → StopsLoop g (λ k. k ≡ kept) given names contents writer later cause
-      → StopsLoop g (IsKept g image) given names contents writer later cause
+      (cause : ServeFault) → StopsLoop g (λ k. k ≡ kept) Ends given names contents writer later cause
+      → StopsLoop g (IsKept g image) IsAny given names contents writer later cause
   kept_stops contents writer later cause all = (kept_served _ all.0, all.1, all.2)

@@ -1,10 +1,4 @@
-pub mod Faults
 pub mod Opened
-pub mod Running
-pub mod Serving
-pub mod Importing
 pub mod Renewing
 pub mod Performed
-pub mod Showing
-pub mod Tables
 pub mod Inner

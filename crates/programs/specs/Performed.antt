@@ -8,20 +8,22 @@ use Rattle.program_words.specs.declared.task.HashNames.{HashNames}
 use Rattle.program_words.specs.declared.task.Task.{Task}
 use Rattle.program_words.specs.declared.task.Task.TheVariants as task
 use Rattle.sqlite_wal.specs.Recovery.{Image}
-use Rattle.programs.specs.Faults.{stream_fault}
-use Rattle.programs.specs.Importing.{AnswersImport, AsksImport, FailsToImport}
-use Rattle.programs.specs.Opened.{IsKept, IsNew, IsStoreFault, Keeping}
+use Rattle.keeper_programs.specs.Faults.{stream_fault}
+use Rattle.keeper_programs.specs.Importing.{AnswersImport, AsksImport, FailsToImport}
+use Rattle.keeper_programs.specs.Begun.{IsAny, IsNew, IsStoreFault, Keeping}
+use Rattle.programs.specs.Opened.{IsKept}
 use Rattle.programs.specs.Renewing.{Renews}
-use Rattle.programs.specs.Running.{AnswersLines, FailsLines, StopsLines}
-use Rattle.programs.specs.Serving.{FailsToLoopInput, FailsToServe, LoopsInput, ServesConnections}
-use Rattle.programs.specs.Showing.{AsksShown, FailsToShow, IsFormFault, IsMalformed, IsPathless}
-use Rattle.programs.specs.Showing.{Shows}
-use Rattle.programs.specs.declared.faults.ProgramFault.{ProgramFault}
-use Rattle.programs.specs.declared.faults.ProgramFault.TheVariants as fault
-use Rattle.programs.specs.declared.importing.ImportAsk.{ImportAsk}
+use Rattle.keeper_programs.specs.Running.{AnswersLines, FailsLines, StopsLines}
+use Rattle.keeper_programs.specs.Serving.{FailsToLoopInput, FailsToServe, LoopsInput}
+use Rattle.keeper_programs.specs.Serving.{ServesConnections}
+use Rattle.keeper_programs.specs.Showing.{AsksShown, FailsToShow, IsFormFault, IsMalformed}
+use Rattle.keeper_programs.specs.Showing.{IsPathless, Shows}
+use Rattle.keeper_programs.specs.declared.faults.ProgramFault.{ProgramFault}
+use Rattle.keeper_programs.specs.declared.faults.ProgramFault.TheVariants as fault
+use Rattle.keeper_programs.specs.declared.importing.ImportAsk.{ImportAsk}
 use Rattle.programs.specs.declared.performing.Ending.{Ending}
 use Rattle.programs.specs.declared.performing.Ending.TheVariants.{Done, Refused}
-use Rattle.programs.specs.declared.showing.Question.{Question}
+use Rattle.keeper_programs.specs.declared.showing.Question.{Question}
 
 -- Keepers of stores in files are these, the files hold what the image says, and the writer is this,
 -- before and after.
@@ -30,31 +32,31 @@ module _ {K W : Type 0} (files : Keeping K) (image : Image) (contents : W → Op
   -- What is asked for was shown of the rings in a file.
   abbrev pub ShowsFile : (Question → Type 0) → Type 0
   ShowsFile Asks = (question : Question) × Asks question
-      × Shows files (IsKept files image) contents writer later question
+      × Shows files (IsKept files image) IsAny contents writer later question
 
   -- This fault came of it.
   abbrev pub FailsToShowFile : (Question → Type 0) → ProgramFault → Type 0
   FailsToShowFile Asks why = (question : Question) × Asks question
-      × FailsToShow files (IsKept files image) contents writer later question why
+      × FailsToShow files (IsKept files image) IsAny contents writer later question why
 
   -- The table in a CSV file was imported as one request, at the hour that was given or any other,
   -- and the status that was written ends it so.
   abbrev pub ImportsFile : (ImportAsk → Type 0) → Option ℕ → (ℕ → Type 0) → Type 0
   ImportsFile Asks given Ends = (ask : ImportAsk) × (hour : ℕ) × (status : ℕ) × Asks ask
       × IfSome given (λ h. hour ≡ h) × Ends status
-      × AnswersImport files (IsKept files image) contents writer later None ask hour status
+      × AnswersImport files (IsKept files image) IsAny contents writer later None ask hour status
 
   -- This fault came of it: the CSV file can't be opened, or it is one of the import.
   abbrev pub FailsToImportFile : (ImportAsk → Type 0) → Option ℕ → ProgramFault → Type 0
   FailsToImportFile Asks given why = (ask : ImportAsk) × Asks ask
       × (((why ≡ fault.NoFile) × (later ≡ writer))
       ⊎ ((hour : ℕ) × IfSome given (λ h. hour ≡ h)
-      × FailsToImport files (IsKept files image) contents writer later None ask hour why))
+      × FailsToImport files (IsKept files image) IsAny contents writer later None ask hour why))
 
   -- This fault came of a loop over the bytes of a file: it can't be opened, or one of the loop.
   abbrev pub FailsToLoopFile : Option ℕ → HashNames → ProgramFault → Type 0
   FailsToLoopFile given names why = ((why ≡ fault.NoFile) × (later ≡ writer))
-      ⊎ FailsToLoopInput files (IsKept files image) given names contents writer later None why
+      ⊎ FailsToLoopInput files (IsKept files image) IsAny given names contents writer later None why
 
 -- The status of an import ends it so: 200 where it was done.
 abbrev pub EndsBy : Ending → ℕ → Type 0
@@ -68,15 +70,15 @@ module _ {M K R W : Type 0} (memory : Keeping M) (files : Keeping K) (image : Im
     (reader late_reader : CountedReader R) (writer later : CountedWriter W) where
   -- The lines of the reader were answered, over memory or over the store in a file.
   abbrev pub Runs : Option (Bor (List ℕ)) → Type 0
-  Runs None = AnswersLines memory (IsNew memory) remaining contents reader late_reader writer later
-  Runs (Some file) = AnswersLines files (IsKept files image) remaining contents reader late_reader
+  Runs None = AnswersLines memory (IsNew memory) IsAny remaining contents reader late_reader writer later
+  Runs (Some file) = AnswersLines files (IsKept files image) IsAny remaining contents reader late_reader
       writer later
 
   -- This fault came of it.
   abbrev pub FailsToRun : Option (Bor (List ℕ)) → ProgramFault → Type 0
   FailsToRun None why = (cause : StreamFault) × (why ≡ stream_fault cause)
-      × StopsLines memory (IsNew memory) remaining contents reader late_reader writer later cause
-  FailsToRun (Some file) why = FailsLines files (IsKept files image) remaining contents reader
+      × StopsLines memory (IsNew memory) IsAny remaining contents reader late_reader writer later cause
+  FailsToRun (Some file) why = FailsLines files (IsKept files image) IsAny remaining contents reader
       late_reader writer later why
 
   -- Keepers of stores that are made are these.
@@ -86,9 +88,9 @@ module _ {M K R W : Type 0} (memory : Keeping M) (files : Keeping K) (image : Im
     abbrev pub EndsSo : Task → Ending → Type 0
     EndsSo (task.Run file) Done = Runs file
     EndsSo (task.Serve file port count given names) Done = (late_reader ≡ reader) × (later ≡ writer)
-        × ServesConnections files (IsKept files image) given names count
+        × ServesConnections files (IsKept files image) IsAny given names count
     EndsSo (task.Loop file input given names) Done = (late_reader ≡ reader)
-        × LoopsInput files (IsKept files image) given names contents writer later None
+        × LoopsInput files (IsKept files image) IsAny given names contents writer later None
     EndsSo (task.Table file ring) Done = (late_reader ≡ reader)
         × ShowsFile files image contents writer later (AsksShown (task.Table file ring))
     EndsSo (task.Export file ring version written) Done = (late_reader ≡ reader)
@@ -108,7 +110,7 @@ module _ {M K R W : Type 0} (memory : Keeping M) (files : Keeping K) (image : Im
   abbrev pub FailsToDo : Task → ProgramFault → Type 0
   FailsToDo (task.Run file) why = FailsToRun file why
   FailsToDo (task.Serve file port count given names) why = (late_reader ≡ reader)
-      × (later ≡ writer) × FailsToServe files (IsKept files image) given names count why
+      × (later ≡ writer) × FailsToServe files (IsKept files image) IsAny given names count why
   FailsToDo (task.Loop file input given names) why = (late_reader ≡ reader)
       × FailsToLoopFile files image contents writer later given names why
   FailsToDo (task.Table file ring) why = (late_reader ≡ reader)

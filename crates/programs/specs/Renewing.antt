@@ -3,7 +3,7 @@ use Rattle.std.specs.Prelude.{◌≡◌}
 use Rattle.builder_store.specs.Making.{renewed}
 use Rattle.request_book.specs.Keeper.{LeavesOnly}
 use Rattle.store_rows.specs.Stands.{RingContent}
-use Rattle.programs.specs.Opened.{Keeping}
+use Rattle.keeper_programs.specs.Begun.{Keeping}
 
 -- A keeper that begins so is read, and this is so of its content. It keeps that content, and a
 -- crash leaves it and nothing else.

@@ -5,8 +5,6 @@
 //! stands in `specs/Performed.antt`, a case for each program.
 #![tactic(auto)]
 
-mod faults;
-mod hours;
 mod importing;
 mod lines;
 mod opening;
@@ -14,7 +12,5 @@ mod performing;
 mod renewing;
 mod serving;
 mod showing;
-mod table;
 
-pub use faults::ProgramFault;
 pub use performing::perform;

@@ -1,66 +1,17 @@
 //! The program `run`: numbered requests and questions, one a line.
-ghost use Rattle.std.specs.Prelude.{◌≡◌, IfErr, OnOk};
+ghost use Rattle.std.specs.Prelude.{IfErr, OnOk};
 ghost use Rattle.sqlite_wal.specs.Files.{image_at};
-ghost use Rattle.programs.specs.Opened.{IsKept, IsNew};
-ghost use Rattle.programs.specs.Running.{AnswersLines, FailsLines, StopsLines};
+ghost use Rattle.keeper_programs.specs.Begun.{IsAny};
+ghost use Rattle.keeper_programs.specs.Running.{AnswersLines, FailsLines};
+ghost use Rattle.programs.specs.Opened.{IsKept};
 
-use crate::faults::ProgramFault;
-use crate::opening::{FileKeeper, close_store, open_book, open_store};
+use crate::opening::{FileKeeper, close_store, open_store};
 use builder::RingMachine;
-use byte_streams::{CountedReader, CountedWriter, StreamFault};
-use line_api::run_lines;
-use request_book::{Keeper, MemKeeper};
-use ring_model::Rings;
-use ring_words::{Command, Limits, Reply};
+use byte_streams::{CountedReader, CountedWriter};
+use keeper_programs::{ProgramFault, answer_lines};
+use request_book::Keeper;
 use sqlite::Start;
-use std::alloc::Global;
 use std::io::{Read, Write};
-
-/// Keeps rings and requests in memory.
-pub(crate) type MemoryKeeper = MemKeeper<Rings, Command, Reply>;
-
-/// Answers the lines of a reader over what a keeper holds, and gives the keeper back.
-fn answer_lines<R: Read, W: Write, K: Keeper<RingMachine>>(
-    alloc: Global,
-    keeper: K,
-    reader: &mut CountedReader<R>,
-    writer: &mut CountedWriter<W>,
-) -> (Result<u32, StreamFault>, K)
-    requires { K.fault_count keeper ≡ 0 }
-    ensures answered { OnOk result.0 (AnswersLines K.Keeper
-        (λ k. k ≡ keeper) R.remaining W.contents reader.old reader.new writer.old writer.new) }
-    ensures stopped { IfErr result.0 (StopsLines K.Keeper
-        (λ k. k ≡ keeper) R.remaining W.contents reader.old reader.new writer.old writer.new) }
-{
-    let mut book = open_book(alloc, keeper);
-    let answered = run_lines(alloc, reader, writer, &mut book);
-    (answered, book.into_keeper())
-}
-
-/// A keeper of no rings, in memory.
-fn new_keeper(alloc: Global) -> MemoryKeeper
-    ensures new { IsNew ⟦<MemoryKeeper as Keeper<RingMachine>>⟧ result }
-    ensures faults { ⟦<MemoryKeeper as Keeper<RingMachine>>⟧.fault_count result ≡ 0 }
-{
-    MemKeeper::new(alloc, Rings::new(alloc), Limits::full())
-}
-
-/// Answers the lines of a reader from no rings, over memory.
-pub(crate) fn run_over_memory<R: Read, W: Write>(
-    alloc: Global,
-    reader: &mut CountedReader<R>,
-    writer: &mut CountedWriter<W>,
-) -> Result<u32, StreamFault>
-    ensures answered { OnOk result (AnswersLines ⟦<MemoryKeeper as Keeper<RingMachine>>⟧
-        (IsNew ⟦<MemoryKeeper as Keeper<RingMachine>>⟧) R.remaining W.contents
-        reader.old reader.new writer.old writer.new) }
-    ensures stopped { IfErr result (StopsLines ⟦<MemoryKeeper as Keeper<RingMachine>>⟧
-        (IsNew ⟦<MemoryKeeper as Keeper<RingMachine>>⟧) R.remaining W.contents
-        reader.old reader.new writer.old writer.new) }
-{
-    let (answered, _) = answer_lines(alloc, new_keeper(alloc), reader, writer);
-    answered
-}
 
 /// Answers the lines of a reader over the store in a file, and closes it.
 pub(crate) fn run_over_file<S: Start, R: Read, W: Write>(
@@ -72,11 +23,11 @@ pub(crate) fn run_over_file<S: Start, R: Read, W: Write>(
 ) -> Result<u32, ProgramFault>
     ensures answered { OnOk result (AnswersLines
         ⟦<FileKeeper<S> as Keeper<RingMachine>>⟧
-        (IsKept ⟦<FileKeeper<S> as Keeper<RingMachine>>⟧ (image_at S.Start))
+        (IsKept ⟦<FileKeeper<S> as Keeper<RingMachine>>⟧ (image_at S.Start)) IsAny
         R.remaining W.contents reader.old reader.new writer.old writer.new) }
     ensures failed { IfErr result (FailsLines
         ⟦<FileKeeper<S> as Keeper<RingMachine>>⟧
-        (IsKept ⟦<FileKeeper<S> as Keeper<RingMachine>>⟧ (image_at S.Start))
+        (IsKept ⟦<FileKeeper<S> as Keeper<RingMachine>>⟧ (image_at S.Start)) IsAny
         R.remaining W.contents reader.old reader.new writer.old writer.new) }
 {
     let keeper = match open_store(rt, file, start) {

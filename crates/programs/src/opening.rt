@@ -1,19 +1,33 @@
-//! Opening the store in a file, and books.
+//! Opening and closing the store in a file.
 ghost use Rattle.std.specs.Prelude.{◌≡◌, IfErr, IfOk};
 ghost use Rattle.sqlite_wal.specs.Files.{image_at};
-ghost use Rattle.programs.specs.Opened.{IsBegun, IsKept, IsStoreFault};
-ghost use Rattle.programs.specs.declared.faults.ProgramFault.TheVariants.{StoreFault};
+ghost use Rattle.keeper_programs.specs.Begun.{IsStoreFault};
+ghost use Rattle.programs.specs.Opened.{IsKept};
+ghost use Rattle.programs.specs.Inner.Unopened.{open_fault};
+ghost use Rattle.keeper_programs.specs.declared.faults.ProgramFault.TheVariants.{StoreFault};
 
-use crate::faults::ProgramFault;
 use builder::RingMachine;
-use builder_store::{SqlKeeper, open_from};
-use request_book::{Book, Keeper};
+use builder_store::{FileFault, OpenFault, SqlKeeper, open_from};
+use keeper_programs::ProgramFault;
+use request_book::Keeper;
 use ring_words::Limits;
 use sqlite::{FileFrom, FileStore, Start};
-use std::alloc::Global;
 
 /// Keeps rings and requests in a file and the log beside it.
 pub(crate) type FileKeeper<S> = SqlKeeper<FileStore<FileFrom<S>>>;
+
+/// What is told where the store in a file isn't opened.
+pub(crate) fn open_fault(fault: FileFault) -> ProgramFault
+    ensures { result ≡ open_fault fault }
+{
+    match fault {
+        FileFault::Busy | FileFault::CannotOpen => ProgramFault::StoreFault,
+        FileFault::NoDatabase => ProgramFault::BadStore,
+        FileFault::Opening(OpenFault::NoMemory) => ProgramFault::NoMemory,
+        FileFault::Opening(OpenFault::Store) => ProgramFault::StoreFault,
+        FileFault::Opening(OpenFault::BadRows | OpenFault::BadTables) => ProgramFault::BadStore,
+    }
+}
 
 /// Opens the store in a file, and makes it where it is missing. `start` stands for what the file
 /// and its log hold.
@@ -28,19 +42,8 @@ pub(crate) fn open_store<S: Start>(
 {
     match open_from(rt, file, Limits::full(), start) {
         Ok(keeper) => Ok(keeper),
-        Err(fault) => Err(ProgramFault::from(fault)),
+        Err(fault) => Err(open_fault(fault)),
     }
-}
-
-/// Opens a book over a keeper, under the full limits.
-pub(crate) fn open_book<K: Keeper<RingMachine>>(alloc: Global, keeper: K) -> Book<RingMachine, K>
-    requires { K.fault_count keeper ≡ 0 }
-    ensures { IsBegun (λ k. k ≡ keeper) result }
-{
-    let machine = RingMachine {
-        limits: Limits::full(),
-    };
-    Book::open(alloc, machine, keeper)
 }
 
 /// Closes a store, so that all that it holds is in its file.

@@ -4,26 +4,29 @@ ghost use Rattle.std.specs.Prelude.{string_bytes};
 ghost use Rattle.program_words.specs.Tasks.{AskFor, AskForNothing};
 ghost use Rattle.program_words.specs.declared.task.Task.{Task};
 ghost use Rattle.sqlite_wal.specs.Files.{image_at};
-ghost use Rattle.programs.specs.Faults.{GetsText, fault_line};
+ghost use Rattle.keeper_programs.specs.Begun.{IsAny};
+ghost use Rattle.keeper_programs.specs.Faults.{GetsText, fault_line};
 ghost use Rattle.programs.specs.Opened.{IsKept};
-ghost use Rattle.programs.specs.Serving.{LoopsInput};
+ghost use Rattle.keeper_programs.specs.Serving.{LoopsInput};
 ghost use Rattle.programs.specs.Performed.{EndsBy, EndsSo, FailsSo, FailsToImportFile};
 ghost use Rattle.programs.specs.Performed.{FailsToRun, FailsToShowFile, ImportsFile, Runs};
 ghost use Rattle.programs.specs.Performed.{FailsToLoopFile, ShowsFile};
-ghost use Rattle.programs.specs.declared.faults.ProgramFault.{ProgramFault};
-ghost use Rattle.programs.specs.declared.faults.ProgramFault.TheVariants.{NoMemory};
+ghost use Rattle.keeper_programs.specs.declared.faults.ProgramFault.{ProgramFault};
+ghost use Rattle.keeper_programs.specs.declared.faults.ProgramFault.TheVariants.{NoMemory};
 ghost use Rattle.programs.specs.declared.performing.Ending.TheVariants.{Done, Refused};
 
-use crate::faults::{ProgramFault, tell_fault};
-use crate::hours::hour_of;
-use crate::importing::{ImportAsk, ask_import, import_table};
-use crate::lines::{MemoryKeeper, run_over_file, run_over_memory};
+use crate::importing::import_table;
+use crate::lines::run_over_file;
 use crate::opening::FileKeeper;
 use crate::renewing::{NewFiles, renew_file};
 use crate::serving::{loop_file, serve_file};
-use crate::showing::{Question, ask_nodes, ask_published, ask_tables, show};
+use crate::showing::show;
 use builder::RingMachine;
 use byte_streams::{CountedReader, CountedWriter, write_text};
+use keeper_programs::{
+    ImportAsk, MemoryKeeper, ProgramFault, Question, ask_import, ask_nodes, ask_published,
+    ask_tables, hour_of, run_over_memory, tell_fault,
+};
 use program_words::{ArgsFault, HashNames, Task, task_of};
 use request_book::Keeper;
 use ring_words::Hour;
@@ -136,7 +139,7 @@ fn loop_bytes<S: Start, W: Write>(
     start: S,
 ) -> Result<(), ProgramFault>
     ensures done { OnOk result (LoopsInput ⟦<FileKeeper<S> as Keeper<RingMachine>>⟧
-        (IsKept ⟦<FileKeeper<S> as Keeper<RingMachine>>⟧ (image_at S.Start))
+        (IsKept ⟦<FileKeeper<S> as Keeper<RingMachine>>⟧ (image_at S.Start)) IsAny
         given names.entry W.contents writer.old writer.new None) }
     ensures failed { IfErr result (FailsToLoopFile
         ⟦<FileKeeper<S> as Keeper<RingMachine>>⟧ (image_at S.Start)

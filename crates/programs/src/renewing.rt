@@ -3,14 +3,15 @@ ghost use Rattle.std.specs.Prelude.{◌≡◌, IfErr, IfOk, OnOk};
 ghost use Rattle.sqlite_wal.specs.Files.{image_at};
 ghost use Rattle.builder_store.specs.Making.{rings_alone};
 ghost use Rattle.request_book.specs.Keeper.{LeavesOnly};
-ghost use Rattle.programs.specs.Opened.{IsKept, IsStoreFault};
+ghost use Rattle.keeper_programs.specs.Begun.{IsStoreFault};
+ghost use Rattle.programs.specs.Opened.{IsKept};
 ghost use Rattle.programs.specs.Renewing.{IsMade, IsRead, Renews};
 ghost use Rattle.programs.specs.Inner.Left.{IsLeft};
 
-use crate::faults::ProgramFault;
-use crate::opening::{FileKeeper, close_store, open_store};
+use crate::opening::{FileKeeper, close_store, open_fault, open_store};
 use builder::RingMachine;
 use builder_store::{MakeFault, make_at};
+use keeper_programs::ProgramFault;
 use request_book::{KeepFault, Keeper};
 use ring_model::Rings;
 use ring_words::{Hour, Limits};
@@ -55,7 +56,7 @@ fn make_fault(fault: MakeFault) -> ProgramFault
 {
     match fault {
         MakeFault::Taken => ProgramFault::StoreFault,
-        MakeFault::Opening(cause) => ProgramFault::from(cause),
+        MakeFault::Opening(cause) => open_fault(cause),
     }
 }
 

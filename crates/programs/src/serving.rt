@@ -1,18 +1,15 @@
 //! The programs `serve` and `loop`: requests of HTTP over sockets of this machine.
-ghost use Rattle.std.specs.Prelude.{◌≡◌, IfErr, MatchResult, OnOk};
-ghost use Rattle.http_sockets.specs.declared.fault.ServeFault.TheVariants.{NetFailed};
+ghost use Rattle.std.specs.Prelude.{IfErr, OnOk};
 ghost use Rattle.sqlite_wal.specs.Files.{image_at};
+ghost use Rattle.keeper_programs.specs.Begun.{IsAny};
+ghost use Rattle.keeper_programs.specs.Serving.{FailsToLoop, FailsToLoopInput, FailsToServe};
+ghost use Rattle.keeper_programs.specs.Serving.{LoopsInput, LoopsOnce, ServesConnections};
 ghost use Rattle.programs.specs.Opened.{IsKept};
-ghost use Rattle.programs.specs.Serving.{FailsToLoop, FailsToLoopInput, FailsToServe, IsSet};
-ghost use Rattle.programs.specs.Serving.{LoopsInput, LoopsOnce};
-ghost use Rattle.programs.specs.Serving.{ServesAtMost, ServesConnections, StopsLoop};
 
-use crate::faults::ProgramFault;
-use crate::opening::{FileKeeper, close_store, open_book, open_store};
-use crate::table::read_short;
+use crate::opening::{FileKeeper, close_store, open_store};
 use builder::RingMachine;
 use byte_streams::CountedWriter;
-use http_sockets::{HourClock, ServeFault, loop_over, serve_connections};
+use keeper_programs::{ProgramFault, loop_input, read_short, serve_port};
 use program_words::HashNames;
 use request_book::Keeper;
 use ring_words::{Hour, Port};
@@ -21,36 +18,6 @@ use std::io::{Read, Write};
 
 /// How many bytes an input may have.
 const MOST_INPUT: u32 = 32768;
-
-/// A clock that tells the given hour, or else that of the machine.
-fn new_clock(rt: &HostRuntime, given: Option<Hour>) -> HourClock<&HostRuntime>
-    ensures { IsSet given result }
-{
-    HourClock::new(rt, given)
-}
-
-/// Serves connections of a port over what a keeper holds, and gives the keeper back.
-fn serve_port<K: Keeper<RingMachine>>(
-    rt: &HostRuntime,
-    keeper: K,
-    port: Port,
-    count: u16,
-    given: Option<Hour>,
-    names: HashNames<'_>,
-) -> (Result<(), ServeFault>, K)
-    requires { K.fault_count keeper ≡ 0 }
-    ensures { MatchResult result.0
-        (λ _. ServesConnections K.Keeper (λ k. k ≡ keeper) given names.entry count)
-        (λ cause. (cause ≡ NetFailed)
-        × ServesAtMost K.Keeper (λ k. k ≡ keeper) given names.entry count) }
-{
-    let mut book = open_book(rt.alloc(), keeper);
-    let mut clock = new_clock(rt, given);
-    let prefix = names.prefix.as_bytes();
-    let suffix = names.suffix.as_bytes();
-    let served = serve_connections(rt, port, count, &mut clock, &mut book, prefix, suffix);
-    (served, book.into_keeper())
-}
 
 /// Serves so many connections of a port of 127.0.0.1, one after another, over the store in a file,
 /// and closes it.
@@ -64,10 +31,10 @@ pub(crate) fn serve_file<S: Start>(
     start: S,
 ) -> Result<(), ProgramFault>
     ensures served { OnOk result (ServesConnections ⟦<FileKeeper<S> as Keeper<RingMachine>>⟧
-        (IsKept ⟦<FileKeeper<S> as Keeper<RingMachine>>⟧ (image_at S.Start))
+        (IsKept ⟦<FileKeeper<S> as Keeper<RingMachine>>⟧ (image_at S.Start)) IsAny
         given names.entry count) }
     ensures failed { IfErr result (FailsToServe ⟦<FileKeeper<S> as Keeper<RingMachine>>⟧
-        (IsKept ⟦<FileKeeper<S> as Keeper<RingMachine>>⟧ (image_at S.Start))
+        (IsKept ⟦<FileKeeper<S> as Keeper<RingMachine>>⟧ (image_at S.Start)) IsAny
         given names.entry count) }
 {
     let keeper = match open_store(rt, file, start) {
@@ -82,30 +49,6 @@ pub(crate) fn serve_file<S: Start>(
     }
 }
 
-/// Serves an input by way of a socket over what a keeper holds, writes the answers, and gives the
-/// keeper back.
-fn loop_input<W: Write, K: Keeper<RingMachine>>(
-    rt: &HostRuntime,
-    keeper: K,
-    input: &[u8],
-    given: Option<Hour>,
-    names: HashNames<'_>,
-    writer: &mut CountedWriter<W>,
-) -> (Result<(), ServeFault>, K)
-    requires { K.fault_count keeper ≡ 0 }
-    ensures { MatchResult result.0
-        (λ _. LoopsOnce K.Keeper (λ k. k ≡ keeper) given names.entry W.contents writer.old
-        writer.new)
-        (StopsLoop K.Keeper (λ k. k ≡ keeper) given names.entry W.contents writer.old writer.new) }
-{
-    let mut book = open_book(rt.alloc(), keeper);
-    let mut clock = new_clock(rt, given);
-    let prefix = names.prefix.as_bytes();
-    let suffix = names.suffix.as_bytes();
-    let looped = loop_over(rt, input, writer, &mut clock, &mut book, prefix, suffix);
-    (looped, book.into_keeper())
-}
-
 /// Serves an input over the store in a file, and closes it.
 fn loop_store<S: Start, W: Write>(
     rt: &HostRuntime,
@@ -117,10 +60,10 @@ fn loop_store<S: Start, W: Write>(
     start: S,
 ) -> Result<(), ProgramFault>
     ensures looped { OnOk result (LoopsOnce ⟦<FileKeeper<S> as Keeper<RingMachine>>⟧
-        (IsKept ⟦<FileKeeper<S> as Keeper<RingMachine>>⟧ (image_at S.Start))
+        (IsKept ⟦<FileKeeper<S> as Keeper<RingMachine>>⟧ (image_at S.Start)) IsAny
         given names.entry W.contents writer.old writer.new) }
     ensures failed { IfErr result (FailsToLoop ⟦<FileKeeper<S> as Keeper<RingMachine>>⟧
-        (IsKept ⟦<FileKeeper<S> as Keeper<RingMachine>>⟧ (image_at S.Start))
+        (IsKept ⟦<FileKeeper<S> as Keeper<RingMachine>>⟧ (image_at S.Start)) IsAny
         given names.entry W.contents writer.old writer.new) }
 {
     let keeper = match open_store(rt, file, start) {
@@ -147,10 +90,10 @@ pub(crate) fn loop_file<S: Start, R: Read + Drop, W: Write>(
     start: S,
 ) -> Result<(), ProgramFault>
     ensures looped { OnOk result (LoopsInput ⟦<FileKeeper<S> as Keeper<RingMachine>>⟧
-        (IsKept ⟦<FileKeeper<S> as Keeper<RingMachine>>⟧ (image_at S.Start))
+        (IsKept ⟦<FileKeeper<S> as Keeper<RingMachine>>⟧ (image_at S.Start)) IsAny
         given names.entry W.contents writer.old writer.new (R.remaining input)) }
     ensures failed { IfErr result (FailsToLoopInput ⟦<FileKeeper<S> as Keeper<RingMachine>>⟧
-        (IsKept ⟦<FileKeeper<S> as Keeper<RingMachine>>⟧ (image_at S.Start))
+        (IsKept ⟦<FileKeeper<S> as Keeper<RingMachine>>⟧ (image_at S.Start)) IsAny
         given names.entry W.contents writer.old writer.new (R.remaining input)) }
 {
     let input = match read_short(rt.alloc(), input, MOST_INPUT) {

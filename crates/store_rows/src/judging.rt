@@ -5,13 +5,12 @@ ghost use Rattle.ring_words.specs.Spelling.{Reads};
 ghost use Rattle.store_rows.specs.Stands.{AreRings};
 ghost use Rattle.store_rows.specs.Inner.Found.{Finds};
 ghost use Rattle.std.specs.Prelude.{map, pos, true};
-ghost use Rattle.store_tables.specs.Contents.{meta_of, part_of};
-ghost use Rattle.store_tables.specs.declared.changes.RowChange.TheVariants.{PutPart};
-ghost use Rattle.store_tables.specs.declared.rows.PartRow.{PartRow};
+ghost use Rattle.store_contents.specs.Contents.{meta_of, part_of, Contents};
+ghost use Rattle.store_contents.specs.declared.change.RowChange.TheVariants.{PutPart};
+ghost use Rattle.store_contents.specs.declared.rows.PartRow.{PartRow};
 ghost use Rattle.store_rows.specs.Stands.{meta_value};
 ghost use Rattle.store_rows.specs.RingRows.{part_entries};
 ghost use Rattle.store_rows.specs.Inner.Sayings.{SayPlaces, SayRings};
-ghost use Rattle.store_tables.specs.Contents.{Contents};
 ghost use Rattle.store_rows.specs.Judging.{AreRowsOf, Judges};
 
 use crate::books::judge_book;
@@ -26,7 +25,7 @@ use crate::rings_reading::read_rings;
 use ring_model::Rings;
 use ring_words::{Hour, SpellingFault};
 use std::alloc::{AllocError, Global};
-use store_tables::{
+use store_contents::{
     DeviceRow, MetaRow, MovedRow, PartRow, PublishedRow, RequestRow, RingRow, RowChange, SeatRow,
 };
 

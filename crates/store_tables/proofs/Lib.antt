@@ -1,5 +1,5 @@
 pub mod Plain
-pub mod Keys
+pub mod Ties
 pub mod Tables
 pub mod Living
 pub mod Steps

@@ -1,6 +1,6 @@
 -- From what a query shows to what a reading call promises.
-use Rattle.std.proofs.Common.{◌≡◌, ◌∙◌, ℕ, List, [], Ok, Err, Result, IfOk, ap, arith, map}
-use Rattle.std.proofs.Common.{refl, sym}
+use Rattle.std.proofs.Common.{◌≡◌, ◌∙◌, ℕ, List, [], Ok, Err, Result, IfOk, ap, arith, map, refl}
+use Rattle.std.proofs.Common.{sym}
 use Rattle.std.specs.FinMap.{entries}
 use Rattle.std.specs.Prelude.{OnOk}
 use Rattle.std.proofs.lemmas.Result.{IfOk-weaker}
@@ -12,7 +12,8 @@ use Rattle.sqlite.specs.State.{State, HasCleanDisk, Shown, Survives, CommitsShow
 use Rattle.sqlite.proofs.Callers.{IsPlain, command_of, reads_as}
 use Rattle.sqlite_trees.specs.Tree.{Trees}
 use Rattle.store_tables.specs.Tables.{store_schema}
-use Rattle.store_tables.specs.Contents.{Contents, contents_of}
+use Rattle.store_contents.specs.Contents.{Contents}
+use Rattle.store_tables.specs.Contents.{contents_of}
 use Rattle.store_tables.specs.Entries.{Layout, map_of}
 use Rattle.store_tables.specs.Shown.{Lists, shown_as}
 use Rattle.store_tables.specs.Store.{IsStore, ReadsTables, SeesStore}

@@ -2,7 +2,6 @@ pub mod Plain
 pub mod Tables
 pub mod Entries
 pub mod Contents
-pub mod Changes
 pub mod Store
 pub mod Shown
 pub mod Inner

@@ -2,8 +2,8 @@
 
 ghost use Rattle.std.specs.Prelude.{◌≡◌, ◌≤◌, false};
 ghost use Rattle.sqlite.specs.Held.{state};
-ghost use Rattle.store_tables.specs.Changes.{changed, changed_all, prepared, with_decided};
-ghost use Rattle.store_tables.specs.Changes.{with_kept};
+ghost use Rattle.store_contents.specs.Changes.{changed, changed_all, prepared, with_decided};
+ghost use Rattle.store_contents.specs.Changes.{with_kept};
 ghost use Rattle.sqlite.specs.State.{HasCleanDisk};
 ghost use Rattle.store_tables.specs.Contents.{contents_of};
 ghost use Rattle.store_tables.specs.Inner.Writing.{Writes};
@@ -11,22 +11,11 @@ ghost use Rattle.store_tables.specs.Store.{CommitsTables, IsBegun, Reaches, Sees
 ghost use Rattle.store_tables.specs.Store.{begun_contents};
 
 use crate::creating::create_missing;
-use crate::rows::{DeviceKey, DeviceRow, MetaRow, PartRow, PublishedRow, RequestRow, RingRow};
 use crate::writes::{
     add_device, add_request, clear_moved, clear_seats, drop_device, put, put_published,
 };
 use sqlite::{Alter, Connection, Error, Transaction};
-
-/// A change of one row. A device is dropped and added again where it changes, since no two of a
-/// ring may share an address, port and name.
-#[derive(Debug, Drop)]
-pub enum RowChange {
-    DropDevice(DeviceKey),
-    PutRing(RingRow),
-    AddDevice(DeviceRow),
-    PutPart(PartRow),
-    PutPublished(PublishedRow),
-}
+use store_contents::{MetaRow, RequestRow, RowChange};
 
 /// Makes one change.
 fn apply_one<S: Alter>(tx: &mut Transaction<'_, S>, change: &RowChange) -> Result<(), Error>

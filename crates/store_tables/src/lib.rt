@@ -6,14 +6,9 @@ mod creating;
 mod matching;
 mod opening;
 mod reads;
-mod rows;
 mod writes;
 
-pub use changes::{RowChange, commit_decided, commit_request, prepare_store};
+pub use changes::{commit_decided, commit_request, prepare_store};
 pub use creating::{TABLE_COUNT, create_missing};
 pub use opening::{is_blank, tables_made};
 pub use reads::{all_rows, find_request};
-pub use rows::{
-    DeviceKey, DeviceRow, KeptRequest, MetaRow, MovedRow, PartRow, PublishedRow, RequestRow,
-    RingRow, SeatRow,
-};

@@ -4,8 +4,8 @@ use ring_model::{Ring, Rings};
 use ring_words::{Power, Replicas, RingName};
 use std::alloc::Global;
 use std::test::Fail;
+use store_contents::RowChange;
 use store_rows::{Change, grows};
-use store_tables::RowChange;
 
 /// How many rows differ, and how many changes of rows there are.
 fn between(alloc: Global, old: &Rings, new: &Rings) -> Result<(usize, usize), Fail> {

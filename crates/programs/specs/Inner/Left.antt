@@ -1,6 +1,6 @@
 -- What a crash leaves.
 use Rattle.request_book.specs.Keeper.{LeavesOnly}
-use Rattle.programs.specs.Opened.{Keeping}
+use Rattle.keeper_programs.specs.Begun.{Keeping}
 
 -- A crash leaves what a keeper holds, and nothing else, if its disk returned what was written.
 pub record IsLeft {K : Type 0} (g : Keeping K) (keeper : K) : Type 0 where

@@ -1,6 +1,6 @@
 -- Rows as a map, whatever the table.
 use Rattle.std.proofs.Common.{◌≡◌, ◌⊎◌, inl, inr, ℤ, Bool, true, false, not, cond, List, [], ◌∷◌}
-use Rattle.std.proofs.Common.{map, Some, None, Ordering, Equal, IsTrue, refl, sym, ap, subst, ◌∙◌}
+use Rattle.std.proofs.Common.{map, Some, None, Ordering, IsTrue, refl, sym, ap, subst, ◌∙◌}
 use Rattle.std.proofs.Common.{true≢false}
 use Rattle.std.specs.List.{AllByRecursion}
 use Rattle.std.specs.Cmp.{IsTotalOrder}
@@ -20,10 +20,7 @@ use Rattle.sqlite_rules.proofs.ListLemmas.{all_has, has_filtered}
 use Rattle.sqlite_rules.proofs.ProbeLemmas.{has_mapped, mapped_has}
 use Rattle.sqlite_rules.proofs.TableLemmas.{int_is, has_put, put_has, put_all_keeps}
 use Rattle.sqlite_rules.proofs.PlaceLemmas.{row_at_is, left_or_taken}
-
-pub tied : (o : Ordering) → is_eq o ≡ true → o ≡ Equal
-tied Equal h = refl
-tied _ h = absurd (true≢false (sym h))
+use Rattle.store_contents.proofs.Keys.{tied}
 
 -- a row that is left was there, and has none of the rowids
 left_from : (ids : List ℤ) (rows : List Row) (x : Row) → Has (without_all rows ids) x

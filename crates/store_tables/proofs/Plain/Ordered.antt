@@ -1,31 +1,25 @@
 -- Rows in the order of their keys, as the entries of the map that they stand for.
-use Rattle.std.proofs.Common.{◌≡◌, ◌⊎◌, inl, inr, suc, ◌+◌, true, false, List, [], ◌∷◌, map, Some}
-use Rattle.std.proofs.Common.{None, Ordering, Less, Equal, Greater, refl, sym, ap, subst, ◌∙◌}
-use Rattle.std.proofs.Common.{true≢false, arith, T, get_or}
+use Rattle.std.proofs.Common.{◌≡◌, inl, inr, suc, ◌+◌, true, false, List, [], ◌∷◌, map, Ordering}
+use Rattle.std.proofs.Common.{Less, Equal, Greater, refl, sym, ap, subst, ◌∙◌, true≢false, arith}
+use Rattle.std.proofs.Common.{get_or}
 use Rattle.std.specs.List.{IsDistinct}
 use Rattle.std.specs.List.Sorted.{IsPermutation, IsSorted}
 use Rattle.std.specs.Cmp.{IsTotalOrder}
 use Rattle.std.specs.Ordering.{is_eq, is_lt, eq_by_cmp, ordering_reverse}
-use Rattle.std.specs.FinMap.{from_entries, from_sorted, entries, find, is_sorted}
-use Rattle.std.specs.FinMap.{entries-from_sorted, get-from_sorted, get-from_entries, same_map}
-use Rattle.std.specs.FinMap.{IsAntisymmetric}
+use Rattle.std.specs.FinMap.{entries, is_sorted, IsAntisymmetric}
 use Rattle.std.specs.FinMap.Entries.{below_all}
 use Rattle.std.proofs.lemmas.Bool.{cases_Bool, and_from, and_parts}
-use Rattle.std.proofs.lemmas.Cmp.{tied_itself, eq_by_cmp_equiv}
-use Rattle.std.proofs.lemmas.Map.Keys.{IsDistinct-IsPermutation, IsDistinct-head, IsDistinct-tail}
-use Rattle.std.proofs.lemmas.List.Sorted.{IsPermutation-map, Contains-permutation}
-use Rattle.std.proofs.lemmas.List.Sorted.{IsPermutation-sym}
+use Rattle.std.proofs.lemmas.Cmp.{tied_itself}
+use Rattle.std.proofs.lemmas.Map.Keys.{IsDistinct-head, IsDistinct-tail}
+use Rattle.std.proofs.lemmas.List.Sorted.{Contains-permutation}
 use Rattle.sqlite_value.specs.Order.{Row, value_cmp}
 use Rattle.sqlite_value.proofs.OrderLemmas.{value_cmp_total}
 use Rattle.sqlite_trees.specs.Tree.{rowid, IsTable}
 use Rattle.sqlite_rules.specs.Lists.{Has}
 use Rattle.sqlite_rules.proofs.ListLemmas.{all_has, all_from, has_contained, contains_had}
-use Rattle.sqlite_rules.proofs.ProbeLemmas.{has_mapped, mapped_has}
+use Rattle.sqlite_rules.proofs.ProbeLemmas.{has_mapped}
+use Rattle.store_contents.proofs.Keys.{tied}
 use Rattle.store_tables.proofs.Plain.Maps.{AreApart}
-
-tied : (o : Ordering) → is_eq o ≡ true → o ≡ Equal
-tied Equal h = refl
-tied _ h = absurd (true≢false (sym h))
 
 pub moved : {X : Type 0} (xs ys : List X) (x : X) → IsPermutation xs ys → Has xs x → Has ys x
 moved xs ys x p h = has_contained ys x (Contains-permutation xs ys x p (contains_had xs x h))
@@ -53,59 +47,6 @@ module _ {K V : Type 0} {R : K → K → Ordering} (o : IsTotalOrder R) (exact :
   where
     abbrev keys : List (K × V) → List K
     keys es = map (λ (e : K × V). e.0) es
-
-    found_in : (es : List (K × V)) (e : K × V) → IsDistinct (eq_by_cmp R) (keys es) → Has es e
-        → find R e.0 es ≡ Some e.1
-    found_in [] e apart h = absurd h
-    found_in (x ∷ es) e apart (inl same) = rw (same, tied_itself o x.0)
-    found_in (x ∷ es) e apart (inr later) =
-        let other = all_has _ (keys es) e.0 (IsDistinct-head (eq_by_cmp R) x.0 (keys es) apart)
-        (mapped_has (λ (y : K × V). y.0) es e later) in
-        let back : eq_by_cmp R e.0 x.0 ≡ false = (eq_by_cmp_equiv o).symm e.0 x.0 ∙ other in
-        rw back (found_in es e (IsDistinct-tail (eq_by_cmp R) x.0 (keys es) apart) later)
-
-    none_in : (es : List (K × V)) (q : K) → ((e : K × V) → Has es e → eq_by_cmp R q e.0 ≡ false)
-        → find R q es ≡ None
-    none_in [] q none = refl
-    none_in (x ∷ es) q none = rw (none x (inl refl)) (none_in es q (λ e h. none e (inr h)))
-
-    in_or_not : (es : List (K × V)) (q : K) → ((e : K × V) × Has es e × (q ≡ e.0)) ⊎ ((e : K × V)
-        → Has es e → eq_by_cmp R q e.0 ≡ false)
-    in_or_not [] q = inr (λ e none. absurd none)
-    in_or_not (x ∷ es) q = elim (cases_Bool (eq_by_cmp R q x.0)) [
-      | inl here ↦ inl (x, inl refl, exact _ _ (tied _ here))
-      | inr other ↦ elim (in_or_not es q) [
-        | inl some ↦ inl (some.0, inr some.1, some.2)
-        | inr none ↦ inr (λ e h. elim h [ inl same ↦ rw same other | inr later ↦ none e later ])
-      ]
-    ]
-
-    find_permuted : (es fs : List (K × V)) → IsPermutation es fs
-        → IsDistinct (eq_by_cmp R) (keys es) → IsDistinct (eq_by_cmp R) (keys fs) → (q : K)
-        → find R q fs ≡ find R q es
-    find_permuted es fs p apart still q = elim (in_or_not es q) [
-      | inl some ↦ subst (λ k. find R k fs ≡ find R k es) (sym some.2) (found_in fs some.0 still
-          (moved es fs some.0 p some.1) ∙ sym (found_in es some.0 apart some.1))
-      | inr none ↦ none_in fs q (λ e h. none e (moved fs es e (IsPermutation-sym es fs p) h)) ∙ sym
-          (none_in es q none)
-    ]
-
-    pub keys_stay : (es fs : List (K × V)) → IsPermutation es fs
-        → IsDistinct (eq_by_cmp R) (keys es) → IsDistinct (eq_by_cmp R) (keys fs)
-    keys_stay es fs p = IsDistinct-IsPermutation (eq_by_cmp R) (eq_by_cmp_equiv o).symm (keys es)
-        (keys fs) (IsPermutation-map (λ (e : K × V). e.0) es fs p)
-
-    -- entries whose keys strictly rise are those of the map
-    pub entries_are : (es fs : List (K × V)) → IsPermutation es fs
-        → IsDistinct (eq_by_cmp R) (keys es) → is_sorted R fs ≡ true
-        → entries (from_entries {R = R} es) ≡ fs
-    entries_are es fs p apart up =
-        let still = keys_stay es fs p apart in
-        let rises = subst T (sym up) tt in
-        let same : from_entries {R = R} es ≡ from_sorted {R = R} fs =
-        same_map o exact _ _ (λ q. get-from_entries o es q ∙ sym (get-from_sorted R fs q rises ∙
-        find_permuted es fs p apart still q)) in
-        ap entries same ∙ entries-from_sorted R fs rises
 
     below_trans : (x y : K) (es : List (K × V)) → R x y ≡ Less → below_all R y es ≡ true
         → below_all R x es ≡ true

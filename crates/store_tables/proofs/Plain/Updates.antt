@@ -1,7 +1,7 @@
 -- What an UPDATE of the row of a key makes of the map of a table.
 use Rattle.std.proofs.Common.{◌≡◌, inl, inr, ℕ, ◌<◌, ℤ, true, List, [], ◌∷◌, map, filter, drop}
-use Rattle.std.proofs.Common.{length, slice_get, Some, None, Option, Ok, Result, refl, sym, ap, subst}
-use Rattle.std.proofs.Common.{◌∙◌, arith, unwrap_or}
+use Rattle.std.proofs.Common.{length, slice_get, Some, None, Option, Ok, Result, refl, sym, ap}
+use Rattle.std.proofs.Common.{subst, ◌∙◌, arith, unwrap_or}
 use Rattle.std.specs.List.Sorted.{IsPermutation}
 use Rattle.std.specs.Ordering.{eq_by_cmp}
 use Rattle.std.specs.FinMap.{insert}
@@ -42,7 +42,8 @@ use Rattle.std.proofs.lemmas.Bool.{and_parts}
 use Rattle.store_tables.specs.Plain.{Plain, table_of}
 use Rattle.store_tables.specs.Entries.{Layout, map_of}
 use Rattle.store_tables.proofs.Plain.Values.{left_shaped}
-use Rattle.store_tables.proofs.Plain.Maps.{tied, left_out, left_in, Puts, put_is}
+use Rattle.store_contents.proofs.Keys.{tied}
+use Rattle.store_tables.proofs.Plain.Maps.{left_out, left_in, Puts, put_is}
 use Rattle.store_tables.proofs.Plain.Ordered.{moved}
 use Rattle.store_tables.proofs.Plain.Writes.{AreShaped, Spares, went, same_value, concluded}
 use Rattle.store_tables.proofs.Plain.Writes.{still_shaped}

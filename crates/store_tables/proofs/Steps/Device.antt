@@ -4,18 +4,18 @@ use Rattle.std.specs.FinMap.{FinMap}
 use Rattle.sqlite_trees.specs.Tree.{Trees}
 use Rattle.sqlite.specs.State.{State, Executes}
 use Rattle.store_tables.specs.Tables.{store_schema}
-use Rattle.store_tables.specs.Entries.{map_of, NameNumber, Device, meta_rows, ring_rows}
-use Rattle.store_tables.specs.Entries.{device_rows, seat_rows, moved_rows, published_rows}
-use Rattle.store_tables.specs.Entries.{request_rows, part_rows}
-use Rattle.store_tables.specs.Contents.{contents_of, with_device, without_device}
+use Rattle.store_contents.specs.Entries.{NameNumber, Device}
+use Rattle.store_tables.specs.Entries.{map_of, meta_rows, ring_rows, device_rows, seat_rows}
+use Rattle.store_tables.specs.Entries.{moved_rows, published_rows, request_rows, part_rows}
+use Rattle.store_contents.specs.Contents.{with_device, without_device}
+use Rattle.store_tables.specs.Contents.{contents_of}
 use Rattle.store_tables.specs.Store.{IsStore, Becomes}
 use Rattle.store_tables.specs.Inner.Texts.{put_device, drop_device}
 use Rattle.store_tables.proofs.Plain.Writes.{Spares}
 use Rattle.store_tables.proofs.Plain.Adds.{adds_row}
 use Rattle.store_tables.proofs.Plain.Drops.{drops_row}
 use Rattle.store_tables.proofs.Tables.Device.{device_facts, device_params, device_adds}
-use Rattle.store_tables.proofs.Tables.Device.{device_drops, key_params}
-use Rattle.store_tables.proofs.Tables.Device.{by_key}
+use Rattle.store_tables.proofs.Tables.Device.{device_drops, key_params, by_key}
 use Rattle.store_tables.proofs.Living.{lives_in, store_from}
 
 -- only this table changed

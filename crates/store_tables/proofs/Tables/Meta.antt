@@ -1,6 +1,5 @@
 -- The rows of `meta`, and what the statements on it mean.
-use Rattle.std.proofs.Common.{length, ◌==◌}
-use Rattle.std.proofs.Common.{◌≡◌, inl, inr, ℕ, ℤ, List, [], ◌∷◌, codes, Some, false, refl, ◌&&◌}
+use Rattle.std.proofs.Common.{length, ◌==◌, ◌≡◌, inl, inr, ℤ, List, [], ◌∷◌, codes, false, refl}
 use Rattle.std.specs.Ordering.{int_cmp, eq_by_cmp}
 use Rattle.std.specs.Cmp.{int_cmp_total}
 use Rattle.std.specs.FinMap.{int_cmp-IsAntisymmetric}
@@ -21,7 +20,8 @@ use Rattle.sqlite_tied.specs.Compute.{everything}
 use Rattle.sqlite.specs.Listing.{understood, reads_listing}
 use Rattle.sqlite.proofs.Callers.{IsPlain, command_of}
 use Rattle.store_tables.specs.Tables.{store_schema}
-use Rattle.store_tables.specs.Entries.{Meta, meta_rows}
+use Rattle.store_contents.specs.Entries.{Meta}
+use Rattle.store_tables.specs.Entries.{meta_rows}
 use Rattle.store_tables.specs.Inner.Texts.{put_meta, set_meta, list_meta}
 use Rattle.store_tables.proofs.Plain.Values.{cast_null, cast_int, equal_ints, alone}
 use Rattle.store_tables.proofs.Plain.Shapes.{present, shape_of}
@@ -29,7 +29,7 @@ use Rattle.store_tables.proofs.Plain.Facts.{Facts}
 use Rattle.store_tables.proofs.Plain.Puts.{PutText}
 use Rattle.store_tables.proofs.Plain.Updates.{SetText}
 use Rattle.store_tables.proofs.Plain.Queries.{ListText, of_table, passes}
-use Rattle.store_tables.proofs.Keys.{first_of, or_false}
+use Rattle.store_tables.proofs.Ties.{first_of, or_false}
 use Rattle.std.proofs.lemmas.Bool.{and_parts, cases_Bool}
 
 pub agrees : (id : ℤ) (k : ℤ) (v : Meta) (id′ : ℤ) (k′ : ℤ) (v′ : Meta)

@@ -1,6 +1,5 @@
 -- The rows of `part`, and what the statements on it mean.
-use Rattle.std.proofs.Common.{length, ◌==◌}
-use Rattle.std.proofs.Common.{◌≡◌, inl, inr, ℤ, List, [], ◌∷◌, codes, false, refl}
+use Rattle.std.proofs.Common.{length, ◌==◌, ◌≡◌, inl, inr, ℤ, List, [], ◌∷◌, codes, false, refl}
 use Rattle.std.specs.Ordering.{int_cmp, eq_by_cmp}
 use Rattle.sqlite.specs.declared.types.Value.TheVariants.{Null, Int, Text, Blob}
 use Rattle.sqlite_value.specs.Order.{Row}
@@ -18,7 +17,8 @@ use Rattle.sqlite_tied.specs.Compute.{everything}
 use Rattle.sqlite.specs.Listing.{understood, reads_listing}
 use Rattle.sqlite.proofs.Callers.{IsPlain, command_of}
 use Rattle.store_tables.specs.Tables.{store_schema}
-use Rattle.store_tables.specs.Entries.{NameNumber, name_cmp, Part, part_rows}
+use Rattle.store_contents.specs.Entries.{NameNumber, name_cmp, Part}
+use Rattle.store_tables.specs.Entries.{part_rows}
 use Rattle.store_tables.specs.Inner.Texts.{add_part, set_part, list_part}
 use Rattle.store_tables.proofs.Plain.Values.{cast_null, cast_int, equal_ints, equal_texts}
 use Rattle.store_tables.proofs.Plain.Values.{both_equal}
@@ -27,7 +27,8 @@ use Rattle.store_tables.proofs.Plain.Facts.{Facts}
 use Rattle.store_tables.proofs.Plain.Adds.{AddText}
 use Rattle.store_tables.proofs.Plain.Updates.{SetText}
 use Rattle.store_tables.proofs.Plain.Queries.{ListText, of_table, passes}
-use Rattle.store_tables.proofs.Keys.{name_number_total, name_number_exact, then_equal}
+use Rattle.store_contents.proofs.Keys.{name_number_total, name_number_exact}
+use Rattle.store_tables.proofs.Ties.{then_equal}
 use Rattle.std.proofs.lemmas.Bool.{and_parts, cases_Bool}
 
 pub agrees : (id : ℤ) (k : NameNumber) (v : Part) (id′ : ℤ) (k′ : NameNumber) (v′ : Part)

@@ -1,8 +1,6 @@
 -- The rows of `published`, and what the statements on it mean.
-use Rattle.std.proofs.Common.{◌≡◌, inl, inr, ℕ, ℤ, List, [], ◌∷◌, codes, Some, false, refl, ◌&&◌}
+use Rattle.std.proofs.Common.{◌≡◌, inl, inr, ℕ, ℤ, List, [], ◌∷◌, codes, false, refl}
 use Rattle.std.specs.Ordering.{int_cmp, eq_by_cmp}
-use Rattle.std.specs.Cmp.{int_cmp_total}
-use Rattle.std.specs.FinMap.{int_cmp-IsAntisymmetric}
 use Rattle.sqlite.specs.declared.types.Value.TheVariants.{Null, Int, Text}
 use Rattle.sqlite_value.specs.Order.{Row}
 use Rattle.sqlite_value.proofs.OrderLemmas.{value_cmp-Int, value_cmp-Text}
@@ -18,7 +16,8 @@ use Rattle.sqlite_tied.specs.Compute.{everything}
 use Rattle.sqlite.specs.Listing.{understood, reads_listing}
 use Rattle.sqlite.proofs.Callers.{IsPlain, command_of}
 use Rattle.store_tables.specs.Tables.{store_schema}
-use Rattle.store_tables.specs.Entries.{NameNumber, name_cmp, published_rows}
+use Rattle.store_contents.specs.Entries.{NameNumber, name_cmp}
+use Rattle.store_tables.specs.Entries.{published_rows}
 use Rattle.store_tables.specs.Inner.Texts.{put_published, list_published}
 use Rattle.store_tables.proofs.Plain.Values.{cast_null, cast_int, equal_ints, equal_texts}
 use Rattle.store_tables.proofs.Plain.Values.{both_equal}
@@ -26,7 +25,8 @@ use Rattle.store_tables.proofs.Plain.Shapes.{present, shape_of}
 use Rattle.store_tables.proofs.Plain.Facts.{Facts}
 use Rattle.store_tables.proofs.Plain.Puts.{PutText}
 use Rattle.store_tables.proofs.Plain.Queries.{ListText, of_table}
-use Rattle.store_tables.proofs.Keys.{name_number_total, name_number_exact, then_equal, or_false}
+use Rattle.store_contents.proofs.Keys.{name_number_total, name_number_exact}
+use Rattle.store_tables.proofs.Ties.{then_equal, or_false}
 use Rattle.std.proofs.lemmas.Bool.{and_parts}
 
 pub agrees : (id : ℤ) (k : NameNumber) (v : List ℕ) (id′ : ℤ) (k′ : NameNumber) (v′ : List ℕ)

@@ -1,9 +1,6 @@
 -- The rows of `ring`, and what the statements on it mean.
-use Rattle.std.proofs.Common.{length, ◌==◌}
-use Rattle.std.proofs.Common.{◌≡◌, inl, inr, ℕ, ℤ, List, [], ◌∷◌, codes, Some, false, refl, ◌&&◌}
+use Rattle.std.proofs.Common.{length, ◌==◌, ◌≡◌, inl, inr, ℕ, ℤ, List, [], ◌∷◌, codes, false, refl}
 use Rattle.std.specs.Ordering.{int_cmp, eq_by_cmp}
-use Rattle.std.specs.Cmp.{int_cmp_total}
-use Rattle.std.specs.FinMap.{int_cmp-IsAntisymmetric}
 use Rattle.sqlite.specs.declared.types.Value.TheVariants.{Null, Int, Text}
 use Rattle.sqlite_value.specs.Order.{Row}
 use Rattle.sqlite_value.proofs.OrderLemmas.{value_cmp-Text}
@@ -21,7 +18,8 @@ use Rattle.sqlite_tied.specs.Compute.{everything}
 use Rattle.sqlite.specs.Listing.{understood, reads_listing}
 use Rattle.sqlite.proofs.Callers.{IsPlain, command_of}
 use Rattle.store_tables.specs.Tables.{store_schema}
-use Rattle.store_tables.specs.Entries.{name_cmp, Ring, ring_rows}
+use Rattle.store_contents.specs.Entries.{name_cmp, Ring}
+use Rattle.store_tables.specs.Entries.{ring_rows}
 use Rattle.store_tables.specs.Inner.Texts.{put_ring, set_ring, list_ring}
 use Rattle.store_tables.proofs.Plain.Values.{cast_null, cast_int, equal_ints, equal_texts, alone}
 use Rattle.store_tables.proofs.Plain.Shapes.{present, shape_of}
@@ -29,7 +27,8 @@ use Rattle.store_tables.proofs.Plain.Facts.{Facts}
 use Rattle.store_tables.proofs.Plain.Puts.{PutText}
 use Rattle.store_tables.proofs.Plain.Updates.{SetText}
 use Rattle.store_tables.proofs.Plain.Queries.{ListText, of_table, passes}
-use Rattle.store_tables.proofs.Keys.{name_total, name_exact, first_of, or_false}
+use Rattle.store_contents.proofs.Keys.{name_total, name_exact}
+use Rattle.store_tables.proofs.Ties.{first_of, or_false}
 use Rattle.std.proofs.lemmas.Bool.{and_parts, cases_Bool}
 
 pub agrees : (id : ℤ) (k : List ℕ) (v : Ring) (id′ : ℤ) (k′ : List ℕ) (v′ : Ring)

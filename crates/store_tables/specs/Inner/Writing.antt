@@ -2,7 +2,8 @@
 use Rattle.std.specs.Prelude.{Result}
 use Rattle.sqlite.specs.State.{State}
 use Rattle.sqlite.specs.declared.error.Error.{Error}
-use Rattle.store_tables.specs.Contents.{Contents, contents_of}
+use Rattle.store_contents.specs.Contents.{Contents}
+use Rattle.store_tables.specs.Contents.{contents_of}
 use Rattle.store_tables.specs.Store.{Reaches}
 
 -- A call within a transaction that makes this change to the contents.

@@ -1,5 +1,5 @@
 use Rattle.programs.proofs.Renewals.{read_kept}
-use Rattle.programs.proofs.Runs.{at_value}
+use Rattle.keeper_programs.proofs.Runs.{at_value}
 use Rattle.programs.proofs.renewing.read_store.Goals as goal
 
 pub returns-in-Ok-closed-clause-found : goal.returns-in-Ok-closed-clause-found

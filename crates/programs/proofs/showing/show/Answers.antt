@@ -1,5 +1,5 @@
 use Rattle.std.proofs.Common.{◌∙◌, ap, inr}
-use Rattle.programs.specs.Faults.{stream_fault}
+use Rattle.keeper_programs.specs.Faults.{stream_fault}
 use Rattle.programs.proofs.showing.show.Goals as goal
 
 pub returns-in-Ok-write_text-clause-shown : goal.returns-in-Ok-write_text-clause-shown

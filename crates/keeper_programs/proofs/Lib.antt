@@ -1,0 +1,3 @@
+pub mod BadTables
+pub mod Runs
+pub mod Services

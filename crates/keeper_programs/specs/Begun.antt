@@ -1,0 +1,41 @@
+-- Books as programs open them.
+use Rattle.std.specs.Prelude.{◌≡◌, ⊤, []}
+use Rattle.builder.specs.Step.{State}
+use Rattle.builder.specs.declared.machine.RingMachine.{RingMachine}
+use Rattle.request_book.specs.Book.{Parts}
+use Rattle.request_book.specs.declared.keeper.Keeper.{Ghosts}
+use Rattle.ring_words.specs.declared.command.Command.{Command}
+use Rattle.ring_words.specs.declared.command.Reply.{Reply}
+use Rattle.keeper_programs.specs.declared.faults.ProgramFault.{ProgramFault}
+use Rattle.keeper_programs.specs.declared.faults.ProgramFault.TheVariants as fault
+
+-- what contracts see of a keeper of the builder
+abbrev pub Keeping : Type 0 → Type 1
+Keeping K = Ghosts K RingMachine State Command Reply
+
+-- A book of the builder as a program opens it: under the full limits, over a keeper that begins so.
+pub record IsBegun {K : Type 0} (Begins : K → Type 0) (book : Parts RingMachine K) : Type 0 where
+  pub rings : book.machine.limits.rings ≡ 16
+  pub devices : book.machine.limits.devices ≡ 256
+  pub ids : book.machine.limits.ids ≡ 65536
+  pub versions : book.machine.limits.versions ≡ 1000
+  pub keeper : Begins book.keeper
+
+-- Nothing is said of the keeper.
+abbrev pub IsAny : {K : Type 0} → K → Type 0
+IsAny keeper = ⊤
+
+-- A keeper begins with no ring, no request, and hour 0, and keeps 100,000 requests.
+pub record IsNew {K : Type 0} (g : Keeping K) (keeper : K) : Type 0 where
+  pub state : (g.content keeper).state ≡ []
+  pub book : (g.content keeper).book ≡ []
+  pub hour : (g.content keeper).hour ≡ 0
+  pub limit : g.limit keeper ≡ 100000
+
+-- The fault is one of the store's: its files can't be opened or made, it failed, they hold none, or
+-- there is no memory.
+abbrev pub IsStoreFault : ProgramFault → Type 0
+IsStoreFault fault.StoreFault = ⊤
+IsStoreFault fault.BadStore = ⊤
+IsStoreFault fault.NoMemory = ⊤
+IsStoreFault _ = ⊥

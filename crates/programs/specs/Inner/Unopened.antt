@@ -1,0 +1,16 @@
+-- Stores that are not opened.
+use Rattle.builder_store.specs.declared.fault.FileFault.{FileFault}
+use Rattle.builder_store.specs.declared.fault.FileFault.TheVariants as file
+use Rattle.builder_store.specs.declared.fault.OpenFault.TheVariants as opening
+use Rattle.keeper_programs.specs.declared.faults.ProgramFault.{ProgramFault}
+use Rattle.keeper_programs.specs.declared.faults.ProgramFault.TheVariants as fault
+
+-- what is told where the store in a file isn't opened
+abbrev pub open_fault : FileFault → ProgramFault
+open_fault file.Busy = fault.StoreFault
+open_fault file.CannotOpen = fault.StoreFault
+open_fault file.NoDatabase = fault.BadStore
+open_fault (file.Opening opening.NoMemory) = fault.NoMemory
+open_fault (file.Opening opening.Store) = fault.StoreFault
+open_fault (file.Opening opening.BadRows) = fault.BadStore
+open_fault (file.Opening opening.BadTables) = fault.BadStore

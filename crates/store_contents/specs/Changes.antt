@@ -1,0 +1,42 @@
+-- What a list of changes, and what a decided request, makes of the contents.
+use Rattle.std.specs.Prelude.{List, [], ◌∷◌}
+use Rattle.store_contents.specs.declared.change.RowChange.{RowChange}
+use Rattle.store_contents.specs.declared.change.RowChange.TheVariants.{DropDevice, PutRing}
+use Rattle.store_contents.specs.declared.change.RowChange.TheVariants.{AddDevice, PutPart}
+use Rattle.store_contents.specs.declared.change.RowChange.TheVariants.{PutPublished}
+use Rattle.store_contents.specs.declared.rows.MetaRow.{MetaRow}
+use Rattle.store_contents.specs.declared.rows.RequestRow.{RequestRow}
+use Rattle.store_contents.specs.Contents.{Contents, device_key, ring_of, device_of, part_of}
+use Rattle.store_contents.specs.Contents.{published_of, request_of, meta_of, without_device}
+use Rattle.store_contents.specs.Contents.{with_ring, with_device, with_part, with_published}
+use Rattle.store_contents.specs.Contents.{with_request, with_meta, without_seats, without_moved}
+
+-- What one change makes of the contents.
+abbrev pub changed : Contents → RowChange → Contents
+changed c (DropDevice key) = without_device c (device_key key)
+changed c (PutRing row) = with_ring c (ring_of row).0 (ring_of row).1
+changed c (AddDevice row) = with_device c (device_of row).0 (device_of row).1
+changed c (PutPart row) = with_part c (part_of row).0 (part_of row).1
+changed c (PutPublished row) = with_published c (published_of row).0 (published_of row).1
+
+-- What the changes make of the contents, one after another.
+abbrev pub changed_all : Contents → List RowChange → Contents
+changed_all c [] = c
+changed_all c (change ∷ changes) = changed_all (changed c change) changes
+
+-- The contents with the request.
+abbrev pub with_kept : Contents → RequestRow → Contents
+with_kept c request = let asked = request_of request in with_request c asked.0 asked.1
+
+-- The contents with the request, and with the row on the whole store.
+abbrev pub with_decided : Contents → RequestRow → MetaRow → Contents
+with_decided c request meta =
+    let asked = request_of request in
+    let now = meta_of meta in
+    with_meta (with_request c asked.0 asked.1) now.0 now.1
+
+-- The contents with the changes, without the rows of schema 1, and with the row on the whole store.
+abbrev pub prepared : Contents → List RowChange → MetaRow → Contents
+prepared c changes meta =
+    let now = meta_of meta in
+    with_meta (without_moved (without_seats (changed_all c changes))) now.0 now.1
