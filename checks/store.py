@@ -230,8 +230,38 @@ def broken_streams(checks):
         checks.same("input that cannot be read", told, fault("ReadFailed", 50)[::2])
         checks.same("a CSV that cannot be read", run("import", file, "object", "ops", "9", room),
                     (1, b'503 {"fault":"ReadFailed","rule":43}\n', b""))
-        status, told, errors = run("--help")
-        checks.show("a call for help ends with status 2, and standard output stays empty", (status, told) == (2, b"") and errors, (status, told))
+
+
+# Words that ask for nothing: a call for help, a program that there isn't, an argument that is missing, too many or not of its form.
+ASK_FOR_NOTHING = ["", "--help", "run --help", "help run", "walk", "serve FILE 0 1", "serve FILE 8642 65536", "serve FILE 8642", "loop FILE",
+                   "run more", "run --files FILE", "export FILE object 1 --format csv", "table FILE object --hour 1"]
+
+
+def other_words(checks):
+    """Words that ask for nothing."""
+    with scratch() as room:
+        for asked in ASK_FOR_NOTHING:
+            words = [word.replace("FILE", f"{room}/rings.db") for word in asked.split()]
+            status, told, errors = run(*words, given=lines(*FIRST))
+            checks.show(f"ends with status 2, and standard output stays empty: ringd {asked}", (status, told) == (2, b"") and errors, (status, told))
+        checks.same("no file was made", os.listdir(room), [])
+
+
+# Words, and the fault that they come to before a file is opened, whose folder isn't there: a word of another form, a path of another
+# form, a table that is missing; an input that is missing, a folder, which can be opened and not read, and the program itself, which is
+# longer than an input may be.
+TOLD_BEFORE = [("table FILE Ring", "Unreadable", 20), ("nodes FILE Ring a", "Unreadable", 20), ("export FILE r 01", "Unreadable", 20),
+               ("nodes FILE r a/b", "BadPath", 30), ("nodes FILE r a --object o", "BadPath", 30),
+               ("import FILE r ops 1 /no/folder/c", "NoFile", 27), ("loop FILE /no/folder/i", "NoFile", 27),
+               ("loop FILE /", "ReadFailed", 50), ("loop FILE /proc/self/exe", "TooLong", 29)]
+NO_FOLDER = ["run --file FILE", "table FILE r", "serve FILE 8642 1", "loop FILE /dev/null"]
+
+
+def order_of_faults(checks):
+    """Which fault is told where there are several."""
+    told_last = [(asked, "StoreFault", 24) for asked in NO_FOLDER]
+    for asked, name, number in TOLD_BEFORE + told_last:
+        checks.same(f"ringd {asked}", run(*asked.replace("FILE", "/no/folder/f").split()), fault(name, number))
 
 
 def ended(*words, given=None, **streams):
@@ -489,7 +519,7 @@ def read_by_sqlite(checks):
 def main():
     checks = Checks("store.py", 300)
     return checks.run(
-        first_run, one_device, csv_import, renewal, full_file, broken_streams, two_programs, no_places, no_databases, bad_stores, older_schema,
+        first_run, other_words, order_of_faults, one_device, csv_import, renewal, full_file, broken_streams, two_programs, no_places, no_databases, bad_stores, older_schema,
         read_only, failing_writes, read_by_sqlite)
 
 

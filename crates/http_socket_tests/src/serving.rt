@@ -101,6 +101,19 @@ fn clients(
     Ok(streams)
 }
 
+/// Serves so many connections over a new book, and tells how long that took.
+fn serve_new_book(
+    rt: &HostRuntime,
+    server: &mut Server<'_, HostRuntime>,
+    count: u16,
+) -> Result<Duration, Fail> {
+    let mut clock = HourClock::new(rt, Some(7));
+    let mut book = open(rt.alloc());
+    let began = Instant::now(rt)?;
+    server.serve(count, &mut clock, &mut book, b"", b"")?;
+    Ok(began.elapsed(rt)?)
+}
+
 /// Serves a client for each talk over a new book: whether each gets what its talk says, and how
 /// long the serving took.
 fn served(
@@ -110,12 +123,8 @@ fn served(
 ) -> Result<(bool, Duration), Fail> {
     let mut server = Server::bind(rt, 0, patience)?;
     let streams = clients(rt, server.address()?, talks)?;
-    let mut clock = HourClock::new(rt, Some(7));
-    let mut book = open(rt.alloc());
-    let began = Instant::now(rt)?;
     let count = u16::try_from(talks.len()).unwrap_or(0);
-    server.serve(count, &mut clock, &mut book, b"", b"")?;
-    let took = began.elapsed(rt)?;
+    let took = serve_new_book(rt, &mut server, count)?;
     Ok((all_get(rt, streams, talks)?, took))
 }
 

@@ -1,5 +1,5 @@
-//! Tests of the program: the words of its command line, its lines, and what it does with files that
-//! are not there. There is no code here besides.
+//! Tests of the words of the command line, and of the lines that the program answers. There is no
+//! code here besides.
 #![tactic(auto)]
 
 #[cfg(test)]

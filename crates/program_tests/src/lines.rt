@@ -1,18 +1,15 @@
 //! The program on lines, as an operator sends them.
 mod changes;
 mod failing;
-mod faults;
 mod questions;
 mod rebalancing;
 
 use builder::{MessageFault, RingMachine, read_delivery};
 use byte_streams::{CountedReader, CountedWriter, StreamFault};
 use line_api::run_lines;
-use programs::perform;
 use request_book::{Book, Keeper, MemKeeper};
 use ring_model::Rings;
 use ring_words::{Command, Delivery, Done, Hour, Limits, Refusal, Reply};
-use sqlite::Unknown;
 use std::alloc::{AllocError, Global};
 use std::test::Fail;
 use test_streams::{Giver, Taker};
@@ -358,107 +355,5 @@ fn a_lost_answer_is_given_to_the_repeat(rt: HostRuntime) -> Result<(), Fail> {
         all = all && is_given(rt.alloc(), &mut book, line, want)?;
     }
     assert!(rt; all);
-    Ok(())
-}
-
-/// What `perform` came to: the status, what it wrote, and what it told.
-#[derive(Drop)]
-struct Ended {
-    status: u8,
-    taken: Vec<u8>,
-    errors: Vec<u8>,
-}
-
-/// The words, each as its own text.
-fn owned(alloc: Global, words: &[&str]) -> Result<Vec<String>, AllocError> {
-    let mut owned = Vec::new(alloc);
-    for word in words {
-        owned.push(String::from_str(alloc, word)?)?;
-    }
-    Ok(owned)
-}
-
-/// What `perform` comes to for these words over the first run.
-fn performed(
-    rt: &HostRuntime,
-    words: &[&str],
-    reads: u32,
-    writes: u32,
-) -> Result<Ended, AllocError> {
-    let words = owned(rt.alloc(), words)?;
-    let mut reader = CountedReader::new(Giver::new(FIRST_RUN.as_bytes(), 1000, reads));
-    let mut writer = CountedWriter::new(Taker::new(rt.alloc(), 1000, writes));
-    let mut errors = CountedWriter::new(Vec::new(rt.alloc()));
-    let status = perform(rt, &words, &mut reader, &mut writer, &mut errors, Unknown);
-    Ok(Ended {
-        status,
-        taken: writer.into_inner().taken,
-        errors: errors.into_inner(),
-    })
-}
-
-/// Whether the first run comes to this: the status, what is written at most, and what is told.
-fn comes_to(
-    rt: &HostRuntime,
-    fails_at: (u32, u32),
-    status: u8,
-    most: &str,
-    told: &str,
-) -> Result<bool, AllocError> {
-    let done = performed(rt, &["ringd", "run"], fails_at.0, fails_at.1)?;
-    Ok(
-        done.status == status
-            && most.as_bytes().starts_with(&done.taken)
-            && (status != 0 || done.taken.len() == most.len())
-            && done.errors.as_slice() == told.as_bytes(),
-    )
-}
-
-#[test]
-fn the_first_run_is_done(rt: HostRuntime) -> Result<(), Fail> {
-    assert!(rt; comes_to(&rt, (u32::MAX, u32::MAX), 0, FIRST_ANSWERS, "")?);
-    Ok(())
-}
-
-#[test]
-fn a_fault_is_told_by_name_and_number(rt: HostRuntime) -> Result<(), Fail> {
-    assert!(rt;
-        comes_to(
-            &rt,
-            (2, u32::MAX),
-            1,
-            FIRST_ANSWERS,
-            "ringd: ReadFailed 50\n"
-        )?
-    );
-    assert!(rt; comes_to(&rt, (u32::MAX, 1), 1, "", "ringd: WriteFailed 51\n")?);
-    Ok(())
-}
-
-const ASK_FOR_NOTHING: [&[&str]; 11] = [
-    &["ringd", "--help"],
-    &["ringd", "run", "--help"],
-    &["ringd", "help", "run"],
-    &["ringd", "serve", "/no/folder/f", "0", "1"],
-    &["ringd", "serve", "/no/folder/f", "8642", "65536"],
-    &["ringd", "serve", "/no/folder/f", "8642"],
-    &["ringd", "loop", "/no/folder/f"],
-    &["ringd", "run", "more"],
-    &["ringd", "run", "--files", "x"],
-    &["ringd"],
-    &[],
-];
-
-/// Whether words are refused with a text, before anything is read or written.
-fn are_refused(rt: &HostRuntime, words: &[&str]) -> Result<bool, AllocError> {
-    let done = performed(rt, words, u32::MAX, u32::MAX)?;
-    Ok(done.status == 2 && done.taken.is_empty() && !done.errors.is_empty())
-}
-
-#[test]
-fn other_words_and_calls_for_help_touch_nothing(rt: HostRuntime) -> Result<(), Fail> {
-    for words in ASK_FOR_NOTHING {
-        assert!(rt; are_refused(&rt, words)?, "{words:?}");
-    }
     Ok(())
 }

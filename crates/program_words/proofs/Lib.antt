@@ -1,2 +1,2 @@
-pub mod Programs
+pub mod Adding
 pub mod Tasks

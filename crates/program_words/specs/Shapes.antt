@@ -1,6 +1,6 @@
 -- What may be written on the command line of `ringd`.
-use Rattle.std.specs.Prelude.{List, [], ◌∷◌, Some, codes, true}
-use Rattle.clap.specs.Simple.{App, Shape, new_app, new_rule, new_shape, on_top, with_subcommand}
+use Rattle.std.specs.Prelude.{List, [], ◌∷◌, Some, codes, false, true}
+use Rattle.clap.specs.Simple.{App, Shape, new_rule, new_shape}
 use Rattle.clap.specs.Walk.{Rule, Text}
 
 -- An argument without a name of its own, which has to be there.
@@ -64,19 +64,9 @@ export = program (codes "export")
 abbrev pub renew : Shape
 renew = program (codes "renew") (needed (codes "FILE") ∷ needed (codes "NEW") ∷ [])
 
--- The programs that answer requests.
-abbrev pub with_services : App → App
-with_services app =
-    with_subcommand (with_subcommand (with_subcommand (with_subcommand app run) serve) looping)
-    import_rows
-
--- The programs that read what is kept, to show it or to go on from it.
-abbrev pub with_readers : App → App
-with_readers app =
-    with_subcommand (with_subcommand (with_subcommand (with_subcommand app table) nodes) export)
-    renew
-
 -- All that may be written: the name of a program, and its arguments.
 abbrev pub programs : App
-programs = with_readers (with_services
-    (on_top (λ s. record s { subcommand_required = true }) (new_app (codes "ringd"))))
+programs = record {
+  top = record (new_shape (codes "ringd")) { is_leaf = false; subcommand_required = true };
+  subs = run ∷ serve ∷ looping ∷ import_rows ∷ table ∷ nodes ∷ export ∷ renew ∷ [];
+}

@@ -1,33 +1,122 @@
 //! The programs, for `clap`.
-ghost use Rattle.std.specs.Prelude.{◌≡◌, IfOk, MatchResult, false};
-ghost use Rattle.clap.specs.Simple.{app_of, shape_of, with_rule, with_subcommand};
+ghost use Rattle.std.specs.Prelude.{◌≡◌, IfOk, map, false};
+ghost use Rattle.clap.specs.Simple.{app_of, new_app, shape_of, with_rule, with_subcommand};
 ghost use Rattle.clap.specs.Walk.{rule_of};
 ghost use Rattle.clap.specs.declared.builder.command.Command.TheViews.{out-Command};
-ghost use Rattle.program_words.specs.Shapes.{export, import_rows, looping, needed, nodes};
-ghost use Rattle.program_words.specs.Shapes.{optional, programs, renew, run, serve, table};
-ghost use Rattle.program_words.specs.Shapes.{with_readers, with_services};
+ghost use Rattle.program_words.specs.Shapes.{programs};
+ghost use Rattle.program_words.specs.Inner.Adding.{rule_told, shape_told, with_rules, with_shapes};
 
-use crate::help::{ABOUT, EXPORT, LOOP, RENEW, RUN, SERVE};
+use self::Argument::{Needed, Optional};
+use crate::help::{ABOUT, told_of};
 use clap::{Arg, Command};
 use std::alloc::{AllocError, Global};
 
-/// An argument without a name of its own, which has to be there.
-fn needed<'a>(alloc: Global, name: &'a str) -> Arg<'a>
-    ensures rule { rule_of result ≡ needed name.entry.now }
-    ensures local { result.global ≡ false }
-{
-    Arg::new(alloc, name).required(true)
+/// An argument, by its name.
+#[derive(Clone, Copy)]
+enum Argument<'a> {
+    /// It has to be there, in its place.
+    Needed(&'a str),
+    /// It may be there, as `--name TEXT`.
+    Optional(&'a str),
 }
 
-/// An argument that may be there, as `--name TEXT`.
-fn optional<'a>(alloc: Global, name: &'a str) -> Arg<'a>
-    ensures rule { rule_of result ≡ optional name.entry.now }
-    ensures local { result.global ≡ false }
-{
-    Arg::new(alloc, name).long(name)
+/// A program: what it is called, what is told of it, and its arguments.
+#[derive(Clone, Copy)]
+struct Program<'a> {
+    name: &'a str,
+    about: &'a str,
+    /// Those that have to be there stand in the order of their places.
+    arguments: &'a [Argument<'a>],
 }
 
-/// The command with one more argument.
+const PROGRAMS: &[Program<'static>] = &[
+    Program {
+        name: "run",
+        about: "Answers numbered requests, one line each",
+        arguments: &[Optional("file")],
+    },
+    Program {
+        name: "serve",
+        about: "Serves HTTP on a port of this machine",
+        arguments: &[
+            Needed("FILE"),
+            Needed("PORT"),
+            Needed("COUNT"),
+            Optional("hour"),
+            Optional("prefix"),
+            Optional("suffix"),
+        ],
+    },
+    Program {
+        name: "loop",
+        about: "Answers the bytes of a file as those of one connection of HTTP",
+        arguments: &[
+            Needed("FILE"),
+            Needed("INPUT"),
+            Optional("hour"),
+            Optional("prefix"),
+            Optional("suffix"),
+        ],
+    },
+    Program {
+        name: "import",
+        about: "Imports devices from a CSV file, under a caller's number",
+        arguments: &[
+            Needed("FILE"),
+            Needed("RING"),
+            Needed("CALLER"),
+            Needed("NUMBER"),
+            Needed("CSV"),
+            Optional("hour"),
+        ],
+    },
+    Program {
+        name: "table",
+        about: "Shows the devices and the balance of a ring",
+        arguments: &[Needed("FILE"), Needed("RING")],
+    },
+    Program {
+        name: "nodes",
+        about: "Shows the devices that hold a path",
+        arguments: &[
+            Needed("FILE"),
+            Needed("RING"),
+            Needed("ACCOUNT"),
+            Optional("container"),
+            Optional("object"),
+            Optional("prefix"),
+            Optional("suffix"),
+        ],
+    },
+    Program {
+        name: "export",
+        about: "Writes a ring as it was published",
+        arguments: &[
+            Needed("FILE"),
+            Needed("RING"),
+            Needed("VERSION"),
+            Optional("format"),
+        ],
+    },
+    Program {
+        name: "renew",
+        about: "Makes a new file with the rings of one that is full of numbers",
+        arguments: &[Needed("FILE"), Needed("NEW")],
+    },
+];
+
+/// An argument, for `clap`.
+fn arg_of<'a>(alloc: Global, argument: &Argument<'a>) -> Arg<'a>
+    ensures rule { rule_of result ≡ rule_told argument.now }
+    ensures local { result.global ≡ false }
+{
+    match *argument {
+        Needed(name) => Arg::new(alloc, name).required(true),
+        Optional(name) => Arg::new(alloc, name).long(name),
+    }
+}
+
+/// The command with one argument more.
 fn with_arg<'a>(command: Command<'a>, arg: Arg<'a>) -> Result<Command<'a>, AllocError>
     requires local { arg.global ≡ false }
     requires alone { (out-Command command).has_globals ≡ false }
@@ -37,193 +126,68 @@ fn with_arg<'a>(command: Command<'a>, arg: Arg<'a>) -> Result<Command<'a>, Alloc
     command.arg(arg)
 }
 
-/// The command with two more arguments.
-fn with_two<'a>(command: Command<'a>, one: Arg<'a>, two: Arg<'a>) -> Result<Command<'a>, AllocError>
-    requires one { one.global ≡ false }
-    requires two { two.global ≡ false }
-    requires alone { (out-Command command).has_globals ≡ false }
-    ensures app { IfOk result (λ c. app_of c ≡ with_rule (with_rule (app_of command.entry)
-        (rule_of one.entry)) (rule_of two.entry)) }
-    ensures alone { IfOk result (λ c. (out-Command c).has_globals ≡ false) }
-{
-    let command = with_arg(command, one)?;
-    with_arg(command, two)
-}
-
-/// The command with three more arguments.
-fn with_three<'a>(
-    command: Command<'a>,
-    one: Arg<'a>,
-    two: Arg<'a>,
-    three: Arg<'a>,
+/// The command with these arguments.
+fn with_arguments<'a>(
+    alloc: Global,
+    mut command: Command<'a>,
+    arguments: &[Argument<'a>],
 ) -> Result<Command<'a>, AllocError>
-    requires one { one.global ≡ false }
-    requires two { two.global ≡ false }
-    requires three { three.global ≡ false }
-    requires alone { (out-Command command).has_globals ≡ false }
-    ensures app { IfOk result (λ c. app_of c ≡ with_rule (with_rule (with_rule
-        (app_of command.entry) (rule_of one.entry)) (rule_of two.entry)) (rule_of three.entry)) }
+    requires { (out-Command command).has_globals ≡ false }
+    ensures app { IfOk result (λ c. app_of c
+        ≡ with_rules (app_of command.entry) (map rule_told arguments.now)) }
     ensures alone { IfOk result (λ c. (out-Command c).has_globals ≡ false) }
 {
-    let command = with_two(command, one, two)?;
-    with_arg(command, three)
+    for argument in arguments {
+        command = with_arg(command, arg_of(alloc, argument))?;
+    }
+    Ok(command)
 }
 
-fn run_command<'a>(alloc: Global) -> Result<Command<'a>, AllocError>
-    ensures shape { IfOk result (λ c. shape_of c ≡ run) }
+/// A program's command, as yet without arguments.
+fn bare<'a>(alloc: Global, program: &Program<'a>) -> Command<'a>
+    ensures app { app_of result ≡ new_app program.now.name.now }
+    ensures alone { (out-Command result).has_globals ≡ false }
+{
+    let command = Command::new(alloc, program.name).about(program.about);
+    match told_of(program.name) {
+        Some(told) => command.long_about(told),
+        None => command,
+    }
+}
+
+/// A program's command.
+fn command_of<'a>(alloc: Global, program: &Program<'a>) -> Result<Command<'a>, AllocError>
+    ensures shape { IfOk result (λ c. shape_of c ≡ shape_told program.now) }
     ensures alone { IfOk result (λ c. (out-Command c).has_globals ≡ false) }
 {
-    let command = Command::new(alloc, "run")
-        .about("Answers numbered requests, one line each")
-        .long_about(RUN);
-    with_arg(command, optional(alloc, "file"))
+    with_arguments(alloc, bare(alloc, program), program.arguments)
 }
 
-fn serve_command<'a>(alloc: Global) -> Result<Command<'a>, AllocError>
-    ensures shape { IfOk result (λ c. shape_of c ≡ serve) }
-    ensures alone { IfOk result (λ c. (out-Command c).has_globals ≡ false) }
-{
-    let command = Command::new(alloc, "serve")
-        .about("Serves HTTP on a port of this machine")
-        .long_about(SERVE);
-    let command = with_three(
-        command,
-        needed(alloc, "FILE"),
-        needed(alloc, "PORT"),
-        needed(alloc, "COUNT"),
-    )?;
-    with_three(
-        command,
-        optional(alloc, "hour"),
-        optional(alloc, "prefix"),
-        optional(alloc, "suffix"),
-    )
-}
-
-fn looping_command<'a>(alloc: Global) -> Result<Command<'a>, AllocError>
-    ensures shape { IfOk result (λ c. shape_of c ≡ looping) }
-    ensures alone { IfOk result (λ c. (out-Command c).has_globals ≡ false) }
-{
-    let command = Command::new(alloc, "loop")
-        .about("Answers the bytes of a file as those of one connection of HTTP")
-        .long_about(LOOP);
-    let command = with_two(command, needed(alloc, "FILE"), needed(alloc, "INPUT"))?;
-    with_three(
-        command,
-        optional(alloc, "hour"),
-        optional(alloc, "prefix"),
-        optional(alloc, "suffix"),
-    )
-}
-
-fn import_rows_command<'a>(alloc: Global) -> Result<Command<'a>, AllocError>
-    ensures shape { IfOk result (λ c. shape_of c ≡ import_rows) }
-    ensures alone { IfOk result (λ c. (out-Command c).has_globals ≡ false) }
-{
-    let command = Command::new(alloc, "import").about(
-        "Imports devices from a CSV file, under a caller's number",
-    );
-    let command = with_three(
-        command,
-        needed(alloc, "FILE"),
-        needed(alloc, "RING"),
-        needed(alloc, "CALLER"),
-    )?;
-    with_three(
-        command,
-        needed(alloc, "NUMBER"),
-        needed(alloc, "CSV"),
-        optional(alloc, "hour"),
-    )
-}
-
-fn table_command<'a>(alloc: Global) -> Result<Command<'a>, AllocError>
-    ensures shape { IfOk result (λ c. shape_of c ≡ table) }
-    ensures alone { IfOk result (λ c. (out-Command c).has_globals ≡ false) }
-{
-    let command = Command::new(alloc, "table").about("Shows the devices and the balance of a ring");
-    with_two(command, needed(alloc, "FILE"), needed(alloc, "RING"))
-}
-
-fn nodes_command<'a>(alloc: Global) -> Result<Command<'a>, AllocError>
-    ensures shape { IfOk result (λ c. shape_of c ≡ nodes) }
-    ensures alone { IfOk result (λ c. (out-Command c).has_globals ≡ false) }
-{
-    let command = Command::new(alloc, "nodes").about("Shows the devices that hold a path");
-    let command = with_three(
-        command,
-        needed(alloc, "FILE"),
-        needed(alloc, "RING"),
-        needed(alloc, "ACCOUNT"),
-    )?;
-    let command = with_two(
-        command,
-        optional(alloc, "container"),
-        optional(alloc, "object"),
-    )?;
-    with_two(
-        command,
-        optional(alloc, "prefix"),
-        optional(alloc, "suffix"),
-    )
-}
-
-fn export_command<'a>(alloc: Global) -> Result<Command<'a>, AllocError>
-    ensures shape { IfOk result (λ c. shape_of c ≡ export) }
-    ensures alone { IfOk result (λ c. (out-Command c).has_globals ≡ false) }
-{
-    let command = Command::new(alloc, "export")
-        .about("Writes a ring as it was published")
-        .long_about(EXPORT);
-    let command = with_three(
-        command,
-        needed(alloc, "FILE"),
-        needed(alloc, "RING"),
-        needed(alloc, "VERSION"),
-    )?;
-    with_arg(command, optional(alloc, "format"))
-}
-
-fn renew_command<'a>(alloc: Global) -> Result<Command<'a>, AllocError>
-    ensures shape { IfOk result (λ c. shape_of c ≡ renew) }
-    ensures alone { IfOk result (λ c. (out-Command c).has_globals ≡ false) }
-{
-    let command = Command::new(alloc, "renew")
-        .about("Makes a new file with the rings of one that is full of numbers")
-        .long_about(RENEW);
-    with_two(command, needed(alloc, "FILE"), needed(alloc, "NEW"))
-}
-
-/// The command with one more program, if that could be made.
+/// The command with one program more.
 fn with_program<'a>(
+    alloc: Global,
     command: Command<'a>,
-    program: Result<Command<'a>, AllocError>,
+    program: &Program<'a>,
 ) -> Result<Command<'a>, AllocError>
-    requires { IfOk program (λ it. (out-Command it).has_globals ≡ false) }
-    ensures { IfOk result (λ c. MatchResult program.entry (λ it. app_of c ≡ with_subcommand
-        (app_of command.entry) (shape_of it)) (λ _. ⊥)) }
+    ensures { IfOk result (λ c. app_of c
+        ≡ with_subcommand (app_of command.entry) (shape_told program.now)) }
 {
-    command.subcommand(program?)
+    command.subcommand(command_of(alloc, program)?)
 }
 
-/// The programs that answer requests.
-fn with_services<'a>(alloc: Global, command: Command<'a>) -> Result<Command<'a>, AllocError>
-    ensures { IfOk result (λ c. app_of c ≡ with_services (app_of command.entry)) }
+/// The command with these programs.
+fn with_programs<'a>(
+    alloc: Global,
+    mut command: Command<'a>,
+    programs: &[Program<'a>],
+) -> Result<Command<'a>, AllocError>
+    ensures { IfOk result (λ c. app_of c
+        ≡ with_shapes (app_of command.entry) (map shape_told programs.now)) }
 {
-    let with_run = with_program(command, run_command(alloc))?;
-    let with_serve = with_program(with_run, serve_command(alloc))?;
-    let with_loop = with_program(with_serve, looping_command(alloc))?;
-    with_program(with_loop, import_rows_command(alloc))
-}
-
-/// The programs that read what is kept, to show it or to go on from it.
-fn with_readers<'a>(alloc: Global, command: Command<'a>) -> Result<Command<'a>, AllocError>
-    ensures { IfOk result (λ c. app_of c ≡ with_readers (app_of command.entry)) }
-{
-    let with_table = with_program(command, table_command(alloc))?;
-    let with_nodes = with_program(with_table, nodes_command(alloc))?;
-    let with_export = with_program(with_nodes, export_command(alloc))?;
-    with_program(with_export, renew_command(alloc))
+    for program in programs {
+        command = with_program(alloc, command, program)?;
+    }
+    Ok(command)
 }
 
 /// The programs.
@@ -234,6 +198,5 @@ pub(crate) fn command<'a>(alloc: Global) -> Result<Command<'a>, AllocError>
         .about("Keeps the rings of an object store")
         .long_about(ABOUT)
         .subcommand_required(true);
-    let command = with_services(alloc, command)?;
-    with_readers(alloc, command)
+    with_programs(alloc, command, PROGRAMS)
 }

@@ -1,13 +1,16 @@
 //! What `ringd --help` and the help of each program tell.
+//!
+//! The texts are statics: the prover would read a constant of some thousand letters wherever it is
+//! named, and no contract speaks of them.
 
 /// What `ringd --help` tells.
-pub(crate) const ABOUT: &str = "Keeps the rings of an object store: which disks hold each object.
+pub(crate) static ABOUT: &str = "Keeps the rings of an object store: which disks hold each object.
 
 Every change is a numbered request. A request that is sent again, since its answer was lost, is not carried out again:
 it gets the answer that was given first.";
 
 /// What `ringd run --help` tells.
-pub(crate) const RUN: &str =
+static RUN: &str =
     "Answers numbered requests and questions, one a line, from standard input on standard output.
 
 A request is the hour, a space, and a JSON object: who asks, the caller's number of this request, what to do, and the ring.
@@ -54,7 +57,7 @@ beside it: each request is on the disk before it is answered. Without it they ar
 program ends.";
 
 /// What `ringd serve --help` tells.
-pub(crate) const SERVE: &str =
+static SERVE: &str =
     "Serves HTTP/1.1 on 127.0.0.1, over the rings in FILE, which is made if it is missing.
 
 It serves COUNT connections of the port PORT, one after another, and then ends. PORT is 1 to 65535, COUNT 0 to 65535.
@@ -81,7 +84,7 @@ Each request is decided at the hour of the machine's clock, or always at the one
 are what the cluster hashes before and after each path; they are empty where they are not given.";
 
 /// What `ringd loop --help` tells.
-pub(crate) const LOOP: &str =
+static LOOP: &str =
     "Answers the bytes of the file INPUT as 'serve' would those of one connection, on standard output.
 
 INPUT holds requests of HTTP/1.1, one behind the other, as a client would send them: 32768 bytes at most, and as many of
@@ -94,15 +97,14 @@ and prints the answers. So it shows what a service over this FILE would answer.
 The options are those of 'serve'.";
 
 /// What `ringd export --help` tells.
-pub(crate) const EXPORT: &str =
-    "Writes the ring RING as it was published under VERSION, on standard output.
+static EXPORT: &str = "Writes the ring RING as it was published under VERSION, on standard output.
 
 A request that says publish keeps the ring's text of then under the version that it had, for good. --format text, which
 is also what is taken without --format, writes this text. --format swift writes the same ring as a ring file of OpenStack
 Swift.";
 
 /// What `ringd renew --help` tells.
-pub(crate) const RENEW: &str =
+static RENEW: &str =
     "Makes NEW, a file with the rings of FILE, their published texts and its hour, and without a number.
 
 A file holds 100000 numbers. When it is full, a new request is answered 507, and this is how to go on. NEW must not be
@@ -111,8 +113,20 @@ there. FILE stays as it was: keep it, for it has the replies that were given.
 Numbers begin anew in NEW: a request that was answered in FILE would be carried out once more. So let the callers come to
 rest, stop the service, renew the file, give the callers other names, from ops-1 to ops-2, say, and start over NEW.";
 
+/// What the help of this program tells beside its arguments, where that is more than a line.
+pub(crate) fn told_of(program: &str) -> Option<&'static str> {
+    match program {
+        "run" => Some(RUN),
+        "serve" => Some(SERVE),
+        "loop" => Some(LOOP),
+        "export" => Some(EXPORT),
+        "renew" => Some(RENEW),
+        _ => None,
+    }
+}
+
 /// What words are told of which an argument is not of its form.
-pub(crate) const FORMS: &str = "error: an argument is not of its form
+pub(crate) static FORMS: &str = "error: an argument is not of its form
 
   PORT              a whole number from 1 to 65535
   COUNT             a whole number from 0 to 65535

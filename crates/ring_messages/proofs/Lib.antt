@@ -6,6 +6,7 @@ pub mod Plain
 pub mod FieldLists
 pub mod Keys
 pub mod Acts
+pub mod Putting
 pub mod OneText
 pub mod CommandObjects
 pub mod Messages

@@ -1,6 +1,7 @@
 //! Each command: what is written of it, how it is read, and what is known of it.
 ghost use Rattle.std.specs.Prelude.{◌≡◌, [], IfOk, length, string_bytes};
 ghost use Rattle.serde_json.specs.View.{view};
+ghost use Rattle.ring_words.specs.Texts.{address_text, hundredths_text};
 ghost use Rattle.ring_words.specs.declared.command.Act.{Act};
 ghost use Rattle.ring_words.specs.declared.command.Act.TheVariants as act;
 ghost use Rattle.ring_messages.specs.Commands.{command_object, act_data, act_fields, act_word};
@@ -10,22 +11,54 @@ ghost use Rattle.ring_words.specs.Spelling.{Reads};
 ghost use Rattle.ring_messages.specs.Inner.Says.{HasFields, SaysAct};
 
 use crate::MessageFault;
+use crate::objects::Scalar::{Number, Text};
+use crate::objects::{members, object};
 use crate::parts::{self, bounded, number16, number32, text};
 use crate::rows::{device, import, row_is_proper, rows_are_proper, rows_value};
 use ring_words::{Act, Command, DeviceId, NewRing, NewWeight, RingName, Row, Rows};
-use serde_json::{Value, json};
+use serde_json::{Value, put};
 use std::alloc::{AllocError, Global};
 
 fn create_value(alloc: Global, ring: &RingName, new: &NewRing) -> Result<Value, AllocError>
     ensures { IfOk result (λ v. view v ≡ act_data ring.now (act.Create new.now)) }
 {
-    json!(in alloc; {
-        "do": "create",
-        "min_hours": new.min_hours,
-        "power": new.power.get(),
-        "replicas": new.replicas.get(),
-        "ring": ring.as_str(),
-    })
+    object(
+        alloc,
+        &[
+            ("do", Text("create")),
+            ("min_hours", Number(new.min_hours.into())),
+            ("power", Number(new.power.get().into())),
+            ("replicas", Number(new.replicas.get().into())),
+            ("ring", Text(ring.as_str())),
+        ],
+    )
+}
+
+/// An addition, with the texts of the device's address and weight.
+fn add_of_texts<'a>(
+    alloc: Global,
+    ring: &'a RingName,
+    row: &'a Row,
+    address: &'a str,
+    weight: &'a str,
+) -> Result<Value, AllocError>
+    requires address { address.now ≡ address_text row.now.address }
+    requires weight { weight.now ≡ hundredths_text row.now.weight }
+    ensures { IfOk result (λ v. view v ≡ act_data ring.now (act.Add row.now)) }
+{
+    object(
+        alloc,
+        &[
+            ("address", Text(address)),
+            ("do", Text("add")),
+            ("name", Text(row.name.as_str())),
+            ("port", Number(row.port.get().into())),
+            ("region", Number(row.region.into())),
+            ("ring", Text(ring.as_str())),
+            ("weight", Text(weight)),
+            ("zone", Number(row.zone.into())),
+        ],
+    )
 }
 
 fn add_value(alloc: Global, ring: &RingName, row: &Row) -> Result<Value, AllocError>
@@ -33,59 +66,91 @@ fn add_value(alloc: Global, ring: &RingName, row: &Row) -> Result<Value, AllocEr
 {
     let address = row.address.to_string(alloc)?;
     let weight = row.weight.to_string(alloc)?;
-    json!(in alloc; {
-        "address": address.as_str(),
-        "do": "add",
-        "name": row.name.as_str(),
-        "port": row.port.get(),
-        "region": row.region,
-        "ring": ring.as_str(),
-        "weight": weight.as_str(),
-        "zone": row.zone,
-    })
+    add_of_texts(alloc, ring, row, address.as_str(), weight.as_str())
+}
+
+/// A new weight, with its text.
+fn set_weight_of_text<'a>(
+    alloc: Global,
+    ring: &'a RingName,
+    to: &'a NewWeight,
+    weight: &'a str,
+) -> Result<Value, AllocError>
+    requires { weight.now ≡ hundredths_text to.now.weight }
+    ensures { IfOk result (λ v. view v ≡ act_data ring.now (act.SetWeight to.now)) }
+{
+    object(
+        alloc,
+        &[
+            ("do", Text("set_weight")),
+            ("id", Number(to.id.into())),
+            ("ring", Text(ring.as_str())),
+            ("weight", Text(weight)),
+        ],
+    )
 }
 
 fn set_weight_value(alloc: Global, ring: &RingName, to: &NewWeight) -> Result<Value, AllocError>
     ensures { IfOk result (λ v. view v ≡ act_data ring.now (act.SetWeight to.now)) }
 {
     let weight = to.weight.to_string(alloc)?;
-    json!(in alloc; {
-        "do": "set_weight",
-        "id": to.id,
-        "ring": ring.as_str(),
-        "weight": weight.as_str(),
-    })
+    set_weight_of_text(alloc, ring, to, weight.as_str())
 }
 
 fn remove_value(alloc: Global, ring: &RingName, id: DeviceId) -> Result<Value, AllocError>
     ensures { IfOk result (λ v. view v ≡ act_data ring.now (act.Remove id)) }
 {
-    json!(in alloc; {"do": "remove", "id": id, "ring": ring.as_str()})
+    object(
+        alloc,
+        &[
+            ("do", Text("remove")),
+            ("id", Number(id.into())),
+            ("ring", Text(ring.as_str())),
+        ],
+    )
 }
 
 fn set_hours_value(alloc: Global, ring: &RingName, hours: u16) -> Result<Value, AllocError>
     ensures { IfOk result (λ v. view v ≡ act_data ring.now (act.SetHours hours)) }
 {
-    json!(in alloc; {"do": "set_hours", "min_hours": hours, "ring": ring.as_str()})
+    object(
+        alloc,
+        &[
+            ("do", Text("set_hours")),
+            ("min_hours", Number(hours.into())),
+            ("ring", Text(ring.as_str())),
+        ],
+    )
 }
 
 fn plain_value(alloc: Global, word: &str, ring: &RingName) -> Result<Value, AllocError>
     ensures { IfOk result (λ v. view v ≡ command_object word.now ring.now []) }
 {
-    json!(in alloc; {"do": word, "ring": ring.as_str()})
+    object(alloc, &[("do", Text(word)), ("ring", Text(ring.as_str()))])
 }
 
 fn import_value(alloc: Global, ring: &RingName, rows: &Rows) -> Result<Value, AllocError>
     ensures { IfOk result (λ v. view v ≡ act_data ring.now (act.Import rows.now)) }
 {
-    let rows = rows_value(alloc, rows.as_slice())?;
-    json!(in alloc; {"do": "import", "ring": ring.as_str(), "rows": rows})
+    let mut map = members(
+        alloc,
+        &[("do", Text("import")), ("ring", Text(ring.as_str()))],
+    )?;
+    put(&mut map, alloc, "rows", rows_value(alloc, rows.as_slice())?)?;
+    Ok(Value::Object(map))
 }
 
 fn rebalance_value(alloc: Global, ring: &RingName, seed: u32) -> Result<Value, AllocError>
     ensures { IfOk result (λ v. view v ≡ act_data ring.now (act.Rebalance seed)) }
 {
-    json!(in alloc; {"do": "rebalance", "ring": ring.as_str(), "seed": seed})
+    object(
+        alloc,
+        &[
+            ("do", Text("rebalance")),
+            ("ring", Text(ring.as_str())),
+            ("seed", Number(seed.into())),
+        ],
+    )
 }
 
 fn command_value(alloc: Global, command: &Command) -> Result<Value, AllocError>

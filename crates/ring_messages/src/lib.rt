@@ -7,6 +7,7 @@
 
 mod commands;
 mod laws;
+mod objects;
 mod parts;
 mod read;
 mod replies;

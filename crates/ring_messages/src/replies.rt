@@ -16,21 +16,33 @@ ghost use Rattle.ring_messages.specs.Replies.{row_refused_data, reply_data, repl
 ghost use Rattle.ring_messages.specs.Inner.Says.{SaysDone, SaysRefusal, SaysReply, SaysWhy};
 
 use crate::MessageFault;
+use crate::objects::Scalar::{Number, Text};
+use crate::objects::object;
 use crate::parts::{number, number16, number32, text, value_of};
 use ring_words::{DeviceId, Done, Refusal, Reply, RowCause};
-use serde_json::{Value, json};
+use serde_json::Value;
 use std::alloc::{AllocError, Global};
 
 fn version_value(alloc: Global, word: &str, version: u32) -> Result<Value, AllocError>
     ensures { IfOk result (λ v. view v ≡ done_object word.now (version_field version ∷ [])) }
 {
-    json!(in alloc; {"done": word, "version": version})
+    object(
+        alloc,
+        &[("done", Text(word)), ("version", Number(version.into()))],
+    )
 }
 
 fn added_value(alloc: Global, id: DeviceId, version: u32) -> Result<Value, AllocError>
     ensures { IfOk result (λ v. view v ≡ done_data (Done.Add id version)) }
 {
-    json!(in alloc; {"done": "add", "id": id, "version": version})
+    object(
+        alloc,
+        &[
+            ("done", Text("add")),
+            ("id", Number(id.into())),
+            ("version", Number(version.into())),
+        ],
+    )
 }
 
 fn imported_value(
@@ -41,12 +53,15 @@ fn imported_value(
 ) -> Result<Value, AllocError>
     ensures { IfOk result (λ v. view v ≡ done_data (Done.Import added reweighted version)) }
 {
-    json!(in alloc; {
-        "added": added,
-        "done": "import",
-        "reweighted": reweighted,
-        "version": version,
-    })
+    object(
+        alloc,
+        &[
+            ("added", Number(added)),
+            ("done", Text("import")),
+            ("reweighted", Number(reweighted)),
+            ("version", Number(version.into())),
+        ],
+    )
 }
 
 fn rebalanced_value(
@@ -59,13 +74,16 @@ fn rebalanced_value(
     ensures { IfOk result (λ v. view v
         ≡ done_data (Done.Rebalance balance changed dispersion version)) }
 {
-    json!(in alloc; {
-        "balance": balance,
-        "changed": changed,
-        "dispersion": dispersion,
-        "done": "rebalance",
-        "version": version,
-    })
+    object(
+        alloc,
+        &[
+            ("balance", Number(balance.into())),
+            ("changed", Number(changed.into())),
+            ("dispersion", Number(dispersion.into())),
+            ("done", Text("rebalance")),
+            ("version", Number(version.into())),
+        ],
+    )
 }
 
 fn done_value(alloc: Global, done: Done) -> Result<Value, AllocError>
@@ -97,7 +115,10 @@ fn done_value(alloc: Global, done: Done) -> Result<Value, AllocError>
 pub(crate) fn refused_value(alloc: Global, name: &str, rule: u8) -> Result<Value, AllocError>
     ensures { IfOk result (λ v. view v ≡ refused_data name.now rule) }
 {
-    json!(in alloc; {"refused": name, "rule": rule})
+    object(
+        alloc,
+        &[("refused", Text(name)), ("rule", Number(rule.into()))],
+    )
 }
 
 fn cause_rule(cause: RowCause) -> u8
@@ -114,7 +135,15 @@ fn cause_rule(cause: RowCause) -> u8
 fn row_refused_value(alloc: Global, row: u64, rule: u8) -> Result<Value, AllocError>
     ensures { IfOk result (λ v. view v ≡ row_refused_data row rule) }
 {
-    json!(in alloc; {"cause": rule, "refused": "RowRefused", "row": row, "rule": 13})
+    object(
+        alloc,
+        &[
+            ("cause", Number(rule.into())),
+            ("refused", Text("RowRefused")),
+            ("row", Number(row)),
+            ("rule", Number(13)),
+        ],
+    )
 }
 
 fn refusal_value(alloc: Global, refusal: Refusal) -> Result<Value, AllocError>

@@ -5,30 +5,50 @@ ghost use Rattle.serde_json.specs.Data.{array};
 ghost use Rattle.serde_json.specs.View.{items_of, view};
 ghost use Rattle.ring_messages.specs.Fields.{row_data, IsProperRow};
 ghost use Rattle.ring_words.specs.Spelling.{Reads};
+ghost use Rattle.ring_words.specs.Texts.{address_text, hundredths_text};
 ghost use Rattle.ring_words.specs.Inner.ReadsAs.{ReadsAs};
 ghost use Rattle.ring_messages.specs.Inner.Says.{seen, HasFields, IsRow, ListsRow};
 ghost use Rattle.ring_messages.specs.Commands.{act_fields};
 ghost use Rattle.ring_words.specs.declared.command.Act.TheVariants.{Add, Import};
 
 use crate::MessageFault;
+use crate::objects::Scalar::{Number, Text};
+use crate::objects::list;
 use crate::parts::{self, bounded, number16};
 use ring_words::{Row, Rows};
-use serde_json::{Value, json};
+use serde_json::Value;
 use std::alloc::{AllocError, Global};
+
+/// A row, with the texts of its address and weight.
+fn row_of_texts<'a>(
+    alloc: Global,
+    row: &'a Row,
+    address: &'a str,
+    weight: &'a str,
+) -> Result<Value, AllocError>
+    requires address { address.now ≡ address_text row.now.address }
+    requires weight { weight.now ≡ hundredths_text row.now.weight }
+    ensures { IfOk result (λ v. view v ≡ row_data row.now) }
+{
+    list(
+        alloc,
+        &[
+            Number(row.region.into()),
+            Number(row.zone.into()),
+            Text(address),
+            Number(row.port.get().into()),
+            Text(row.name.as_str()),
+            Text(weight),
+        ],
+    )
+}
 
 fn row_value(alloc: Global, row: &Row) -> Result<Value, AllocError>
     ensures { IfOk result (λ v. view v ≡ row_data row.now) }
 {
     let address = row.address.to_string(alloc)?;
     let weight = row.weight.to_string(alloc)?;
-    json!(in alloc; [
-        row.region,
-        row.zone,
-        address.as_str(),
-        row.port.get(),
-        row.name.as_str(),
-        weight.as_str(),
-    ])
+    row_of_texts(alloc, row, address.as_str(), weight.as_str())
 }
 
 pub(crate) fn rows_value(alloc: Global, rows: &[Row]) -> Result<Value, AllocError>

@@ -4,9 +4,11 @@ ghost use Rattle.serde_json.specs.View.{view};
 ghost use Rattle.ring_messages.specs.Replies.{fault_data, bad_row_data, bad_field_data, told_data};
 ghost use Rattle.ring_messages.specs.Replies.{answer_text, answer_status};
 
+use crate::objects::Scalar::{Number, Text};
+use crate::objects::object;
 use crate::replies::{refused_value, reply_value};
 use ring_words::Reply;
-use serde_json::{Value, json};
+use serde_json::Value;
 use std::alloc::{AllocError, Global};
 
 /// What a caller is told: the reply to a command that was decided, or why there is none.
@@ -61,19 +63,37 @@ pub fn no_memory() -> &'static str
 fn fault_value(alloc: Global, name: &str, rule: u8) -> Result<Value, AllocError>
     ensures { IfOk result (λ v. view v ≡ fault_data name.now rule) }
 {
-    json!(in alloc; {"fault": name, "rule": rule})
+    object(
+        alloc,
+        &[("fault", Text(name)), ("rule", Number(rule.into()))],
+    )
 }
 
 fn bad_row_value(alloc: Global, row: u64) -> Result<Value, AllocError>
     ensures { IfOk result (λ v. view v ≡ bad_row_data row) }
 {
-    json!(in alloc; {"fault": "BadRow", "row": row, "rule": 41})
+    object(
+        alloc,
+        &[
+            ("fault", Text("BadRow")),
+            ("row", Number(row)),
+            ("rule", Number(41)),
+        ],
+    )
 }
 
 fn bad_field_value(alloc: Global, row: u64, column: u8) -> Result<Value, AllocError>
     ensures { IfOk result (λ v. view v ≡ bad_field_data row column) }
 {
-    json!(in alloc; {"column": column, "fault": "BadField", "row": row, "rule": 42})
+    object(
+        alloc,
+        &[
+            ("column", Number(column.into())),
+            ("fault", Text("BadField")),
+            ("row", Number(row)),
+            ("rule", Number(42)),
+        ],
+    )
 }
 
 fn told_value(alloc: Global, told: &Told) -> Result<Value, AllocError>
