@@ -13,6 +13,7 @@ import signal
 import sqlite3
 import subprocess
 import sys
+import tty
 from pathlib import Path
 
 import common
@@ -250,18 +251,34 @@ def other_words(checks):
 # Words, and the fault that they come to before a file is opened, whose folder isn't there: a word of another form, a path of another
 # form, a table that is missing; an input that is missing, a folder, which can be opened and not read, and the program itself, which is
 # longer than an input may be.
-TOLD_BEFORE = [("table FILE Ring", "Unreadable", 20), ("nodes FILE Ring a", "Unreadable", 20), ("export FILE r 01", "Unreadable", 20),
-               ("nodes FILE r a/b", "BadPath", 30), ("nodes FILE r a --object o", "BadPath", 30),
-               ("import FILE r ops 1 /no/folder/c", "NoFile", 27), ("loop FILE /no/folder/i", "NoFile", 27),
-               ("loop FILE /", "ReadFailed", 50), ("loop FILE /proc/self/exe", "TooLong", 29)]
-NO_FOLDER = ["run --file FILE", "table FILE r", "serve FILE 8642 1", "loop FILE /dev/null"]
+AWAY = "/no/folder/f"
+TOLD_BEFORE = [(["table", AWAY, "a b"], "Unreadable", 20), (["nodes", AWAY, "", "a"], "Unreadable", 20),
+               (["export", AWAY, "r", "01"], "Unreadable", 20), (["nodes", AWAY, "r", "a/b"], "BadPath", 30),
+               (["nodes", AWAY, "r", "a", "--object", "o"], "BadPath", 30), (["import", AWAY, "r", "ops", "1", "/no/folder/c"], "NoFile", 27),
+               (["loop", AWAY, "/no/folder/i"], "NoFile", 27), (["loop", AWAY, "/"], "ReadFailed", 50),
+               (["loop", AWAY, "/proc/self/exe"], "TooLong", 29)]
+NO_FOLDER = [["run", "--file", AWAY], ["table", AWAY, "r"], ["serve", AWAY, "8642", "1"], ["loop", AWAY, "/dev/null"]]
 
 
 def order_of_faults(checks):
     """Which fault is told where there are several."""
-    told_last = [(asked, "StoreFault", 24) for asked in NO_FOLDER]
-    for asked, name, number in TOLD_BEFORE + told_last:
-        checks.same(f"ringd {asked}", run(*asked.replace("FILE", "/no/folder/f").split()), fault(name, number))
+    told_last = [(words, "StoreFault", 24) for words in NO_FOLDER]
+    for words, name, number in TOLD_BEFORE + told_last:
+        checks.same(f"ringd {words}", run(*words), fault(name, number))
+
+
+def read_that_fails_midway(checks):
+    """Input that fails behind its first lines."""
+    ours, theirs = os.openpty()
+    tty.setraw(theirs)
+    os.write(theirs, lines(*FIRST[:3]))
+    with subprocess.Popen([*common.program(), "run"], stdin=ours, stdout=subprocess.PIPE, stderr=subprocess.PIPE) as asked:
+        answers = b"".join(asked.stdout.readline() for _ in FIRST[:3])
+        os.close(theirs)
+        rest, errors = asked.communicate(timeout=60)
+    os.close(ours)
+    checks.same("what came before is answered", (answers, rest), (b"".join(FIRST_ANSWERS.splitlines(True)[:3]), b""))
+    checks.same("and the fault is told", (asked.returncode, errors), fault("ReadFailed", 50)[::2])
 
 
 def ended(*words, given=None, **streams):
@@ -519,8 +536,8 @@ def read_by_sqlite(checks):
 def main():
     checks = Checks("store.py", 300)
     return checks.run(
-        first_run, other_words, order_of_faults, one_device, csv_import, renewal, full_file, broken_streams, two_programs, no_places, no_databases, bad_stores, older_schema,
-        read_only, failing_writes, read_by_sqlite)
+        first_run, other_words, order_of_faults, one_device, csv_import, renewal, full_file, broken_streams, read_that_fails_midway,
+        two_programs, no_places, no_databases, bad_stores, older_schema, read_only, failing_writes, read_by_sqlite)
 
 
 if __name__ == "__main__":

@@ -144,14 +144,25 @@ fn each_program_gets_its_arguments(rt: HostRuntime) -> Result<(), Fail> {
     Ok(())
 }
 
-/// Whether the words of a line ask for nothing.
-fn is_bad(alloc: Global, line: &str) -> Result<bool, AllocError> {
-    let words = words_of(alloc, line)?;
-    match task_of(alloc, &words) {
+/// Whether words ask for nothing.
+fn are_bad(alloc: Global, words: &[String]) -> Result<bool, AllocError> {
+    match task_of(alloc, words) {
         Ok(_) => Ok(false),
         Err(ArgsFault::Bad(_)) => Ok(true),
         Err(ArgsFault::NoMemory) => Err(AllocError),
     }
+}
+
+/// Whether the words of a line ask for nothing.
+fn is_bad(alloc: Global, line: &str) -> Result<bool, AllocError> {
+    let words = words_of(alloc, line)?;
+    are_bad(alloc, &words)
+}
+
+#[test]
+fn no_words_at_all_ask_for_nothing(rt: HostRuntime) -> Result<(), Fail> {
+    assert!(rt; are_bad(rt.alloc(), &[])?);
+    Ok(())
 }
 
 #[test]
