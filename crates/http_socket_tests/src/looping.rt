@@ -11,8 +11,19 @@ const READ: &str = "GET /v2 HTTP/1.1\r\nHost: a\r\n\r\n";
 const READ_ANSWER: &str =
     "HTTP/1.1 404 Not Found\r\nContent-Type: application/json\r\nContent-Length: 32\r\n\r\n{\"fault\":\"NoRoute\",\"status\":404}";
 
-/// Whether a file of these texts is answered so, where `told` is how the serving ends, at this
-/// book.
+/// How the serving of a file of these bytes ends at this book, and what is written.
+fn looped(
+    rt: &HostRuntime,
+    book: &mut RingBook,
+    input: &[u8],
+) -> (Result<(), ServeFault>, Vec<u8>) {
+    let mut clock = HourClock::new(rt, Some(7));
+    let mut writer = CountedWriter::new(Vec::new(rt.alloc()));
+    let came = loop_over(rt, input, &mut writer, &mut clock, book, b"", b"");
+    (came, writer.into_inner())
+}
+
+/// Whether a file of these texts is answered so at this book, where `told` is how the serving ends.
 fn loops(
     rt: &HostRuntime,
     book: &mut RingBook,
@@ -21,18 +32,13 @@ fn loops(
     want: &[&str],
 ) -> Result<bool, Fail> {
     let input = joined(rt.alloc(), texts)?;
-    let mut clock = HourClock::new(rt, Some(7));
-    let mut writer = CountedWriter::new(Vec::new(rt.alloc()));
-    let came = loop_over(
-        rt,
-        input.as_bytes(),
-        &mut writer,
-        &mut clock,
-        book,
-        b"",
-        b"",
-    );
-    Ok(came == told && are_joined(&writer.into_inner(), want))
+    let (came, written) = looped(rt, book, input.as_bytes());
+    Ok(came == told && are_joined(&written, want))
+}
+
+/// Whether a file of these texts is served to its end at a new book, and answered so.
+fn loops_anew(rt: &HostRuntime, texts: &[&str], want: &[&str]) -> Result<bool, Fail> {
+    loops(rt, &mut open(rt.alloc()), texts, Ok(()), want)
 }
 
 /// Texts as one.
@@ -46,49 +52,34 @@ fn joined(alloc: Global, texts: &[&str]) -> Result<String, AllocError> {
 
 #[test]
 fn the_answers_to_a_file_are_written(rt: HostRuntime) -> Result<(), Fail> {
-    let mut book = open(rt.alloc());
     let texts = [CREATE, CREATE, LAST, CREATE];
     let want = [CREATED, CREATED, LAST_ANSWER];
-    assert!(rt; loops(&rt, &mut book, &texts, Ok(()), &want)?);
+    assert!(rt; loops_anew(&rt, &texts, &want)?);
     Ok(())
 }
 
 #[test]
 fn a_file_that_ends_within_a_request_is_answered_up_to_it(rt: HostRuntime) -> Result<(), Fail> {
-    let mut book = open(rt.alloc());
     let texts = [READ, &CREATE[..100]];
-    assert!(rt; loops(&rt, &mut book, &texts, Ok(()), &[READ_ANSWER])?);
+    assert!(rt; loops_anew(&rt, &texts, &[READ_ANSWER])?);
     Ok(())
 }
 
 #[test]
 fn a_file_of_32768_bytes_is_answered(rt: HostRuntime) -> Result<(), Fail> {
-    let mut book = open(rt.alloc());
     let mut texts = ["x"; 32721];
     texts[0] = LAST;
     assert!(rt; LAST.len() == 48);
-    assert!(rt; loops(&rt, &mut book, &texts, Ok(()), &[LAST_ANSWER])?);
+    assert!(rt; loops_anew(&rt, &texts, &[LAST_ANSWER])?);
     Ok(())
 }
 
 /// How the serving of 500 reads ends whose answers are too long, and whether what was written is
 /// the first 32,768 bytes of their answers.
 fn too_long(rt: &HostRuntime) -> Result<(Result<(), ServeFault>, bool), Fail> {
-    let mut book = open(rt.alloc());
     let input = joined(rt.alloc(), &[READ; 500])?;
     let all = joined(rt.alloc(), &[READ_ANSWER; 500])?;
-    let mut clock = HourClock::new(rt, Some(7));
-    let mut writer = CountedWriter::new(Vec::new(rt.alloc()));
-    let came = loop_over(
-        rt,
-        input.as_bytes(),
-        &mut writer,
-        &mut clock,
-        &mut book,
-        b"",
-        b"",
-    );
-    let text = writer.into_inner();
+    let (came, text) = looped(rt, &mut open(rt.alloc()), input.as_bytes());
     Ok((
         came,
         text.len() == 32768 && all.as_bytes().starts_with(&text),

@@ -101,16 +101,25 @@ fn clients(
     Ok(streams)
 }
 
-/// Serves so many connections over a new book, and tells how long that took.
+/// Serves so many connections over a new book.
 fn serve_new_book(
     rt: &HostRuntime,
     server: &mut Server<'_, HostRuntime>,
     count: u16,
-) -> Result<Duration, Fail> {
+) -> Result<(), ServeFault> {
     let mut clock = HourClock::new(rt, Some(7));
     let mut book = open(rt.alloc());
+    server.serve(count, &mut clock, &mut book, b"", b"")
+}
+
+/// Serves so many connections over a new book, and tells how long that took.
+fn time_of_serving(
+    rt: &HostRuntime,
+    server: &mut Server<'_, HostRuntime>,
+    count: u16,
+) -> Result<Duration, Fail> {
     let began = Instant::now(rt)?;
-    server.serve(count, &mut clock, &mut book, b"", b"")?;
+    serve_new_book(rt, server, count)?;
     Ok(began.elapsed(rt)?)
 }
 
@@ -124,7 +133,7 @@ fn served(
     let mut server = Server::bind(rt, 0, patience)?;
     let streams = clients(rt, server.address()?, talks)?;
     let count = u16::try_from(talks.len()).unwrap_or(0);
-    let took = serve_new_book(rt, &mut server, count)?;
+    let took = time_of_serving(rt, &mut server, count)?;
     Ok((all_get(rt, streams, talks)?, took))
 }
 

@@ -8,7 +8,7 @@ use std::test::Fail;
 use test_streams::{Giver, Taker};
 
 /// Four requests.
-const FOUR: [&str; 4] = [
+static FOUR: [&str; 4] = [
     CREATE,
     "GET /v1/rings/object/devices HTTP/1.1\r\nHost: a\r\n\r\n",
     "GET /v2 HTTP/1.1\r\nHost: a\r\n\r\n",
@@ -16,7 +16,7 @@ const FOUR: [&str; 4] = [
 ];
 
 /// Their answers.
-const FOUR_ANSWERS: [&str; 4] = [
+static FOUR_ANSWERS: [&str; 4] = [
     CREATED,
     "HTTP/1.1 200 OK\r\nContent-Type: text/plain\r\nContent-Length: 65\r\n\r\n   id region  zone address          port     weight state   name\n",
     "HTTP/1.1 404 Not Found\r\nContent-Type: application/json\r\nContent-Length: 32\r\n\r\n{\"fault\":\"NoRoute\",\"status\":404}",
@@ -52,17 +52,18 @@ struct Outcome {
     fault: Option<StreamFault>,
     read_faults: u64,
     write_faults: u64,
+    is_flushed: bool,
     text: Vec<u8>,
 }
 
-/// Serves the four requests, read so many bytes at a time, on a writer.
+/// Serves a stream, read so many bytes at a time, on a writer.
 fn serve(
     alloc: Global,
     book: &mut RingBook,
+    stream: &str,
     reads: (usize, u32),
     taker: Taker,
 ) -> Result<Outcome, AllocError> {
-    let stream = joined(alloc, &FOUR)?;
     let mut clock = clock_at(alloc, 0)?;
     let mut reader = CountedReader::new(Giver::new(stream.as_bytes(), reads.0, reads.1));
     let mut writer = CountedWriter::new(taker);
@@ -71,6 +72,7 @@ fn serve(
         fault: told.err(),
         read_faults: reader.faults(),
         write_faults: writer.faults(),
+        is_flushed: writer.is_flushed(),
         text: writer.into_inner().taken,
     })
 }
@@ -80,15 +82,42 @@ fn is_beginning(alloc: Global, text: &[u8]) -> Result<bool, AllocError> {
     Ok(joined(alloc, &FOUR_ANSWERS)?.as_bytes().starts_with(text))
 }
 
-/// Whether a read that fails so leaves the answers so far, and all is answered when it is sent
-/// again. Where the reader never failed, nothing was told.
+/// Whether a fault is told just where the stream that it tells of has counted one, and the other
+/// stream has counted none.
+fn is_told(came: &Outcome, fault: StreamFault) -> bool {
+    let (counted, others) = match fault {
+        StreamFault::ReadFailed => (came.read_faults, came.write_faults),
+        _ => (came.write_faults, came.read_faults),
+    };
+    (came.fault == Some(fault)) == (counted == 1) && others == 0
+}
+
+/// Whether serving the four requests, where it fails so, leaves the answers so far, and all is
+/// answered when it is sent again. Where no stream failed, nothing was told.
+fn fails_well(
+    alloc: Global,
+    book: &mut RingBook,
+    reads: (usize, u32),
+    taker: Taker,
+    fault: StreamFault,
+) -> Result<bool, Fail> {
+    let stream = joined(alloc, &FOUR)?;
+    let came = serve(alloc, book, &stream, reads, taker)?;
+    let is_well = is_told(&came, fault) && is_beginning(alloc, &came.text)?;
+    Ok(is_well && four_are_answered(alloc, book)?)
+}
+
+/// Whether a read that fails so leaves the answers so far.
 fn read_fails_well(alloc: Global, fails_at: u32) -> Result<bool, Fail> {
     let mut book = open(alloc, Limits::full());
     let taker = Taker::new(alloc, 1000, u32::MAX);
-    let came = serve(alloc, &mut book, (40, fails_at), taker)?;
-    let is_told = (came.fault == Some(StreamFault::ReadFailed)) == (came.read_faults == 1);
-    let is_well = is_told && came.write_faults == 0 && is_beginning(alloc, &came.text)?;
-    Ok(is_well && four_are_answered(alloc, &mut book)?)
+    fails_well(
+        alloc,
+        &mut book,
+        (40, fails_at),
+        taker,
+        StreamFault::ReadFailed,
+    )
 }
 
 #[test]
@@ -103,10 +132,13 @@ fn a_failed_read_leaves_the_answers_so_far(rt: HostRuntime) -> Result<(), Fail> 
 fn write_fails_well(alloc: Global, fails_at: u32) -> Result<bool, Fail> {
     let mut book = open(alloc, Limits::full());
     let taker = Taker::new(alloc, 30, fails_at);
-    let came = serve(alloc, &mut book, (100, u32::MAX), taker)?;
-    let is_told = (came.fault == Some(StreamFault::WriteFailed)) == (came.write_faults == 1);
-    let is_well = is_told && came.read_faults == 0 && is_beginning(alloc, &came.text)?;
-    Ok(is_well && four_are_answered(alloc, &mut book)?)
+    fails_well(
+        alloc,
+        &mut book,
+        (100, u32::MAX),
+        taker,
+        StreamFault::WriteFailed,
+    )
 }
 
 #[test]
@@ -117,24 +149,17 @@ fn a_failed_write_leaves_a_beginning_of_the_answers(rt: HostRuntime) -> Result<(
     Ok(())
 }
 
+/// Whether a request is answered, and its answer flushed, before the read behind it, which fails.
+fn is_written_at_once(alloc: Global, book: &mut RingBook) -> Result<bool, AllocError> {
+    let taker = Taker::new(alloc, 1000, u32::MAX);
+    let came = serve(alloc, book, CREATE, (1000, 2), taker)?;
+    let is_written = came.is_flushed && came.text.as_slice() == CREATED.as_bytes();
+    Ok(is_written && came.fault == Some(StreamFault::ReadFailed))
+}
+
 #[test]
 fn answers_are_written_before_more_is_read(rt: HostRuntime) -> Result<(), Fail> {
-    let alloc = rt.alloc();
-    let mut book = open(alloc, Limits::full());
-    let mut clock = clock_at(alloc, 0)?;
-    let mut reader = CountedReader::new(Giver::new(CREATE.as_bytes(), 1000, 2));
-    let mut writer = CountedWriter::new(Taker::new(alloc, 1000, u32::MAX));
-    let told = serve_stream(
-        alloc,
-        &mut reader,
-        &mut writer,
-        &mut clock,
-        &mut book,
-        b"",
-        b"",
-    );
-    assert_eq!(rt; told, Err(StreamFault::ReadFailed));
-    assert!(rt; writer.is_flushed());
-    assert_eq!(rt; writer.into_inner().taken.as_slice(), CREATED.as_bytes());
+    let mut book = open(rt.alloc(), Limits::full());
+    assert!(rt; is_written_at_once(rt.alloc(), &mut book)?);
     Ok(())
 }

@@ -1,5 +1,5 @@
 //! Streams that no client should send.
-use crate::serving::{CREATE, CREATED, LOST, Sent, Step, Told, answer_text, session};
+use crate::serving::{CREATED, LOST, Sent, Step, Told, session};
 use std::alloc::{AllocError, Global};
 use std::test::Fail;
 
@@ -76,7 +76,7 @@ fn another_method_is_refused_without_a_body(rt: HostRuntime) -> Result<(), Fail>
 }
 
 /// Heads that end their connections: nothing behind them is answered.
-const LAST_HEADS: [Step<'_>; 10] = [
+static LAST_HEADS: [Step<'_>; 10] = [
     (
         Sent::Before("GET /v2 HTTP/1.0\r\nHost: a\r\n\r\n"),
         Told::Last(
@@ -148,17 +148,19 @@ fn a_length_may_have_leading_zeros(rt: HostRuntime) -> Result<(), Fail> {
     Ok(())
 }
 
+/// A good request, and one of 65537 bytes behind it.
+static TOO_LARGE: [Step<'_>; 1] = [(
+    Sent::Before(
+        "POST /v1/requests HTTP/1.1\r\nHost: a\r\nContent-Length: 95\r\n\r\n{\"caller\":\"ops\",\"do\":\"create\",\"min_hours\":24,\"number\":1,\"power\":2,\"replicas\":1,\"ring\":\"object\"}POST /v1/requests HTTP/1.1\r\nHost: a\r\nContent-Length: 65537\r\n\r\n",
+    ),
+    Told::Bytes(
+        "HTTP/1.1 200 OK\r\nContent-Type: application/json\r\nContent-Length: 29\r\n\r\n{\"done\":\"create\",\"version\":0}HTTP/1.1 413 Payload Too Large\r\nContent-Type: application/json\r\nContent-Length: 33\r\nConnection: close\r\n\r\n{\"fault\":\"TooLarge\",\"status\":413}",
+    ),
+)];
+
 #[test]
 fn a_body_of_65537_bytes_is_too_large(rt: HostRuntime) -> Result<(), Fail> {
-    let alloc = rt.alloc();
-    let large = "POST /v1/requests HTTP/1.1\r\nHost: a\r\nContent-Length: 65537\r\n\r\n";
-    let stream = format!(in alloc; "{CREATE}{large}")?;
-    let too_large = Told::Last(
-        "413 Payload Too Large",
-        "{\"fault\":\"TooLarge\",\"status\":413}",
-    );
-    let want = format!(in alloc; "{CREATED}{}", answer_text(alloc, too_large)?)?;
-    assert!(rt; session(alloc, &[(Sent::Before(&stream), Told::Bytes(&want))])?);
+    assert!(rt; session(rt.alloc(), &TOO_LARGE)?);
     Ok(())
 }
 
@@ -178,7 +180,7 @@ fn a_body_of_200_nested_lists_is_unreadable(rt: HostRuntime) -> Result<(), Fail>
 }
 
 /// Bodies that are no messages.
-const NO_MESSAGES: [Step<'_>; 5] = [
+static NO_MESSAGES: [Step<'_>; 5] = [
     (Sent::Message(""), UNREADABLE),
     (
         Sent::Message("{\"caller\":\"ops\",\"do\":\"publish\",\"number\":1.0,\"ring\":\"object\"}"),
@@ -209,7 +211,7 @@ fn bodies_that_are_no_messages_are_unreadable(rt: HostRuntime) -> Result<(), Fai
 }
 
 /// Queries that name no path.
-const NO_PATHS: [Step<'_>; 7] = [
+static NO_PATHS: [Step<'_>; 7] = [
     (Sent::Get("/v1/rings/none/nodes?account=a%2Fb"), BAD_PATH),
     (
         Sent::Get("/v1/rings/none/nodes?account=a&account=a"),
@@ -242,7 +244,7 @@ fn an_account_of_257_bytes_is_refused(rt: HostRuntime) -> Result<(), Fail> {
 }
 
 /// Segments are taken as they stand, and empty ones are none.
-const SEGMENTS: [Step<'_>; 12] = [
+static SEGMENTS: [Step<'_>; 12] = [
     (Sent::Get("/v1/rings/object/text/01"), UNREADABLE),
     (Sent::Get("/v1/rings/object/text/4294967296"), UNREADABLE),
     (Sent::Get("/v1/rings/%6Fbject/devices"), UNREADABLE),

@@ -1,11 +1,11 @@
 //! Rings that are read, and tables that are imported.
-use crate::serving::{NO_RING, Sent, Step, Told, are_steps, open, session};
+use crate::serving::{NO_RING, RingBook, Sent, Step, Told, are_steps, open, session};
 use ring_words::Limits;
 use std::alloc::Global;
 use std::test::Fail;
 
 /// A ring `tiny` of one device, its version 2 published.
-const TINY: [Step<'_>; 4] = [
+static TINY: [Step<'_>; 4] = [
     (
         Sent::Message(
             "{\"caller\":\"ops\",\"do\":\"create\",\"min_hours\":0,\"number\":1,\"power\":1,\"replicas\":1,\"ring\":\"tiny\"}",
@@ -34,7 +34,7 @@ const TINY: [Step<'_>; 4] = [
 ];
 
 /// A ring `object` of two devices, rebalanced at version 3.
-const OBJECT: [Step<'_>; 4] = [
+static OBJECT: [Step<'_>; 4] = [
     (
         Sent::Message(
             "{\"caller\":\"ops\",\"do\":\"create\",\"min_hours\":24,\"number\":1,\"power\":2,\"replicas\":1,\"ring\":\"object\"}",
@@ -68,14 +68,33 @@ const OBJECT: [Step<'_>; 4] = [
 const TWO_DEVICES: &str =
     "   id region  zone address          port     weight state   name\n    0      1     1 10.0.0.1         6200     100.00 open    d0\n    1      1     1 10.0.0.2         6200     100.00 open    d1\n";
 
+/// Whether steps over a book are answered as they say, and others behind them.
+fn are_steps_after(
+    alloc: Global,
+    book: &mut RingBook,
+    first: &[Step<'_>],
+    then: &[Step<'_>],
+) -> Result<bool, Fail> {
+    Ok(are_steps(alloc, book, first)? && are_steps(alloc, book, then)?)
+}
+
+/// Whether steps are answered as they say over a book of these limits that other steps have filled.
+fn session_within(
+    alloc: Global,
+    limits: Limits,
+    first: &[Step<'_>],
+    then: &[Step<'_>],
+) -> Result<bool, Fail> {
+    are_steps_after(alloc, &mut open(alloc, limits), first, then)
+}
+
 /// Whether steps are answered as they say over a book that these other steps have filled.
 fn session_after(alloc: Global, first: &[Step<'_>], then: &[Step<'_>]) -> Result<bool, Fail> {
-    let mut book = open(alloc, Limits::full());
-    Ok(are_steps(alloc, &mut book, first)? && are_steps(alloc, &mut book, then)?)
+    session_within(alloc, Limits::full(), first, then)
 }
 
 /// Targets without a route, and those that have it by another method.
-const NO_ROUTES: [Step<'_>; 4] = [
+static NO_ROUTES: [Step<'_>; 4] = [
     (
         Sent::Get("/v2"),
         Told::Bytes(
@@ -109,7 +128,7 @@ fn what_has_no_route_is_told_so(rt: HostRuntime) -> Result<(), Fail> {
 }
 
 /// Reads of the ring `tiny`: its text of 119 bytes, and nodes of 101 bytes.
-const TINY_READS: [Step<'_>; 3] = [
+static TINY_READS: [Step<'_>; 3] = [
     (
         Sent::Get("/v1/rings/tiny/text/2"),
         Told::Bytes(
@@ -158,7 +177,7 @@ fn a_ring_without_seats_has_no_nodes(rt: HostRuntime) -> Result<(), Fail> {
 }
 
 /// Reads of the tables of the ring `object`.
-const TABLES: [Step<'_>; 2] = [
+static TABLES: [Step<'_>; 2] = [
     (
         Sent::Get("/v1/rings/object/balance?x"),
         Told::Text(
@@ -178,7 +197,7 @@ fn tables_are_read(rt: HostRuntime) -> Result<(), Fail> {
 }
 
 /// An import of two rows for one place, and its message.
-const IMPORT_TWICE: [Step<'_>; 2] = [
+static IMPORT_TWICE: [Step<'_>; 2] = [
     (
         Sent::Post(
             "/v1/import/object?caller=ops&number=5",
@@ -207,7 +226,7 @@ fn a_table_is_imported_as_its_message_is(rt: HostRuntime) -> Result<(), Fail> {
 }
 
 /// An import into a ring that has room for two devices, and the ring behind it.
-const IMPORT_TOO_MANY: [Step<'_>; 2] = [
+static IMPORT_TOO_MANY: [Step<'_>; 2] = [
     (
         Sent::Post(
             "/v1/import/object?caller=ops&number=5",
@@ -226,12 +245,9 @@ const IMPORT_TOO_MANY: [Step<'_>; 2] = [
 
 #[test]
 fn a_table_with_a_row_too_many_is_refused_whole(rt: HostRuntime) -> Result<(), Fail> {
-    let alloc = rt.alloc();
     let mut limits = Limits::full();
     limits.devices = 2;
-    let mut book = open(alloc, limits);
-    assert!(rt; are_steps(alloc, &mut book, &OBJECT)?);
-    assert!(rt; are_steps(alloc, &mut book, &IMPORT_TOO_MANY)?);
+    assert!(rt; session_within(rt.alloc(), limits, &OBJECT, &IMPORT_TOO_MANY)?);
     Ok(())
 }
 
@@ -248,7 +264,7 @@ const DECIDED: Step<'_> = (
 );
 
 /// Tables that are not read, and decide nothing: the number stays new.
-const BAD_TABLES: [Step<'_>; 4] = [
+static BAD_TABLES: [Step<'_>; 4] = [
     (
         Sent::Post(
             IMPORT,
@@ -290,7 +306,7 @@ const UNREADABLE: Told<'_> = Told::Json(
 );
 
 /// Imports whose target names no caller and number of their forms.
-const BAD_TARGETS: [Step<'_>; 8] = [
+static BAD_TARGETS: [Step<'_>; 8] = [
     (Sent::Post("/v1/import/object", HEADER), UNREADABLE),
     (
         Sent::Post("/v1/import/object?caller=ops", HEADER),

@@ -1,6 +1,6 @@
 //! Requests, and what they are answered.
 use builder::RingMachine;
-use byte_streams::{CountedReader, CountedWriter};
+use byte_streams::{CountedReader, CountedWriter, StreamFault};
 use http_api::{Clock, KnownClock, serve_stream};
 use request_book::{Book, MemKeeper};
 use ring_model::Rings;
@@ -63,17 +63,18 @@ pub fn clock_at(alloc: Global, hour: u32) -> Result<KnownClock, AllocError> {
     Ok(KnownClock::new(vec![in alloc; hour]?))
 }
 
-/// What a stream is answered at hour 0, whose reads and writes have at most so many bytes.
-pub fn ask_in_pieces(
+/// How many answers a stream gets at hour 0, and their bytes, where reads and writes have at most so
+/// many bytes.
+fn ask_in_pieces(
     alloc: Global,
     book: &mut RingBook,
     stream: &[u8],
     size: usize,
-) -> Result<(u32, Vec<u8>), Fail> {
+) -> Result<(Result<u32, StreamFault>, Vec<u8>), AllocError> {
     let mut clock = clock_at(alloc, 0)?;
     let mut reader = CountedReader::new(Giver::new(stream, size, u32::MAX));
     let mut writer = CountedWriter::new(Taker::new(alloc, size, u32::MAX));
-    let count = serve_stream(alloc, &mut reader, &mut writer, &mut clock, book, b"", b"")?;
+    let count = serve_stream(alloc, &mut reader, &mut writer, &mut clock, book, b"", b"");
     Ok((count, writer.into_inner().taken))
 }
 
@@ -86,13 +87,13 @@ fn answers_in_pieces(
     want: (u32, &str),
 ) -> Result<bool, Fail> {
     let (count, text) = ask_in_pieces(alloc, book, stream, size)?;
-    Ok(count == want.0 && text.as_slice() == want.1.as_bytes())
+    Ok(count == Ok(want.0) && text.as_slice() == want.1.as_bytes())
 }
 
 /// Whether a stream is answered so at hour 0.
 pub fn answers(alloc: Global, book: &mut RingBook, stream: &str, want: &str) -> Result<bool, Fail> {
-    let (_, text) = ask_in_pieces(alloc, book, stream.as_bytes(), 1_000_000)?;
-    Ok(text.as_slice() == want.as_bytes())
+    let (count, text) = ask_in_pieces(alloc, book, stream.as_bytes(), 1_000_000)?;
+    Ok(count.is_ok() && text.as_slice() == want.as_bytes())
 }
 
 fn post(alloc: Global, target: &str, body: &str) -> Result<String, AllocError> {
@@ -101,7 +102,7 @@ fn post(alloc: Global, target: &str, body: &str) -> Result<String, AllocError> {
 }
 
 /// The bytes that are sent.
-pub fn request_text(alloc: Global, what: Sent<'_>) -> Result<String, AllocError> {
+fn request_text(alloc: Global, what: Sent<'_>) -> Result<String, AllocError> {
     match what {
         Sent::Get(target) => format!(in alloc; "GET {target} HTTP/1.1\r\nHost: a\r\n\r\n"),
         Sent::Post(target, body) => post(alloc, target, body),
@@ -112,7 +113,7 @@ pub fn request_text(alloc: Global, what: Sent<'_>) -> Result<String, AllocError>
 }
 
 /// The bytes that are answered.
-pub fn answer_text(alloc: Global, what: Told<'_>) -> Result<String, AllocError> {
+fn answer_text(alloc: Global, what: Told<'_>) -> Result<String, AllocError> {
     match what {
         Told::Json(status, body) => {
             let length = body.len();
@@ -196,7 +197,7 @@ fn a_stream_is_answered_alike_however_it_is_cut(rt: HostRuntime) -> Result<(), F
     Ok(())
 }
 
-/// Whether no proper beginning of a request is answered.
+/// Whether no proper beginning of a request is answered, and none makes its ring.
 fn is_silent(alloc: Global, book: &mut RingBook) -> Result<bool, Fail> {
     for length in 0..CREATE.len() {
         if !answers_in_pieces(
@@ -209,15 +210,17 @@ fn is_silent(alloc: Global, book: &mut RingBook) -> Result<bool, Fail> {
             return Ok(false);
         }
     }
-    Ok(true)
+    is_step(
+        alloc,
+        book,
+        &(Sent::Get("/v1/rings/object/devices"), NO_RING),
+    )
 }
 
 #[test]
 fn a_proper_beginning_decides_nothing_and_is_not_answered(rt: HostRuntime) -> Result<(), Fail> {
     let mut book = open(rt.alloc(), Limits::full());
     assert!(rt; is_silent(rt.alloc(), &mut book)?);
-    let read = (Sent::Get("/v1/rings/object/devices"), NO_RING);
-    assert!(rt; is_step(rt.alloc(), &mut book, &read)?);
     Ok(())
 }
 

@@ -16,7 +16,7 @@ use test_streams::{Giver, Taker};
 
 type Memory = MemKeeper<Rings, Command, Reply>;
 
-const FIRST_RUN: &str =
+static FIRST_RUN: &str =
     "0 {\"caller\":\"ops\",\"do\":\"create\",\"min_hours\":24,\"number\":1,\"power\":2,\"replicas\":1,\"ring\":\"object\"}\n\
 0 {\"address\":\"10.0.0.1\",\"caller\":\"ops\",\"do\":\"add\",\"name\":\"d0\",\"number\":2,\"port\":6200,\"region\":1,\"ring\":\"object\",\"weight\":\"100.00\",\"zone\":1}\n\
 0 {\"address\":\"10.0.0.2\",\"caller\":\"ops\",\"do\":\"add\",\"name\":\"d1\",\"number\":3,\"port\":6200,\"region\":1,\"ring\":\"object\",\"weight\":\"100.00\",\"zone\":1}\n\
@@ -28,7 +28,7 @@ const FIRST_RUN: &str =
 \n\
 9 {\"caller\":\"b2\",\"do\":\"create\",\"min_hours\":24,\"number\":1,\"power\":2,\"replicas\":1,\"ring\":\"object\"}\n";
 
-const FIRST_ANSWERS: &str = "200 {\"done\":\"create\",\"version\":0}\n\
+static FIRST_ANSWERS: &str = "200 {\"done\":\"create\",\"version\":0}\n\
 200 {\"done\":\"add\",\"id\":0,\"version\":1}\n\
 200 {\"done\":\"add\",\"id\":1,\"version\":2}\n\
 200 {\"done\":\"add\",\"id\":1,\"version\":2}\n\
@@ -60,9 +60,14 @@ fn ask<K: Keeper<RingMachine>>(
     Ok(writer.into_inner())
 }
 
+/// What lines are answered by a new book of these limits.
+fn answers_within(alloc: Global, limits: Limits, lines: &[u8]) -> Result<Vec<u8>, StreamFault> {
+    ask(alloc, &mut open(alloc, limits), lines)
+}
+
 /// What lines are answered by a new book.
-fn answers(alloc: Global, lines: &str) -> Result<Vec<u8>, StreamFault> {
-    ask(alloc, &mut open(alloc, Limits::full()), lines.as_bytes())
+fn answers(alloc: Global, lines: &[u8]) -> Result<Vec<u8>, StreamFault> {
+    answers_within(alloc, Limits::full(), lines)
 }
 
 fn delivery(alloc: Global, hour: Hour, text: &str) -> Result<Delivery<Command>, MessageFault> {
@@ -105,7 +110,7 @@ fn deliveries_in_one_call_are_answered_alike(rt: HostRuntime) -> Result<(), Fail
     Ok(())
 }
 
-const WEIGHTS: [(&str, bool); 9] = [
+static WEIGHTS: [(&str, bool); 9] = [
     ("0.00", true),
     ("1000000.00", true),
     ("1000000.01", false),
@@ -127,19 +132,19 @@ fn is_weight(alloc: Global, weight: &str, is_read: bool) -> Result<bool, Fail> {
     } else {
         UNREADABLE
     };
-    Ok(answers(alloc, &line)?.as_slice() == want.as_bytes())
+    Ok(answers(alloc, line.as_bytes())?.as_slice() == want.as_bytes())
 }
 
 #[test]
 fn a_weight_has_one_spelling(rt: HostRuntime) -> Result<(), Fail> {
-    for (weight, is_read) in WEIGHTS {
-        assert!(rt; is_weight(rt.alloc(), weight, is_read)?, "{weight}");
+    for (weight, is_read) in &WEIGHTS {
+        assert!(rt; is_weight(rt.alloc(), weight, *is_read)?, "{weight}");
     }
     Ok(())
 }
 
 /// Numbers and hours that are none.
-const BAD_NUMBERS: [&str; 7] = [
+static BAD_NUMBERS: [&str; 7] = [
     "1.0",
     "1e0",
     "4294967296",
@@ -149,103 +154,110 @@ const BAD_NUMBERS: [&str; 7] = [
     "1,\"more\":1",
 ];
 
-const BAD_HOURS: [&str; 6] = ["01", "00", "+1", "4294967296", "1.0", ""];
+static BAD_HOURS: [&str; 6] = ["01", "00", "+1", "4294967296", "1.0", ""];
+
+/// Puts parts behind bytes.
+fn push_all(bytes: &mut Vec<u8>, parts: &[&[u8]]) -> Result<(), AllocError> {
+    for part in parts {
+        bytes.extend_from_slice(part)?;
+    }
+    Ok(())
+}
 
 /// A message nested 200 deep, behind an hour.
 fn push_nested(lines: &mut Vec<u8>) -> Result<(), AllocError> {
-    lines.extend_from_slice(b"0 ")?;
-    for _ in 0..200 {
-        lines.push(b'[')?;
-    }
-    for _ in 0..200 {
-        lines.push(b']')?;
-    }
-    lines.push(b'\n')?;
-    Ok(())
+    push_all(lines, &[b"0 ", &[b'['; 200], &[b']'; 200], b"\n"])
 }
 
-/// Commands under numbers that are none, and deliveries at hours that are none.
-fn push_misnumbered(alloc: Global, lines: &mut Vec<u8>) -> Result<(), AllocError> {
-    for number in BAD_NUMBERS {
-        let line = format!(in alloc;
-            "0 {{\"caller\":\"ops\",\"do\":\"set_weight\",\"id\":0,\"ring\":\"object\",\"weight\":\"1.00\",\"number\":{number}}}\n"
-        )?;
-        lines.extend_from_slice(line.as_bytes())?;
-    }
-    for hour in BAD_HOURS {
-        let line = format!(in alloc; "{hour} {CREATE}\n")?;
-        lines.extend_from_slice(line.as_bytes())?;
+/// Commands under numbers that are none.
+fn push_misnumbered(lines: &mut Vec<u8>) -> Result<(), AllocError> {
+    let command: &[u8] =
+        b"0 {\"caller\":\"ops\",\"do\":\"set_weight\",\"id\":0,\"ring\":\"object\",\"weight\":\"1.00\",\"number\":";
+    for number in &BAD_NUMBERS {
+        push_all(lines, &[command, number.as_bytes(), b"}\n"])?;
     }
     Ok(())
 }
 
-/// Lines that are no requests. Each is answered so, and changes nothing.
-fn hostile_lines(alloc: Global) -> Result<Vec<u8>, AllocError> {
-    let mut lines = Vec::new(alloc);
-    push_nested(&mut lines)?;
+/// Deliveries at hours that are none.
+fn push_mistimed(lines: &mut Vec<u8>) -> Result<(), AllocError> {
+    for hour in &BAD_HOURS {
+        push_all(lines, &[hour.as_bytes(), b" ", CREATE.as_bytes(), b"\n"])?;
+    }
+    Ok(())
+}
+
+/// Puts lines that are no requests before one that is. Each of them is answered so, and changes
+/// nothing.
+fn push_hostile(lines: &mut Vec<u8>) -> Result<(), AllocError> {
+    push_nested(lines)?;
     lines.extend_from_slice(
         b"0 {\"caller\":\"\xff\"}\n\xff\n\r\n0\n0 \n {}\n-1 {}\n4294967296 {}\n\n",
     )?;
-    push_misnumbered(alloc, &mut lines)?;
+    push_misnumbered(lines)?;
+    push_mistimed(lines)?;
     lines.extend_from_slice(
         b"0 {\"caller\":\"ops\",\"do\":\"set_weight\",\"number\":1,\"ring\":\"object\",\"weight\":\"1.00\"}\n",
     )?;
-    lines.extend_from_slice(b"0 {\"do\":\"rebalance\"}\n? devices \xff\n0\t{}\n")?;
-    Ok(lines)
+    push_all(
+        lines,
+        &[
+            b"0 {\"do\":\"rebalance\"}\n? devices \xff\n0\t{}\n0 ",
+            CREATE.as_bytes(),
+        ],
+    )
 }
 
-/// As many times that a line can't be read as there are lines.
-fn unreadable_each(alloc: Global, lines: &[u8]) -> Result<Vec<u8>, AllocError> {
-    let mut want = Vec::new(alloc);
+/// What is left of answers when each line end has taken away that a line can't be read.
+fn behind_unreadable<'a>(answers: &'a [u8], lines: &[u8]) -> Option<&'a [u8]> {
+    let mut rest = answers;
     for byte in lines {
         if *byte == b'\n' {
-            want.extend_from_slice(UNREADABLE.as_bytes())?;
+            rest = rest.strip_prefix(UNREADABLE.as_bytes())?;
         }
     }
-    Ok(want)
+    Some(rest)
+}
+
+/// Whether lines are unreadable up to the last, which a book answers as if it were the first.
+fn are_unreadable(alloc: Global, lines: &[u8]) -> Result<bool, Fail> {
+    let got = answers(alloc, lines)?;
+    let want: &[u8] = b"200 {\"done\":\"create\",\"version\":0}\n";
+    Ok(behind_unreadable(&got, lines) == Some(want))
 }
 
 #[test]
 fn hostile_lines_are_unreadable(rt: HostRuntime) -> Result<(), Fail> {
-    let mut lines = hostile_lines(rt.alloc())?;
-    let mut want = unreadable_each(rt.alloc(), &lines)?;
-    // the book is as it was
-    lines.extend_from_slice(b"0 ")?;
-    lines.extend_from_slice(CREATE.as_bytes())?;
-    want.extend_from_slice(b"200 {\"done\":\"create\",\"version\":0}\n")?;
-    let got = ask(rt.alloc(), &mut open(rt.alloc(), Limits::full()), &lines)?;
-    assert!(rt; got.as_slice() == want.as_slice());
+    let mut lines = Vec::new(rt.alloc());
+    push_hostile(&mut lines)?;
+    assert!(rt; are_unreadable(rt.alloc(), &lines)?);
     Ok(())
 }
 
 /// A delivery twice: with white space around the message, and with a key that comes twice.
-const SPACED: &str =
+static SPACED: &str =
     "0  {\"caller\":\"ops\",\"do\":\"create\",\"min_hours\":24,\"number\":1,\"power\":2,\"replicas\":1,\"ring\":\"object\"} \r
 0 {\"number\":7,\"caller\":\"ops\",\"do\":\"create\",\"min_hours\":24,\"number\":1,\"power\":2,\"replicas\":1,\"ring\":\"object\"}";
 
 #[test]
 fn white_space_and_a_doubled_key_are_read_as_json_reads_them(rt: HostRuntime) -> Result<(), Fail> {
     let want = "200 {\"done\":\"create\",\"version\":0}\n200 {\"done\":\"create\",\"version\":0}\n";
-    assert!(rt; answers(rt.alloc(), SPACED)?.as_slice() == want.as_bytes());
+    assert!(rt; answers(rt.alloc(), SPACED.as_bytes())?.as_slice() == want.as_bytes());
     Ok(())
 }
 
-/// A line of 65537 bytes between two deliveries.
-fn too_long(alloc: Global) -> Result<String, AllocError> {
-    let mut lines = format!(in alloc; "0 {CREATE}\n")?;
-    for _ in 0..65_537 {
-        lines.push('1')?;
-    }
-    lines.push_str("\n0 ")?;
-    lines.push_str(ADD)?;
-    Ok(lines)
+/// Puts a line of 65537 bytes between two deliveries.
+fn push_too_long(lines: &mut Vec<u8>) -> Result<(), AllocError> {
+    push_all(lines, &[b"0 ", CREATE.as_bytes(), b"\n"])?;
+    push_all(lines, &[&[b'1'; 65_537], b"\n0 ", ADD.as_bytes()])
 }
 
 #[test]
 fn a_line_of_65537_bytes_is_skipped(rt: HostRuntime) -> Result<(), Fail> {
     let want =
         "200 {\"done\":\"create\",\"version\":0}\n400 {\"fault\":\"Unreadable\",\"rule\":20}\n200 {\"done\":\"add\",\"id\":0,\"version\":1}\n";
-    let lines = too_long(rt.alloc())?;
+    let mut lines = Vec::new(rt.alloc());
+    push_too_long(&mut lines)?;
     assert!(rt; answers(rt.alloc(), &lines)?.as_slice() == want.as_bytes());
     Ok(())
 }

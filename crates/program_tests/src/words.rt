@@ -27,7 +27,7 @@ fn told(alloc: Global, line: &str) -> Result<String, AllocError> {
 }
 
 /// What the words of a line ask for.
-const ASKED: [(&str, &str); 15] = [
+static ASKED: [(&str, &str); 15] = [
     ("run", "Run { file: None }"),
     ("run --file F", "Run { file: Some(\"F\") }"),
     ("table F object", "Table { file: \"F\", ring: \"object\" }"),
@@ -79,7 +79,7 @@ const ASKED: [(&str, &str); 15] = [
 ];
 
 /// Lines whose argument is not of its form.
-const NOT_OF_ITS_FORM: [&str; 16] = [
+static NOT_OF_ITS_FORM: [&str; 16] = [
     // ports and counts
     "serve F 0 1",
     "serve F 65536 1",
@@ -101,7 +101,7 @@ const NOT_OF_ITS_FORM: [&str; 16] = [
     "export F object 7 --format json",
 ];
 
-const OTHER_WORDS: [&str; 27] = [
+static OTHER_WORDS: [&str; 27] = [
     "",
     "ran",
     "Run",
@@ -138,7 +138,7 @@ fn is_asked(alloc: Global, line: &str, task: &str) -> Result<bool, AllocError> {
 
 #[test]
 fn each_program_gets_its_arguments(rt: HostRuntime) -> Result<(), Fail> {
-    for (line, task) in ASKED {
+    for (line, task) in &ASKED {
         assert!(rt; is_asked(rt.alloc(), line, task)?, "{line}");
     }
     Ok(())
@@ -167,7 +167,7 @@ fn no_words_at_all_ask_for_nothing(rt: HostRuntime) -> Result<(), Fail> {
 
 #[test]
 fn arguments_keep_their_ranges(rt: HostRuntime) -> Result<(), Fail> {
-    for line in NOT_OF_ITS_FORM {
+    for line in &NOT_OF_ITS_FORM {
         assert!(rt; is_bad(rt.alloc(), line)?, "{line}");
     }
     let told = "error: an argument is not of its form";
@@ -177,7 +177,7 @@ fn arguments_keep_their_ranges(rt: HostRuntime) -> Result<(), Fail> {
 
 #[test]
 fn other_words_and_calls_for_help_ask_for_nothing(rt: HostRuntime) -> Result<(), Fail> {
-    for line in OTHER_WORDS {
+    for line in &OTHER_WORDS {
         assert!(rt; is_bad(rt.alloc(), line)?, "{line}");
     }
     Ok(())

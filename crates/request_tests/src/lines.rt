@@ -105,32 +105,49 @@ fn each_line_is_answered_however_the_reads_are_cut(rt: HostRuntime) {
     }
 }
 
+/// Bytes that are so many `x` and what stands behind them, again and again.
+fn spelled(alloc: Global, parts: &[(usize, &[u8])]) -> Result<Vec<u8>, AllocError> {
+    let mut bytes = Vec::new(alloc);
+    for (count, rest) in parts {
+        for _ in 0..*count {
+            bytes.push(b'x')?;
+        }
+        bytes.extend_from_slice(rest)?;
+    }
+    Ok(bytes)
+}
+
+/// Lines of which two are too long, one of them the last one.
+static TOO_LONG: [(usize, &[u8]); 4] = [
+    (0, b"first\n"),
+    (LONGEST_LINE, b"\nsecond\n"),
+    (LONGEST_LINE, b"x\nthird\n"),
+    (LONGEST_LINE * 2, b""),
+];
+
+/// Their answers.
+static TOO_LONG_ANSWERS: [(usize, &[u8]); 3] = [
+    (0, b"first\n"),
+    (LONGEST_LINE, b"\nsecond\n"),
+    (0, b"too long\nthird\ntoo long\n"),
+];
+
+/// Serves bytes in reads and writes as large as can be, the writer failing at one of its calls.
+fn serve_large(alloc: Global, input: &[u8], fails_at: u32) -> Served {
+    serve(
+        alloc,
+        Giver::new(input, usize::MAX, u32::MAX),
+        usize::MAX,
+        fails_at,
+    )
+}
+
 #[test]
 fn a_line_that_is_too_long_is_skipped(rt: HostRuntime) -> Result<(), Fail> {
-    let longest = vec![in rt.alloc(); b'x'; LONGEST_LINE]?;
-    let mut input = Vec::from_slice(rt.alloc(), b"first\n")?;
-    input.extend_from_slice(&longest)?;
-    input.extend_from_slice(b"\nsecond\n")?;
-    let mut want = Vec::from_slice(rt.alloc(), &input)?;
-    input.extend_from_slice(&longest)?;
-    input.extend_from_slice(b"x\nthird\n")?;
-    want.extend_from_slice(b"too long\nthird\n")?;
-    input.extend_from_slice(&longest)?;
-    input.extend_from_slice(&longest)?;
-    want.extend_from_slice(b"too long\n")?;
-
-    let mut heard = 0;
-    let mut output = Vec::new(rt.alloc());
-    let mut writer = CountedWriter::new(&mut output);
-    let answered = serve_lines::<_, _, Echo>(
-        rt.alloc(),
-        &mut CountedReader::new(input.as_slice()),
-        &mut writer,
-        &mut heard,
-    );
-    assert_eq!(rt; answered, Ok(6));
-    assert!(rt; output == want);
-    assert_eq!(rt; heard, 4);
+    let input = spelled(rt.alloc(), &TOO_LONG)?;
+    let want = spelled(rt.alloc(), &TOO_LONG_ANSWERS)?;
+    let served = serve_large(rt.alloc(), &input, u32::MAX);
+    assert!(rt; served.is(Ok(6), &want, 4, (0, 0)));
     Ok(())
 }
 
@@ -184,12 +201,9 @@ fn a_write_that_fails_leaves_a_beginning(rt: HostRuntime) {
 
 #[test]
 fn a_writer_that_takes_nothing_fails(rt: HostRuntime) {
-    let mut heard = 0;
-    let mut reader = CountedReader::new(FOUR);
-    let mut writer = CountedWriter::new(Taker::new(rt.alloc(), 0, u32::MAX));
-    let answered = serve_lines::<_, _, Echo>(rt.alloc(), &mut reader, &mut writer, &mut heard);
-    assert_eq!(rt; answered, Err(StreamFault::WriteFailed));
-    assert_eq!(rt; writer.faults(), 1);
+    let giver = Giver::new(FOUR, usize::MAX, u32::MAX);
+    let served = serve(rt.alloc(), giver, 0, u32::MAX);
+    assert!(rt; served.answered == Err(StreamFault::WriteFailed) && served.faults.1 == 1);
 }
 
 /// Waits for the answer to each line before it writes the next.
@@ -257,35 +271,42 @@ fn each_answer_is_flushed_before_the_next_read(rt: HostRuntime) {
     assert_eq!(rt; answered, Ok(4));
 }
 
-#[test]
-fn long_input_is_answered_in_large_writes(rt: HostRuntime) -> Result<(), Fail> {
-    let mut input = Vec::new(rt.alloc());
+/// Four lines, again and again, 24,000 in all.
+fn many_lines(alloc: Global) -> Result<Vec<u8>, AllocError> {
+    let mut lines = Vec::new(alloc);
     for _ in 0..6000 {
-        input.extend_from_slice(FOUR)?;
+        lines.extend_from_slice(FOUR)?;
     }
-    // 114,000 bytes are two reads: each is answered by a write and a flush.
-    let mut heard = 0;
-    let mut taker = Taker::new(rt.alloc(), usize::MAX, 5);
-    let mut writer = CountedWriter::new(&mut taker);
-    let answered = serve_lines::<_, _, Echo>(
-        rt.alloc(),
-        &mut CountedReader::new(input.as_slice()),
-        &mut writer,
-        &mut heard,
-    );
-    assert_eq!(rt; answered, Ok(24000));
-    assert!(rt; taker.taken == input);
-    Ok(())
+    Ok(lines)
 }
 
 #[test]
-fn want_of_memory_comes_before_the_first_read_or_costs_one_answer(rt: HostRuntime) {
+fn long_input_is_answered_in_large_writes(rt: HostRuntime) -> Result<(), Fail> {
+    let input = many_lines(rt.alloc())?;
+    // 114,000 bytes are two reads: each is answered by a write and a flush.
+    let served = serve_large(rt.alloc(), &input, 5);
+    assert!(rt; served.is(Ok(24000), &input, 24000, (0, 0)));
+    Ok(())
+}
+
+/// What four lines are answered where there is memory, or none for one answer.
+static WITH_ONE_LOST: [&[u8]; 5] = [
+    FOUR,
+    b"no memory\ntwo\nthree\nfour\n",
+    b"one\nno memory\nthree\nfour\n",
+    b"one\ntwo\nno memory\nfour\n",
+    b"one\ntwo\nthree\nno memory\n",
+];
+
+/// Whether four lines are answered, one of them perhaps for want of memory, or nothing was read,
+/// heard of or written.
+fn answers_four_or_reads_none(alloc: Global) -> bool {
     let mut output = [0u8; 64];
     let mut room = output.as_mut_slice();
     let mut reader = FOUR;
     let mut heard = 0;
     let answered = serve_lines::<_, _, Echo>(
-        rt.alloc(),
+        alloc,
         &mut CountedReader::new(&mut reader),
         &mut CountedWriter::new(&mut room),
         &mut heard,
@@ -293,25 +314,13 @@ fn want_of_memory_comes_before_the_first_read_or_costs_one_answer(rt: HostRuntim
     let written = 64 - room.len().min(64);
     let written = &output[..written];
     match answered {
-        Err(fault) => {
-            assert_eq!(rt; fault, StreamFault::NoMemory);
-            assert_eq!(rt; reader, FOUR);
-            assert_eq!(rt; written.len(), 0);
-            assert_eq!(rt; heard, 0);
-        }
-        Ok(count) => {
-            assert_eq!(rt; count, 4);
-            assert_eq!(rt; heard, 4);
-            assert!(rt;
-                [
-                    FOUR,
-                    b"no memory\ntwo\nthree\nfour\n",
-                    b"one\nno memory\nthree\nfour\n",
-                    b"one\ntwo\nno memory\nfour\n",
-                    b"one\ntwo\nthree\nno memory\n",
-                ]
-                .contains(&written)
-            );
-        }
+        Err(StreamFault::NoMemory) => reader == FOUR && written.is_empty() && heard == 0,
+        Err(_) => false,
+        Ok(count) => count == 4 && heard == 4 && WITH_ONE_LOST.contains(&written),
     }
+}
+
+#[test]
+fn want_of_memory_comes_before_the_first_read_or_costs_one_answer(rt: HostRuntime) {
+    assert!(rt; answers_four_or_reads_none(rt.alloc()));
 }

@@ -1,17 +1,19 @@
 //! The keeper at work, over memory and over files in memory.
-ghost use Rattle.std.specs.Prelude.{◌≡◌, IfOk, IsTrue};
-ghost use Rattle.sqlite_disk.specs.Memory.{memory_is_usable};
+ghost use Rattle.std.specs.Prelude.{◌≡◌, IfOk};
 
+mod deeds;
 mod failing;
+mod files;
 mod making;
 mod migrating;
 
 use builder::{MessageFault, RingMachine, Told, read_delivery, status_of, told_text};
 use builder_store::{OpenFault, SqlKeeper, open_memory};
+use deeds::Run;
+use files::{in_files, new_files, with_new_log};
 use request_book::{Book, Fault, Keeper};
 use ring_words::Limits;
-use sqlite::{Alter, Connection, Error, FileStore, Files, Options};
-use sqlite_disk::Memory;
+use sqlite::{Alter, Connection};
 use std::alloc::{AllocError, Global};
 use std::test::Fail;
 use worked_rows::{AT_THE_HOUR, FIRST, FULL, LOCKED, RUNS, Row};
@@ -45,7 +47,7 @@ fn told(answer: Result<ring_words::Reply, Fault>) -> Told {
 }
 
 /// What a row's delivery is answered.
-pub fn answer<K: Keeper<RingMachine>>(
+fn answer<K: Keeper<RingMachine>>(
     alloc: Global,
     book: &mut Book<RingMachine, K>,
     row: &Row<'_>,
@@ -55,7 +57,7 @@ pub fn answer<K: Keeper<RingMachine>>(
 }
 
 /// Whether an answer is a row's.
-pub fn is_answer(alloc: Global, told: &Told, row: &Row<'_>) -> Result<bool, AllocError> {
+fn is_answer(alloc: Global, told: &Told, row: &Row<'_>) -> Result<bool, AllocError> {
     let status = status_of(told);
     let text = told_text(alloc, told)?;
     let line = format!(in alloc; "{status} {text}")?;
@@ -63,27 +65,53 @@ pub fn is_answer(alloc: Global, told: &Told, row: &Row<'_>) -> Result<bool, Allo
     Ok(line.as_str() == want.as_str())
 }
 
-/// Whether each row is answered as it says.
-pub fn answers_all<K: Keeper<RingMachine>>(
-    alloc: Global,
-    book: &mut Book<RingMachine, K>,
-    rows: &[Row<'_>],
-) -> Result<bool, MessageFault> {
-    for row in rows {
-        let told = answer(alloc, book, row)?;
-        if !is_answer(alloc, &told, row)? {
-            return Ok(false);
-        }
-    }
-    Ok(true)
+/// How a run ended: every row was answered as it says, or the store failed before.
+#[derive(Clone, Copy, PartialEq, Eq)]
+enum Ended {
+    Whole,
+    Failed,
+    Wrong,
 }
 
-/// A book over a keeper.
-pub fn book_of<K: Keeper<RingMachine>>(alloc: Global, keeper: K) -> Book<RingMachine, K>
+impl Ended {
+    /// How a run ends that ended so, once a further row is answered so.
+    fn after(self, alloc: Global, told: Told, row: &Row<'_>) -> Result<Ended, AllocError> {
+        match (self, told) {
+            (Ended::Whole, Told::StoreFault) | (Ended::Failed, Told::Closed) => Ok(Ended::Failed),
+            (Ended::Whole, told) if is_answer(alloc, &told, row)? => Ok(Ended::Whole),
+            _ => Ok(Ended::Wrong),
+        }
+    }
+}
+
+/// Delivers rows until the store fails. From then on the book is closed.
+fn deliver<K: Keeper<RingMachine>>(
+    alloc: Global,
+    book: &mut Book<RingMachine, K>,
+    rows: &[&[Row<'_>]],
+) -> Result<Ended, MessageFault> {
+    let mut ended = Ended::Whole;
+    for some in rows {
+        for row in *some {
+            let told = answer(alloc, book, row)?;
+            ended = ended.after(alloc, told, row)?;
+        }
+    }
+    Ok(ended)
+}
+
+/// Runs rows over what a keeper holds, and gives the keeper as the run left it.
+fn run_kept<K: Keeper<RingMachine>>(
+    alloc: Global,
+    keeper: K,
+    limits: Limits,
+    rows: &[&[Row<'_>]],
+) -> (Result<Ended, MessageFault>, K)
     requires { K.fault_count keeper ≡ 0 }
 {
-    let limits = Limits::full();
-    Book::open(alloc, RingMachine { limits }, keeper)
+    let mut book = Book::open(alloc, RingMachine { limits }, keeper);
+    let ended = deliver(alloc, &mut book, rows);
+    (ended, book.into_keeper())
 }
 
 /// The keeper of what a connection's store holds.
@@ -96,90 +124,55 @@ fn adopted<S: Alter + Drop>(alloc: Global, conn: Connection<S>) -> Result<SqlKee
     }
 }
 
-/// Whether rows over a keeper are answered as they say, and its connection then.
-fn runs_over<S: Alter + Drop>(
+/// Runs rows over a connection, and gives the connection as the run left it.
+fn run_over<S: Alter + Drop>(
     alloc: Global,
-    keeper: SqlKeeper<S>,
+    conn: Connection<S>,
     rows: &[&[Row<'_>]],
-) -> Result<(bool, Connection<S>), MessageFault>
-    requires { keeper.faults ≡ 0 }
-{
-    let mut book = book_of(alloc, keeper);
-    let mut all = true;
-    for some in rows {
-        all = all && answers_all(alloc, &mut book, some)?;
-    }
-    Ok((all, book.into_keeper().close()))
+) -> Result<(Ended, Connection<S>), Fail> {
+    let (ended, keeper) = run_kept(alloc, adopted(alloc, conn)?, Limits::full(), rows);
+    let conn = keeper.close();
+    Ok((ended?, conn))
 }
 
-/// Whether rows over memory are answered as they say.
-fn runs(alloc: Global, rows: &[&[Row<'_>]]) -> Result<bool, Fail> {
-    let (all, _) = runs_over(alloc, open_memory(alloc, Limits::full())?, rows)?;
-    Ok(all)
+/// Whether rows are answered as they say over memory that holds no more than this.
+fn runs_in_memory(alloc: Global, limits: Limits, rows: &[&[Row<'_>]]) -> Result<bool, Fail> {
+    let (ended, _) = run_kept(alloc, open_memory(alloc, limits)?, limits, rows);
+    Ok(ended? == Ended::Whole)
 }
 
 #[test]
 fn the_worked_rows_are_answered_over_memory(rt: HostRuntime) -> Result<(), Fail> {
     for run in RUNS {
-        assert!(rt; runs(rt.alloc(), run)?);
+        assert!(rt; runs_in_memory(rt.alloc(), Limits::full(), run)?);
     }
     Ok(())
 }
 
-/// A connection over a file in memory.
-pub fn open(alloc: Global, db: Memory) -> Result<Connection<FileStore<Memory>>, Error>
-    requires { IsTrue (memory_is_usable db) }
-{
-    let log = Memory::new(alloc);
-    match Connection::open_files(alloc, Files { log, db }, Options::new(1)) {
-        Ok(conn) => Ok(conn),
-        Err((error, _)) => Err(error),
+/// How many runs end whole, one after the other, over a database file that is opened again for
+/// each.
+fn runs_in_turn(alloc: Global, runs: &[&[Row<'_>]]) -> Result<usize, Fail> {
+    let mut files = new_files(alloc);
+    for (turn, rows) in runs.iter().enumerate() {
+        let (found, left) = in_files(alloc, files, &Run(&[rows]))?;
+        if found.ended != Ended::Whole {
+            return Ok(turn);
+        }
+        files = with_new_log(alloc, left);
     }
-}
-
-/// A connection over a new file.
-fn new_file(alloc: Global) -> Result<Connection<FileStore<Memory>>, Error> {
-    open(alloc, Memory::new(alloc))
-}
-
-/// The file, closed.
-pub fn close(conn: Connection<FileStore<Memory>>) -> Result<Memory, Error>
-    ensures { IfOk result (λ db. IsTrue (memory_is_usable db)) }
-{
-    match conn.close_files() {
-        Ok(Files { log: _, db }) => Ok(db),
-        Err(failed) => Err(failed.0),
-    }
-}
-
-/// Whether rows over a file are answered so, and the file as it is then.
-fn runs_in_file(alloc: Global, db: Memory, rows: &[Row<'_>]) -> Result<(bool, Memory), Fail>
-    requires { IsTrue (memory_is_usable db) }
-    ensures { IfOk result (λ it. IsTrue (memory_is_usable it.1)) }
-{
-    let keeper = adopted(alloc, open(alloc, db)?)?;
-    let (all, conn) = runs_over(alloc, keeper, &[rows])?;
-    Ok((all, close(conn)?))
+    Ok(runs.len())
 }
 
 #[test]
 fn a_file_that_is_opened_again_goes_on(rt: HostRuntime) -> Result<(), Fail> {
-    let alloc = rt.alloc();
-    let (first, db) = runs_in_file(alloc, Memory::new(alloc), &FIRST)?;
-    assert!(rt; first);
     // Each request that comes again gets its reply, and what is new is decided.
-    let (again, db) = runs_in_file(alloc, db, &FIRST)?;
-    assert!(rt; again);
-    let (locked, db) = runs_in_file(alloc, db, &LOCKED)?;
-    assert!(rt; locked);
-    let (all, _) = runs_in_file(alloc, db, &AT_THE_HOUR)?;
-    assert!(rt; all);
+    let runs: [&[Row]; 4] = [&FIRST, &FIRST, &LOCKED, &AT_THE_HOUR];
+    assert_eq!(rt; runs_in_turn(rt.alloc(), &runs)?, 4);
     Ok(())
 }
 
 #[test]
 fn a_full_book_refuses_new_numbers(rt: HostRuntime) -> Result<(), Fail> {
-    let alloc = rt.alloc();
     let limits = Limits {
         rings: 16,
         devices: 256,
@@ -187,10 +180,6 @@ fn a_full_book_refuses_new_numbers(rt: HostRuntime) -> Result<(), Fail> {
         versions: 1000,
         numbers: 2,
     };
-    let Ok(keeper) = open_memory(alloc, limits) else {
-        return Err(Fail::new(format_args!("not opened")));
-    };
-    let mut book = Book::open(alloc, RingMachine { limits }, keeper);
-    assert!(rt; answers_all(alloc, &mut book, &FULL)?);
+    assert!(rt; runs_in_memory(rt.alloc(), limits, &[&FULL])?);
     Ok(())
 }

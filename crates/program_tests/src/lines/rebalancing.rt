@@ -1,6 +1,6 @@
 //! Rebalances, raised rings and published texts, line by line. The rows are written with `'` for
 //! `"`.
-use super::{ask, open};
+use super::answers_within;
 use builder::{decide, read_delivery};
 use ring_model::Rings;
 use ring_words::{Limits, RingName};
@@ -26,25 +26,78 @@ fn push_quoted(into: &mut String, row: &str) -> Result<(), AllocError> {
     into.push('\n')
 }
 
-/// The lines of rows on a ring.
-fn lines_of(alloc: Global, ring: &str, rows: &[&[Row]]) -> Result<String, AllocError> {
-    let mut lines = String::new(alloc);
-    for (hour, number, what, _) in rows.iter().flat_map(|rows| rows.iter()) {
-        let line = format!(in alloc;
-            "{hour} {{'caller':'ops','number':{number},'ring':'{ring}',{what}}}"
-        )?;
-        push_quoted(&mut lines, line.as_str())?;
+/// Puts the line of a row on a ring behind others.
+fn push_line(
+    alloc: Global,
+    lines: &mut String,
+    ring: &str,
+    row: &Row<'_>,
+) -> Result<(), AllocError> {
+    let (hour, number, what, _) = *row;
+    let line = format!(in alloc;
+        "{hour} {{'caller':'ops','number':{number},'ring':'{ring}',{what}}}"
+    )?;
+    push_quoted(lines, line.as_str())
+}
+
+/// Puts the lines of rows on a ring behind others.
+fn push_lines(
+    alloc: Global,
+    lines: &mut String,
+    ring: &str,
+    rows: &[&[Row]],
+) -> Result<(), AllocError> {
+    for part in rows {
+        for row in *part {
+            push_line(alloc, lines, ring, row)?;
+        }
     }
+    Ok(())
+}
+
+/// The lines of rows on a ring, and a last one.
+fn lines_of(alloc: Global, ring: &str, rows: &[&[Row]], last: &str) -> Result<String, AllocError> {
+    let mut lines = String::new(alloc);
+    push_lines(alloc, &mut lines, ring, rows)?;
+    lines.push_str(last)?;
     Ok(lines)
+}
+
+/// Puts the answers of rows behind others.
+fn push_answers(answers: &mut String, rows: &[&[Row]]) -> Result<(), AllocError> {
+    for part in rows {
+        for (_, _, _, answer) in *part {
+            push_quoted(answers, answer)?;
+        }
+    }
+    Ok(())
 }
 
 /// The answers of rows.
 fn answers_of(alloc: Global, rows: &[&[Row]]) -> Result<String, AllocError> {
     let mut answers = String::new(alloc);
-    for (_, _, _, answer) in rows.iter().flat_map(|rows| rows.iter()) {
-        push_quoted(&mut answers, answer)?;
-    }
+    push_answers(&mut answers, rows)?;
     Ok(answers)
+}
+
+/// All that is told to rows on a ring, when the ring is asked for its tables last.
+fn all_told(
+    alloc: Global,
+    limits: Limits,
+    ring: &str,
+    rows: &[&[Row]],
+    last: &str,
+) -> Result<Vec<u8>, Fail> {
+    let lines = lines_of(alloc, ring, rows, last)?;
+    Ok(answers_within(alloc, limits, lines.as_bytes())?)
+}
+
+/// What is told behind answers, or all of it as the fault where it doesn't begin with them.
+fn behind(alloc: Global, told: &[u8], answers: &str) -> Result<String, Fail> {
+    match told.strip_prefix(answers.as_bytes()) {
+        Some(rest) => Ok(String::from_utf8_lossy(alloc, rest)?),
+        None => Err(Fail::new(format_args!("{}", String::from_utf8_lossy(alloc, told)?))),
+    }
 }
 
 /// What is told behind the answers of rows, when the ring is asked for its tables last.
@@ -55,14 +108,9 @@ fn told(
     rows: &[&[Row]],
     last: &str,
 ) -> Result<String, Fail> {
-    let mut lines = lines_of(alloc, ring, rows)?;
-    lines.push_str(last)?;
-    let got = ask(alloc, &mut open(alloc, limits), lines.as_bytes())?;
-    let want = answers_of(alloc, rows)?;
-    match got.as_slice().strip_prefix(want.as_bytes()) {
-        Some(rest) => Ok(String::from_utf8_lossy(alloc, rest)?),
-        None => Err(Fail::new(format_args!("{}", String::from_utf8_lossy(alloc, &got)?))),
-    }
+    let answers = answers_of(alloc, rows)?;
+    let told = all_told(alloc, limits, ring, rows, last)?;
+    behind(alloc, &told, answers.as_str())
 }
 
 /// Rows on a ring, named by what they show; what is asked of the ring behind them; and what that is
@@ -366,7 +414,7 @@ fn a_far_device_takes_a_seat_of_each_partition(rt: HostRuntime) -> Result<(), Fa
 }
 
 /// The ring `tiny` with one device, assigned at version 2 and published.
-const TINY: [Row; 6] = [
+static TINY: [Row; 6] = [
     (
         0,
         1,
@@ -386,7 +434,7 @@ const TINY: [Row; 6] = [
 ];
 
 /// What follows where one version may be published.
-const THEN: [Row; 2] = [
+static THEN: [Row; 2] = [
     (
         0,
         7,
@@ -405,7 +453,7 @@ fn a_version_is_published_once(rt: HostRuntime) -> Result<(), Fail> {
 }
 
 /// The 119 bytes of the ring `tiny`.
-const TINY_TEXT: &str =
+static TINY_TEXT: &str =
     "swift-ring-text 1\nring tiny\nversion 2\npower 1\nreplicas 1\ndevices 1\n0 1 1 10.0.0.1 6200 100.00 present d0\nseats\n0\n0\nend\n";
 
 /// The rings after commands on one ring.

@@ -1,13 +1,11 @@
 //! Disks that fail at some call, and are opened again.
-ghost use Rattle.std.specs.Prelude.{◌≡◌, IfOk};
-
-use super::migrating::old_file;
-use super::{answer, book_of, is_answer};
-use builder::{RingMachine, Told};
+use super::deeds::{After, Deed};
+use super::files::try_in_files;
+use super::migrating::old_files;
+use super::{Ended, run_kept};
 use builder_store::SqlKeeper;
-use request_book::{Book, Keeper};
 use ring_words::Limits;
-use sqlite::{Alter, Connection, FileStore, Files, Options};
+use sqlite::{Alter, Connection, Files};
 use sqlite_disk::{Disk, Fuse, Memory};
 use std::alloc::Global;
 use std::test::Fail;
@@ -35,90 +33,49 @@ fn failing(alloc: Global, bytes: &[u8], calls: u64, fails_in_log: bool) -> Resul
     })
 }
 
-/// How a run ended: every row was answered, or the store failed before.
-#[derive(Clone, Copy, PartialEq, Eq)]
-enum Ended {
-    Whole,
-    Failed,
-    Wrong,
+/// Files of the same bytes, which never fail.
+fn repaired(alloc: Global, files: &Fused) -> Result<Fused, Fail> {
+    Ok(Files {
+        log: fused(alloc, files.log.inner().bytes(), u64::MAX)?,
+        db: fused(alloc, files.db.inner().bytes(), u64::MAX)?,
+    })
 }
 
-/// Delivers rows until the store fails. From then on the book is closed.
-fn deliver<K: Keeper<RingMachine>>(
-    alloc: Global,
-    book: &mut Book<RingMachine, K>,
-    rows: &[Row<'_>],
-) -> Result<Ended, Fail> {
-    let mut ended = Ended::Whole;
-    for row in rows {
-        let told = answer(alloc, book, row)?;
-        ended = match (ended, told) {
-            (Ended::Whole, Told::StoreFault) | (Ended::Failed, Told::Closed) => Ended::Failed,
-            (Ended::Whole, told) if is_answer(alloc, &told, row)? => Ended::Whole,
-            _ => Ended::Wrong,
+/// Runs rows until the store fails, and leaves it as it is then.
+#[derive(Clone, Copy)]
+struct RunUntilFailure<'a>(&'a [&'a [Row<'a>]]);
+
+impl Deed for RunUntilFailure<'_> {
+    type Outcome = Ended;
+
+    fn done_over<S: Alter + Drop>(
+        &self,
+        alloc: Global,
+        conn: Connection<S>,
+    ) -> Result<(Ended, After<S>), Fail> {
+        let keeper = match SqlKeeper::adopt(alloc, conn, Limits::full()) {
+            Ok(keeper) => keeper,
+            Err((_, left)) => return Ok((Ended::Failed, After::Left(left.into_store()))),
         };
-    }
-    Ok(ended)
-}
-
-/// Runs rows over a keeper, and gives its store as the run left it.
-fn run_kept<S: Alter + Drop>(
-    alloc: Global,
-    keeper: SqlKeeper<S>,
-    rows: &[Row<'_>],
-) -> Result<(Ended, S), Fail>
-    requires { keeper.faults ≡ 0 }
-{
-    let mut book = book_of(alloc, keeper);
-    let ended = deliver(alloc, &mut book, rows)?;
-    Ok((ended, book.into_keeper().close().into_store()))
-}
-
-/// The keeper of what a connection's store holds, or the store where it isn't opened.
-fn kept<S: Alter + Drop>(alloc: Global, conn: Connection<S>) -> Result<SqlKeeper<S>, S>
-    ensures { IfOk result (λ k. k.faults ≡ 0) }
-{
-    match SqlKeeper::adopt(alloc, conn, Limits::full()) {
-        Ok(keeper) => Ok(keeper),
-        Err((_, left)) => Err(left.into_store()),
-    }
-}
-
-/// Runs rows over a connection, and gives its store as the run left it.
-fn run_over<S: Alter + Drop>(
-    alloc: Global,
-    conn: Connection<S>,
-    rows: &[Row<'_>],
-) -> Result<(Ended, S), Fail> {
-    match kept(alloc, conn) {
-        Ok(keeper) => run_kept(alloc, keeper, rows),
-        Err(store) => Ok((Ended::Failed, store)),
-    }
-}
-
-/// A connection over files, or why there is none and the files.
-fn opened(
-    alloc: Global,
-    files: Fused,
-) -> Result<Connection<FileStore<Fuse<Memory>>>, (Ended, Fused)> {
-    if !files.log.may_be_used() || !files.db.may_be_used() {
-        return Err((Ended::Wrong, files));
-    }
-    match Connection::open_files(alloc, files, Options::new(1)) {
-        Ok(conn) => Ok(conn),
-        Err((_, left)) => Err((Ended::Failed, left.into_files())),
+        let (ended, keeper) = run_kept(alloc, keeper, Limits::full(), self.0);
+        let store = keeper.close().into_store();
+        Ok((ended?, After::Left(store)))
     }
 }
 
 /// Runs rows over files, and gives the files as the run left them.
-fn run(alloc: Global, files: Fused, rows: &[Row<'_>]) -> Result<(Ended, Fused), Fail> {
-    match opened(alloc, files) {
-        Ok(conn) => {
-            let (ended, store) = run_over(alloc, conn, rows)?;
-            Ok((ended, store.close()))
-        }
-        Err(why) => Ok(why),
+fn run(alloc: Global, files: Fused, rows: &[&[Row<'_>]]) -> Result<(Ended, Fused), Fail> {
+    if !files.may_be_used() {
+        return Ok((Ended::Wrong, files));
     }
+    let (ended, files) = try_in_files(alloc, files, &RunUntilFailure(rows))?;
+    Ok((ended.unwrap_or(Ended::Failed), files))
+}
+
+/// How rows end over files of the same bytes that never fail.
+fn run_again(alloc: Global, files: &Fused, rows: &[&[Row<'_>]]) -> Result<Ended, Fail> {
+    let (ended, _) = run(alloc, repaired(alloc, files)?, rows)?;
+    Ok(ended)
 }
 
 /// Whether, after one of two files fails at this call, each delivery that is sent again is answered
@@ -128,18 +85,14 @@ fn goes_on(
     bytes: &[u8],
     calls: u64,
     fails_in_log: bool,
-    rows: &[Row<'_>],
+    rows: &[&[Row<'_>]],
 ) -> Result<Option<bool>, Fail> {
     let (ended, files) = run(alloc, failing(alloc, bytes, calls, fails_in_log)?, rows)?;
-    if ended == Ended::Whole {
-        return Ok(None);
+    match ended {
+        Ended::Whole => Ok(None),
+        Ended::Failed => Ok(Some(run_again(alloc, &files, rows)? == Ended::Whole)),
+        Ended::Wrong => Ok(Some(false)),
     }
-    let files = Files {
-        log: fused(alloc, files.log.inner().bytes(), u64::MAX)?,
-        db: fused(alloc, files.db.inner().bytes(), u64::MAX)?,
-    };
-    let (again, _) = run(alloc, files, rows)?;
-    Ok(Some(ended == Ended::Failed && again == Ended::Whole))
 }
 
 /// Whether every run goes on, whichever of the calls of one file is the first to fail: the first of
@@ -150,7 +103,7 @@ fn all_go_on(
     bytes: &[u8],
     fails_in_log: bool,
     step: u64,
-    rows: &[Row<'_>],
+    rows: &[&[Row<'_>]],
 ) -> Result<bool, Fail> {
     for turn in 0..100u64 {
         let calls = turn.saturating_mul(step);
@@ -165,26 +118,26 @@ fn all_go_on(
 
 #[test]
 fn a_failing_log_loses_nothing_and_acts_once(rt: HostRuntime) -> Result<(), Fail> {
-    assert!(rt; all_go_on(rt.alloc(), b"", true, 17, &FIRST)?);
+    assert!(rt; all_go_on(rt.alloc(), b"", true, 17, &[&FIRST])?);
     Ok(())
 }
 
 #[test]
 fn a_failing_file_loses_nothing_and_acts_once(rt: HostRuntime) -> Result<(), Fail> {
-    assert!(rt; all_go_on(rt.alloc(), b"", false, 17, &FIRST)?);
+    assert!(rt; all_go_on(rt.alloc(), b"", false, 17, &[&FIRST])?);
     Ok(())
 }
 
 #[test]
 fn a_failing_log_leaves_a_store_of_one_schema(rt: HostRuntime) -> Result<(), Fail> {
-    let old = old_file(rt.alloc())?;
-    assert!(rt; all_go_on(rt.alloc(), old.bytes(), true, 29, &AT_THE_HOUR)?);
+    let old = old_files(rt.alloc())?;
+    assert!(rt; all_go_on(rt.alloc(), old.db.bytes(), true, 29, &[&AT_THE_HOUR])?);
     Ok(())
 }
 
 #[test]
 fn a_failing_file_leaves_a_store_of_one_schema(rt: HostRuntime) -> Result<(), Fail> {
-    let old = old_file(rt.alloc())?;
-    assert!(rt; all_go_on(rt.alloc(), old.bytes(), false, 97, &AT_THE_HOUR)?);
+    let old = old_files(rt.alloc())?;
+    assert!(rt; all_go_on(rt.alloc(), old.db.bytes(), false, 97, &[&AT_THE_HOUR])?);
     Ok(())
 }

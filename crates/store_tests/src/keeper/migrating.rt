@@ -1,14 +1,16 @@
 //! Stores of schema 1, and stores that are none.
-use super::{adopted, close, new_file, runs_over};
+use super::deeds::{After, Deed};
+use super::files::{in_files, new_files};
+use super::{Ended, adopted, run_over};
 use builder_store::OpenFault;
-use sqlite::{Alter, Connection, Error, MemStore};
+use sqlite::{Alter, Connection, Error, Files, MemStore};
 use sqlite_disk::Memory;
 use std::alloc::Global;
 use std::test::Fail;
 use worked_rows::{AT_THE_HOUR, FIRST, LOCKED, Row};
 
 /// The tables of schema 1.
-const TABLES: [&str; 7] = [
+static TABLES: [&str; 7] = [
     "CREATE TABLE meta (one INTEGER NOT NULL, schema INTEGER NOT NULL, \
      hour INTEGER NOT NULL, UNIQUE (one)) STRICT",
     "CREATE TABLE ring (name TEXT NOT NULL, power INTEGER NOT NULL, \
@@ -35,7 +37,7 @@ const TABLES: [&str; 7] = [
 
 /// What they hold once a moved partition's hour has come: of four partitions the last one has gone
 /// to device 2.
-const OLD_ROWS: [&str; 8] = [
+static OLD_ROWS: [&str; 8] = [
     "INSERT INTO meta VALUES (1, 1, 24)",
     "INSERT INTO ring VALUES ('object', 2, 1, 24, 3, 6)",
     "INSERT INTO device VALUES ('object', 0, 1, 1, '10.0.0.1', 6200, 'd0', 10000, 0), \
@@ -73,7 +75,7 @@ const LATER: [Row; 1] = [(
 )];
 
 /// Changes of one of which no store is left.
-const BREAKS: [&str; 14] = [
+static BREAKS: [&str; 14] = [
     "UPDATE meta SET schema = 3",
     "UPDATE meta SET hour = 23",
     "DELETE FROM meta",
@@ -90,39 +92,59 @@ const BREAKS: [&str; 14] = [
     "UPDATE device SET removed = 2 WHERE id = 0",
 ];
 
+/// Carries out the statements that make a store of schema 1.
+fn execute_old<S: Alter + Drop>(conn: &mut Connection<S>) -> Result<(), Error> {
+    for text in &TABLES {
+        conn.execute(text, &[])?;
+    }
+    for text in &OLD_ROWS {
+        conn.execute(text, &[])?;
+    }
+    Ok(())
+}
+
 /// Makes a store of schema 1.
-fn make_old<S: Alter + Drop>(conn: Connection<S>) -> Result<Connection<S>, Error> {
-    let mut conn = conn;
-    for text in TABLES {
-        conn.execute(text, &[])?;
+#[derive(Clone, Copy)]
+struct MakeOld;
+
+impl Deed for MakeOld {
+    type Outcome = ();
+
+    fn done_over<S: Alter + Drop>(
+        &self,
+        _alloc: Global,
+        conn: Connection<S>,
+    ) -> Result<((), After<S>), Fail> {
+        let mut conn = conn;
+        execute_old(&mut conn)?;
+        Ok(((), After::Open(conn)))
     }
-    for text in OLD_ROWS {
-        conn.execute(text, &[])?;
-    }
-    Ok(conn)
 }
 
 /// A connection with a store of schema 1.
 fn old_store(alloc: Global) -> Result<Connection<MemStore>, Error> {
-    make_old(Connection::open_in_memory(alloc)?)
+    let mut conn = Connection::open_in_memory(alloc)?;
+    execute_old(&mut conn)?;
+    Ok(conn)
 }
 
-/// A closed file with a store of schema 1.
-pub fn old_file(alloc: Global) -> Result<Memory, Error> {
-    close(make_old(new_file(alloc)?)?)
+/// Closed files with a store of schema 1.
+pub fn old_files(alloc: Global) -> Result<Files<Memory>, Fail> {
+    let ((), files) = in_files(alloc, new_files(alloc), &MakeOld)?;
+    Ok(files)
 }
 
 #[test]
 fn a_store_of_schema_1_goes_on_as_one_of_schema_2(rt: HostRuntime) -> Result<(), Fail> {
     let alloc = rt.alloc();
     let kept: [&[Row]; 3] = [&FIRST, &LOCKED, &AT_THE_HOUR];
-    let (same, conn) = runs_over(alloc, adopted(alloc, old_store(alloc)?)?, &kept)?;
-    assert!(rt; same);
+    let (same, conn) = run_over(alloc, old_store(alloc)?, &kept)?;
+    assert!(rt; same == Ended::Whole);
     // Opened a second time it is the same, and goes on.
-    let (again, conn) = runs_over(alloc, adopted(alloc, conn)?, &kept)?;
-    assert!(rt; again);
-    let (on, _) = runs_over(alloc, adopted(alloc, conn)?, &[&LATER])?;
-    assert!(rt; on);
+    let (again, conn) = run_over(alloc, conn, &kept)?;
+    assert!(rt; again == Ended::Whole);
+    let (on, _) = run_over(alloc, conn, &[&LATER])?;
+    assert!(rt; on == Ended::Whole);
     Ok(())
 }
 
@@ -135,7 +157,7 @@ fn refused_after(alloc: Global, text: &str) -> Result<Option<OpenFault>, Error> 
 
 #[test]
 fn broken_rows_are_refused(rt: HostRuntime) -> Result<(), Fail> {
-    for text in BREAKS {
+    for text in &BREAKS {
         let fault = refused_after(rt.alloc(), text)?;
         assert!(rt; fault == Some(OpenFault::BadRows), "{text} {fault:?}");
     }

@@ -1,0 +1,117 @@
+//! What the tests do over a store.
+ghost use Rattle.std.specs.Prelude.{◌≡◌};
+
+use super::{Ended, adopted, run_over};
+use builder::RingMachine;
+use builder_store::{MakeFault, SqlKeeper};
+use request_book::Keeper;
+use ring_model::Rings;
+use ring_words::{Hour, Limits};
+use sqlite::{Alter, Connection};
+use std::alloc::Global;
+use std::test::Fail;
+use store_rows::{Change, grows};
+use worked_rows::Row;
+
+/// What a deed leaves of a connection.
+pub enum After<S: Alter> {
+    /// The connection, to be closed.
+    Open(Connection<S>),
+    /// Its store, as it is.
+    Left(S),
+}
+
+/// What is done over a connection, whatever its store is kept in.
+pub trait Deed {
+    /// What comes of it.
+    type Outcome: Drop;
+
+    /// Does it.
+    fn done_over<S: Alter + Drop>(
+        &self,
+        alloc: Global,
+        conn: Connection<S>,
+    ) -> Result<(Self::Outcome, After<S>), Fail>;
+}
+
+/// How a run over a store ended, and what the store holds then.
+#[derive(Drop)]
+pub struct Found {
+    pub ended: Ended,
+    pub rings: Rings,
+    pub hour: Hour,
+}
+
+/// Whether two lists of rings are one: no row of the store tells them apart.
+fn are_same(alloc: Global, one: &Rings, other: &Rings) -> Result<bool, Fail> {
+    Ok(grows(one, other) && Change::between(alloc, one, other)?.len() == 0)
+}
+
+impl Found {
+    /// Whether the store holds these rings and this hour.
+    pub fn is(&self, alloc: Global, rings: &Rings, hour: Hour) -> Result<bool, Fail> {
+        Ok(self.hour == hour && are_same(alloc, rings, &self.rings)?)
+    }
+}
+
+/// The rings and the hour that a keeper holds.
+fn held<K: Keeper<RingMachine>>(keeper: &mut K) -> Result<(Rings, Hour), Fail>
+    requires { K.fault_count keeper.old ≡ 0 }
+{
+    let Ok(hour) = keeper.hour() else {
+        return Err(Fail::from("no hour"));
+    };
+    let Ok(()) = keeper.load() else {
+        return Err(Fail::from("not loaded"));
+    };
+    Ok((keeper.state().clone()?, hour))
+}
+
+/// The rings and the hour that a connection's store holds, and the connection.
+fn held_in<S: Alter + Drop>(
+    alloc: Global,
+    conn: Connection<S>,
+) -> Result<(Rings, Hour, Connection<S>), Fail> {
+    let mut keeper = adopted(alloc, conn)?;
+    let (rings, hour) = held(&mut keeper)?;
+    Ok((rings, hour, keeper.close()))
+}
+
+/// Runs rows, and reads what the store holds then.
+#[derive(Clone, Copy)]
+pub struct Run<'a>(pub &'a [&'a [Row<'a>]]);
+
+impl Deed for Run<'_> {
+    type Outcome = Found;
+
+    fn done_over<S: Alter + Drop>(
+        &self,
+        alloc: Global,
+        conn: Connection<S>,
+    ) -> Result<(Found, After<S>), Fail> {
+        let (ended, conn) = run_over(alloc, conn, self.0)?;
+        let (rings, hour, conn) = held_in(alloc, conn)?;
+        Ok((Found { ended, rings, hour }, After::Open(conn)))
+    }
+}
+
+/// Makes a store of rings and an hour.
+#[derive(Clone, Copy)]
+pub struct Make<'a>(pub &'a Rings, pub Hour);
+
+impl Deed for Make<'_> {
+    /// Why it isn't made, where it isn't.
+    type Outcome = Option<MakeFault>;
+
+    fn done_over<S: Alter + Drop>(
+        &self,
+        alloc: Global,
+        conn: Connection<S>,
+    ) -> Result<(Option<MakeFault>, After<S>), Fail> {
+        let rings = self.0.clone()?;
+        match SqlKeeper::make(alloc, conn, rings, self.1, Limits::full()) {
+            Ok(keeper) => Ok((None, After::Open(keeper.close()))),
+            Err((fault, left)) => Ok((Some(fault), After::Left(left.into_store()))),
+        }
+    }
+}
