@@ -20,7 +20,7 @@ from common import program  # noqa: E402
 DOCS = TOP / "docs"
 # The layers, highest first: each stands on those below it. The tests stand beside, and are not drawn.
 LAYERS = (
-    ("the program", "ringd programs keeper_programs program_words"),
+    ("the program", "ringd programs file_stores keeper_programs program_words"),
     ("sockets", "http_sockets timed_streams"),
     ("what a line or a route asks", "line_api http_api http_routes node_text"),
     ("protocols", "line_stream http_stream http_answers http_requests"),

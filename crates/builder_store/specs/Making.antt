@@ -6,7 +6,3 @@ use Rattle.store_rows.specs.Stands.{RingContent}
 -- These rings, no request, and this as the hour from which the book goes on.
 abbrev pub rings_alone : NamedRings → ℕ → RingContent
 rings_alone rings hour = record { state = rings; book = []; hour = hour }
-
--- What a content is renewed to: its rings and its hour, and no request.
-abbrev pub renewed : RingContent → RingContent
-renewed content = rings_alone content.state content.hour

@@ -6,10 +6,8 @@ use Rattle.byte_streams.specs.declared.fault.StreamFault.{StreamFault}
 use Rattle.builder.specs.Step.{State}
 use Rattle.ring_messages.specs.declared.told.Told.{Told}
 use Rattle.ring_words.specs.declared.device.Row.{Row}
-use Rattle.sqlite_wal.specs.Recovery.{Image}
 use Rattle.keeper_programs.specs.Importing.{Imports}
 use Rattle.keeper_programs.specs.Begun.{IsAny, Keeping}
-use Rattle.programs.specs.Opened.{IsKept}
 use Rattle.keeper_programs.specs.Running.{AnswersLines, StopsLines}
 use Rattle.keeper_programs.specs.Showing.{FailsToShow, IsAsked, Shows}
 use Rattle.keeper_programs.specs.declared.faults.ProgramFault.{ProgramFault}
@@ -17,43 +15,43 @@ use Rattle.keeper_programs.specs.declared.importing.ImportAsk.{ImportAsk}
 use Rattle.keeper_programs.specs.declared.showing.Question.{Question}
 use Rattle.keeper_programs.proofs.Runs.{answers, asked, fails_to_show, imports, shows, stops}
 
-module _ {K : Type 0} (g : Keeping K) (image : Image) (kept : K) (is : IsKept g image kept)
+module _ {K : Type 0} (g : Keeping K) (Begins : K → Type 0) (kept : K) (is : Begins kept)
     (Ends : K → Type 0) where
-  same_kept : (keeper : K) → keeper ≡ kept → IsKept g image keeper
-  same_kept keeper same = subst (IsKept g image) (sym same) is
+  same_kept : (keeper : K) → keeper ≡ kept → Begins keeper
+  same_kept keeper same = subst Begins (sym same) is
 
   module _ {R W : Type 0} (remaining : R → Option (List ℕ)) (contents : W → Option (List ℕ))
       (reader late_reader : CountedReader R) (writer late_writer : CountedWriter W) where
     pub answers_kept : AnswersLines g (λ k. k ≡ kept) Ends remaining contents reader late_reader writer
         late_writer
-        → AnswersLines g (IsKept g image) IsAny remaining contents reader late_reader writer late_writer
-    answers_kept all = answers g (λ k. k ≡ kept) (IsKept g image) Ends same_kept remaining contents
+        → AnswersLines g Begins IsAny remaining contents reader late_reader writer late_writer
+    answers_kept all = answers g (λ k. k ≡ kept) Begins Ends same_kept remaining contents
         reader late_reader writer late_writer all
 
     pub stops_kept : (why : StreamFault)
         → StopsLines g (λ k. k ≡ kept) Ends remaining contents reader late_reader writer late_writer why
-        → StopsLines g (IsKept g image) IsAny remaining contents reader late_reader writer late_writer why
-    stops_kept why all = stops g (λ k. k ≡ kept) (IsKept g image) Ends same_kept remaining contents
+        → StopsLines g Begins IsAny remaining contents reader late_reader writer late_writer why
+    stops_kept why all = stops g (λ k. k ≡ kept) Begins Ends same_kept remaining contents
         reader late_reader writer late_writer why all
 
   module _ {W : Type 0} (contents : W → Option (List ℕ)) (writer later : CountedWriter W)
       (question : Question) where
     pub shows_kept : Shows g (λ k. k ≡ kept) Ends contents writer later question
-        → Shows g (IsKept g image) IsAny contents writer later question
-    shows_kept s = shows g (λ k. k ≡ kept) (IsKept g image) Ends same_kept contents writer later
+        → Shows g Begins IsAny contents writer later question
+    shows_kept s = shows g (λ k. k ≡ kept) Begins Ends same_kept contents writer later
         question s
 
     pub fails_kept : (why : ProgramFault)
         → FailsToShow g (λ k. k ≡ kept) Ends contents writer later question why
-        → FailsToShow g (IsKept g image) IsAny contents writer later question why
-    fails_kept why f = fails_to_show g (λ k. k ≡ kept) (IsKept g image) Ends same_kept contents writer
+        → FailsToShow g Begins IsAny contents writer later question why
+    fails_kept why f = fails_to_show g (λ k. k ≡ kept) Begins Ends same_kept contents writer
         later question why f
 
   pub asked_kept : (Tells : State → Type 0)
-      → IsAsked g (λ k. k ≡ kept) Ends Tells → IsAsked g (IsKept g image) IsAny Tells
-  asked_kept Tells a = asked g (λ k. k ≡ kept) (IsKept g image) Ends same_kept Tells a
+      → IsAsked g (λ k. k ≡ kept) Ends Tells → IsAsked g Begins IsAny Tells
+  asked_kept Tells a = asked g (λ k. k ≡ kept) Begins Ends same_kept Tells a
 
   pub imports_kept : (ask : ImportAsk) (rows : List Row) (hour : ℕ) (t : Told)
-      → Imports g (λ k. k ≡ kept) Ends ask rows hour t → Imports g (IsKept g image) IsAny ask rows hour t
-  imports_kept ask rows hour t i = imports g (λ k. k ≡ kept) (IsKept g image) Ends same_kept ask rows
+      → Imports g (λ k. k ≡ kept) Ends ask rows hour t → Imports g Begins IsAny ask rows hour t
+  imports_kept ask rows hour t i = imports g (λ k. k ≡ kept) Begins Ends same_kept ask rows
       hour t i

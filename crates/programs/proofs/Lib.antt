@@ -2,4 +2,3 @@ pub mod Endings
 pub mod Kept
 pub mod Renewals
 pub mod Services
-pub mod Stores

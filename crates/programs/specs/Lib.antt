@@ -1,4 +1,2 @@
-pub mod Opened
 pub mod Renewing
 pub mod Performed
-pub mod Inner

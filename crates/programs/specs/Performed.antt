@@ -7,11 +7,10 @@ use Rattle.byte_streams.specs.declared.fault.StreamFault.{StreamFault}
 use Rattle.program_words.specs.declared.task.HashNames.{HashNames}
 use Rattle.program_words.specs.declared.task.Task.{Task}
 use Rattle.program_words.specs.declared.task.Task.TheVariants as task
-use Rattle.sqlite_wal.specs.Recovery.{Image}
 use Rattle.keeper_programs.specs.Faults.{stream_fault}
 use Rattle.keeper_programs.specs.Importing.{AnswersImport, AsksImport, FailsToImport}
 use Rattle.keeper_programs.specs.Begun.{IsAny, IsNew, IsStoreFault, Keeping}
-use Rattle.programs.specs.Opened.{IsKept}
+use Rattle.builder.specs.Step.{State}
 use Rattle.programs.specs.Renewing.{Renews}
 use Rattle.keeper_programs.specs.Running.{AnswersLines, FailsLines, StopsLines}
 use Rattle.keeper_programs.specs.Serving.{FailsToLoopInput, FailsToServe, LoopsInput}
@@ -25,106 +24,105 @@ use Rattle.programs.specs.declared.performing.Ending.{Ending}
 use Rattle.programs.specs.declared.performing.Ending.TheVariants.{Done, Refused}
 use Rattle.keeper_programs.specs.declared.showing.Question.{Question}
 
--- Keepers of stores in files are these, the files hold what the image says, and the writer is this,
--- before and after.
-module _ {K W : Type 0} (files : Keeping K) (image : Image) (contents : W → Option (List ℕ))
+-- Keepers of stores are these, and begin so, and the writer is this, before and after.
+module _ {K W : Type 0} (stores : Keeping K) (Begins : K → Type 0) (contents : W → Option (List ℕ))
     (writer later : CountedWriter W) where
-  -- What is asked for was shown of the rings in a file.
-  abbrev pub ShowsFile : (Question → Type 0) → Type 0
-  ShowsFile Asks = (question : Question) × Asks question
-      × Shows files (IsKept files image) IsAny contents writer later question
+  -- What is asked for was shown of the rings in a store.
+  abbrev pub ShowsStore : (Question → Type 0) → Type 0
+  ShowsStore Asks = (question : Question) × Asks question
+      × Shows stores Begins IsAny contents writer later question
 
   -- This fault came of it.
-  abbrev pub FailsToShowFile : (Question → Type 0) → ProgramFault → Type 0
-  FailsToShowFile Asks why = (question : Question) × Asks question
-      × FailsToShow files (IsKept files image) IsAny contents writer later question why
+  abbrev pub FailsToShowStore : (Question → Type 0) → ProgramFault → Type 0
+  FailsToShowStore Asks why = (question : Question) × Asks question
+      × FailsToShow stores Begins IsAny contents writer later question why
 
   -- The table in a CSV file was imported as one request, at the hour that was given or any other,
   -- and the status that was written ends it so.
   abbrev pub ImportsFile : (ImportAsk → Type 0) → Option ℕ → (ℕ → Type 0) → Type 0
   ImportsFile Asks given Ends = (ask : ImportAsk) × (hour : ℕ) × (status : ℕ) × Asks ask
       × IfSome given (λ h. hour ≡ h) × Ends status
-      × AnswersImport files (IsKept files image) IsAny contents writer later None ask hour status
+      × AnswersImport stores Begins IsAny contents writer later None ask hour status
 
   -- This fault came of it: the CSV file can't be opened, or it is one of the import.
   abbrev pub FailsToImportFile : (ImportAsk → Type 0) → Option ℕ → ProgramFault → Type 0
   FailsToImportFile Asks given why = (ask : ImportAsk) × Asks ask
       × (((why ≡ fault.NoFile) × (later ≡ writer))
       ⊎ ((hour : ℕ) × IfSome given (λ h. hour ≡ h)
-      × FailsToImport files (IsKept files image) IsAny contents writer later None ask hour why))
+      × FailsToImport stores Begins IsAny contents writer later None ask hour why))
 
   -- This fault came of a loop over the bytes of a file: it can't be opened, or one of the loop.
   abbrev pub FailsToLoopFile : Option ℕ → HashNames → ProgramFault → Type 0
   FailsToLoopFile given names why = ((why ≡ fault.NoFile) × (later ≡ writer))
-      ⊎ FailsToLoopInput files (IsKept files image) IsAny given names contents writer later None why
+      ⊎ FailsToLoopInput stores Begins IsAny given names contents writer later None why
 
 -- The status of an import ends it so: 200 where it was done.
 abbrev pub EndsBy : Ending → ℕ → Type 0
 EndsBy Done status = status ≡ 200
 EndsBy Refused status = status ≢ 200
 
--- Keepers over memory and of stores in files are these, the files hold what the image says, and the
--- streams are these, before and after.
-module _ {M K R W : Type 0} (memory : Keeping M) (files : Keeping K) (image : Image)
+-- Keepers over memory and of stores are these, those of stores begin so, and the streams are these,
+-- before and after.
+module _ {M K R W : Type 0} (memory : Keeping M) (stores : Keeping K) (Begins : K → Type 0)
     (remaining : R → Option (List ℕ)) (contents : W → Option (List ℕ))
     (reader late_reader : CountedReader R) (writer later : CountedWriter W) where
-  -- The lines of the reader were answered, over memory or over the store in a file.
+  -- The lines of the reader were answered, over memory or over a store.
   abbrev pub Runs : Option (Bor (List ℕ)) → Type 0
   Runs None = AnswersLines memory (IsNew memory) IsAny remaining contents reader late_reader writer later
-  Runs (Some file) = AnswersLines files (IsKept files image) IsAny remaining contents reader late_reader
+  Runs (Some file) = AnswersLines stores Begins IsAny remaining contents reader late_reader
       writer later
 
   -- This fault came of it.
   abbrev pub FailsToRun : Option (Bor (List ℕ)) → ProgramFault → Type 0
   FailsToRun None why = (cause : StreamFault) × (why ≡ stream_fault cause)
       × StopsLines memory (IsNew memory) IsAny remaining contents reader late_reader writer later cause
-  FailsToRun (Some file) why = FailsLines files (IsKept files image) IsAny remaining contents reader
+  FailsToRun (Some file) why = FailsLines stores Begins IsAny remaining contents reader
       late_reader writer later why
 
-  -- Keepers of stores that are made are these.
-  module _ {N : Type 0} (made : Keeping N) where
+  -- This is so where a store was made of these rings and this hour.
+  module _ (IsMade : State → ℕ → Type 0) where
     -- A task had no fault and ended so: what it asks for was done, or an import was refused. Only
     -- `run` touches the reader.
     abbrev pub EndsSo : Task → Ending → Type 0
     EndsSo (task.Run file) Done = Runs file
     EndsSo (task.Serve file port count given names) Done = (late_reader ≡ reader) × (later ≡ writer)
-        × ServesConnections files (IsKept files image) IsAny given names count
+        × ServesConnections stores Begins IsAny given names count
     EndsSo (task.Loop file input given names) Done = (late_reader ≡ reader)
-        × LoopsInput files (IsKept files image) IsAny given names contents writer later None
+        × LoopsInput stores Begins IsAny given names contents writer later None
     EndsSo (task.Table file ring) Done = (late_reader ≡ reader)
-        × ShowsFile files image contents writer later (AsksShown (task.Table file ring))
+        × ShowsStore stores Begins contents writer later (AsksShown (task.Table file ring))
     EndsSo (task.Export file ring version written) Done = (late_reader ≡ reader)
-        × ShowsFile files image contents writer later
+        × ShowsStore stores Begins contents writer later
         (AsksShown (task.Export file ring version written))
     EndsSo (task.Nodes file ring account container object names) Done = (late_reader ≡ reader)
-        × ShowsFile files image contents writer later
+        × ShowsStore stores Begins contents writer later
         (AsksShown (task.Nodes file ring account container object names))
     EndsSo (task.Import file ring caller number csv given) ending = (late_reader ≡ reader)
-        × ImportsFile files image contents writer later (AsksImport ring.now caller.now number.now)
+        × ImportsFile stores Begins contents writer later (AsksImport ring.now caller.now number.now)
         given (EndsBy ending)
     EndsSo (task.Renew file fresh) Done = (late_reader ≡ reader) × (later ≡ writer)
-        × Renews files made (IsKept files image)
+        × Renews stores Begins IsMade
     EndsSo _ _ = ⊥
 
   -- This fault came of the work of a task.
   abbrev pub FailsToDo : Task → ProgramFault → Type 0
   FailsToDo (task.Run file) why = FailsToRun file why
   FailsToDo (task.Serve file port count given names) why = (late_reader ≡ reader)
-      × (later ≡ writer) × FailsToServe files (IsKept files image) IsAny given names count why
+      × (later ≡ writer) × FailsToServe stores Begins IsAny given names count why
   FailsToDo (task.Loop file input given names) why = (late_reader ≡ reader)
-      × FailsToLoopFile files image contents writer later given names why
+      × FailsToLoopFile stores Begins contents writer later given names why
   FailsToDo (task.Table file ring) why = (late_reader ≡ reader)
-      × FailsToShowFile files image contents writer later (AsksShown (task.Table file ring)) why
+      × FailsToShowStore stores Begins contents writer later (AsksShown (task.Table file ring)) why
   FailsToDo (task.Export file ring version written) why = (late_reader ≡ reader)
-      × FailsToShowFile files image contents writer later
+      × FailsToShowStore stores Begins contents writer later
       (AsksShown (task.Export file ring version written)) why
   FailsToDo (task.Renew file fresh) why = (late_reader ≡ reader) × (later ≡ writer)
       × IsStoreFault why
   FailsToDo (task.Nodes file ring account container object names) why = (late_reader ≡ reader)
-      × FailsToShowFile files image contents writer later
+      × FailsToShowStore stores Begins contents writer later
       (AsksShown (task.Nodes file ring account container object names)) why
   FailsToDo (task.Import file ring caller number csv given) why = (late_reader ≡ reader)
-      × FailsToImportFile files image contents writer later (AsksImport ring.now caller.now
+      × FailsToImportFile stores Begins contents writer later (AsksImport ring.now caller.now
       number.now) given why
 
   -- This fault came of a task: of its words, and then neither stream was touched, or of its work.

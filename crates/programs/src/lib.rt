@@ -1,13 +1,13 @@
 //! The programs of `ringd`: what the words of the command line ask for is done over three streams
-//! and the files that they name.
+//! and the stores that they name.
 //!
-//! `perform` is what `main` calls. What a program that is done has done, and what a fault leaves,
-//! stands in `specs/Performed.antt`, a case for each program.
+//! Where the stores are is the caller's: `Stores` of `keeper_programs` opens, makes and closes them.
+//! `perform` is what `main` calls, over the stores in files of `file_stores`. What a program that is
+//! done has done, and what a fault leaves, stands in `specs/Performed.antt`, a case for each program.
 #![tactic(auto)]
 
 mod importing;
 mod lines;
-mod opening;
 mod performing;
 mod renewing;
 mod serving;

@@ -3,34 +3,30 @@ ghost use Rattle.std.specs.Prelude.{◌≡◌, ◌⊎◌, ◌≤◌, Err, IfErr,
 ghost use Rattle.std.specs.Prelude.{string_bytes};
 ghost use Rattle.program_words.specs.Tasks.{AskFor, AskForNothing};
 ghost use Rattle.program_words.specs.declared.task.Task.{Task};
-ghost use Rattle.sqlite_wal.specs.Files.{image_at};
 ghost use Rattle.keeper_programs.specs.Begun.{IsAny};
 ghost use Rattle.keeper_programs.specs.Faults.{GetsText, fault_line};
-ghost use Rattle.programs.specs.Opened.{IsKept};
 ghost use Rattle.keeper_programs.specs.Serving.{LoopsInput};
 ghost use Rattle.programs.specs.Performed.{EndsBy, EndsSo, FailsSo, FailsToImportFile};
-ghost use Rattle.programs.specs.Performed.{FailsToRun, FailsToShowFile, ImportsFile, Runs};
-ghost use Rattle.programs.specs.Performed.{FailsToLoopFile, ShowsFile};
+ghost use Rattle.programs.specs.Performed.{FailsToRun, FailsToShowStore, ImportsFile, Runs};
+ghost use Rattle.programs.specs.Performed.{FailsToLoopFile, ShowsStore};
 ghost use Rattle.keeper_programs.specs.declared.faults.ProgramFault.{ProgramFault};
 ghost use Rattle.keeper_programs.specs.declared.faults.ProgramFault.TheVariants.{NoMemory};
 ghost use Rattle.programs.specs.declared.performing.Ending.TheVariants.{Done, Refused};
 
 use crate::importing::import_table;
-use crate::lines::run_over_file;
-use crate::opening::FileKeeper;
-use crate::renewing::{NewFiles, renew_file};
-use crate::serving::{loop_file, serve_file};
+use crate::lines::run_over_store;
+use crate::renewing::renew_store;
+use crate::serving::{loop_reader, serve_store};
 use crate::showing::show;
 use builder::RingMachine;
 use byte_streams::{CountedReader, CountedWriter, write_text};
 use keeper_programs::{
-    ImportAsk, MemoryKeeper, ProgramFault, Question, ask_import, ask_nodes, ask_published,
+    ImportAsk, MemoryKeeper, ProgramFault, Question, Stores, ask_import, ask_nodes, ask_published,
     ask_tables, hour_of, run_over_memory, tell_fault,
 };
 use program_words::{ArgsFault, HashNames, Task, task_of};
 use request_book::Keeper;
 use ring_words::Hour;
-use sqlite::Start;
 use std::fs::File;
 use std::io::{Read, Write};
 
@@ -46,23 +42,21 @@ pub enum Ending {
     Refused,
 }
 
-/// Answers the lines of a reader, over the store in a file or over memory.
-fn run<S: Start, R: Read, W: Write>(
+/// Answers the lines of a reader, over a store or over memory.
+fn run<S: Stores, R: Read, W: Write>(
     rt: &HostRuntime,
     file: Option<&str>,
     reader: &mut CountedReader<R>,
     writer: &mut CountedWriter<W>,
-    start: S,
+    stores: S,
 ) -> Result<u32, ProgramFault>
-    ensures done { OnOk result (Runs ⟦<MemoryKeeper as Keeper<RingMachine>>⟧
-        ⟦<FileKeeper<S> as Keeper<RingMachine>>⟧ (image_at S.Start) R.remaining W.contents
-        reader.old reader.new writer.old writer.new file.entry) }
-    ensures failed { IfErr result (FailsToRun ⟦<MemoryKeeper as Keeper<RingMachine>>⟧
-        ⟦<FileKeeper<S> as Keeper<RingMachine>>⟧ (image_at S.Start) R.remaining W.contents
-        reader.old reader.new writer.old writer.new file.entry) }
+    ensures done { OnOk result (Runs ⟦<MemoryKeeper as Keeper<RingMachine>>⟧ S.Kept.Keeper S.begins
+        R.remaining W.contents reader.old reader.new writer.old writer.new file.entry) }
+    ensures failed { IfErr result (FailsToRun ⟦<MemoryKeeper as Keeper<RingMachine>>⟧ S.Kept.Keeper
+        S.begins R.remaining W.contents reader.old reader.new writer.old writer.new file.entry) }
 {
     match file {
-        Some(file) => run_over_file(rt, file, reader, writer, start),
+        Some(file) => run_over_store(rt, file, reader, writer, stores),
         None => match run_over_memory(rt.alloc(), reader, writer) {
             Ok(count) => Ok(count),
             Err(fault) => Err(ProgramFault::from(fault)),
@@ -70,48 +64,46 @@ fn run<S: Start, R: Read, W: Write>(
     }
 }
 
-/// Shows what is asked for of the store in a file.
-fn show_asked<S: Start, W: Write>(
+/// Shows what is asked for of a store.
+fn show_asked<S: Stores, W: Write>(
     rt: &HostRuntime,
     file: &str,
     asked: Result<Question<'_>, ProgramFault>,
     writer: &mut CountedWriter<W>,
-    start: S,
+    stores: S,
 ) -> Result<Ending, ProgramFault>
     ensures done { IfOk result (λ ending. (ending ≡ Done)
-        × ShowsFile ⟦<FileKeeper<S> as Keeper<RingMachine>>⟧ (image_at S.Start)
-        W.contents writer.old writer.new (λ question. asked.entry ≡ Ok question)) }
+        × ShowsStore S.Kept.Keeper S.begins W.contents writer.old writer.new
+        (λ question. asked.entry ≡ Ok question)) }
     ensures failed { IfErr result (λ why. ((asked.entry ≡ Err why) × (writer.new ≡ writer.old))
-        ⊎ FailsToShowFile ⟦<FileKeeper<S> as Keeper<RingMachine>>⟧ (image_at S.Start)
-        W.contents writer.old writer.new (λ question. asked.entry ≡ Ok question) why) }
+        ⊎ FailsToShowStore S.Kept.Keeper S.begins W.contents writer.old writer.new
+        (λ question. asked.entry ≡ Ok question) why) }
 {
     let question = match asked {
         Ok(question) => question,
         Err(fault) => return Err(fault),
     };
-    match show(rt, file, &question, writer, start) {
+    match show(rt, file, &question, writer, stores) {
         Ok(()) => Ok(Ending::Done),
         Err(fault) => Err(fault),
     }
 }
 
-/// Imports the table in a CSV file into a ring of the store in a file.
-fn import<S: Start, W: Write>(
+/// Imports the table in a CSV file into a ring of a store.
+fn import<S: Stores, W: Write>(
     rt: &HostRuntime,
     file: &str,
     csv: &str,
     asked: Result<ImportAsk, ProgramFault>,
     given: Option<Hour>,
     writer: &mut CountedWriter<W>,
-    start: S,
+    stores: S,
 ) -> Result<Ending, ProgramFault>
-    ensures ended { IfOk result (λ ending. ImportsFile
-        ⟦<FileKeeper<S> as Keeper<RingMachine>>⟧ (image_at S.Start)
-        W.contents writer.old writer.new
-        (λ ask. asked ≡ Ok ask) given (EndsBy ending)) }
+    ensures ended { IfOk result (λ ending. ImportsFile S.Kept.Keeper S.begins W.contents writer.old
+        writer.new (λ ask. asked ≡ Ok ask) given (EndsBy ending)) }
     ensures failed { IfErr result (λ why. ((asked ≡ Err why) × (writer.new ≡ writer.old))
-        ⊎ FailsToImportFile ⟦<FileKeeper<S> as Keeper<RingMachine>>⟧ (image_at S.Start)
-        W.contents writer.old writer.new (λ ask. asked ≡ Ok ask) given why) }
+        ⊎ FailsToImportFile S.Kept.Keeper S.begins W.contents writer.old writer.new
+        (λ ask. asked ≡ Ok ask) given why) }
 {
     let ask = match asked {
         Ok(ask) => ask,
@@ -121,55 +113,51 @@ fn import<S: Start, W: Write>(
         return Err(ProgramFault::NoFile);
     };
     let hour = hour_of(rt, given);
-    match import_table(rt, file, table, ask, hour, writer, start) {
+    match import_table(rt, file, table, ask, hour, writer, stores) {
         Ok(status) if status == DONE => Ok(Ending::Done),
         Ok(_) => Ok(Ending::Refused),
         Err(fault) => Err(fault),
     }
 }
 
-/// Answers the bytes of a file as those of one connection, over the store in a file.
-fn loop_bytes<S: Start, W: Write>(
+/// Answers the bytes of a file as those of one connection, over a store.
+fn loop_bytes<S: Stores, W: Write>(
     rt: &HostRuntime,
     file: &str,
     input: &str,
     given: Option<Hour>,
     names: HashNames<'_>,
     writer: &mut CountedWriter<W>,
-    start: S,
+    stores: S,
 ) -> Result<(), ProgramFault>
-    ensures done { OnOk result (LoopsInput ⟦<FileKeeper<S> as Keeper<RingMachine>>⟧
-        (IsKept ⟦<FileKeeper<S> as Keeper<RingMachine>>⟧ (image_at S.Start)) IsAny
-        given names.entry W.contents writer.old writer.new None) }
-    ensures failed { IfErr result (FailsToLoopFile
-        ⟦<FileKeeper<S> as Keeper<RingMachine>>⟧ (image_at S.Start)
-        W.contents writer.old writer.new given names.entry) }
+    ensures done { OnOk result (LoopsInput S.Kept.Keeper S.begins IsAny given names.entry W.contents
+        writer.old writer.new None) }
+    ensures failed { IfErr result (FailsToLoopFile S.Kept.Keeper S.begins W.contents writer.old
+        writer.new given names.entry) }
 {
     let Ok(input) = File::open(rt, input) else {
         return Err(ProgramFault::NoFile);
     };
-    loop_file(rt, file, input, given, names, writer, start)
+    loop_reader(rt, file, input, given, names, writer, stores)
 }
 
 /// Does a task.
-fn perform_task<S: Start, R: Read, W: Write>(
+fn perform_task<S: Stores, R: Read, W: Write>(
     rt: &HostRuntime,
     task: &Task<'_>,
     reader: &mut CountedReader<R>,
     writer: &mut CountedWriter<W>,
-    start: S,
+    stores: S,
 ) -> Result<Ending, ProgramFault>
-    ensures ended { IfOk result (EndsSo ⟦<MemoryKeeper as Keeper<RingMachine>>⟧
-        ⟦<FileKeeper<S> as Keeper<RingMachine>>⟧ (image_at S.Start) R.remaining W.contents
-        reader.old reader.new writer.old writer.new
-        ⟦<FileKeeper<NewFiles<S>> as Keeper<RingMachine>>⟧ task.now) }
-    ensures failed { IfErr result (FailsSo ⟦<MemoryKeeper as Keeper<RingMachine>>⟧
-        ⟦<FileKeeper<S> as Keeper<RingMachine>>⟧ (image_at S.Start) R.remaining W.contents
-        reader.old reader.new writer.old writer.new task.now) }
+    ensures ended { IfOk result (EndsSo ⟦<MemoryKeeper as Keeper<RingMachine>>⟧ S.Kept.Keeper
+        S.begins R.remaining W.contents reader.old reader.new writer.old writer.new S.is_made
+        task.now) }
+    ensures failed { IfErr result (FailsSo ⟦<MemoryKeeper as Keeper<RingMachine>>⟧ S.Kept.Keeper
+        S.begins R.remaining W.contents reader.old reader.new writer.old writer.new task.now) }
 {
     let alloc = rt.alloc();
     match task {
-        Task::Run { file } => match run(rt, *file, reader, writer, start) {
+        Task::Run { file } => match run(rt, *file, reader, writer, stores) {
             Ok(_) => Ok(Ending::Done),
             Err(fault) => Err(fault),
         },
@@ -179,7 +167,7 @@ fn perform_task<S: Start, R: Read, W: Write>(
             count,
             hour,
             names,
-        } => match serve_file(rt, *file, *port, *count, *hour, *names, start) {
+        } => match serve_store(rt, *file, *port, *count, *hour, *names, stores) {
             Ok(()) => Ok(Ending::Done),
             Err(fault) => Err(fault),
         },
@@ -188,12 +176,12 @@ fn perform_task<S: Start, R: Read, W: Write>(
             input,
             hour,
             names,
-        } => match loop_bytes(rt, *file, *input, *hour, *names, writer, start) {
+        } => match loop_bytes(rt, *file, *input, *hour, *names, writer, stores) {
             Ok(()) => Ok(Ending::Done),
             Err(fault) => Err(fault),
         },
         Task::Table { file, ring } => {
-            show_asked(rt, *file, ask_tables(alloc, *ring), writer, start)
+            show_asked(rt, *file, ask_tables(alloc, *ring), writer, stores)
         }
         Task::Nodes {
             file,
@@ -204,7 +192,7 @@ fn perform_task<S: Start, R: Read, W: Write>(
             names,
         } => {
             let asked = ask_nodes(alloc, *ring, *account, *container, *object, *names);
-            show_asked(rt, *file, asked, writer, start)
+            show_asked(rt, *file, asked, writer, stores)
         }
         Task::Export {
             file,
@@ -213,9 +201,9 @@ fn perform_task<S: Start, R: Read, W: Write>(
             format,
         } => {
             let asked = ask_published(alloc, *ring, *version, *format);
-            show_asked(rt, *file, asked, writer, start)
+            show_asked(rt, *file, asked, writer, stores)
         }
-        Task::Renew { file, new } => match renew_file(rt, *file, *new, start) {
+        Task::Renew { file, new } => match renew_store(rt, *file, *new, stores) {
             Ok(()) => Ok(Ending::Done),
             Err(fault) => Err(fault),
         },
@@ -228,49 +216,45 @@ fn perform_task<S: Start, R: Read, W: Write>(
             hour,
         } => {
             let asked = ask_import(alloc, *ring, *caller, *number);
-            import(rt, *file, *csv, asked, *hour, writer, start)
+            import(rt, *file, *csv, asked, *hour, writer, stores)
         }
     }
 }
 
-/// Does what the words ask for over three streams and the files that they name, and answers the
-/// exit status: 0 when it is done, 1 after a fault or where an import is refused, and 2 where the
-/// words ask for nothing, or for help. The first word is the program's own name. `start` stands for
-/// what the files of a store hold.
+/// Does what the words ask for over three streams and the stores and files that they name, and
+/// answers the exit status: 0 when it is done, 1 after a fault or where an import is refused, and 2
+/// where the words ask for nothing, or for help. The first word is the program's own name.
 ///
 /// A fault is told on `errors`, as one line with its name and its number, and nothing else is
 /// written there with status 0 or 1. With status 2 `clap` tells there what may be written.
-pub fn perform<S: Start, R: Read, W: Write, E: Write>(
+pub fn perform<S: Stores, R: Read, W: Write, E: Write>(
     rt: &HostRuntime,
     words: &[String],
     reader: &mut CountedReader<R>,
     writer: &mut CountedWriter<W>,
     errors: &mut CountedWriter<E>,
-    start: S,
+    stores: S,
 ) -> u8
     ensures status { result ≤ 2 }
     ensures done { result ≡ 0 → (task : Task) × AskFor (map string_bytes words.now) task
-        × EndsSo ⟦<MemoryKeeper as Keeper<RingMachine>>⟧
-        ⟦<FileKeeper<S> as Keeper<RingMachine>>⟧ (image_at S.Start) R.remaining W.contents
-        reader.old reader.new writer.old writer.new
-        ⟦<FileKeeper<NewFiles<S>> as Keeper<RingMachine>>⟧ task Done × (errors.new ≡ errors.old) }
+        × EndsSo ⟦<MemoryKeeper as Keeper<RingMachine>>⟧ S.Kept.Keeper S.begins R.remaining
+        W.contents reader.old reader.new writer.old writer.new S.is_made task Done
+        × (errors.new ≡ errors.old) }
     // A fault came of a task, an import was refused, or there was no memory to read the words.
     ensures fault { result ≡ 1 → ((task : Task) × AskFor (map string_bytes words.now) task
-        × (((why : ProgramFault) × FailsSo ⟦<MemoryKeeper as Keeper<RingMachine>>⟧
-        ⟦<FileKeeper<S> as Keeper<RingMachine>>⟧ (image_at S.Start) R.remaining W.contents
-        reader.old reader.new writer.old writer.new task why
+        × (((why : ProgramFault) × FailsSo ⟦<MemoryKeeper as Keeper<RingMachine>>⟧ S.Kept.Keeper
+        S.begins R.remaining W.contents reader.old reader.new writer.old writer.new task why
         × GetsText E.contents errors.old errors.new (fault_line why))
-        ⊎ (EndsSo ⟦<MemoryKeeper as Keeper<RingMachine>>⟧
-        ⟦<FileKeeper<S> as Keeper<RingMachine>>⟧ (image_at S.Start) R.remaining W.contents
-        reader.old reader.new writer.old writer.new
-        ⟦<FileKeeper<NewFiles<S>> as Keeper<RingMachine>>⟧ task Refused × (errors.new ≡ errors.old))))
+        ⊎ (EndsSo ⟦<MemoryKeeper as Keeper<RingMachine>>⟧ S.Kept.Keeper S.begins R.remaining
+        W.contents reader.old reader.new writer.old writer.new S.is_made task Refused
+        × (errors.new ≡ errors.old))))
         ⊎ ((reader.new ≡ reader.old) × (writer.new ≡ writer.old)
         × GetsText E.contents errors.old errors.new (fault_line NoMemory)) }
     ensures nothing { result ≡ 2 → AskForNothing (map string_bytes words.now)
         × (reader.new ≡ reader.old) × (writer.new ≡ writer.old) }
 {
     match task_of(rt.alloc(), words) {
-        Ok(task) => match perform_task(rt, &task, reader, writer, start) {
+        Ok(task) => match perform_task(rt, &task, reader, writer, stores) {
             Ok(Ending::Done) => 0,
             Ok(Ending::Refused) => 1,
             Err(fault) => {

@@ -3,12 +3,26 @@
 #![tactic(auto)]
 
 use byte_streams::{CountedReader, CountedWriter};
+use file_stores::StoreFiles;
 use programs::perform;
-use sqlite::Unknown;
+use sqlite::{Start, Unknown};
 use std::alloc::AllocError;
 use std::env;
-use std::io::ErrorKind;
+use std::io::{ErrorKind, Read, Write};
 use std::process::ExitCode;
+
+/// Does what the words ask for over three streams and the stores in files. `start` stands for what
+/// the files hold.
+fn perform_over_files<S: Start, R: Read, W: Write, E: Write>(
+    rt: &HostRuntime,
+    words: &[String],
+    reader: &mut CountedReader<R>,
+    writer: &mut CountedWriter<W>,
+    errors: &mut CountedWriter<E>,
+    start: S,
+) -> u8 {
+    perform(rt, words, reader, writer, errors, StoreFiles { start })
+}
 
 fn main(rt: HostRuntime) -> ExitCode {
     let words: Result<Vec<String>, _> = match env::args(&rt) {
@@ -23,6 +37,6 @@ fn main(rt: HostRuntime) -> ExitCode {
     let mut reader = CountedReader::new(rt.reader());
     let mut writer = CountedWriter::new(rt.stdout());
     let mut errors = CountedWriter::new(rt.stderr());
-    let status = perform(&rt, &words, &mut reader, &mut writer, &mut errors, Unknown);
+    let status = perform_over_files(&rt, &words, &mut reader, &mut writer, &mut errors, Unknown);
     ExitCode::from(status)
 }

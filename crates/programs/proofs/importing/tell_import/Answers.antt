@@ -3,6 +3,6 @@ use Rattle.std.proofs.lemmas.Result.{IfOk-weaker}
 use Rattle.programs.proofs.importing.tell_import.Goals as goal
 
 pub returns-in-Ok-clause-told : goal.returns-in-Ok-clause-told
-returns-in-Ok-clause-told g c = IfOk-weaker c.deliver_to_file.result _ _
+returns-in-Ok-clause-told g c = IfOk-weaker c.deliver_to_store.result _ _
     (λ t delivered. inl (c.in-Ok.rows.items, c.in-Ok.ensures.rows, delivered))
-    c.deliver_to_file.ensures.told
+    c.deliver_to_store.ensures.told

@@ -4,5 +4,5 @@ use Rattle.programs.proofs.renewing.read_store.Goals as goal
 
 pub returns-in-Ok-closed-clause-found : goal.returns-in-Ok-closed-clause-found
 returns-in-Ok-closed-clause-found g c = let told = c.found_in-found in
-    read_kept _ _ _ c.in-Ok.ensures.kept _
+    read_kept g.S.Kept.Keeper g.S.Stores.begins c.in-Ok.keeper c.in-Ok.ensures.begins _
     (at_value told.result.0 c.in-Ok-found.found _ c.in-Ok-found.is told.ensures.found)

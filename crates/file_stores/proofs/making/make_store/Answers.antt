@@ -1,6 +1,6 @@
 use Rattle.std.proofs.Common.{◌∙◌}
-use Rattle.programs.proofs.Renewals.{is_made}
-use Rattle.programs.proofs.renewing.make_store.Goals as goal
+use Rattle.file_stores.proofs.Made.{is_made}
+use Rattle.file_stores.proofs.making.make_store.Goals as goal
 
 pub returns-clause-made : goal.returns-clause-made
 returns-clause-made g c = is_made _ _ c.close_store.result c.in-Ok.keeper

@@ -2,8 +2,8 @@
 ghost use Rattle.std.specs.Prelude.{◌≡◌, IfErr, IfOk};
 ghost use Rattle.sqlite_wal.specs.Files.{image_at};
 ghost use Rattle.keeper_programs.specs.Begun.{IsStoreFault};
-ghost use Rattle.programs.specs.Opened.{IsKept};
-ghost use Rattle.programs.specs.Inner.Unopened.{open_fault};
+ghost use Rattle.file_stores.specs.Opened.{IsKept};
+ghost use Rattle.file_stores.specs.Inner.Unopened.{open_fault};
 ghost use Rattle.keeper_programs.specs.declared.faults.ProgramFault.TheVariants.{StoreFault};
 
 use builder::RingMachine;
@@ -14,7 +14,7 @@ use ring_words::Limits;
 use sqlite::{FileFrom, FileStore, Start};
 
 /// Keeps rings and requests in a file and the log beside it.
-pub(crate) type FileKeeper<S> = SqlKeeper<FileStore<FileFrom<S>>>;
+pub type FileKeeper<S> = SqlKeeper<FileStore<FileFrom<S>>>;
 
 /// What is told where the store in a file isn't opened.
 pub(crate) fn open_fault(fault: FileFault) -> ProgramFault

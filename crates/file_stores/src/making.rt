@@ -1,0 +1,78 @@
+//! Making the store in a file.
+ghost use Rattle.std.specs.Prelude.{◌≡◌, IfErr, OnOk};
+ghost use Rattle.builder_store.specs.Making.{rings_alone};
+ghost use Rattle.keeper_programs.specs.Begun.{IsStoreFault};
+ghost use Rattle.file_stores.specs.Opened.{IsMade};
+ghost use Rattle.file_stores.specs.Inner.Left.{IsLeft};
+
+use crate::opening::{FileKeeper, close_store, open_fault};
+use builder::RingMachine;
+use builder_store::{MakeFault, make_at};
+use keeper_programs::ProgramFault;
+use request_book::Keeper;
+use ring_model::Rings;
+use ring_words::{Hour, Limits};
+use sqlite::Start;
+use std::marker::PhantomData;
+
+/// Stands for files that are made, and so are empty. What a write that is cut short may leave is
+/// taken to be what `S` takes it to be.
+#[derive(Drop)]
+pub(crate) struct NewFiles<S: Start> {
+    like: PhantomData<S>,
+}
+
+impl<S: Start> Start for NewFiles<S> {
+    ghost use Rattle.std.specs.Prelude.{[]};
+
+    ghost log = { [] };
+
+    ghost db = { [] };
+
+    ghost is_mixing = { S.is_mixing };
+
+    fn mixes() -> bool {
+        S::mixes()
+    }
+}
+
+/// What a store that isn't made is told as. Where something is there already the store can't be
+/// made, as where its folder is missing.
+fn make_fault(fault: MakeFault) -> ProgramFault
+    ensures { IsStoreFault result }
+{
+    match fault {
+        MakeFault::Taken => ProgramFault::StoreFault,
+        MakeFault::Opening(cause) => open_fault(cause),
+    }
+}
+
+/// The keeper as it is. A crash leaves what it holds, as its store has not failed.
+fn stands<K: Keeper<RingMachine>>(keeper: K) -> K
+    requires { K.fault_count keeper ≡ 0 }
+    ensures same { result ≡ keeper }
+    ensures left { IsLeft K.Keeper keeper }
+{
+    let _faults = keeper.faults();
+    keeper
+}
+
+/// Makes a store of these rings in a file that is not there, and closes it. It has no request, and
+/// goes on from this hour.
+pub(crate) fn make_store<S: Start>(
+    rt: &HostRuntime,
+    file: &str,
+    rings: Rings,
+    hour: Hour,
+) -> Result<(), ProgramFault>
+    ensures made { OnOk result (IsMade ⟦<FileKeeper<NewFiles<S>> as Keeper<RingMachine>>⟧
+        (rings_alone rings hour)) }
+    ensures fault { IfErr result IsStoreFault }
+{
+    let files: NewFiles<S> = NewFiles { like: PhantomData };
+    let keeper = match make_at(rt, file, rings, hour, Limits::full(), files) {
+        Ok(keeper) => keeper,
+        Err(fault) => return Err(make_fault(fault)),
+    };
+    close_store(stands(keeper))
+}

@@ -1,0 +1,41 @@
+//! The stores in files.
+ghost use Rattle.sqlite_wal.specs.Files.{image_at};
+ghost use Rattle.builder_store.specs.Making.{rings_alone};
+ghost use Rattle.file_stores.specs.Opened.{IsKept, IsMade};
+
+use crate::making::{NewFiles, make_store};
+use crate::opening::{FileKeeper, close_store, open_store};
+use builder::RingMachine;
+use keeper_programs::{ProgramFault, Stores};
+use request_book::Keeper;
+use ring_model::Rings;
+use ring_words::Hour;
+use sqlite::Start;
+
+/// Stores in files, which are named by their paths. `start` stands for what the files hold.
+#[derive(Drop)]
+pub struct StoreFiles<S: Start> {
+    pub start: S,
+}
+
+impl<S: Start> Stores for StoreFiles<S> {
+    type Kept = FileKeeper<S>;
+
+    ghost begins = { IsKept ⟦<FileKeeper<S> as Keeper<RingMachine>>⟧ (image_at S.Start) };
+
+    ghost is_made = { λ rings hour. IsMade ⟦<FileKeeper<NewFiles<S>> as Keeper<RingMachine>>⟧
+        (rings_alone rings hour) };
+
+    fn open(self, rt: &HostRuntime, name: &str) -> Result<FileKeeper<S>, ProgramFault> {
+        let StoreFiles { start } = self;
+        open_store(rt, name, start)
+    }
+
+    fn close(keeper: FileKeeper<S>) -> Result<(), ProgramFault> {
+        close_store(keeper)
+    }
+
+    fn make(rt: &HostRuntime, name: &str, rings: Rings, hour: Hour) -> Result<(), ProgramFault> {
+        make_store::<S>(rt, name, rings, hour)
+    }
+}

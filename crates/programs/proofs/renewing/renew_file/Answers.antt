@@ -1,7 +1,0 @@
-use Rattle.std.proofs.lemmas.Result.{on_ok_weaker}
-use Rattle.programs.proofs.Renewals.{renews}
-use Rattle.programs.proofs.renewing.renew_file.Goals as goal
-
-pub returns-clause-renewed : goal.returns-clause-renewed
-returns-clause-renewed g c = on_ok_weaker c.make_store.result
-    (λ made. renews _ _ _ _ _ c.in-Ok.ensures.found made) c.make_store.ensures.made
