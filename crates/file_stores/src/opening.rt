@@ -14,7 +14,7 @@ use ring_words::Limits;
 use sqlite::{FileFrom, FileStore, Start};
 
 /// Keeps rings and requests in a file and the log beside it.
-pub type FileKeeper<S> = SqlKeeper<FileStore<FileFrom<S>>>;
+pub(crate) type FileKeeper<S> = SqlKeeper<FileStore<FileFrom<S>>>;
 
 /// What is told where the store in a file isn't opened.
 pub(crate) fn open_fault(fault: FileFault) -> ProgramFault

@@ -14,8 +14,8 @@ use sqlite::Start;
 
 /// Stores in files, which are named by their paths. `start` stands for what the files hold.
 #[derive(Drop)]
-pub struct StoreFiles<S: Start> {
-    pub start: S,
+pub(crate) struct StoreFiles<S: Start> {
+    pub(crate) start: S,
 }
 
 impl<S: Start> Stores for StoreFiles<S> {

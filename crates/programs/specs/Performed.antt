@@ -4,10 +4,11 @@ use Rattle.std.specs.Borrow.{Bor}
 use Rattle.byte_streams.specs.declared.counted.CountedReader.{CountedReader}
 use Rattle.byte_streams.specs.declared.counted.CountedWriter.{CountedWriter}
 use Rattle.byte_streams.specs.declared.fault.StreamFault.{StreamFault}
+use Rattle.program_words.specs.Tasks.{AskFor}
 use Rattle.program_words.specs.declared.task.HashNames.{HashNames}
 use Rattle.program_words.specs.declared.task.Task.{Task}
 use Rattle.program_words.specs.declared.task.Task.TheVariants as task
-use Rattle.keeper_programs.specs.Faults.{stream_fault}
+use Rattle.keeper_programs.specs.Faults.{GetsText, fault_line, stream_fault}
 use Rattle.keeper_programs.specs.Importing.{AnswersImport, AsksImport, FailsToImport}
 use Rattle.keeper_programs.specs.Begun.{IsAny, IsNew, IsStoreFault, Keeping}
 use Rattle.builder.specs.Step.{State}
@@ -130,3 +131,26 @@ module _ {M K R W : Type 0} (memory : Keeping M) (stores : Keeping K) (Begins : 
   FailsSo t why =
       (IsFormFault (IsMalformed t) (IsPathless t) why × (late_reader ≡ reader) × (later ≡ writer))
       ⊎ FailsToDo t why
+
+-- The words of a command line are these, and a third stream tells of faults, before and after.
+module _ {M K R W E : Type 0} (memory : Keeping M) (stores : Keeping K) (Begins : K → Type 0)
+    (IsMade : State → ℕ → Type 0) (remaining : R → Option (List ℕ)) (contents : W → Option (List ℕ))
+    (told : E → Option (List ℕ)) (words : List (List ℕ)) (reader late_reader : CountedReader R)
+    (writer later : CountedWriter W) (errors late_errors : CountedWriter E) where
+  -- The words ask for a task, which was done, and no fault was told.
+  abbrev pub DoesAsked : Type 0
+  DoesAsked = (t : Task) × AskFor words t
+      × EndsSo memory stores Begins remaining contents reader late_reader writer later IsMade t Done
+      × (late_errors ≡ errors)
+
+  -- The words ask for a task, which had a fault that was told, or was an import that was refused,
+  -- and then no fault was told. Or there was no memory to read the words: that was told, and the
+  -- other streams were not touched.
+  abbrev pub FailsAsked : Type 0
+  FailsAsked = ((t : Task) × AskFor words t × (((why : ProgramFault)
+      × FailsSo memory stores Begins remaining contents reader late_reader writer later t why
+      × GetsText told errors late_errors (fault_line why))
+      ⊎ (EndsSo memory stores Begins remaining contents reader late_reader writer later IsMade t
+      Refused × (late_errors ≡ errors))))
+      ⊎ ((late_reader ≡ reader) × (later ≡ writer)
+      × GetsText told errors late_errors (fault_line fault.NoMemory))

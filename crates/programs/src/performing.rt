@@ -1,17 +1,13 @@
 //! What the program does over three streams.
 ghost use Rattle.std.specs.Prelude.{◌≡◌, ◌⊎◌, ◌≤◌, Err, IfErr, IfOk, None, Ok, OnOk, map};
 ghost use Rattle.std.specs.Prelude.{string_bytes};
-ghost use Rattle.program_words.specs.Tasks.{AskFor, AskForNothing};
-ghost use Rattle.program_words.specs.declared.task.Task.{Task};
+ghost use Rattle.program_words.specs.Tasks.{AskForNothing};
 ghost use Rattle.keeper_programs.specs.Begun.{IsAny};
-ghost use Rattle.keeper_programs.specs.Faults.{GetsText, fault_line};
 ghost use Rattle.keeper_programs.specs.Serving.{LoopsInput};
-ghost use Rattle.programs.specs.Performed.{EndsBy, EndsSo, FailsSo, FailsToImportFile};
-ghost use Rattle.programs.specs.Performed.{FailsToRun, FailsToShowStore, ImportsFile, Runs};
-ghost use Rattle.programs.specs.Performed.{FailsToLoopFile, ShowsStore};
-ghost use Rattle.keeper_programs.specs.declared.faults.ProgramFault.{ProgramFault};
-ghost use Rattle.keeper_programs.specs.declared.faults.ProgramFault.TheVariants.{NoMemory};
-ghost use Rattle.programs.specs.declared.performing.Ending.TheVariants.{Done, Refused};
+ghost use Rattle.programs.specs.Performed.{DoesAsked, EndsBy, EndsSo, FailsAsked, FailsSo};
+ghost use Rattle.programs.specs.Performed.{FailsToImportFile, FailsToLoopFile, FailsToRun};
+ghost use Rattle.programs.specs.Performed.{FailsToShowStore, ImportsFile, Runs, ShowsStore};
+ghost use Rattle.programs.specs.declared.performing.Ending.TheVariants.{Done};
 
 use crate::importing::import_table;
 use crate::lines::run_over_store;
@@ -236,20 +232,12 @@ pub fn perform<S: Stores, R: Read, W: Write, E: Write>(
     stores: S,
 ) -> u8
     ensures status { result ≤ 2 }
-    ensures done { result ≡ 0 → (task : Task) × AskFor (map string_bytes words.now) task
-        × EndsSo ⟦<MemoryKeeper as Keeper<RingMachine>>⟧ S.Kept.Keeper S.begins R.remaining
-        W.contents reader.old reader.new writer.old writer.new S.is_made task Done
-        × (errors.new ≡ errors.old) }
-    // A fault came of a task, an import was refused, or there was no memory to read the words.
-    ensures fault { result ≡ 1 → ((task : Task) × AskFor (map string_bytes words.now) task
-        × (((why : ProgramFault) × FailsSo ⟦<MemoryKeeper as Keeper<RingMachine>>⟧ S.Kept.Keeper
-        S.begins R.remaining W.contents reader.old reader.new writer.old writer.new task why
-        × GetsText E.contents errors.old errors.new (fault_line why))
-        ⊎ (EndsSo ⟦<MemoryKeeper as Keeper<RingMachine>>⟧ S.Kept.Keeper S.begins R.remaining
-        W.contents reader.old reader.new writer.old writer.new S.is_made task Refused
-        × (errors.new ≡ errors.old))))
-        ⊎ ((reader.new ≡ reader.old) × (writer.new ≡ writer.old)
-        × GetsText E.contents errors.old errors.new (fault_line NoMemory)) }
+    ensures done { result ≡ 0 → DoesAsked ⟦<MemoryKeeper as Keeper<RingMachine>>⟧ S.Kept.Keeper
+        S.begins S.is_made R.remaining W.contents E.contents (map string_bytes words.now)
+        reader.old reader.new writer.old writer.new errors.old errors.new }
+    ensures fault { result ≡ 1 → FailsAsked ⟦<MemoryKeeper as Keeper<RingMachine>>⟧ S.Kept.Keeper
+        S.begins S.is_made R.remaining W.contents E.contents (map string_bytes words.now)
+        reader.old reader.new writer.old writer.new errors.old errors.new }
     ensures nothing { result ≡ 2 → AskForNothing (map string_bytes words.now)
         × (reader.new ≡ reader.old) × (writer.new ≡ writer.old) }
 {

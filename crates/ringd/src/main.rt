@@ -3,26 +3,12 @@
 #![tactic(auto)]
 
 use byte_streams::{CountedReader, CountedWriter};
-use file_stores::StoreFiles;
-use programs::perform;
-use sqlite::{Start, Unknown};
+use file_stores::perform_over_files;
+use sqlite::Unknown;
 use std::alloc::AllocError;
 use std::env;
-use std::io::{ErrorKind, Read, Write};
+use std::io::ErrorKind;
 use std::process::ExitCode;
-
-/// Does what the words ask for over three streams and the stores in files. `start` stands for what
-/// the files hold.
-fn perform_over_files<S: Start, R: Read, W: Write, E: Write>(
-    rt: &HostRuntime,
-    words: &[String],
-    reader: &mut CountedReader<R>,
-    writer: &mut CountedWriter<W>,
-    errors: &mut CountedWriter<E>,
-    start: S,
-) -> u8 {
-    perform(rt, words, reader, writer, errors, StoreFiles { start })
-}
 
 fn main(rt: HostRuntime) -> ExitCode {
     let words: Result<Vec<String>, _> = match env::args(&rt) {
