@@ -1,5 +1,6 @@
 -- What the router holds after each route.
-use Rattle.std.proofs.Common.{◌≡◌, List, [], ◌∷◌, ℕ, codes, refl}
+use Rattle.std.proofs.Common.{◌≡◌, List, [], ◌∷◌, ℕ, Result, Ok, Err, codes, refl}
+use Rattle.std.specs.Prelude.{IfOk}
 use Rattle.matchit.proofs.OnLiterals.{matchit_on_literals}
 use Rattle.matchit.specs.Route.{parse_route}
 use Rattle.matchit.specs.Router.{RouteOf}
@@ -82,9 +83,18 @@ pub after-five : (rows : Rows) → rows ≡ import_row ∷ requests_row ∷ bala
 unfolding matchit_on_literals
 after-five rows is = rw is refl
 
-pub six : (old rows : Rows) → old ≡ import_row ∷ requests_row ∷ balance_row ∷ devices_row ∷
-    nodes_row ∷ []
+six : (old rows : Rows) → old ≡ import_row ∷ requests_row ∷ balance_row ∷ devices_row ∷ nodes_row ∷
+    []
     → IsAdded (parse_route (codes "/v1/rings/{ring}/text/{version}")) Text old rows → rows
     ≡ all_routes
 unfolding matchit_on_literals
 six old rows is added = rw (added, is) refl
+
+-- the last route may find no memory
+pub all-added : {A E : Type 0} (result : Result A E) (old rows : Rows)
+    → old ≡ import_row ∷ requests_row ∷ balance_row ∷ devices_row ∷ nodes_row ∷ []
+    → IfOk result (λ _. IsAdded (parse_route (codes "/v1/rings/{ring}/text/{version}")) Text old
+    rows)
+    → IfOk result (λ _. rows ≡ all_routes)
+all-added (Ok done) old rows is added = six old rows is added
+all-added (Err why) old rows is added = tt

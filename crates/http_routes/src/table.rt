@@ -1,5 +1,5 @@
 //! The table of the routes.
-ghost use Rattle.std.specs.Prelude.{◌≡◌, ℕ, List, IfOk, MatchOption};
+ghost use Rattle.std.specs.Prelude.{◌≡◌, [], ℕ, List, IfOk, MatchOption};
 ghost use Rattle.matchit.specs.Route.{parse_route};
 ghost use Rattle.http_routes.specs.Inner.Table.{IsAdded, IsNewRoute, all_routes};
 ghost use Rattle.http_routes.specs.Routes.{HasRoute};
@@ -28,20 +28,24 @@ fn add(router: &mut Router<Endpoint>, route: &str, endpoint: Endpoint) -> Result
     }
 }
 
+/// Takes all routes.
+fn add_all(router: &mut Router<Endpoint>) -> Result<(), AllocError>
+    requires { router.old ≡ [] }
+    ensures { IfOk result (λ _. router.new ≡ all_routes) }
+{
+    add(router, "/v1/requests", Endpoint::Requests)?;
+    add(router, "/v1/import/{ring}", Endpoint::Import)?;
+    add(router, "/v1/rings/{ring}/devices", Endpoint::Devices)?;
+    add(router, "/v1/rings/{ring}/balance", Endpoint::Balance)?;
+    add(router, "/v1/rings/{ring}/nodes", Endpoint::Nodes)?;
+    add(router, "/v1/rings/{ring}/text/{version}", Endpoint::Text)
+}
+
 impl Routes {
     /// All routes.
     pub fn new(alloc: Global) -> Result<Routes, AllocError> {
         let mut router = Router::new(alloc);
-        add(&mut router, "/v1/requests", Endpoint::Requests)?;
-        add(&mut router, "/v1/import/{ring}", Endpoint::Import)?;
-        add(&mut router, "/v1/rings/{ring}/devices", Endpoint::Devices)?;
-        add(&mut router, "/v1/rings/{ring}/balance", Endpoint::Balance)?;
-        add(&mut router, "/v1/rings/{ring}/nodes", Endpoint::Nodes)?;
-        add(
-            &mut router,
-            "/v1/rings/{ring}/text/{version}",
-            Endpoint::Text,
-        )?;
+        add_all(&mut router)?;
         Ok(Routes { router })
     }
 

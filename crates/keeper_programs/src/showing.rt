@@ -89,6 +89,28 @@ pub fn ask_published<'a>(
     }
 }
 
+/// The path of names that words give.
+fn path_given(
+    alloc: Global,
+    account: &str,
+    container: Option<&str>,
+    object: Option<&str>,
+) -> Result<Path, ProgramFault>
+    ensures path { IfOk result (λ path. path ≡ names_given account.entry container.entry
+        object.entry) }
+    ensures good { IfOk result (λ path. is_path path ≡ true) }
+    ensures fault { IfErr result (IsFormFault ⊥
+        (is_path (names_given account.entry container.entry object.entry) ≢ true)) }
+{
+    let container = container.map(str::as_bytes);
+    let object = object.map(str::as_bytes);
+    match Path::new(alloc, account.as_bytes(), container, object) {
+        Ok(path) => Ok(path),
+        Err(PathFault::BadPath) => Err(ProgramFault::BadPath),
+        Err(PathFault::NoMemory) => Err(ProgramFault::NoMemory),
+    }
+}
+
 /// What `nodes` shows.
 pub fn ask_nodes<'a>(
     alloc: Global,
@@ -107,15 +129,12 @@ pub fn ask_nodes<'a>(
         Ok(ring) => ring,
         Err(fault) => return Err(form_fault(fault)),
     };
-    let container = container.map(str::as_bytes);
-    let object = object.map(str::as_bytes);
-    match Path::new(alloc, account.as_bytes(), container, object) {
+    match path_given(alloc, account, container, object) {
         Ok(path) => Ok(Question {
             ring,
             view: View::Nodes(path, names),
         }),
-        Err(PathFault::BadPath) => Err(ProgramFault::BadPath),
-        Err(PathFault::NoMemory) => Err(ProgramFault::NoMemory),
+        Err(fault) => Err(fault),
     }
 }
 
