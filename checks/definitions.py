@@ -2,10 +2,11 @@
 """The words of the contracts: checks/definitions.py [--write | --inner]
 
 A contract of a public call cites words that stand in crates/NAME/specs, and each of these rests on others. Who wants to
-know what is proved has to read these words, and no others. This script finds them in the sources. It compares them with
+know what is proved has to read these words, and no others. This script finds them in the sources. A call is public where
+its crate's lib.rt lets others name it, or name the type or trait that it belongs to. The script compares the words with
 docs/definitions.md and fails where that page isn't up to date, where a word has no sentence before it, and where a word
-that no public contract rests on stands outside of specs/Inner. --write writes the page anew, and --inner lists the words
-that no public contract rests on.
+stands among those of the other kind: one that no public contract rests on has its place in specs/Inner, and no other word
+stands there. --write writes the page anew, and --inner lists the words that no public contract rests on.
 """
 import re
 import sys
@@ -15,6 +16,8 @@ from pathlib import Path
 TOP = Path(__file__).resolve().parent.parent
 PAGE = TOP / "docs" / "definitions.md"
 TESTS = {"ring_tests", "request_tests", "http_tests", "http_socket_tests", "store_tests", "program_tests", "test_streams", "worked_rows"}
+# What an impl gives for these is the proof of a law that its trait states.
+LAWS = {"laws", "settled"}
 WORD = re.compile(r"[A-Za-z_][A-Za-z0-9_]*(?:['-][A-Za-z0-9_]+)*")
 DEFINED = re.compile(r"^\s*(?:abbrev |unfoldable )?pub (?:record |data )?([A-Za-z_][\w'-]*)")
 HEAD = """# The words of the contracts
@@ -132,7 +135,19 @@ def public_clauses(text):
         elif match["kind"] and is_public:
             yield function, matched(text, match.end() - 1)
         elif match["ghost"] and in_trait and match["ghost"] not in ("invariant", "inverse", "coded"):
+            if match["ghost"] in LAWS and match[0].endswith("= {"):
+                continue
             yield owner.rstrip(":"), matched(text, match.end() - 1)
+
+
+def exported(crate):
+    """The names that a library lets others name. Of a program, which has no lib.rt, none."""
+    source = TOP / "crates" / crate / "src"
+    top = (source / "lib.rt").read_text() if (source / "lib.rt").exists() else ""
+    names = set(re.findall(r"\w+", " ".join(re.findall(r"(?m)^pub use [\w:]+::(\{[^}]*\}|\w+);", top))))
+    for module in re.findall(r"(?m)^pub mod (\w+);", top):
+        top += (source / f"{module}.rt").read_text()
+    return names | set(re.findall(r"(?m)^pub (?:struct|enum|trait|type|(?:const )?fn) (\w+)", top))
 
 
 def cited(text, crate, names, words, module=None):
@@ -160,12 +175,15 @@ def gather():
         word.rests_on = cited("\n".join(word.body), word.crate, brought, words, word.file) - {key}
     users = defaultdict(list)
     for crate in names:
+        public = exported(crate)
         for path in sorted((TOP / "crates" / crate / "src").rglob("*.rt")):
             if "tests" in path.parts or path.stem in ("tests", "checker"):
                 continue
             text = path.read_text()
             brought = imports(text, crate)
             for function, clause in public_clauses(text):
+                if function.split("::")[0] not in public:
+                    continue
                 for key in cited(clause, crate, brought, words):
                     if (crate, function) not in users[key]:
                         users[key].append((crate, function))
@@ -211,9 +229,11 @@ def main():
         PAGE.write_text(text)
     faults = [f"no sentence before {name}" for name in untold]
     for key, word in words.items():
+        place = f"{word.crate}/specs/{word.file.replace('.', '/')}.antt"
         if key not in reached and not word.file.startswith("Inner"):
-            place = f"{word.crate}/specs/{word.file.replace('.', '/')}.antt"
             faults.append(f"{place}: {word.name} carries proofs alone, so its place is specs/Inner")
+        if key in reached and word.file.startswith("Inner"):
+            faults.append(f"{place}: a public contract rests on {word.name}, so its place isn't specs/Inner")
     if PAGE.read_text() != text:
         faults.append("docs/definitions.md isn't up to date: checks/definitions.py --write")
     for fault in faults:

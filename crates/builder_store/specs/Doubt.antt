@@ -1,5 +1,5 @@
 -- When a disk is in doubt.
-use Rattle.std.specs.Prelude.{◌≡◌, true, false}
+use Rattle.std.specs.Prelude.{◌≡◌, true}
 use Rattle.std.proofs.Common.{refl}
 use Rattle.sqlite_trees.specs.View.{doubt}
 
@@ -7,8 +7,3 @@ use Rattle.sqlite_trees.specs.View.{doubt}
 pub undoubted : doubt true ≡ 0
 unfolding doubt
 undoubted = refl
-
--- And there is some of another one.
-pub doubted : doubt false ≡ 0 → ⊥
-unfolding doubt
-doubted h = cc

@@ -1,4 +1,5 @@
 -- Words of contracts of private functions and of proofs. No public contract rests on them.
+pub mod Codes
 pub mod Begins
 pub mod Gains
 pub mod Known

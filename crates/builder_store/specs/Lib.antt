@@ -1,4 +1,3 @@
-pub mod Codes
 pub mod Doubt
 pub mod Standing
 pub mod Opening

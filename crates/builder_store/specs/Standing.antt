@@ -9,7 +9,7 @@ use Rattle.sqlite.specs.State.{State}
 use Rattle.store_tables.specs.Contents.{contents_of}
 use Rattle.store_rows.specs.RingRows.{NamedRings}
 use Rattle.store_rows.specs.Stands.{IsHoldable, RingContent, contents_for}
-use Rattle.builder_store.specs.Codes.{content_set}
+use Rattle.builder_store.specs.Inner.Codes.{content_set}
 use Rattle.builder_store.specs.Doubt.{undoubted}
 
 -- The tables in these trees stand for this content: a store can hold it, and they contain what they

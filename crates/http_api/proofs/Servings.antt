@@ -20,9 +20,11 @@ use Rattle.http_stream.specs.Answers.{ItemAnswered, joined}
 use Rattle.http_stream.specs.Serving.{RequestsServed, RequestsStopped}
 use Rattle.http_stream.specs.Streams.{AreRequests, BeginWith, Calls, Item, Refuses}
 use Rattle.line_api.specs.Lines.{Asked}
-use Rattle.line_api.specs.Served.{Found, Made, RingBook, steps_of}
+use Rattle.line_api.specs.Inner.Answering.{Made}
+use Rattle.line_api.specs.Served.{Found, RingBook, steps_of}
 use Rattle.http_api.specs.Http.{GetsHttp}
-use Rattle.http_api.specs.Served.{HttpAnswers, HttpFront, HttpLoses, ServesHttp}
+use Rattle.http_api.specs.Inner.Answering.{HttpAnswers, HttpLoses}
+use Rattle.http_api.specs.Served.{HttpFront, ServesHttp}
 
 module _ {K C : Type 0} (content : K → Content State Command Reply) (sound : K → Type 0)
     (limit : K → ℕ) (faults : K → ℕ)

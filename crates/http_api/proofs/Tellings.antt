@@ -9,7 +9,8 @@ use Rattle.http_requests.specs.Requests.{Ask}
 use Rattle.http_routes.specs.Targets.{TargetAsks}
 use Rattle.http_routes.specs.declared.target.TargetAsk.TheVariants as target
 use Rattle.line_api.specs.Lines.{Asked}
-use Rattle.line_api.specs.Served.{Made, RingBook}
+use Rattle.line_api.specs.Inner.Answering.{Made}
+use Rattle.line_api.specs.Served.{RingBook}
 use Rattle.request_book.specs.Call.{Deliver, Load}
 use Rattle.request_book.specs.Content.{Content}
 use Rattle.ring_messages.specs.declared.told.Told.{Told}
@@ -18,7 +19,7 @@ use Rattle.ring_words.specs.declared.command.Reply.{Reply}
 use Rattle.ring_words.specs.declared.request.Key.{Key}
 use Rattle.http_api.specs.Http.{told_answer}
 use Rattle.http_api.specs.Inner.Telling.{IsImportTold, IsMessageTold}
-use Rattle.http_api.specs.Served.{HttpAnswers, HttpLoses}
+use Rattle.http_api.specs.Inner.Answering.{HttpAnswers, HttpLoses}
 
 module _ {K C : Type 0} (content : K → Content State Command Reply) (sound : K → Type 0)
     (limit : K → ℕ) (faults : K → ℕ)

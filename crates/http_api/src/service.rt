@@ -4,10 +4,12 @@ ghost use Rattle.builder.specs.Safety.{IsSafeRun};
 ghost use Rattle.byte_streams.specs.Counted.{FailsWithCause, LeavesFlushed, reader_of, writer_of};
 ghost use Rattle.http_api.specs.Http.{IsFaultAnswer, IsReadAnswer};
 ghost use Rattle.http_api.specs.Inner.Telling.{DeliversAt, IsImportTold, IsMessageTold};
-ghost use Rattle.http_api.specs.Served.{HttpAnswers, HttpLoses, ServesHttp};
+ghost use Rattle.http_api.specs.Served.{ServesHttp};
+ghost use Rattle.http_api.specs.Inner.Answering.{HttpAnswers, HttpLoses};
 ghost use Rattle.http_stream.specs.Serving.{RequestsServed, RequestsStopped};
 ghost use Rattle.line_api.specs.Lines.{Asked};
-ghost use Rattle.line_api.specs.Served.{Found, Made};
+ghost use Rattle.line_api.specs.Inner.Answering.{Made};
+ghost use Rattle.line_api.specs.Served.{Found};
 ghost use Rattle.request_book.specs.Call.{Load};
 ghost use Rattle.request_book.specs.declared.book.Fault.{Fault};
 

@@ -1,5 +1,4 @@
 -- Words of contracts of private functions and of proofs. No public contract rests on them.
 pub mod Pairs
-pub mod Faults
 pub mod Routing
 pub mod Table

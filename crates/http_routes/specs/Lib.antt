@@ -1,4 +1,5 @@
 pub mod Routes
 pub mod Queries
 pub mod Targets
+pub mod Faults
 pub mod Inner

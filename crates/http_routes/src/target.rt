@@ -50,7 +50,7 @@ pub enum TargetFault {
 }
 
 impl From<SpellingFault> for TargetFault {
-    ghost use Rattle.http_routes.specs.Inner.Faults.{spelling_fault};
+    ghost use Rattle.http_routes.specs.Faults.{spelling_fault};
 
     ghost from_gives = { λ fault made. made ≡ spelling_fault fault };
 
@@ -63,7 +63,7 @@ impl From<SpellingFault> for TargetFault {
 }
 
 impl From<PathFault> for TargetFault {
-    ghost use Rattle.http_routes.specs.Inner.Faults.{path_fault};
+    ghost use Rattle.http_routes.specs.Faults.{path_fault};
 
     ghost from_gives = { λ fault made. made ≡ path_fault fault };
 

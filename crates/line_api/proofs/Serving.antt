@@ -22,7 +22,8 @@ use Rattle.line_stream.specs.Answers.{Answered}
 use Rattle.line_stream.specs.Lines.{AreLines, HaveEnded, ended}
 use Rattle.line_stream.specs.Serving.{LinesServed, LinesStopped}
 use Rattle.line_api.specs.Lines.{Asked, Gets, answer_line}
-use Rattle.line_api.specs.Served.{Answers, Found, Loses, Made, RingBook, ServesLines, steps_of}
+use Rattle.line_api.specs.Served.{Found, RingBook, ServesLines, steps_of}
+use Rattle.line_api.specs.Inner.Answering.{Answers, Loses, Made}
 
 module _ {K : Type 0} (content : K → Content State Command Reply) (sound : K → Type 0) (limit : K →
     ℕ) (faults : K → ℕ) where

@@ -4,10 +4,10 @@ use Rattle.ring_words.specs.declared.command.Command.{Command}
 use Rattle.ring_words.specs.declared.command.Reply.{Reply}
 use Rattle.request_book.specs.Book.{Parts}
 use Rattle.request_book.specs.Content.{Content}
-use Rattle.book_front.specs.Front.{CallMade, Finds, Serves}
+use Rattle.book_front.specs.Front.{Finds, Serves}
 use Rattle.builder.specs.Step.{State, Step}
 use Rattle.builder.specs.declared.machine.RingMachine.{RingMachine}
-use Rattle.line_api.specs.Lines.{Asked, Gets, IsAnswer, IsLost}
+use Rattle.line_api.specs.Lines.{Gets}
 
 -- the steps of a builder
 abbrev pub steps_of : RingMachine → State → ℕ → Command → Reply → State → Type 0
@@ -19,22 +19,9 @@ module _ {K : Type 0} (content : K → Content State Command Reply) (sound : K �
   abbrev pub RingBook : Type 0
   RingBook = Parts RingMachine K
 
-  -- From the one book to the other this call was made, if any.
-  abbrev pub Made : RingBook → RingBook → Asked → Type 0
-  Made old new asked = CallMade steps_of content sound limit faults old new asked
-
   -- the rings that a line finds: those that the book holds
   abbrev pub Found : RingBook → RingBook → State → Type 0
   Found old new rings = Finds steps_of content sound limit faults old new rings
-
-  -- a line is answered by this text, and one book becomes the other
-  abbrev pub Answers : RingBook → List ℕ → List ℕ → RingBook → Type 0
-  Answers old line text new = (asked : Asked) × IsAnswer (Found old new) line asked text ×
-      Made old new asked
-
-  -- the answer to a line is lost for want of memory, and one book becomes the other
-  abbrev pub Loses : RingBook → List ℕ → RingBook → Type 0
-  Loses old line new = (asked : Asked) × IsLost line asked × Made old new asked
 
   -- The lines get these texts, and the calls that they lead to are one run: of each line by what it
   -- asks for, from the rings that the lines before it left.

@@ -1,7 +1,6 @@
 -- What the calls of a keeper tell and leave.
 use Rattle.std.specs.Prelude.{◌++◌, ◌<◌, ◌≡◌, ◌≢◌, ◌∷◌, ◌⊎◌, Err, IsSomeAnd, None, Ok, Option}
-use Rattle.std.specs.Prelude.{Result, Some, [], refl, ℕ}
-use Rattle.std.proofs.Common.{subst, sym}
+use Rattle.std.specs.Prelude.{Result, Some, [], ℕ}
 use Rattle.request_book.specs.declared.entry.Entry.{Entry}
 use Rattle.request_book.specs.declared.keeper.Found.{Found}
 use Rattle.request_book.specs.declared.keeper.Found.TheVariants.{New, Other, Same}
@@ -51,12 +50,3 @@ pub record CrashLeaves {S C R : Type 0} (may_leave : Option (Content S C R) → 
 abbrev pub LeavesOnly : {S C R : Type 0} → (Option (Content S C R) → Type 0) → Content S C R →
     Type 0
 LeavesOnly may_leave content = CrashLeaves may_leave (λ left. left ≡ content)
-
--- the same where the content itself may be left, and each thing that may be left is it
-abbrev pub is_only : {S C R : Type 0} (may_leave : Option (Content S C R) → Type 0)
-    (content : Content S C R) → may_leave (Some content) → ((left : Option (Content S C R)) →
-    may_leave left → left ≡ Some content) → LeavesOnly may_leave content
-is_only may_leave content stays only = record {
-  something = ∣ (Some content, stays) ∣₁;
-  each = λ left may. subst (λ o. IsSomeAnd o (λ c. c ≡ content)) (sym (only left may)) refl;
-}

@@ -2,7 +2,7 @@
 ghost use Rattle.std.specs.Prelude.{◌≡◌, [], Some, refl, ℕ};
 ghost use Rattle.std.specs.Option.{option_copied};
 ghost use Rattle.request_book.specs.Content.{Content, entry_of};
-ghost use Rattle.request_book.specs.Keeper.{is_only};
+ghost use Rattle.request_book.specs.Inner.Only.{is_only};
 
 use crate::entries::Entries;
 use crate::entry::Entry;

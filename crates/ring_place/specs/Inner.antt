@@ -4,4 +4,5 @@ pub mod Gathering
 pub mod Lists
 pub mod Places
 pub mod Placing
+pub mod Rows
 pub mod SeatRows

@@ -1,4 +1,3 @@
 pub mod Rebalance
 pub mod Load
-pub mod Rows
 pub mod Inner

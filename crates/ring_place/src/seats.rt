@@ -46,7 +46,7 @@ pub(crate) struct Seats {
 
 impl Model for Seats {
     ghost use Rattle.std.specs.Prelude.{ℕ, List, Option};
-    ghost use Rattle.ring_place.specs.Rows.{rows_in};
+    ghost use Rattle.ring_place.specs.Inner.Rows.{rows_in};
     ghost use Rattle.ring_place.specs.Inner.SeatRows.{AreSeatRows};
 
     ghost Value = { List (List (Option ℕ)) };

@@ -5,7 +5,7 @@ use Rattle.std.specs.Cmp.{unsigned_Decides}
 use Rattle.std.specs.Cmp.Lexicographic.{pointwise, pointwise_decides, same_text}
 use Rattle.std.proofs.lemmas.Bool.{and_parts}
 use Rattle.ring_words.specs.Rows.{is_same_row}
-use Rattle.ring_words.specs.Rows.{row_equiv}
+use Rattle.ring_words.specs.Inner.SameRows.{row_equiv}
 use Rattle.ring_words.specs.declared.device.Row.{Row}
 
 abbrev row_of : ℕ → ℕ → ℕ → ℕ → List ℕ → ℕ → Row

@@ -1,7 +1,6 @@
 -- Rows: when two are one, and when they stand at one place.
 use Rattle.std.specs.Prelude.{◌==◌, ◌&&◌, Bool, List, nat_eq}
-use Rattle.std.specs.Cmp.{IsEquivalence, and_equiv, nat_eq_equiv, on_equiv}
-use Rattle.std.specs.Cmp.Lexicographic.{pointwise, lists_equiv, nat_list_eq_equiv}
+use Rattle.std.specs.Cmp.Lexicographic.{pointwise}
 use Rattle.std.specs.List.{list_any}
 use Rattle.ring_words.specs.declared.device.Device.{Device}
 use Rattle.ring_words.specs.declared.device.Row.{Row}
@@ -18,17 +17,3 @@ has_place row devices = list_any (λ device. same_place device.row row) devices
 abbrev pub is_same_row : Row → Row → Bool
 is_same_row a b = (a.region == b.region) && ((a.zone == b.zone) && ((a.address == b.address) &&
     ((a.port == b.port) && (pointwise nat_eq a.name b.name && (a.weight == b.weight)))))
-
--- To be one row is an equivalence.
-pub row_equiv : IsEquivalence is_same_row
-row_equiv =
-    and_equiv (on_equiv (λ (r : Row). r.region) nat_eq_equiv)
-    (and_equiv (on_equiv (λ (r : Row). r.zone) nat_eq_equiv)
-    (and_equiv (on_equiv (λ (r : Row). r.address) nat_eq_equiv)
-    (and_equiv (on_equiv (λ (r : Row). r.port) nat_eq_equiv)
-    (and_equiv (on_equiv (λ (r : Row). r.name) nat_list_eq_equiv)
-    (on_equiv (λ (r : Row). r.weight) nat_eq_equiv)))))
-
--- To be the same rows is an equivalence.
-pub rows_equiv : IsEquivalence (pointwise is_same_row)
-rows_equiv = lists_equiv row_equiv

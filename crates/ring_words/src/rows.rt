@@ -3,7 +3,7 @@ ghost use Rattle.std.specs.Prelude.{◌≡◌, ◌↔◌, IsTrue};
 ghost use Rattle.std.specs.Cmp.Lexicographic.{pointwise};
 ghost use Rattle.std.specs.Cmp.{partial_equiv_from_equiv};
 ghost use Rattle.ring_words.specs.Rows.{is_same_row};
-ghost use Rattle.ring_words.specs.Rows.{rows_equiv};
+ghost use Rattle.ring_words.specs.Inner.SameRows.{rows_equiv};
 
 use crate::device::Row;
 use std::marker::Model;

@@ -20,7 +20,7 @@ use Rattle.store_rows.specs.FirstRows.{seat_entry}
 use Rattle.store_rows.specs.declared.naming.RingTables.{RingTables}
 use Rattle.store_rows.specs.Inner.Found.{StandForPlaces, StandForRing, StandForSeats}
 use Rattle.store_rows.specs.Inner.Found.{StandsForDevice, StandsForSeat, StandsForText}
-use Rattle.store_rows.specs.Inner.Numbers.{IsVersioned}
+use Rattle.store_rows.specs.Numbers.{IsVersioned}
 use Rattle.store_rows.proofs.Ordered.{weaker}
 use Rattle.store_rows.proofs.Reading.{one_number}
 

@@ -1,5 +1,4 @@
 -- Words of contracts of private functions and of proofs. No public contract rests on them.
-pub mod Numbers
 pub mod Lacking
 pub mod Books
 pub mod Found

@@ -1,3 +1,4 @@
+pub mod Numbers
 pub mod RingRows
 pub mod FirstRows
 pub mod Stands

@@ -20,7 +20,7 @@ use Rattle.store_contents.specs.Contents.{Contents}
 use Rattle.store_contents.specs.Entries as rows
 use Rattle.store_rows.specs.RingRows.{NamedRings, ring_entries, device_entries, published_entries}
 use Rattle.store_rows.specs.RingRows.{part_entries}
-use Rattle.store_rows.specs.Inner.Numbers.{IsHour, IsVersioned}
+use Rattle.store_rows.specs.Numbers.{IsHour, IsVersioned}
 use Rattle.store_rows.specs.FirstRows.{seat_entries, moved_entries}
 
 -- ---- the book as rows

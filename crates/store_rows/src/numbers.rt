@@ -3,7 +3,7 @@ ghost use Rattle.std.specs.Prelude.{◌≡◌, ◌<◌, ◌≤◌, ◌^◌, pos}
 ghost use Rattle.ring_words.specs.Spelling.{Reads};
 ghost use Rattle.ring_words.specs.Texts.{greatest_weight};
 ghost use Rattle.store_rows.specs.RingRows.{hour_number, mark_number};
-ghost use Rattle.store_rows.specs.Inner.Numbers.{IsHour};
+ghost use Rattle.store_rows.specs.Numbers.{IsHour};
 
 use ring_words::{Bounded, Hour, SpellingFault, Weight};
 

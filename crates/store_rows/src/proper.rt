@@ -2,7 +2,7 @@
 ghost use Rattle.std.specs.Prelude.{◌<◌, ◌^◌, All};
 ghost use Rattle.ring_messages.specs.Fields.{IsProperRow};
 ghost use Rattle.ring_model.specs.Parts.{texts_of};
-ghost use Rattle.store_rows.specs.Inner.Numbers.{IsHour, IsVersioned};
+ghost use Rattle.store_rows.specs.Numbers.{IsHour, IsVersioned};
 ghost use Rattle.store_rows.specs.Stands.{AreRings, IsNamedRing};
 
 use ring_model::{Ring, Rings};

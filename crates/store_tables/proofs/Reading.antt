@@ -15,7 +15,7 @@ use Rattle.store_tables.specs.Tables.{store_schema}
 use Rattle.store_contents.specs.Contents.{Contents}
 use Rattle.store_tables.specs.Contents.{contents_of}
 use Rattle.store_tables.specs.Entries.{Layout, map_of}
-use Rattle.store_tables.specs.Shown.{Lists, shown_as}
+use Rattle.store_tables.specs.Inner.Shown.{Lists, shown_as}
 use Rattle.store_tables.specs.Store.{IsStore, ReadsTables, SeesStore}
 use Rattle.store_tables.proofs.Living.{lives_in}
 use Rattle.store_tables.proofs.Plain.Facts.{Facts}

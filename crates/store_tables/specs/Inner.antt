@@ -3,3 +3,4 @@ pub mod Told
 pub mod Texts
 pub mod Making
 pub mod Writing
+pub mod Shown

@@ -3,5 +3,4 @@ pub mod Tables
 pub mod Entries
 pub mod Contents
 pub mod Store
-pub mod Shown
 pub mod Inner

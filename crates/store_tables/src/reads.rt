@@ -5,7 +5,7 @@ ghost use Rattle.std.specs.FinMap.{get};
 ghost use Rattle.sqlite.specs.Held.{state};
 ghost use Rattle.store_contents.specs.Contents.{kept_of};
 ghost use Rattle.store_tables.specs.Inner.Told.{told};
-ghost use Rattle.store_tables.specs.Shown.{Lists, shown_as};
+ghost use Rattle.store_tables.specs.Inner.Shown.{Lists, shown_as};
 ghost use Rattle.store_tables.specs.Store.{ReadsTables, SeesStore};
 
 use sqlite::{Alter, Connection, Error, Row, params};

@@ -12,9 +12,14 @@ use Rattle.store_rows.specs.RingRows.{NamedRings}
 use Rattle.store_rows.specs.Stands.{RingContent}
 use Rattle.builder_store.specs.Standing.{Holds, StandsAlone, IsKnown, is_known, the_content}
 use Rattle.builder_store.specs.Standing.{content_told}
-use Rattle.builder_store.specs.Codes.{content_set}
+use Rattle.builder_store.specs.Inner.Codes.{content_set}
 use Rattle.builder_store.specs.Inner.Sets.{state_set}
-use Rattle.builder_store.specs.Doubt.{doubted, undoubted}
+use Rattle.builder_store.specs.Doubt.{undoubted}
+
+-- there is some doubt of a disk that isn't clean
+doubted : doubt false ≡ 0 → ⊥
+unfolding doubt
+doubted h = cc
 
 -- while the disk is clean, the tables stand for the content that is told
 pub told_stands : (db : Trees) (clean : Bool) (known : doubt clean ≡ 0 → IsKnown db)

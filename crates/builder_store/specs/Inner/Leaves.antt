@@ -12,7 +12,7 @@ use Rattle.builder_store.specs.Standing.{Finds, IsKnown, MayLeave, content_told,
 use Rattle.builder_store.specs.Standing.{StandsAlone}
 use Rattle.sqlite_trees.specs.View.{doubt}
 use Rattle.builder_store.specs.Inner.Known.{told_stands}
-use Rattle.builder_store.specs.Codes.{content_set}
+use Rattle.builder_store.specs.Inner.Codes.{content_set}
 
 -- What is found of trees that stand for a content is that content.
 pub found_only : (db : Trees) (c : RingContent) → ∥ StandsAlone db c ∥₁ → (left : Option

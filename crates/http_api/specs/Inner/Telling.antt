@@ -6,7 +6,8 @@ use Rattle.csv_import.specs.Rows.{AreRows, IsWrong, records_of}
 use Rattle.csv_import.specs.declared.fault.CsvFault.{CsvFault}
 use Rattle.csv_import.specs.declared.fault.CsvFault.TheVariants as csv
 use Rattle.line_api.specs.Lines.{Asked, told_of}
-use Rattle.line_api.specs.Served.{Made, RingBook}
+use Rattle.line_api.specs.Inner.Answering.{Made}
+use Rattle.line_api.specs.Served.{RingBook}
 use Rattle.request_book.specs.Call.{Deliver, Load}
 use Rattle.request_book.specs.Content.{Content}
 use Rattle.request_book.specs.declared.book.Fault.{Fault}

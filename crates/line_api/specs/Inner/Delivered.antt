@@ -9,7 +9,8 @@ use Rattle.request_book.specs.Content.{Content}
 use Rattle.request_book.specs.declared.book.Fault.{Fault}
 use Rattle.builder.specs.Step.{State}
 use Rattle.line_api.specs.Lines.{told_of}
-use Rattle.line_api.specs.Served.{RingBook, Made}
+use Rattle.line_api.specs.Served.{RingBook}
+use Rattle.line_api.specs.Inner.Answering.{Made}
 
 module _ {K : Type 0} (content : K → Content State Command Reply) (sound : K → Type 0) (limit : K →
     ℕ) (faults : K → ℕ) where

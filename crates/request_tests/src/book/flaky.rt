@@ -1,6 +1,6 @@
 //! A keeper whose store fails in one call.
 ghost use Rattle.std.specs.Prelude.{◌≡◌, Some, cond, false, refl, true, ℕ};
-ghost use Rattle.request_book.specs.Keeper.{is_only};
+ghost use Rattle.request_book.specs.Inner.Only.{is_only};
 
 use request_book::{Found, KeepFault, Keeper, Machine};
 use ring_words::{Hour, Key};

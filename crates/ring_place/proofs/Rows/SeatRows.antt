@@ -13,7 +13,7 @@ use Rattle.std.proofs.lemmas.List.FromFn.{fill_by_all, get_or-map-range_with_len
 use Rattle.std.proofs.lemmas.List.FromFn.{length-map-range_with_len, map-range_with_len_more}
 use Rattle.ring_model.specs.Ring.{RingRecord, partition_count, seat}
 use Rattle.ring_share.specs.Crowd.{row_of, rows_of}
-use Rattle.ring_place.specs.Rows.{rows_in}
+use Rattle.ring_place.specs.Inner.Rows.{rows_in}
 use Rattle.ring_place.specs.Inner.SeatRows.{AreSeatRows, devices_on, row_at}
 
 -- a partition's seats lie within all seats

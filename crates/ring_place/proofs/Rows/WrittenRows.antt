@@ -11,7 +11,7 @@ use Rattle.std.proofs.lemmas.List.{ext_get_or, get_or-append_right, get_or-drop,
 use Rattle.std.proofs.lemmas.List.{get_or-set_same, get_or-take, get_or_append_left, length-append}
 use Rattle.std.proofs.lemmas.List.{length-drop, length-set, length-take-le, with_items_is}
 use Rattle.std.proofs.lemmas.Slice.{between-put_mid}
-use Rattle.ring_place.specs.Rows.{rows_in}
+use Rattle.ring_place.specs.Inner.Rows.{rows_in}
 use Rattle.ring_place.specs.Inner.SeatRows.{AreSeatRows, row_at}
 use Rattle.ring_place.proofs.Rows.SeatRows.{length-rows_in, length_part, part_at, row_at-rows_in}
 use Rattle.ring_place.proofs.Rows.SeatRows.{row_within}

@@ -20,7 +20,7 @@ use Rattle.store_rows.specs.RingRows.{device_entry, part_entry, part_entries_of}
 use Rattle.store_rows.specs.RingRows.{published_entry, ring_entry}
 use Rattle.store_rows.specs.FirstRows.{moved_entry, seat_entry}
 use Rattle.store_rows.specs.Stands.{IsNamedRing}
-use Rattle.store_rows.specs.Inner.Numbers.{IsHour}
+use Rattle.store_rows.specs.Numbers.{IsHour}
 use Rattle.store_rows.specs.declared.naming.RingTables.{RingTables}
 
 -- Where there is one thing of which this holds, it is what was read, and nothing was bad. Want of

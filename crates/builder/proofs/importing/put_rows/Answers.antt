@@ -1,4 +1,5 @@
 use Rattle.std.proofs.Common.{◌≡◌, None, sym, arith}
+use Rattle.std.proofs.lemmas.Grind.{common_steps}
 use Rattle.builder.specs.Step.{row_refusal}
 use Rattle.builder.proofs.Imports.{row_fits}
 use Rattle.builder.proofs.importing.put_rows.Goals as goal
@@ -16,3 +17,6 @@ put-requires-clause-numbers c = λ free.
     sym c.in_default.ensures in
     let fits = row_fits c.args.limits.now c.loop-place.draft c.index-rows-place.result none free in
     omega (arith, fits.1, c.args.limits.now.ids_within)
+
+pub returns-in-Some-clause-refused : goal.returns-in-Some-clause-refused
+returns-in-Some-clause-refused c = grind (arith, common_steps)

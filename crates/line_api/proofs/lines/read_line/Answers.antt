@@ -1,4 +1,4 @@
-use Rattle.std.proofs.Common.{◌≡◌, sym, ◌∙◌}
+use Rattle.std.proofs.Common.{◌≡◌, sym, ◌∙◌, rules}
 use Rattle.std.proofs.lemmas.Result.{err_from_is_err_and}
 use Rattle.ring_words.specs.declared.command.Command.{Command}
 use Rattle.ring_words.specs.declared.request.Key.{Key}
@@ -23,3 +23,6 @@ returns-in_err-key c =
       rw c.as_bytes.ensures.value (asks_message c.args.line.now
           c.in-Some.message.now c.in-Some.hour found.0 (line ∙ found.1) x asks),
     )))
+
+pub returns : goal.returns
+returns c = search rules

@@ -1,4 +1,4 @@
-use Rattle.std.proofs.Common.{ℕ, ◌/◌, ◌-◌, ◌^◌, ◌<◌, ◌≤◌, subst, arith}
+use Rattle.std.proofs.Common.{ℕ, ◌/◌, ◌-◌, ◌^◌, ◌<◌, ◌≤◌, subst, arith, rules}
 use Rattle.path_lookup.proofs.Halves.{greatest_bits}
 use Rattle.path_lookup.proofs.hash.partition_of.Goals as goal
 
@@ -8,3 +8,6 @@ returns-clause-within c =
     let bits = greatest_bits c.from_be_bytes.result c.get.result c.from_be_bytes.type_inv low in
     subst (λ (n : ℕ). c.from_be_bytes.result / 2 ^ (32 - c.get.result) < 2 ^ n) c.get.ensures.value
     bits
+
+pub returns-clause-value : goal.returns-clause-value
+returns-clause-value c = search rules

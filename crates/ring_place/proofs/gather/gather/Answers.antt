@@ -1,4 +1,5 @@
 use Rattle.std.proofs.Common.{◌<◌, ◌+◌, length, get_or, take, false, sym, subst, ◌∙◌, arith}
+use Rattle.std.proofs.lemmas.Grind.{common_steps}
 use Rattle.std.specs.Prelude.{slice_index_or}
 use Rattle.ring_place.specs.Inner.SeatRows.{AreKnown}
 use Rattle.ring_place.specs.Inner.Gathering.{IsLifting, Takes}
@@ -63,3 +64,12 @@ loop-partition-preserved c =
     c.gather_row.new.row) read c.gather_row.ensures.lifted)
     (subst (λ r. Takes c.loop-partition.kept c.gather_row.new.kept r c.gather_row.new.row) read
     c.gather_row.ensures.takes) c.gather_row.ensures.falls
+
+pub row_copy-count-requires : goal.row_copy-count-requires
+row_copy-count-requires c = grind (arith, common_steps)
+
+pub gather_row-requires-clause-has : goal.gather_row-requires-clause-has
+gather_row-requires-clause-has c = grind (arith, common_steps)
+
+pub returns : goal.returns
+returns c = grind (arith, common_steps)

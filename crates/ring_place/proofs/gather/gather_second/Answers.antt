@@ -1,4 +1,5 @@
-use Rattle.std.proofs.Common.{◌≡◌, ◌∙◌, sym, ap, subst, ◌≤◌, arith, true}
+use Rattle.std.proofs.Common.{◌≡◌, ◌∙◌, sym, ap, subst, ◌≤◌, arith, true, rules}
+use Rattle.std.proofs.lemmas.Grind.{common_steps}
 use Rattle.ring_model.specs.Ring.{has_device}
 use Rattle.ring_place.specs.Load.{have_in, load_take, want_in}
 use Rattle.ring_place.specs.Inner.Gathering.{IsSecond, Surplus, Takes}
@@ -31,3 +32,9 @@ returns-in-Some-clause-takes c =
     (subst (λ r. Takes before (load_take before c.in-Some.device) row r) (sym found.1.lifted)
     (takes_seat before before row row found.0 c.in-Some.device
     (takes_none before row c.requires.load) known (omega (arith, found.2)) found.1.at))
+
+pub returns-in-Some-clause-falls : goal.returns-in-Some-clause-falls
+returns-in-Some-clause-falls c = grind (arith, common_steps)
+
+pub returns-in_default-clause-second : goal.returns-in_default-clause-second
+returns-in_default-clause-second c = search rules

@@ -1,4 +1,4 @@
-use Rattle.std.proofs.Common.{◌≡◌, ℕ, false, sym, subst, ◌∙◌, List, Option, Some, None}
+use Rattle.std.proofs.Common.{◌≡◌, ℕ, false, sym, subst, ◌∙◌, List, Option, Some, None, rules}
 use Rattle.std.proofs.lemmas.Option.{same_Some}
 use Rattle.ring_model.specs.Ring.{has_present}
 use Rattle.ring_words.specs.declared.device.Device.{Device}
@@ -35,3 +35,6 @@ returns-clause-chosen c =
       | in_default-own w ↦ chosen (λ o at. none_owns now.devices c.args.own o
           w.in_default-own.is at) c.any_open.ensures.takes_seats c.any_open.ensures.outside
     ]
+
+pub own_or-requires-clause-best : goal.own_or-requires-clause-best
+own_or-requires-clause-best c = search rules

@@ -1,4 +1,5 @@
-use Rattle.std.proofs.Common.{◌≡◌, ◌<◌, ◌+◌, ℕ, List, Option, true, [], get_or, length, take, sym}
+use Rattle.std.proofs.Common.{◌≡◌, ◌<◌, ◌+◌, ℕ, List, Option, true, [], get_or, length, take, sym, arith}
+use Rattle.std.proofs.lemmas.Grind.{common_steps}
 use Rattle.std.proofs.Common.{ap, subst, ◌∙◌, arith}
 use Rattle.std.specs.List.{list_any}
 use Rattle.std.proofs.lemmas.List.{set-get_or}
@@ -120,3 +121,6 @@ returns c =
     c.args.room.now c.loop-partition.room c.args.old.now c.args.seats.now c.loop-partition.seats
     c.requires.order (let e : length c.args.seats.now ≡ length c.args.seats.now = omega arith in
     e) (omega arith) c.loop-partition.invariant
+
+pub row_copy-count-requires : goal.row_copy-count-requires
+row_copy-count-requires c = grind (arith, common_steps)

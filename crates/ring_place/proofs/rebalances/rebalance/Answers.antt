@@ -1,4 +1,4 @@
-use Rattle.std.proofs.Common.{◌≡◌, ◌^◌, ℕ, List, Option, IfOk, Result, Ok, Err, length, count_by, sym}
+use Rattle.std.proofs.Common.{◌≡◌, ◌^◌, ℕ, List, Option, IfOk, Result, Ok, Err, length, count_by, sym, rules}
 use Rattle.std.proofs.Common.{ap, subst, ◌∙◌, arith}
 use Rattle.std.specs.List.{range_with_len}
 use Rattle.std.specs.List.Sorted.{IsPermutation}
@@ -86,3 +86,6 @@ returns-clause-rebalance c =
     c.in_ok-room.seats c.devices.ensures.valid valid c.in_ok-room.ensures
     (subst (λ n. AllPlaced c.in_ok-room.room c.place_all.new.room (rows_of ring) c.in_ok-room.seats
     n) (sym rows) placed) after)
+
+pub returns-then-open_count-from-clause-few : goal.returns-then-open_count-from-clause-few
+returns-then-open_count-from-clause-few c = search rules

@@ -1,4 +1,5 @@
 use Rattle.std.proofs.Common.{◌≡◌, ◌≤◌, length, take, arith}
+use Rattle.std.proofs.lemmas.Grind.{common_steps}
 use Rattle.std.proofs.lemmas.List.{take_all}
 use Rattle.ring_share.specs.Crowd.{row_of, others, tiers_of}
 use Rattle.ring_share.proofs.Rows.{length-others, crowd_is}
@@ -13,3 +14,6 @@ returns c =
     crowd_is (tiers_of c.args.ring.now.devices) row c.args.device c.loop-other.other
     c.loop-other.region c.loop-other.zone c.loop-other.server all
     c.loop-other.invariant.region c.loop-other.invariant.zone c.loop-other.invariant.server
+
+pub loop-other-preserved : goal.loop-other-preserved
+loop-other-preserved c = grind (arith, common_steps)

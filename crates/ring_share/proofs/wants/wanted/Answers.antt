@@ -1,4 +1,5 @@
-use Rattle.std.proofs.Common.{◌≡◌, sum, List, length, replicate, ℕ, Vec, Global, sym, ap, ◌∙◌}
+use Rattle.std.proofs.Common.{◌≡◌, sum, List, length, replicate, ℕ, Vec, Global, sym, ap, ◌∙◌, arith}
+use Rattle.std.proofs.lemmas.Grind.{common_steps}
 use Rattle.std.proofs.Common.{subst, arith}
 use Rattle.ring_words.specs.declared.device.Device.{Device}
 use Rattle.std.proofs.lemmas.Result.{IfOk-weaker}
@@ -36,3 +37,9 @@ loop-given-init c =
           (floors_are_shares c.args.ring.now);
       sum = omega (arith, fit, sums, same, c.seat_count.ensures.value);
     }
+
+pub sum_of-requires : goal.sum_of-requires
+sum_of-requires c = grind (arith, common_steps)
+
+pub loop-given-preserved : goal.loop-given-preserved
+loop-given-preserved c = grind (arith, common_steps)

@@ -1,4 +1,4 @@
-use Rattle.std.proofs.Common.{◌∙◌}
+use Rattle.std.proofs.Common.{◌∙◌, rules}
 use Rattle.std.specs.Prelude.{All, IsTrue}
 use Rattle.ring_words.specs.Texts.{is_label}
 use Rattle.ring_text.specs.Snapshot.{IsWithinLimits}
@@ -22,3 +22,6 @@ invariant_of-result c =
       devices,
       seats,
     ) valid
+
+pub returns-clause-taken : goal.returns-clause-taken
+returns-clause-taken c = search rules

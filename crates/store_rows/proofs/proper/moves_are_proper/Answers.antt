@@ -1,7 +1,7 @@
 use Rattle.std.proofs.Common.{All, subst, None}
 use Rattle.std.proofs.lemmas.List.{take_all}
 use Rattle.std.proofs.lemmas.List.Elements.{All-more}
-use Rattle.store_rows.specs.Inner.Numbers.{IsHour}
+use Rattle.store_rows.specs.Numbers.{IsHour}
 use Rattle.store_rows.proofs.proper.moves_are_proper.Goals as goal
 
 pub loop-hour-preserved : goal.loop-hour-preserved

@@ -4,7 +4,7 @@ use Rattle.std.specs.declared.rc.RcStr.{RcStr}
 use Rattle.std.specs.declared.alloc.Global.{Global}
 use Rattle.std.proofs.lemmas.List.{take_all}
 use Rattle.std.proofs.lemmas.List.Elements.{All-more}
-use Rattle.store_rows.specs.Inner.Numbers.{IsVersioned}
+use Rattle.store_rows.specs.Numbers.{IsVersioned}
 use Rattle.store_rows.proofs.Changing.{all_mapped}
 use Rattle.store_rows.proofs.proper.texts_are_proper.Goals as goal
 

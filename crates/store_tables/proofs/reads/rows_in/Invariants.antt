@@ -1,5 +1,5 @@
 use Rattle.std.proofs.Common.{◌≡◌, map, take}
-use Rattle.store_tables.specs.Shown.{shown_as}
+use Rattle.store_tables.specs.Inner.Shown.{shown_as}
 use Rattle.store_tables.proofs.reads.rows_in.Given as goal
 
 -- the rows so far are those that were shown so far

@@ -1,4 +1,5 @@
-use Rattle.std.proofs.Common.{◌+◌, ◌++◌, ℕ, List, take, drop, subst, refl, ◌∙◌}
+use Rattle.std.proofs.Common.{◌+◌, ◌++◌, ℕ, List, take, drop, subst, refl, ◌∙◌, arith}
+use Rattle.std.proofs.lemmas.Grind.{common_steps}
 use Rattle.std.proofs.lemmas.Result.{err_from_is_err_and}
 use Rattle.line_stream.specs.Answers.{Answered}
 use Rattle.byte_streams.specs.Counted.{writer_of}
@@ -68,3 +69,6 @@ loop-byte-preserved g c =
             same = rw w.writer-is c.loop-byte.invariant.same;
           }
     ]
+
+pub returns-clause-answered : goal.returns-clause-answered
+returns-clause-answered g c = grind (arith, common_steps)

@@ -78,3 +78,9 @@ returns-clause-alike g c = λ s.
     (g.K.Keeper.content c.args.self.now.keeper) (calls_of c.loop-delivery.yielded
     c.loop-delivery.answers.items) (g.K.Keeper.content c.loop-delivery.self.keeper)
     (c.loop-delivery.invariant.run s))
+
+pub returns-in_err-answers-clause-settled : goal.returns-in_err-answers-clause-settled
+returns-in_err-answers-clause-settled g c = λ s z. g.met.K.Keeper.settled _ s z
+
+pub returns-clause-settled : goal.returns-clause-settled
+returns-clause-settled g c = λ s z. g.met.K.Keeper.settled _ s z

@@ -1,4 +1,5 @@
-use Rattle.std.proofs.Common.{◌≡◌, ◌∙◌, ap, length, take, rules}
+use Rattle.std.proofs.Common.{◌≡◌, ◌∙◌, ap, length, take, rules, arith}
+use Rattle.std.proofs.lemmas.Grind.{common_steps}
 use Rattle.ring_place.proofs.Searching.SeatCounts.{counted_have}
 use Rattle.ring_place.proofs.rooms.Room.of.Goals as goal
 
@@ -17,3 +18,6 @@ returns-clause-counts c =
     c.devices-devices.ensures.valid.devices.rise devices
     (c.in_ok-from_slice-2.ensures.items ∙ ap (λ ds. take (length ds) c.counts_of-counts.result)
     read) c.counts_of-counts.ensures
+
+pub invariant_of-result : goal.invariant_of-result
+invariant_of-result c = grind (arith, common_steps)

@@ -1,4 +1,5 @@
 use Rattle.std.proofs.Common.{◌<◌, length, ap, arith}
+use Rattle.std.proofs.lemmas.Grind.{common_steps}
 use Rattle.ring_place.specs.Load.{Load}
 use Rattle.ring_place.proofs.Searching.RoomyPlaces.{room_kept, room_same, same_if}
 use Rattle.ring_place.proofs.rooms.Room.set_count.Goals as goal
@@ -19,3 +20,6 @@ invariant_of-self-else-count-want c =
     (room_same load c.self.invariant.counted c.args.place c.index-want.result.now
     c.index.result.now c.args.count within c.index-want.ensures c.index.ensures
     (same_if _ _ c.if-count-want.false))
+
+pub invariant_of-self : goal.invariant_of-self
+invariant_of-self c = grind (arith, common_steps)

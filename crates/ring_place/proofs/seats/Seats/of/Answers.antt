@@ -3,7 +3,7 @@ use Rattle.std.specs.Prelude.{slice_get}
 use Rattle.std.specs.List.{range_with_len}
 use Rattle.std.proofs.lemmas.List.FromFn.{fill_by_all}
 use Rattle.ring_model.specs.Ring.{partition_count}
-use Rattle.ring_place.specs.Rows.{rows_in}
+use Rattle.ring_place.specs.Inner.Rows.{rows_in}
 use Rattle.ring_place.proofs.Rows.SeatRows.{rows_of_ring}
 use Rattle.ring_place.proofs.seats.Seats.of.Goals as goal
 

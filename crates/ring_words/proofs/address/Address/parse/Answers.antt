@@ -1,4 +1,4 @@
-use Rattle.std.proofs.Common.{◌<◌, ◌^◌, ◌%◌, ◌/◌, ◌∙◌, sym, arith}
+use Rattle.std.proofs.Common.{◌<◌, ◌^◌, ◌%◌, ◌/◌, ◌∙◌, sym, arith, rules}
 use Rattle.ring_words.proofs.Decimals.{First, Second, Third, first_octet, second_octet, third_octet}
 use Rattle.ring_words.proofs.Decimals.{after_second_point, same_number}
 use Rattle.ring_words.proofs.address.Address.parse.Goals as goal
@@ -71,3 +71,12 @@ returns-then-fourth-ge256-clause-none c = λ a lt e.
     let same = same_number c.in_ok-fourth.fourth (a % 256) c.in_ok-fourth.ensures.found.0 low
     (sym c.in_ok-fourth.ensures.found.1 ∙ (third_octet _ _ _ _ _ a t lt e).3) in
     omega arith
+
+pub invariant_of-result : goal.invariant_of-result
+invariant_of-result c = search rules
+
+pub overflow_add-result-2 : goal.overflow_add-result-2
+overflow_add-result-2 c = search rules
+
+pub returns-clause-found : goal.returns-clause-found
+returns-clause-found c = search rules

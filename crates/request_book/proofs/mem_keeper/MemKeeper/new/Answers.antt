@@ -1,0 +1,5 @@
+use Rattle.std.proofs.Common.{rules}
+use Rattle.request_book.proofs.mem_keeper.MemKeeper.new.Goals as goal
+
+pub returns : goal.returns
+returns g c = search rules
