@@ -22,7 +22,7 @@ pub fn answer_lines<R: Read, W: Write, K: Keeper<RingMachine>>(
     keeper: K,
     reader: &mut CountedReader<R>,
     writer: &mut CountedWriter<W>,
-) -> (Result<u32, StreamFault>, K)
+) -> (Result<(), StreamFault>, K)
     requires { K.fault_count keeper ≡ 0 }
     ensures answered { OnOk result.0 (AnswersLines K.Keeper
         (λ k. k ≡ keeper) (λ k. k ≡ result.1) R.remaining W.contents reader.old reader.new writer.old writer.new) }
@@ -31,7 +31,11 @@ pub fn answer_lines<R: Read, W: Write, K: Keeper<RingMachine>>(
 {
     let mut book = open_book(alloc, keeper);
     let answered = run_lines(alloc, reader, writer, &mut book);
-    (answered, book.into_keeper())
+    let keeper = book.into_keeper();
+    match answered {
+        Ok(_) => (Ok(()), keeper),
+        Err(fault) => (Err(fault), keeper),
+    }
 }
 
 /// A keeper of no rings, in memory.
@@ -47,7 +51,7 @@ pub fn run_over_memory<R: Read, W: Write>(
     alloc: Global,
     reader: &mut CountedReader<R>,
     writer: &mut CountedWriter<W>,
-) -> Result<u32, StreamFault>
+) -> Result<(), StreamFault>
     ensures answered { OnOk result (AnswersLines ⟦<MemoryKeeper as Keeper<RingMachine>>⟧
         (IsNew ⟦<MemoryKeeper as Keeper<RingMachine>>⟧) IsAny R.remaining W.contents
         reader.old reader.new writer.old writer.new) }

@@ -14,7 +14,7 @@ pub(crate) fn run_over_store<S: Stores, R: Read, W: Write>(
     reader: &mut CountedReader<R>,
     writer: &mut CountedWriter<W>,
     stores: S,
-) -> Result<u32, ProgramFault>
+) -> Result<(), ProgramFault>
     ensures answered { OnOk result (AnswersLines S.Kept.Keeper S.begins IsAny R.remaining W.contents
         reader.old reader.new writer.old writer.new) }
     ensures failed { IfErr result (FailsLines S.Kept.Keeper S.begins IsAny R.remaining W.contents
@@ -27,10 +27,7 @@ pub(crate) fn run_over_store<S: Stores, R: Read, W: Write>(
     let (answered, keeper) = answer_lines(rt.alloc(), keeper, reader, writer);
     let closed = S::close(keeper);
     match answered {
-        Ok(count) => match closed {
-            Ok(()) => Ok(count),
-            Err(fault) => Err(fault),
-        },
+        Ok(()) => closed,
         Err(fault) => Err(ProgramFault::from(fault)),
     }
 }

@@ -45,7 +45,7 @@ fn run<S: Stores, R: Read, W: Write>(
     reader: &mut CountedReader<R>,
     writer: &mut CountedWriter<W>,
     stores: S,
-) -> Result<u32, ProgramFault>
+) -> Result<(), ProgramFault>
     ensures done { OnOk result (Runs ⟦<MemoryKeeper as Keeper<RingMachine>>⟧ S.Kept.Keeper S.begins
         R.remaining W.contents reader.old reader.new writer.old writer.new file.entry) }
     ensures failed { IfErr result (FailsToRun ⟦<MemoryKeeper as Keeper<RingMachine>>⟧ S.Kept.Keeper
@@ -54,7 +54,7 @@ fn run<S: Stores, R: Read, W: Write>(
     match file {
         Some(file) => run_over_store(rt, file, reader, writer, stores),
         None => match run_over_memory(rt.alloc(), reader, writer) {
-            Ok(count) => Ok(count),
+            Ok(()) => Ok(()),
             Err(fault) => Err(ProgramFault::from(fault)),
         },
     }
@@ -154,7 +154,7 @@ fn perform_task<S: Stores, R: Read, W: Write>(
     let alloc = rt.alloc();
     match task {
         Task::Run { file } => match run(rt, *file, reader, writer, stores) {
-            Ok(_) => Ok(Ending::Done),
+            Ok(()) => Ok(Ending::Done),
             Err(fault) => Err(fault),
         },
         Task::Serve {

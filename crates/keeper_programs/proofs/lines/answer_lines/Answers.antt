@@ -1,10 +1,11 @@
-use Rattle.std.proofs.Common.{sym}
-use Rattle.keeper_programs.proofs.Runs.{ill, well}
+use Rattle.std.proofs.Common.{◌≡◌, sym}
+use Rattle.keeper_programs.proofs.Runs.{at_err, at_ok, ill, well}
+use Rattle.keeper_programs.specs.Running.{StopsLines}
 use Rattle.keeper_programs.proofs.lines.answer_lines.Goals as goal
 
-pub returns-clause-answered : goal.returns-clause-answered
-returns-clause-answered g c =
-    well c.run_lines-answered.result _ _ _ _ _ _
+pub returns-in-Ok-clause-answered : goal.returns-in-Ok-clause-answered
+returns-in-Ok-clause-answered g c = at_ok c.run_lines-answered.result _ _ c.in-Ok.is
+    (well c.run_lines-answered.result _ _ _ _ _ _
     (λ count served none flushed. (
       (
         count,
@@ -12,7 +13,7 @@ returns-clause-answered g c =
           c.open_book-book.result,
           c.run_lines-answered.new.book,
           c.open_book-book.ensures,
-          sym c.into_keeper.ensures,
+          sym c.into_keeper-keeper.ensures,
           served,
           c.run_lines-answered.ensures.safe,
         ),
@@ -20,21 +21,24 @@ returns-clause-answered g c =
       none,
       flushed,
     ))
-    c.run_lines-answered.ensures.served c.run_lines-answered.ensures.cause c.run_lines-answered.ensures.flushed
+    c.run_lines-answered.ensures.served c.run_lines-answered.ensures.cause c.run_lines-answered.ensures.flushed)
 
-pub returns-clause-stopped : goal.returns-clause-stopped
-returns-clause-stopped g c =
-    ill c.run_lines-answered.result _ _ _ _ _ _
+pub returns-in-Err-clause-stopped : goal.returns-in-Err-clause-stopped
+returns-in-Err-clause-stopped g c = at_err c.run_lines-answered.result _
+    (StopsLines g.K.Keeper (λ k. k ≡ c.args.keeper) (λ k. k ≡ c.into_keeper-keeper.result)
+    g.R.Read.remaining g.W.Write.contents c.args.reader.now c.run_lines-answered.new.reader
+    c.args.writer.now c.run_lines-answered.new.writer) c.in-Err.is
+    (ill c.run_lines-answered.result _ _ _ _ _ _
     (λ why stopped caused kept. (
       (
         c.open_book-book.result,
         c.run_lines-answered.new.book,
         c.open_book-book.ensures,
-        sym c.into_keeper.ensures,
+        sym c.into_keeper-keeper.ensures,
         stopped,
         c.run_lines-answered.ensures.safe,
       ),
       caused,
       kept,
     ))
-    c.run_lines-answered.ensures.stopped c.run_lines-answered.ensures.cause c.run_lines-answered.ensures.flushed
+    c.run_lines-answered.ensures.stopped c.run_lines-answered.ensures.cause c.run_lines-answered.ensures.flushed)
