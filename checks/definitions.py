@@ -4,9 +4,10 @@
 A contract of a public call cites words that stand in crates/NAME/specs, and each of these rests on others. Who wants to
 know what is proved has to read these words, and no others. This script finds them in the sources. A call is public where
 its crate's lib.rt lets others name it, or name the type or trait that it belongs to. The script compares the words with
-docs/definitions.md and fails where that page isn't up to date, where a word has no sentence before it, and where a word
-stands among those of the other kind: one that no public contract rests on has its place in specs/Inner, and no other word
-stands there. --write writes the page anew, and --inner lists the words that no public contract rests on.
+docs/definitions.md and fails where that page isn't up to date, where a word has no sentence before it, where two words or
+two types have one name, and where a word stands among those of the other kind: one that no public contract rests on has its
+place in specs/Inner, and no other word stands there. --write writes the page anew, and --inner lists the words that no
+public contract rests on.
 """
 import re
 import sys
@@ -66,7 +67,7 @@ def read_specs(names):
     for crate in names:
         for path in sorted((TOP / "crates" / crate / "specs").rglob("*.antt")):
             module = ".".join(path.relative_to(TOP / "crates" / crate / "specs").with_suffix("").parts)
-            if module == "Lib":
+            if module == "Lib" or path.with_suffix("").is_dir():
                 continue
             told, word = [], None
             for line in path.read_text().splitlines():
@@ -166,6 +167,21 @@ def cited(text, crate, names, words, module=None):
     return {key for key in found if key in words}
 
 
+def of_one_name(words):
+    """The names that two words have, or two types of the crates' sources, with where they stand."""
+    places = defaultdict(list)
+    for crate, file, name in words:
+        places["word", name].append(f"{crate}/specs/{file.replace('.', '/')}.antt")
+    for crate in crates():
+        for path in sorted((TOP / "crates" / crate / "src").rglob("*.rt")):
+            if "tests" in path.parts or path.stem == "tests":
+                continue
+            text = path.read_text().split("#[cfg(test)]\nmod tests {")[0]
+            for name in re.findall(r"(?m)^(?:pub(?:\(crate\))? )?(?:struct|enum|trait|type) (\w+)", text):
+                places["type", name].append(str(path.relative_to(TOP / "crates")))
+    return [f"the {kind} {name} is defined in {' and in '.join(found)}" for (kind, name), found in places.items() if len(found) > 1]
+
+
 def gather():
     names = crates()
     words = read_specs(names)
@@ -227,7 +243,7 @@ def main():
     text = page(names, words, users, reached)
     if "--write" in sys.argv:
         PAGE.write_text(text)
-    faults = [f"no sentence before {name}" for name in untold]
+    faults = [f"no sentence before {name}" for name in untold] + of_one_name(words)
     for key, word in words.items():
         place = f"{word.crate}/specs/{word.file.replace('.', '/')}.antt"
         if key not in reached and not word.file.startswith("Inner"):

@@ -1,5 +1,6 @@
 -- A step keeps valid rings valid.
 use Rattle.std.proofs.Common.{◌≡◌, ℕ, ◌+◌, ◌<◌, ◌^◌, Bool, true, false, cond, List, [], ◌∷◌, ◌++◌}
+use Rattle.ring_words.specs.Limits.{greatest_power}
 use Rattle.std.proofs.Common.{length, replicate, filter, Option, Some, None, refl, sym, ap, subst}
 use Rattle.std.proofs.Common.{◌∙◌, ⊎_elim, arith, find, true≢false}
 use Rattle.std.specs.Prelude.{All, IsTrue, is_some, nat_eq}
@@ -174,7 +175,7 @@ new_valid (act.SetHours hours) answer limits name old new hour clear proper vali
 new_valid act.PretendPassed answer limits name old new hour clear proper valid effect =
     subst IsValid (sym effect.0) (changed_valid _ (passed_valid old valid))
 new_valid act.RaisePower answer limits name old new hour clear proper valid effect =
-    let below : old.power ≡ 14 → ⊥ = eqb-false old.power 14 clear.0 in
+    let below : old.power ≡ greatest_power → ⊥ = eqb-false old.power greatest_power clear.0 in
     raised_valid old new valid effect.0 (let up = effect.0.power in let most = valid.power.1 in
     omega arith)
 new_valid (act.Import rows) (done.Import added reweighted version) limits name old new hour clear

@@ -1,5 +1,6 @@
 -- One step of the builder: what a command is replied, and what it does to the rings.
 use Rattle.std.specs.Prelude.{◌≡◌, ◌+◌, ◌==◌, ◌&&◌, ℕ, Bool, true, false, not, nat_le, nat_lt}
+use Rattle.ring_words.specs.Limits.{greatest_power}
 use Rattle.std.specs.Prelude.{count_by, List, [], ◌∷◌, ◌++◌, length, find, Option, Some, None}
 use Rattle.std.specs.Option.{option_map}
 use Rattle.ring_model.specs.Import.{after_row, after_rows}
@@ -130,7 +131,7 @@ of_addition limits row ring =
 
 -- the cause that may stand against raising the power
 abbrev pub of_power : RingRecord → List Cause
-of_power ring = record { refused = refusal.PowerLimit; stands = ring.power == 14 } ∷ []
+of_power ring = record { refused = refusal.PowerLimit; stands = ring.power == greatest_power } ∷ []
 
 -- the cause that may stand against a rebalance
 abbrev pub of_rebalance : RingRecord → List Cause

@@ -14,8 +14,8 @@ use Rattle.store_contents.specs.declared.rows.MetaRow.{MetaRow}
 use Rattle.store_contents.specs.declared.rows.RequestRow.{RequestRow}
 use Rattle.store_contents.specs.Changes.{changed_all, with_decided, with_kept}
 use Rattle.store_contents.specs.Contents.{Contents, device_key, device_of, part_of, published_of}
-use Rattle.store_contents.specs.Contents.{ring_of, with_device, with_part, with_published}
-use Rattle.store_contents.specs.Contents.{with_ring, without_device}
+use Rattle.store_contents.specs.Contents.{ring_of, with_device_row, with_part, with_published_row}
+use Rattle.store_contents.specs.Contents.{with_ring_row, without_device}
 use Rattle.store_tables.specs.Contents.{contents_of}
 use Rattle.store_rows.specs.Differences.{with_state}
 use Rattle.store_rows.specs.RingRows.{NamedRings}
@@ -42,13 +42,13 @@ alone_from one db content is = (
 meta_stays : (changes : List RowChange) (c : Contents) → (changed_all c changes).meta ≡ c.meta
 meta_stays [] c = refl
 meta_stays (DropDevice key ∷ changes) c = meta_stays changes (without_device c (device_key key))
-meta_stays (PutRing row ∷ changes) c = meta_stays changes (with_ring c (ring_of row).0
+meta_stays (PutRing row ∷ changes) c = meta_stays changes (with_ring_row c (ring_of row).0
     (ring_of row).1)
-meta_stays (AddDevice row ∷ changes) c = meta_stays changes (with_device c (device_of row).0
+meta_stays (AddDevice row ∷ changes) c = meta_stays changes (with_device_row c (device_of row).0
     (device_of row).1)
 meta_stays (PutPart row ∷ changes) c = meta_stays changes (with_part c (part_of row).0
     (part_of row).1)
-meta_stays (PutPublished row ∷ changes) c = meta_stays changes (with_published c
+meta_stays (PutPublished row ∷ changes) c = meta_stays changes (with_published_row c
     (published_of row).0 (published_of row).1)
 
 -- so what is made with that row is made without it where that row is there already

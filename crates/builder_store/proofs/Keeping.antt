@@ -17,7 +17,7 @@ use Rattle.store_rows.specs.Stands.{DecidedRequest, RingContent, gained}
 use Rattle.store_rows.specs.Differences.{with_state}
 use Rattle.builder_store.specs.Keepers.{content_of_keeper}
 use Rattle.builder_store.specs.Standing.{Holds, IsKnown, MayLeave, StandsAlone, content_told}
-use Rattle.builder_store.specs.Standing.{is_known}
+use Rattle.builder_store.specs.Standing.{stands_for_one}
 use Rattle.builder_store.specs.Inner.Gains.{GainsIn}
 use Rattle.builder_store.specs.Inner.Known.{told_agrees, told_is, told_stands, whole_trees}
 use Rattle.builder_store.specs.Inner.Leaves.{quiet_leaves}
@@ -48,14 +48,14 @@ pub told_now : {S : Type 0} (g : Ghosts S) (n : ℕ) (last conn : Held S) (rings
     (nat_lt 0 n) last conn)).committed.trees rings count hour) (other : RingContent) → n ≡ 0
     → HasCleanDisk (state g conn)
     → ∥ StandsAlone (state g conn).committed.trees (content_told (state g (cond
-    (nat_lt 0 n) last conn)).committed.trees (state g conn).is_clean (λ it. is_known
+    (nat_lt 0 n) last conn)).committed.trees (state g conn).is_clean (λ it. stands_for_one
     (holds it)) other) ∥₁
 told_now g n last conn rings count hour holds other none clean =
     subst (λ db. ∥ StandsAlone db (content_told (state g (cond
-    (nat_lt 0 n) last conn)).committed.trees (state g conn).is_clean (λ it. is_known
+    (nat_lt 0 n) last conn)).committed.trees (state g conn).is_clean (λ it. stands_for_one
     (holds it)) other) ∥₁) (whole_trees g n last conn none)
     (told_stands (state g (cond (nat_lt 0 n) last conn)).committed.trees (state g conn).is_clean
-    (λ it. is_known (holds it)) other clean)
+    (λ it. stands_for_one (holds it)) other clean)
 
 pub never : (n : ℕ) → n + 1 ≡ 0 → ⊥
 never n e = omega (arith, e)

@@ -4,7 +4,7 @@ use Rattle.std.specs.Prelude.{pos}
 use Rattle.std.specs.FinMap.{FinMap, empty, from_entries, insert}
 use Rattle.std.specs.Ordering.{int_cmp}
 use Rattle.sqlite_trees.specs.Tree.{Trees}
-use Rattle.store_contents.specs.Changes.{changed, changed_all, prepared}
+use Rattle.store_contents.specs.Changes.{with_change, changed_all, prepared}
 use Rattle.store_contents.specs.Contents.{Contents}
 use Rattle.store_tables.specs.Contents.{contents_of}
 use Rattle.store_contents.specs.Entries.{Meta}
@@ -26,11 +26,11 @@ use Rattle.builder_store.specs.Standing.{Stands}
 meta_stays : (c : Contents) (m : FinMap int_cmp Meta) (changes : List RowChange)
     → changed_all (record c { meta = m }) changes ≡ record (changed_all c changes) { meta = m }
 meta_stays c m [] = refl
-meta_stays c m (DropDevice key ∷ rest) = meta_stays (changed c (DropDevice key)) m rest
-meta_stays c m (PutRing row ∷ rest) = meta_stays (changed c (PutRing row)) m rest
-meta_stays c m (AddDevice row ∷ rest) = meta_stays (changed c (AddDevice row)) m rest
-meta_stays c m (PutPart row ∷ rest) = meta_stays (changed c (PutPart row)) m rest
-meta_stays c m (PutPublished row ∷ rest) = meta_stays (changed c (PutPublished row)) m rest
+meta_stays c m (DropDevice key ∷ rest) = meta_stays (with_change c (DropDevice key)) m rest
+meta_stays c m (PutRing row ∷ rest) = meta_stays (with_change c (PutRing row)) m rest
+meta_stays c m (AddDevice row ∷ rest) = meta_stays (with_change c (AddDevice row)) m rest
+meta_stays c m (PutPart row ∷ rest) = meta_stays (with_change c (PutPart row)) m rest
+meta_stays c m (PutPublished row ∷ rest) = meta_stays (with_change c (PutPublished row)) m rest
 
 -- the contents without the rows of schema 1
 abbrev first_gone : Contents → Contents

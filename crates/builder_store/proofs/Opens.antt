@@ -13,19 +13,19 @@ use Rattle.store_contents.specs.declared.rows.MetaRow.{MetaRow}
 use Rattle.store_contents.specs.Changes.{prepared}
 use Rattle.store_contents.specs.Contents.{Contents}
 use Rattle.store_tables.specs.Contents.{contents_of}
-use Rattle.store_tables.specs.Store.{AreOrdered, IsBegun, IsStore}
+use Rattle.store_tables.specs.Store.{AreOrdered, HasMadeTables, IsStore}
 use Rattle.store_tables.specs.Tables.{schema_of_first}
 use Rattle.store_tables.proofs.Living.{lives_in}
 use Rattle.store_rows.specs.Judging.{IsFoundIn, meta_now}
 use Rattle.store_rows.specs.Stands.{IsHoldable, RingContent, contents_for, first_contents_for}
 use Rattle.store_rows.specs.declared.judging.Judged.{Judged}
 use Rattle.builder_store.specs.Opening.{AreDeclared, OpensAs, no_contents, nothing}
-use Rattle.builder_store.specs.Inner.Opened.{IsFresh, Leads, LeadsTo, OpensRows}
+use Rattle.builder_store.specs.Inner.Opened.{IsFresh, LeadsInStore, LeadsTo, OpensRows}
 use Rattle.builder_store.specs.declared.fault.OpenFault.{OpenFault}
 use Rattle.builder_store.specs.declared.reading.Opened.{Opened}
 
 -- a store has all tables
-pub begun_store : (db : Database) → IsStore db → IsBegun 8 db
+pub begun_store : (db : Database) → IsStore db → HasMadeTables 8 db
 begun_store db is = let lives = lives_in db is in record {
   schema = lives.schema_is;
   sound =
@@ -60,8 +60,9 @@ opens_after c d old mid new r quiet is opens = record {
   tables = opens.tables;
   found = λ clean. subst (λ x. IfOk r (LeadsTo x new.committed.trees)) (is clean)
       (opens.found clean);
-  survives = survives_then old mid new (λ _. ⊥) (Leads d) (Leads c) (λ clean db none. absurd none)
-      (λ clean db leads. subst (λ x. Leads x db) (is clean) leads) quiet opens.survives;
+  survives = survives_then old mid new (λ _. ⊥) (LeadsInStore d) (LeadsInStore c) (λ clean db none.
+      absurd none)
+      (λ clean db leads. subst (λ x. LeadsInStore x db) (is clean) leads) quiet opens.survives;
 }
 
 -- the content that was found in the rows
@@ -119,12 +120,12 @@ migrated_stands c judged changes made meta db some same is stands content found 
 -- tables that were counted are declared in what is committed
 pub declared_as : (s : State) (found : Option ℕ) (made : ℕ) → found ≡ Some made
     → IfSome found (λ n. (n ≤ 8) × (s.now.schema ≡ schema_of_first n)) → IsFresh s
-    → (IsTrue s.is_open → AreOrdered s.now → IfSome found (λ n. IsBegun n s.now))
+    → (IsTrue s.is_open → AreOrdered s.now → IfSome found (λ n. HasMadeTables n s.now))
     → AreDeclared made s.committed.trees
 declared_as s found made is told fresh begun =
     let it : (made ≤ 8) × (s.now.schema ≡ schema_of_first made) = subst (λ o. IfSome o
     (λ n. (n ≤ 8) × (s.now.schema ≡ schema_of_first n))) is told in
-    let sound : IsDatabase s.now = (subst (λ o. IfSome o (λ n. IsBegun n s.now)) is
+    let sound : IsDatabase s.now = (subst (λ o. IfSome o (λ n. HasMadeTables n s.now)) is
     (begun fresh.is_open fresh.ordered)).sound in (
       it.0,
       subst (λ schema. IsDatabase (record { schema = schema; trees = s.committed.trees })) it.1

@@ -14,11 +14,11 @@ use Rattle.sqlite_rules.specs.Lists.{Has}
 use Rattle.sqlite.specs.State.{HasCleanDisk, IsLive, State, Survives}
 use Rattle.store_tables.specs.Tables.{store_schema}
 use Rattle.store_tables.proofs.Living.{lives_in, store_of}
-use Rattle.builder_store.specs.Inner.Tables.{HasTables, IsSettled}
+use Rattle.builder_store.specs.Inner.Tables.{HasTables, IsSettledState}
 
 -- who sees the tables while it is open sees a store
 pub settled_from : (s : State) → IsLive s → (IsTrue s.is_open → s.now ≡ s.committed) → HasTables s
-    → IsSettled s
+    → IsSettledState s
 settled_from s live committed has = record {
   is_open = has.0;
   store = store_of s.now (record {
@@ -30,7 +30,7 @@ settled_from s live committed has = record {
 }
 
 -- and who sees a store sees its tables
-pub tables_from : (s : State) → IsSettled s → HasTables s
+pub tables_from : (s : State) → IsSettledState s → HasTables s
 tables_from s is =
     let lives = lives_in s.now is.store in (
       is.is_open,
@@ -49,7 +49,8 @@ quiet_commit old new clean settled stays call = elim (call.crash clean new.commi
 ]
 
 -- the tables are still there where the trees are those that were
-pub tables_stay : (old new : State) → IsSettled old → IsLive old → IsLive new → IsTrue new.is_open
+pub tables_stay : (old new : State) → IsSettledState old → IsLive old → IsLive new →
+    IsTrue new.is_open
     → (IsTrue new.is_open → new.now ≡ new.committed)
     → new.committed.trees ≡ old.committed.trees → HasTables new
 tables_stay old new was lived live is_open committed same =

@@ -5,7 +5,7 @@ use Rattle.sqlite_trees.specs.View.{IsClean}
 use Rattle.sqlite_trees.specs.declared.store.Store.{Ghosts}
 use Rattle.sqlite.specs.Held.{state}
 use Rattle.store_rows.specs.Stands.{RingContent}
-use Rattle.builder_store.specs.Standing.{content_told, is_known}
+use Rattle.builder_store.specs.Standing.{content_told, stands_for_one}
 use Rattle.builder_store.specs.declared.keeper.SqlKeeper.{SqlKeeper}
 use Rattle.builder_store.specs.declared.adopting.Left.{Left}
 use Rattle.builder_store.specs.declared.adopting.Left.TheVariants as left
@@ -17,7 +17,8 @@ module _ {S : Type 0} {g : Ghosts S} where
   content_of_keeper k =
       content_told (state g (cond (nat_lt 0 k.faults) k.last.value k.conn)).committed.trees
       (state g k.conn).is_clean
-      (λ clean. is_known (k.holds clean)) (record { state = k.rings; book = []; hour = k.hour })
+      (λ clean. stands_for_one (k.holds clean))
+      (record { state = k.rings; book = []; hour = k.hour })
 
 module _ {S : Type 0} (g : Ghosts S) where
   -- The disk of what is left returned what was written.

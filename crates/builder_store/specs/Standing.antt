@@ -50,16 +50,16 @@ Holds db rings count hour = ∥ ((content : RingContent) × StandsAlone db conte
     (content.state ≡ rings) × (length content.book ≡ count) × (content.hour ≡ hour)) ∥₁
 
 -- Where they hold that, they stand for one content.
-abbrev pub is_known : {db : Trees} {rings : NamedRings} {count hour : ℕ}
+abbrev pub stands_for_one : {db : Trees} {rings : NamedRings} {count hour : ℕ}
     → Holds db rings count hour → IsKnown db
-is_known held = ∥∥₁_map held (λ h. (h.0, h.1))
+stands_for_one held = ∥∥₁_map held (λ h. (h.0, h.1))
 
 -- What an opening finds of trees: the content for which they stand, or nothing where they stand for
 -- none.
-abbrev pub Finds : Trees → Option RingContent → Type 0
-Finds db None = (content : RingContent) → ¬ Stands db content
-Finds db (Some content) = Stands db content
+abbrev pub WouldFind : Trees → Option RingContent → Type 0
+WouldFind db None = (content : RingContent) → ¬ Stands db content
+WouldFind db (Some content) = Stands db content
 
 -- A crash may leave trees of which an opening finds this.
 abbrev pub MayLeave : State → Option RingContent → Type 0
-MayLeave s left = (db : Trees) × s.may_leave db × Finds db left
+MayLeave s left = (db : Trees) × s.may_leave db × WouldFind db left

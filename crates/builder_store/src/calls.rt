@@ -8,7 +8,7 @@ ghost use Rattle.request_book.specs.Keeper.{IsFound};
 ghost use Rattle.request_book.specs.declared.keeper.KeepFault.TheVariants.{NoMemory, Store};
 ghost use Rattle.store_rows.specs.Stands.{RingContent};
 ghost use Rattle.builder_store.specs.Standing.{Stands};
-ghost use Rattle.builder_store.specs.Inner.Tables.{HasTables, IsSettled};
+ghost use Rattle.builder_store.specs.Inner.Tables.{HasTables, IsSettledState};
 
 use request_book::{Found, KeepFault};
 use ring_words::{Command, Key, Reply, SpellingFault};
@@ -24,7 +24,7 @@ pub(crate) fn settle<S: Alter>(conn: &Connection<S>)
     ensures committed { conn.now.in_transaction ≡ false → IsTrue (state S.Store conn.now).is_open
         → (state S.Store conn.now).now ≡ (state S.Store conn.now).committed }
     ensures settled { conn.now.in_transaction ≡ false → HasTables (state S.Store conn.now)
-        → IsSettled (state S.Store conn.now) }
+        → IsSettledState (state S.Store conn.now) }
 {
     let _schema = conn.schema();
     let _ended = conn.is_autocommit();

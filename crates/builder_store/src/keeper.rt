@@ -1,5 +1,6 @@
 //! The keeper.
 ghost use Rattle.std.specs.Prelude.{◌≡◌, ◌≤◌, [], cond, false, nat_lt};
+ghost use Rattle.ring_words.specs.Limits.{most_numbers};
 ghost use Rattle.sqlite.specs.Held.{state};
 ghost use Rattle.sqlite.specs.State.{HasCleanDisk};
 ghost use Rattle.builder_store.specs.Standing.{Holds};
@@ -36,7 +37,7 @@ pub struct SqlKeeper<S: Alter> {
     hour: Hour,
     limit: u32,
     faults: u64,
-    ghost small: { limit ≤ 100000 },
+    ghost small: { limit ≤ most_numbers },
     ghost idle: { conn.in_transaction ≡ false },
     ghost tables: { faults ≡ 0 → HasCleanDisk (state S.Store conn) → HasTables
         (state S.Store conn) } by { fact_prop (state S.Store conn) faults },
@@ -235,7 +236,7 @@ impl<S: Alter> SqlKeeper<S> {
 }
 
 impl<S: Alter> Keeper<RingMachine> for SqlKeeper<S> {
-    ghost use Rattle.builder_store.specs.Standing.{MayLeave, is_known};
+    ghost use Rattle.builder_store.specs.Standing.{MayLeave, stands_for_one};
     ghost use Rattle.builder_store.specs.Keepers.{content_of_keeper};
     ghost use Rattle.builder_store.specs.Inner.Leaves.{leaves_still};
     ghost use Rattle.builder_store.specs.Inner.Known.{whole_trees};
@@ -252,8 +253,8 @@ impl<S: Alter> Keeper<RingMachine> for SqlKeeper<S> {
 
     ghost may_leave = { λ k left. MayLeave (state S.Store k.conn) left };
 
-    ghost settled = { λ k clean none. leaves_still (state S.Store.own k.conn) _ (λ it. is_known
-        (k.holds it)) _ clean
+    ghost settled = { λ k clean none. leaves_still (state S.Store.own k.conn) _
+        (λ it. stands_for_one (k.holds it)) _ clean
         (whole_trees S.Store.own k.faults k.last.value k.conn none)
         (λ db may. S.settled k.conn.store db (k.tables none clean).0 may) (S.stays k.conn.store (k.tables none clean).0) };
 

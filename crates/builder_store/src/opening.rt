@@ -3,12 +3,12 @@ ghost use Rattle.std.specs.Prelude.{◌≡◌, ◌≢◌, ◌≤◌, false, Err,
 ghost use Rattle.sqlite.specs.Held.{state};
 ghost use Rattle.sqlite.specs.State.{HasCleanDisk, Survives};
 ghost use Rattle.store_tables.specs.Contents.{contents_of};
-ghost use Rattle.store_tables.specs.Store.{CommitsTables, IsBegun, begun_contents};
+ghost use Rattle.store_tables.specs.Store.{CommitsTables, HasMadeTables, begun_contents};
 ghost use Rattle.store_rows.specs.Judging.{IsFoundIn};
 ghost use Rattle.store_rows.specs.Stands.{RingContent};
 ghost use Rattle.builder_store.specs.Opening.{no_contents};
-ghost use Rattle.builder_store.specs.Inner.Opened.{Leads, LeadsTo, OpensRows};
-ghost use Rattle.builder_store.specs.Inner.Tables.{HasTables, IsSettled};
+ghost use Rattle.builder_store.specs.Inner.Opened.{LeadsInStore, LeadsTo, OpensRows};
+ghost use Rattle.builder_store.specs.Inner.Tables.{HasTables, IsSettledState};
 ghost use Rattle.builder_store.specs.declared.fault.OpenFault.TheVariants.{BadRows, BadTables};
 
 use crate::calls::cause;
@@ -29,7 +29,7 @@ pub(crate) fn make_missing<S: Alter>(conn: &mut Connection<S>, made: usize) -> R
     requires mode { conn.old.in_transaction ≡ false }
     requires within { made ≤ 8 }
     requires begun { HasCleanDisk (state S.Store conn.old)
-        → IsBegun made (state S.Store conn.old).now }
+        → HasMadeTables made (state S.Store conn.old).now }
     ensures mode { conn.new.in_transaction ≡ false }
     ensures commits { CommitsTables (state S.Store conn.old) (state S.Store conn.new) result
         (begun_contents made (state S.Store conn.old).now.trees) }
@@ -62,7 +62,7 @@ pub(crate) fn begin<S: Alter>(
     requires mode { conn.old.in_transaction ≡ false }
     requires within { made ≤ 8 }
     requires begun { HasCleanDisk (state S.Store conn.old)
-        → IsBegun made (state S.Store conn.old).now }
+        → HasMadeTables made (state S.Store conn.old).now }
     ensures mode { conn.new.in_transaction ≡ false }
     ensures other { (result ≢ Err BadRows) × (result ≢ Err BadTables) }
     ensures opens { (HasCleanDisk (state S.Store conn.old) → begun_contents made
@@ -84,7 +84,8 @@ pub(crate) fn begin<S: Alter>(
 /// Migrates a store that was judged, where it is of schema 1, in one transaction.
 fn migrate<S: Alter>(conn: &mut Connection<S>, judged: Judged) -> Result<Opened, OpenFault>
     requires mode { conn.old.in_transaction ≡ false }
-    requires tables { HasCleanDisk (state S.Store conn.old) → IsSettled (state S.Store conn.old) }
+    requires tables { HasCleanDisk (state S.Store conn.old)
+        → IsSettledState (state S.Store conn.old) }
     ensures mode { conn.new.in_transaction ≡ false }
     ensures other { (result ≢ Err BadRows) × (result ≢ Err BadTables) }
     ensures tables { HasCleanDisk (state S.Store conn.new) → OnOk result (HasTables
@@ -95,7 +96,7 @@ fn migrate<S: Alter>(conn: &mut Connection<S>, judged: Judged) -> Result<Opened,
         (state S.Store conn.new).committed.trees) }
     ensures survives { Survives (state S.Store conn.old) (state S.Store conn.new)
         (λ trees. (content : RingContent) → IsFoundIn (contents_of (state S.Store conn.old).now.trees) content judged
-        → Leads (contents_of (state S.Store conn.old).now.trees) trees) }
+        → LeadsInStore (contents_of (state S.Store conn.old).now.trees) trees) }
 {
     let Judged {
         rings,
@@ -119,7 +120,8 @@ pub(crate) fn open_rows<S: Alter>(
     conn: &mut Connection<S>,
 ) -> Result<Opened, OpenFault>
     requires mode { conn.old.in_transaction ≡ false }
-    requires tables { HasCleanDisk (state S.Store conn.old) → IsSettled (state S.Store conn.old) }
+    requires tables { HasCleanDisk (state S.Store conn.old)
+        → IsSettledState (state S.Store conn.old) }
     ensures mode { conn.new.in_transaction ≡ false }
     ensures other { result ≢ Err BadTables }
     ensures opens { OpensRows (contents_of (state S.Store conn.old).now.trees)

@@ -1,5 +1,6 @@
 //! What a commit writes, and its transaction.
 ghost use Rattle.std.specs.Prelude.{◌≡◌, ◌≢◌, ◌<◌, ◌≤◌, false, Err, IfOk, None, OnOk, length};
+ghost use Rattle.ring_words.specs.Limits.{most_numbers};
 ghost use Rattle.sqlite.specs.Held.{state};
 ghost use Rattle.sqlite.specs.State.{HasCleanDisk, Survives};
 ghost use Rattle.request_book.specs.declared.keeper.KeepFault.TheVariants.{NoMemory, Store};
@@ -40,7 +41,7 @@ pub(crate) fn planned(
     count: u32,
     entry: &Entry<Command, Reply>,
 ) -> Result<Plan, AllocError>
-    requires room { count < 100000 }
+    requires room { count < most_numbers }
     requires grows { Grows old.now new.now }
     ensures { IfOk result (λ plan. (content : RingContent) → IsHoldable content
         → content.state ≡ old.now
@@ -130,7 +131,7 @@ pub(crate) fn keep<S: Alter>(
 ) -> Result<(), KeepFault>
     requires mode { conn.old.in_transaction ≡ false }
     requires tables { HasCleanDisk (state S.Store conn.old) → HasTables (state S.Store conn.old) }
-    requires small { limit ≤ 100000 }
+    requires small { limit ≤ most_numbers }
     ensures mode { conn.new.in_transaction ≡ false }
     ensures tables { HasCleanDisk (state S.Store conn.new) → result ≢ Err Store
         → HasTables (state S.Store conn.new) }

@@ -3,9 +3,9 @@ ghost use Rattle.std.specs.Prelude.{◌≡◌, ◌⊎◌, ◌≤◌, false, Err,
 ghost use Rattle.sqlite.specs.Held.{state};
 ghost use Rattle.sqlite.specs.State.{HasCleanDisk, Survives};
 ghost use Rattle.store_tables.specs.Contents.{contents_of};
-ghost use Rattle.store_tables.specs.Store.{IsBegun, begun_contents};
+ghost use Rattle.store_tables.specs.Store.{HasMadeTables, begun_contents};
 ghost use Rattle.builder_store.specs.Opening.{IsMadeOf, KeepsRows};
-ghost use Rattle.builder_store.specs.Inner.Opened.{IsFresh, IsOpenedTo, Leads, LeadsTo};
+ghost use Rattle.builder_store.specs.Inner.Opened.{IsFresh, IsOpenedTo, LeadsInStore, LeadsTo};
 ghost use Rattle.builder_store.specs.Inner.Tables.{HasTables};
 ghost use Rattle.builder_store.specs.declared.fault.OpenFault.TheVariants.{BadRows, BadTables};
 
@@ -27,7 +27,7 @@ fn open_begun<S: Alter>(
     requires within { made ≤ 8 }
     requires fresh { HasCleanDisk (state S.Store conn.old) → IsFresh (state S.Store conn.old) }
     requires begun { HasCleanDisk (state S.Store conn.old)
-        → IsBegun made (state S.Store conn.old).now }
+        → HasMadeTables made (state S.Store conn.old).now }
     ensures mode { conn.new.in_transaction ≡ false }
     ensures tables { HasCleanDisk (state S.Store conn.new) → OnOk result (HasTables
         (state S.Store conn.new)) }
@@ -38,7 +38,7 @@ fn open_begun<S: Alter>(
         (λ trees. contents_of trees ≡ begun_contents made (state S.Store conn.old).now.trees) }
     ensures survives { Survives (state S.Store conn.old) (state S.Store conn.new)
         (λ trees. (contents_of trees ≡ begun_contents made (state S.Store conn.old).now.trees)
-        ⊎ Leads (begun_contents made (state S.Store conn.old).now.trees) trees) }
+        ⊎ LeadsInStore (begun_contents made (state S.Store conn.old).now.trees) trees) }
 {
     if made == 0 {
         return begin(alloc, conn, 0);

@@ -1,3 +1,4 @@
+pub mod Pieces
 pub mod StreamFault
 pub mod Counted
 pub mod Writing

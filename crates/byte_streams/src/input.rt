@@ -1,5 +1,6 @@
 //! What is read: pieces of a stream.
 ghost use Rattle.std.specs.Prelude.{◌≡◌, ◌≤◌, ◌<◌, length, take, IfOk, IfErr, OnOk, vec_len};
+ghost use Rattle.byte_streams.specs.Pieces.{chunk_size};
 ghost use Rattle.std.specs.Io.KnownBytes.{Consumes, IsAtEnd, Keeps};
 ghost use Rattle.byte_streams.specs.Counted.{Counts, IsFlushed, IsReadFault, read_faults};
 ghost use Rattle.byte_streams.specs.Counted.{reader_of, reads_left};
@@ -10,12 +11,12 @@ use crate::fault::StreamFault;
 use std::alloc::{AllocError, Global};
 use std::io::{ErrorKind, Read};
 
-/// How many bytes are read at once.
-const CHUNK: usize = 65536;
+/// How many bytes are read at once, at most.
+pub const CHUNK: usize = 65536;
 
 /// Room for what is read at once, 65,536 bytes.
 pub fn new_chunk(alloc: Global) -> Result<Vec<u8>, AllocError>
-    ensures { IfOk result (λ chunk. vec_len chunk ≡ 65536) }
+    ensures { IfOk result (λ chunk. vec_len chunk ≡ chunk_size) }
 {
     vec![in alloc; 0u8; CHUNK]
 }

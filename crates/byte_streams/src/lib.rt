@@ -15,5 +15,5 @@ mod output;
 
 pub use counted::{CountedReader, CountedWriter};
 pub use fault::StreamFault;
-pub use input::{new_chunk, read_all, read_some};
+pub use input::{CHUNK, new_chunk, read_all, read_some};
 pub use output::{Outbox, write_text};

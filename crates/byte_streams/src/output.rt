@@ -4,6 +4,7 @@ ghost use Rattle.std.specs.Prelude.{vec_capacity};
 ghost use Rattle.std.specs.Io.KnownBytes.{Appends, Keeps};
 ghost use Rattle.byte_streams.specs.Counted.{Counts, IsFlushed, write_faults, writer_of};
 ghost use Rattle.byte_streams.specs.Writing.{Forwards, WritesBeginning};
+ghost use Rattle.byte_streams.specs.declared.output.TheConstants.{ROOM};
 ghost use Rattle.byte_streams.specs.declared.fault.StreamFault.TheVariants.{WriteFailed};
 
 use crate::counted::CountedWriter;
@@ -26,7 +27,8 @@ impl Model for Outbox {
 
     ghost view = { λ outbox. outbox.text.items };
 
-    ghost invariant = { λ outbox. (vec_len outbox.text ≤ 65536) × (65536 ≤ vec_capacity outbox.text) };
+    ghost invariant = { λ outbox. (vec_len outbox.text ≤ ROOM)
+        × (ROOM ≤ vec_capacity outbox.text) };
 }
 
 impl Outbox {

@@ -1,5 +1,6 @@
 -- What a field spells is text.
 use Rattle.std.proofs.Common.{◌≡◌, ℕ, ◌+◌, ◌/◌, ◌%◌, ◌^◌, ◌<◌, lit<, true, List, [], ◌∷◌, decimal}
+use Rattle.ring_words.specs.Limits.{greatest_short}
 use Rattle.std.proofs.Common.{sym, subst, arith}
 use Rattle.std.specs.Prelude.{IsUtf8}
 use Rattle.std.specs.Str.{IsAscii}
@@ -13,7 +14,8 @@ use Rattle.ring_words.specs.Texts.{is_device_name, address_text, address_limit, 
 use Rattle.ring_words.specs.Texts.{hundredths_text, two_digits}
 use Rattle.ring_words.specs.Spelling.{SpellsAddress, SpellsName, SpellsNumber, SpellsWeight}
 
-pub number_is_text : (text : List ℕ) (least number : ℕ) → SpellsNumber text least 65535 number →
+pub number_is_text : (text : List ℕ) (least number : ℕ) →
+    SpellsNumber text least greatest_short number →
     IsUtf8 text
 number_is_text text least number spells =
     let small : number < 2 ^ 64 = omega (arith, spells.below) in

@@ -1,5 +1,6 @@
 //! The values that fields spell. A field that isn't UTF-8 spells none.
 ghost use Rattle.std.specs.Prelude.{◌≡◌, IsErrOf, IfNone, IfSome, IsUtf8};
+ghost use Rattle.ring_words.specs.Limits.{greatest_short};
 ghost use Rattle.ring_words.specs.Spelling.{Reads, SpellsAddress, SpellsName, SpellsNumber};
 ghost use Rattle.ring_words.specs.Spelling.{SpellsWeight};
 ghost use Rattle.ring_words.specs.Texts.{is_device_name};
@@ -21,7 +22,7 @@ fn text_of(field: &[u8]) -> Option<&str>
 
 /// The number of a region or a zone.
 pub(crate) fn number_of(field: &[u8]) -> Result<u16, SpellingFault>
-    ensures read { Reads (SpellsNumber field.now 0 65535) result }
+    ensures read { Reads (SpellsNumber field.now 0 greatest_short) result }
     ensures memory { IsErrOf result SpellingFault.NoMemory → ⊥ }
 {
     let Some(text) = text_of(field) else {
@@ -43,7 +44,7 @@ pub(crate) fn address_of(field: &[u8]) -> Result<Address, SpellingFault>
 
 /// The port.
 pub(crate) fn port_of(field: &[u8]) -> Result<Port, SpellingFault>
-    ensures read { Reads (SpellsNumber field.now 1 65535) result }
+    ensures read { Reads (SpellsNumber field.now 1 greatest_short) result }
     ensures memory { IsErrOf result SpellingFault.NoMemory → ⊥ }
 {
     let Some(text) = text_of(field) else {

@@ -1,5 +1,6 @@
 -- The store in a file as programs open it, and as they make it.
 use Rattle.std.specs.Prelude.{◌≡◌}
+use Rattle.ring_words.specs.Limits.{most_numbers}
 use Rattle.sqlite_wal.specs.Recovery.{Image}
 use Rattle.builder_store.specs.Opening.{IsOpenedFrom}
 use Rattle.keeper_programs.specs.Begun.{Keeping}
@@ -9,7 +10,7 @@ use Rattle.store_rows.specs.Stands.{RingContent}
 -- A keeper over files begins with the content for which the files stood as they were opened, if
 -- their disk returned what was written, and keeps 100,000 requests. Its store has not failed.
 pub record IsKept {K : Type 0} (g : Keeping K) (image : Image) (keeper : K) : Type 0 where
-  pub limit : g.limit keeper ≡ 100000
+  pub limit : g.limit keeper ≡ most_numbers
   pub faults : g.fault_count keeper ≡ 0
   pub found : g.sound keeper → IsOpenedFrom image (g.content keeper)
 
@@ -17,7 +18,7 @@ pub record IsKept {K : Type 0} (g : Keeping K) (image : Image) (keeper : K) : Ty
 -- a crash leaves this content and nothing else.
 pub record IsMade {K : Type 0} (g : Keeping K) (content : RingContent) : Type 0 where
   pub keeper : K
-  pub limit : g.limit keeper ≡ 100000
+  pub limit : g.limit keeper ≡ most_numbers
   pub faults : g.fault_count keeper ≡ 0
   pub is : g.sound keeper → g.content keeper ≡ content
   pub left : g.sound keeper → LeavesOnly (g.may_leave keeper) content

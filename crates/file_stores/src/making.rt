@@ -3,7 +3,7 @@ ghost use Rattle.std.specs.Prelude.{◌≡◌, IfErr, OnOk};
 ghost use Rattle.builder_store.specs.Making.{rings_alone};
 ghost use Rattle.keeper_programs.specs.Begun.{IsStoreFault};
 ghost use Rattle.file_stores.specs.Opened.{IsMade};
-ghost use Rattle.file_stores.specs.Inner.Left.{IsLeft};
+ghost use Rattle.file_stores.specs.Inner.Left.{IsLeftToClose};
 
 use crate::opening::{FileKeeper, close_store, open_fault};
 use builder::RingMachine;
@@ -51,7 +51,7 @@ fn make_fault(fault: MakeFault) -> ProgramFault
 fn stands<K: Keeper<RingMachine>>(keeper: K) -> K
     requires { K.fault_count keeper ≡ 0 }
     ensures same { result ≡ keeper }
-    ensures left { IsLeft K.Keeper keeper }
+    ensures left { IsLeftToClose K.Keeper keeper }
 {
     let _faults = keeper.faults();
     keeper

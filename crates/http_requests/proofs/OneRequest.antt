@@ -1,5 +1,6 @@
 -- Bytes begin with one request alone.
 use Rattle.std.proofs.Common.{◌≡◌, ℕ, ◌≤◌, List, [], ◌∷◌, ◌++◌, length, take, drop, sym, ap, subst}
+use Rattle.http_requests.specs.Requests.{longest_head}
 use Rattle.std.proofs.Common.{◌∙◌, arith, append-nil, length-append, Some, inl, inr, refl}
 use Rattle.std.proofs.lemmas.List.{take-append-drop, take-append-le, length-take}
 use Rattle.httparse.specs.Grammar.{RequestHead, ReadsRequest, print_request}
@@ -52,11 +53,13 @@ no_bad input h t x (inl o) =
     (sym (append-nil input)) x.reads in
     absurd (omega (arith, o [] h t all, x.few))
 no_bad input h t x (inr (len, none)) =
-    let front = take 8192 input in
+    let front = take longest_head input in
     let n = length (print_request h) in
-    let fits : n ≤ length front = omega (arith, length-take 8192 input, x.short) in
-    let is : take n front ≡ print_request h = sym (take-append-le n front (drop 8192 input) fits) ∙
-    ap (take n) (take-append-drop 8192 input ∙ x.reads.1) ∙ take-append_seam (print_request h) t
+    let fits : n ≤ length front = omega (arith, length-take longest_head input, x.short) in
+    let is : take n front ≡ print_request h = sym (take-append-le n front (drop longest_head input)
+    fits) ∙
+    ap (take n) (take-append-drop longest_head input ∙ x.reads.1) ∙ take-append_seam (print_request
+    h) t
     in
     none h (drop n front) (
       x.reads.0,

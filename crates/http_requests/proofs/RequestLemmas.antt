@@ -1,5 +1,6 @@
 -- What is read from the first 8192 bytes of a buffer holds of the buffer.
 use Rattle.std.proofs.Common.{◌≡◌, ℕ, ◌+◌, ◌-◌, ◌<◌, ◌≤◌, Bool, List, [], ◌∷◌, ◌++◌, length, take}
+use Rattle.http_requests.specs.Requests.{longest_head, most_fields}
 use Rattle.std.proofs.Common.{drop, map, refl, sym, ap, subst, ◌∙◌, arith, append_assoc, append-nil}
 use Rattle.std.proofs.Common.{length-append, Option, Some, inl, inr}
 use Rattle.std.proofs.lemmas.List.{take-append-drop, drop-append-le, take-append-le, length-take}
@@ -19,13 +20,15 @@ use Rattle.http_requests.specs.Fields.{is_close}
 use Rattle.http_requests.specs.Requests.{method_of, framing_of, framing_from, HasHead, Ask, HasAsk}
 use Rattle.http_requests.specs.Requests.{IsFaulty, StopsShort, ask_at}
 
-pub overflow_more : (buf more : List ℕ) → RequestOverflows 32 buf → RequestOverflows 32 (buf ++
+pub overflow_more : (buf more : List ℕ) → RequestOverflows most_fields buf →
+    RequestOverflows most_fields (buf ++
     more)
 overflow_more buf more x after h rest r = x (more ++ after) h rest (rw append_assoc at r)
 
-pub overflow_whole : (buf : List ℕ) → RequestOverflows 32 (take 8192 buf) → RequestOverflows 32 buf
-overflow_whole buf x = subst (RequestOverflows 32) (take-append-drop 8192 buf)
-    (overflow_more (take 8192 buf) (drop 8192 buf) x)
+pub overflow_whole : (buf : List ℕ) → RequestOverflows most_fields (take longest_head buf) →
+    RequestOverflows most_fields buf
+overflow_whole buf x = subst (RequestOverflows most_fields) (take-append-drop longest_head buf)
+    (overflow_more (take longest_head buf) (drop longest_head buf) x)
 
 -- what a buffer begins with stays when more comes
 pub HasHead-more : (buf : List ℕ) (h : RequestHead) (tail more : List ℕ) → HasHead buf h tail →
@@ -57,7 +60,7 @@ IsFaulty-more buf why more (inl (e, inr x)) =
       e,
       inr (
         omega (arith, x.0, length-append buf more),
-        subst HasNoRequest (sym (take-append-le 8192 buf more x.0)) x.1,
+        subst HasNoRequest (sym (take-append-le longest_head buf more x.0)) x.1,
       ),
     )
 IsFaulty-more buf why more (inr x) = inr (x.0, x.1 ++ more, HasHead-more buf x.0 x.1 more x.2, x.3)
@@ -76,20 +79,20 @@ part_of front back a b ab h =
     sym (take-append-le (b - a) (drop a front) back q) ∙ ap (take (b - a))
     (sym (drop-append-le a front back p))
 
-module _ (buf front : List ℕ) (is : front ≡ take 8192 buf) (headers : List HeaderSpan)
-    (r : RequestSpans) (room : length headers ≤ 32)
+module _ (buf front : List ℕ) (is : front ≡ take longest_head buf) (headers : List HeaderSpan)
+    (r : RequestSpans) (room : length headers ≤ most_fields)
     (within : IsRequestWithin front headers r) (h : RequestHead) (at : IsRequestAt front headers r
     h) where
-  joined : front ++ drop 8192 buf ≡ buf
-  joined = ap (λ (xs : List ℕ). xs ++ drop 8192 buf) is ∙ take-append-drop 8192 buf
+  joined : front ++ drop longest_head buf ≡ buf
+  joined = ap (λ (xs : List ℕ). xs ++ drop longest_head buf) is ∙ take-append-drop longest_head buf
 
-  pub short_front : (length front ≤ 8192) × (length front ≤ length buf)
+  pub short_front : (length front ≤ longest_head) × (length front ≤ length buf)
   short_front = (
-    omega (arith, ap length is, length-take 8192 buf),
+    omega (arith, ap length is, length-take longest_head buf),
     omega (
       arith,
       ap length is,
-      length-take 8192 buf,
+      length-take longest_head buf,
     ),
   )
 
@@ -99,11 +102,14 @@ module _ (buf front : List ℕ) (is : front ≡ take 8192 buf) (headers : List H
   pub head_in : HasHead buf h (drop r.len buf)
   head_in = record {
     reads =
-        let whole = ReadsRequest-append front h (drop r.len front) (drop 8192 buf) at.reads in
+        let whole = ReadsRequest-append front h (drop r.len front) (drop longest_head buf) at.reads
+        in
         let fits : r.len ≤ length front = within.section.len_fits in
-        let rest = sym (drop-append-le r.len front (drop 8192 buf) fits) ∙ ap (drop r.len) joined in
+        let rest = sym (drop-append-le r.len front (drop longest_head buf) fits) ∙ ap (drop r.len)
+        joined in
         subst (λ (xs : List ℕ). ReadsRequest buf h xs) rest
-        (subst (λ (xs : List ℕ). ReadsRequest xs h (drop r.len front ++ drop 8192 buf)) joined
+        (subst (λ (xs : List ℕ). ReadsRequest xs h (drop r.len front ++ drop longest_head buf))
+        joined
         whole);
     short = omega (arith, at.len, within.section.len_fits, short_front.0);
     few = omega (
@@ -167,7 +173,7 @@ module _ (buf front : List ℕ) (is : front ≡ take 8192 buf) (headers : List H
   whole_is n m method last e f some le l =
       let inside : length (slice_range buf r.len (r.len + n)) ≡ n =
       omega (arith, length-take (r.len + n - r.len) (drop r.len buf), length-drop r.len buf) in
-      let part = part_of front (drop 8192 buf) r.path.start r.path.end within.path.0
+      let part = part_of front (drop longest_head buf) r.path.start r.path.end within.path.0
       (omega (arith, within.path.1, within.section.len_fits)) ∙ ap (λ (xs : List ℕ). slice_range
       xs r.path.start r.path.end) joined in (
         (within.path.0, omega (arith, within.path.1, len_le)),

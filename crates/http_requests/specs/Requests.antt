@@ -2,7 +2,7 @@
 -- bytes end within it.
 use Rattle.std.specs.Prelude.{◌≡◌, ℕ, ◌<◌, ◌≤◌, ◌⊎◌, ◌&&◌, not, Bool, List, [], ◌∷◌, length, take}
 use Rattle.std.specs.Prelude.{drop, map, ◌++◌, codes, if◌then◌else◌, ◌==◌, nat_lt, nat_le, Option}
-use Rattle.std.specs.Prelude.{Some, None}
+use Rattle.std.specs.Prelude.{Some, None, ◌+◌}
 use Rattle.std.specs.List.{list_all, list_any}
 use Rattle.std.specs.Str.{bytes_eq}
 use Rattle.std.specs.Str.Parse.{digits_value}
@@ -38,10 +38,22 @@ length_of_text text =
     if nat_lt 0 (length text) && nat_le (length text) 10 && list_all is_ascii_digit text
     then Some (digits_value 10 text) else None
 
+-- how many bytes a head has at most, with the empty line that ends it
+abbrev pub longest_head : ℕ
+longest_head = 8192
+
+-- how many fields a head has at most
+abbrev pub most_fields : ℕ
+most_fields = 32
+
+-- how many bytes a body has at most
+abbrev pub longest_body : ℕ
+longest_body = 65536
+
 -- what follows a head whose Content-Length is this, where it is a number
 abbrev pub framing_of_length : Option ℕ → Framing
 framing_of_length None = Faulty BadLength
-framing_of_length (Some count) = if nat_lt 65536 count then Faulty TooLarge else Body count
+framing_of_length (Some count) = if nat_lt longest_body count then Faulty TooLarge else Body count
 
 -- what follows a head where these are the values of its Content-Length fields
 abbrev pub framing_of_lengths : Method → List (List ℕ) → Framing
@@ -80,11 +92,12 @@ pub record Ask : Type 0 where
   pub body : List ℕ
   pub is_last : Bool
 
--- The bytes begin with this head and then this comes. A head has at most 8,192 bytes and 32 fields.
+-- The bytes begin with this head and then this comes. A head has no more bytes and fields than a
+-- head may have.
 pub record HasHead (bytes : List ℕ) (head : RequestHead) (tail : List ℕ) : Type 0 where
   pub reads : ReadsRequest bytes head tail
-  pub short : length (print_request head) ≤ 8192
-  pub few : length head.fields ≤ 32
+  pub short : length (print_request head) ≤ longest_head
+  pub few : length head.fields ≤ most_fields
 
 -- The bytes begin with a whole request, which asks this, and then the rest comes.
 pub record HasAsk (bytes : List ℕ) (ask : Ask) (rest : List ℕ) : Type 0 where
@@ -97,11 +110,12 @@ pub record HasAsk (bytes : List ℕ) (ask : Ask) (rest : List ℕ) : Type 0 wher
   pub last : ask.is_last ≡ list_any is_close (fields_of head)
   pub tail_is : tail ≡ ask.body ++ rest
 
--- Whatever bytes follow, there is no head of at most 32 fields at the front, or none in the first
--- 8,192 bytes.
+-- Whatever bytes follow, there is no head of so few fields at the front, or none in as
+-- many bytes as a head may have.
 abbrev pub IsBadHead : List ℕ → Type 0
 IsBadHead bytes =
-    RequestOverflows 32 bytes ⊎ ((8192 ≤ length bytes) × HasNoRequest (take 8192 bytes))
+    RequestOverflows most_fields bytes ⊎ ((longest_head ≤ length bytes)
+    × HasNoRequest (take longest_head bytes))
 
 -- The bytes begin with a request that is refused for this reason.
 abbrev pub IsFaulty : List ℕ → HeadFault → Type 0
@@ -112,7 +126,7 @@ IsFaulty bytes why =
 
 -- The bytes end before a whole head.
 pub record EndsInHead (bytes : List ℕ) : Type 0 where
-  pub short : length bytes < 8192
+  pub short : length bytes < longest_head
   pub none : HasNoRequest bytes
   pub goes_on : MayBecomeRequest bytes
 
@@ -145,7 +159,7 @@ ask_at buf parts =
 -- so many in all, it ends before a whole request, whatever they are.
 abbrev pub IsLook : List ℕ → Look → Type 0
 IsLook buf (look.More count) =
-    (length buf < count) × (count ≤ 73728)
+    (length buf < count) × (count ≤ longest_head + longest_body)
     × ((more : List ℕ) → length (buf ++ more) < count → StopsShort (buf ++ more))
 IsLook buf (look.Faulty why) = IsFaulty buf why
 IsLook buf (look.Whole parts) =

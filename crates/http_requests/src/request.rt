@@ -1,5 +1,6 @@
 //! The request at the front of a buffer.
 ghost use Rattle.std.specs.Prelude.{◌≡◌, ◌≤◌, All, length, map, take, codes};
+ghost use Rattle.http_requests.specs.Requests.{longest_head, most_fields};
 ghost use Rattle.httparse.specs.Spans.{IsHeaderWithin, header_bytes, IsRequestWithin, IsRequestOf};
 ghost use Rattle.http_requests.specs.Fields.{values_named};
 ghost use Rattle.http_requests.specs.Inner.Finding.{IsSmall};
@@ -156,8 +157,8 @@ fn framing_at(method: Option<Method>, minor: u8, buf: &[u8], headers: &[HeaderSp
 
 /// What a buffer asks for whose front has this head.
 fn whole(front: &[u8], buf: &[u8], head: &RequestSpans, headers: &[HeaderSpan]) -> Look
-    requires front { front.now ≡ take 8192 buf.now }
-    requires room { length headers.now ≤ 32 }
+    requires front { front.now ≡ take longest_head buf.now }
+    requires room { length headers.now ≤ most_fields }
     requires within { IsRequestWithin front.now headers.now head.now }
     requires head { IsRequestOf front.now headers.now head.now }
     ensures { IsLook buf.now result }
@@ -188,7 +189,7 @@ fn whole(front: &[u8], buf: &[u8], head: &RequestSpans, headers: &[HeaderSpan]) 
 /// The part of a buffer that a head may lie in. What is refused must not depend on how much came
 /// behind it.
 fn head_room(buf: &[u8]) -> &[u8]
-    ensures { result.now ≡ take 8192 buf.now }
+    ensures { result.now ≡ take longest_head buf.now }
 {
     if buf.len() > MAX_HEAD {
         &buf[..MAX_HEAD]

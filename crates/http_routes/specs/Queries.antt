@@ -1,5 +1,6 @@
 -- What queries say.
 use Rattle.std.specs.Prelude.{◌≡◌, ◌+◌, ℕ, List, [], ◌∷◌, IsTrue, Some, None, codes, length, map}
+use Rattle.ring_words.specs.Limits.{greatest_long}
 use Rattle.std.specs.Prelude.{if◌then◌else◌}
 use Rattle.std.specs.List.{filter_map}
 use Rattle.std.specs.Option.{option_to_list}
@@ -27,7 +28,7 @@ pub record IsImportQuery (pairs : List (List ℕ × List ℕ)) (key : Key) : Typ
   pub caller_once : values_of_pairs (codes "caller") pairs ≡ key.caller ∷ []
   pub caller_named : IsTrue (is_label key.caller)
   pub number_once : values_of_pairs (codes "number") pairs ≡ number ∷ []
-  pub number_spelled : SpellsNumber number 0 4294967295 key.number
+  pub number_spelled : SpellsNumber number 0 greatest_long key.number
   pub nothing_else : length pairs ≡ 2
 
 -- The query of a path: an account, a container and an object at most once each, and nothing else.

@@ -1,5 +1,6 @@
 -- What a target asks for, and why it may ask for nothing.
 use Rattle.std.specs.Prelude.{◌≡◌, ◌≢◌, ◌⊎◌, ◌==◌, ◌+◌, ℕ, List, [], ⊤, IsTrue, true, drop, length}
+use Rattle.ring_words.specs.Limits.{greatest_long}
 use Rattle.std.specs.Prelude.{position, take, unwrap_or}
 use Rattle.http_answers.specs.declared.faults.RouteFault.TheVariants.{NoRoute, WrongMethod}
 use Rattle.http_requests.specs.declared.request.Method.{Method}
@@ -40,7 +41,7 @@ ReadsRing path query ring (Nodes names) =
     (is_path names ≡ true)
 ReadsRing path query ring (Text version) =
     (segment : List ℕ) × HasRoute path endpoint.Text ring segment ×
-    SpellsNumber segment 0 4294967295 version
+    SpellsNumber segment 0 greatest_long version
 
 -- The target asks for this by this method. The names of rings and the numbers are of their forms.
 abbrev pub TargetAsks : List ℕ → Method → TargetAsk → Type 0
@@ -60,7 +61,7 @@ abbrev pub IsMalformed : Endpoint → List ℕ → List ℕ → List ℕ → Typ
 IsMalformed at ring version query =
     (IsTrue (is_label ring) → ⊥)
     ⊎ ((at ≡ endpoint.Import) × ((key : Key) → IsImportQuery (pairs_of query) key → ⊥))
-    ⊎ ((at ≡ endpoint.Text) × ((number : ℕ) → SpellsNumber version 0 4294967295 number → ⊥))
+    ⊎ ((at ≡ endpoint.Text) × ((number : ℕ) → SpellsNumber version 0 greatest_long number → ⊥))
 
 -- The target asks by this method for nothing, for this reason. Want of memory says nothing.
 abbrev pub TargetFails : List ℕ → Method → TargetFault → Type 0

@@ -15,7 +15,7 @@ use Rattle.byte_streams.specs.declared.fault.StreamFault.TheVariants.{WriteFaile
 use Rattle.http_api.specs.Served.{ServesHttp}
 use Rattle.http_sockets.proofs.Joined.{serves_none, serves_on}
 use Rattle.http_sockets.specs.Connections.{AnswersFirst, Connection, ConnectionsServed, Front}
-use Rattle.http_sockets.specs.Connections.{ServedAtMost, ServedUpTo, items_of, texts_of}
+use Rattle.http_sockets.specs.Connections.{ServedAtMost, ServedUpTo, items_of, answers_of}
 use Rattle.http_sockets.specs.Inner.One.{OneServed}
 use Rattle.http_sockets.specs.declared.fault.ServeFault.{ServeFault}
 use Rattle.http_stream.specs.Serving.{RequestsServed, RequestsStopped}
@@ -156,22 +156,23 @@ module _ {K C : Type 0} (content : K → Content State Command Reply) (sound : K
       one.connection.items =
       flat_map-append (λ (c : Connection). c.items) all.connections last ∙
       ap (λ (xs : List Item). items_of all.connections ++ xs) (append-nil one.connection.items) in
-      let texts : texts_of (all.connections ++ last) ≡ texts_of all.connections ++
+      let texts : answers_of (all.connections ++ last) ≡ answers_of all.connections ++
       one.connection.texts =
       flat_map-append (λ (c : Connection). c.texts) all.connections last ∙
-      ap (λ (xs : List (List ℕ)). texts_of all.connections ++ xs)
+      ap (λ (xs : List (List ℕ)). answers_of all.connections ++ xs)
       (append-nil one.connection.texts) in
       let both : Serves old (items_of all.connections ++ one.connection.items)
-      (texts_of all.connections ++ one.connection.texts) new =
+      (answers_of all.connections ++ one.connection.texts) new =
       serves_on steps_of content sound limit faults (λ (front : At). front.1) _ old
-      (items_of all.connections) (texts_of all.connections) mid one.connection.items
+      (items_of all.connections) (answers_of all.connections) mid one.connection.items
       one.connection.texts new all.serves one.serves in
       record {
         connections = all.connections ++ last;
         count_is = length-append all.connections last ∙ ap (λ (n : ℕ). n + 1) all.count_is;
         first = All-append AnswersFirst all.connections last all.first
             (All-cons AnswersFirst one.connection [] one.first (All-nil AnswersFirst));
-        serves = subst (λ (xs : List Item). Serves old xs (texts_of (all.connections ++ last)) new)
+        serves = subst (λ (xs : List Item). Serves old xs (answers_of (all.connections ++ last))
+            new)
             (sym items)
             (subst (λ (ts : List (List ℕ)). Serves old
             (items_of all.connections ++ one.connection.items) ts new) (sym texts) both);

@@ -15,13 +15,17 @@ pub record Connection : Type 0 where
   pub items : List Item
   pub texts : List (List ℕ)
 
+-- how many bytes a connection of this machine with itself carries at most each way
+abbrev pub most_looped : ℕ
+most_looped = 32768
+
 -- the requests that were answered, of one connection after another
 abbrev pub items_of : List Connection → List Item
 items_of connections = flat_map (λ connection. connection.items) connections
 
 -- the answers, of one connection after another
-abbrev pub texts_of : List Connection → List (List ℕ)
-texts_of connections = flat_map (λ connection. connection.texts) connections
+abbrev pub answers_of : List Connection → List (List ℕ)
+answers_of connections = flat_map (λ connection. connection.texts) connections
 
 -- What was answered are the first requests of what came.
 abbrev pub AnswersFirst : Connection → Type 0
@@ -41,7 +45,7 @@ module _ {K C : Type 0} (content : K → Content State Command Reply) (sound : K
     pub count_is : length connections ≡ count
     pub first : All AnswersFirst connections
     pub serves : ServesHttp content sound limit faults tells prefix suffix old
-        (items_of connections) (texts_of connections) new
+        (items_of connections) (answers_of connections) new
 
   -- So many connections were served, or fewer.
   abbrev pub ServedAtMost : ℕ → Front → Front → Type 0

@@ -13,6 +13,6 @@ mod serving;
 
 pub use fault::ServeFault;
 pub use hours::HourClock;
-pub use looping::loop_over;
+pub use looping::{MOST_LOOPED, loop_over};
 pub use server::Server;
 pub use serving::serve_connections;

@@ -4,7 +4,7 @@ ghost use Rattle.std.specs.Io.KnownBytes.{Appends};
 ghost use Rattle.builder.specs.Safety.{IsSafeRun};
 ghost use Rattle.byte_streams.specs.Counted.{Counts, IsFlushed, one_more, write_faults, writer_of};
 ghost use Rattle.byte_streams.specs.declared.fault.StreamFault.TheVariants.{WriteFailed};
-ghost use Rattle.http_sockets.specs.Connections.{ConnectionsServed, ServedAtMost};
+ghost use Rattle.http_sockets.specs.Connections.{ConnectionsServed, ServedAtMost, most_looped};
 ghost use Rattle.http_sockets.specs.Inner.One.{OneServed};
 ghost use Rattle.http_sockets.specs.declared.fault.ServeFault.TheVariants.{NetFailed, Stream};
 
@@ -21,8 +21,8 @@ use std::net::{Net, OpenStream, Shutdown, SocketAddr};
 use std::time;
 use timed_streams::{CappedWriter, Pace, Patience, TimedReader, TimedWriter, fill_within};
 
-/// How many bytes of answers there may be.
-const MOST_ANSWERED: usize = 32768;
+/// How many bytes the connection carries at most each way.
+pub const MOST_LOOPED: usize = 32768;
 
 /// How many other peers may come before the program's own.
 const MOST_STRANGERS: u32 = 128;
@@ -105,7 +105,7 @@ fn serve_capped<
 {
     let pace = Pace::new(time, Patience::usual());
     let reader = TimedReader::new(stream, &pace);
-    let writer = CappedWriter::new(TimedWriter::new(twin, &pace), MOST_ANSWERED);
+    let writer = CappedWriter::new(TimedWriter::new(twin, &pace), MOST_LOOPED);
     let (result, stream) = converse(alloc, reader, writer, clock, book, prefix, suffix);
     close(stream, time, Patience::usual());
     result
@@ -152,8 +152,8 @@ fn answer_into<R: AllocGlobal + Net + time::Clock, C: Clock, K: Keeper<RingMachi
 /// Writes all of a text of 32768 bytes at most, and flushes the writer. Where that fails, a
 /// beginning of it was written.
 fn write_few<W: Write>(writer: &mut CountedWriter<W>, text: &[u8]) -> Result<(), StreamFault>
-    requires { length text.now ≤ 32768 }
-    ensures few { (answers : List ℕ) × (length answers ≤ 32768)
+    requires { length text.now ≤ most_looped }
+    ensures few { (answers : List ℕ) × (length answers ≤ most_looped)
         × Appends (W.contents (writer_of writer.old)) (W.contents (writer_of writer.new)) answers }
     ensures fault { IfErr result (λ fault. fault ≡ WriteFailed) }
     ensures cause { Counts (write_faults writer.old) (write_faults writer.new) result }
@@ -188,7 +188,7 @@ pub fn loop_over<R: AllocGlobal + Net + time::Clock, W: Write, C: Clock, K: Keep
         suffix.now 1 (clock.old, book.old) (clock.new, book.new))
         (λ _. ServedAtMost K.content K.sound K.limit K.fault_count C.tells prefix.now suffix.now 1
         (clock.old, book.old) (clock.new, book.new)) }
-    ensures few { (answers : List ℕ) × (length answers ≤ 32768)
+    ensures few { (answers : List ℕ) × (length answers ≤ most_looped)
         × Appends (W.contents (writer_of writer.old)) (W.contents (writer_of writer.new)) answers }
     ensures cause { MatchResult result (λ _. write_faults writer.new ≡ write_faults writer.old)
         (λ fault. (write_faults writer.new ≡ write_faults writer.old)
@@ -198,7 +198,7 @@ pub fn loop_over<R: AllocGlobal + Net + time::Clock, W: Write, C: Clock, K: Keep
     ensures safe { K.sound book.new.keeper → IsSafeRun book.old.machine.limits
         (K.content book.old.keeper) (K.content book.new.keeper) }
 {
-    let Ok(mut room) = vec![in rt.alloc(); 0u8; MOST_ANSWERED] else {
+    let Ok(mut room) = vec![in rt.alloc(); 0u8; MOST_LOOPED] else {
         return Err(ServeFault::Stream(StreamFault::NoMemory));
     };
     let (count, result) = answer_into(rt, input, &mut room, clock, book, prefix, suffix)?;

@@ -1,16 +1,18 @@
 //! The bytes that were read and are not answered yet.
 ghost use Rattle.std.specs.Prelude.{◌≡◌, ◌≤◌, ◌+◌, ◌++◌, ℕ, List, [], length, drop, IfOk, IsTrue};
+ghost use Rattle.http_stream.specs.Inner.Midstream.{buffer_room};
 ghost use Rattle.std.specs.Prelude.{◌↔◌, ◌<◌, vec_len, vec_capacity};
 ghost use Rattle.httparse.specs.Spans.{IsWithin, span_bytes};
 ghost use Rattle.http_requests.specs.Requests.{IsLook};
 
-use http_requests::{Look, look_at};
+use byte_streams::CHUNK;
+use http_requests::{Look, MAX_BODY, MAX_HEAD, look_at};
 use httparse::spans::Span;
 use std::alloc::{AllocError, Global};
 use std::marker::Model;
 
 /// How many bytes there is room for: a request of the greatest length, and one more read.
-const ROOM: usize = 139264;
+const ROOM: usize = MAX_HEAD + MAX_BODY + CHUNK;
 
 /// The bytes that were read and are not answered yet. Contracts see them as a list.
 #[derive(Drop)]
@@ -26,8 +28,8 @@ impl Model for Buffer {
     ghost view = { λ buffer. drop buffer.start buffer.bytes.items };
 
     ghost invariant = { λ buffer. (buffer.start ≤ vec_len buffer.bytes) ×
-        (vec_len buffer.bytes ≤ 139264)
-        × (139264 ≤ vec_capacity buffer.bytes) };
+        (vec_len buffer.bytes ≤ buffer_room)
+        × (buffer_room ≤ vec_capacity buffer.bytes) };
 }
 
 impl Buffer {
@@ -73,7 +75,7 @@ impl Buffer {
 
     /// Adds what was read.
     pub fn add(&mut self, more: &[u8])
-        requires { length self.old + length more.now ≤ 139264 }
+        requires { length self.old + length more.now ≤ buffer_room }
         ensures { self.new ≡ self.old ++ more.now }
     {
         drop(self.bytes.drain(..self.start));

@@ -1,5 +1,7 @@
 //! The requests of a stream are answered.
 ghost use Rattle.std.specs.Prelude.{◌≡◌, ◌≤◌, ◌<◌, ◌++◌, ℕ, List, [], Option, ◌+◌, ◌-◌, ◌^◌, min};
+ghost use Rattle.http_requests.specs.Requests.{longest_body};
+ghost use Rattle.byte_streams.specs.Pieces.{chunk_size};
 ghost use Rattle.std.specs.Prelude.{IfSome, OnOk, IfOk, IfErr, MatchOption, MatchResult, true};
 ghost use Rattle.std.specs.Prelude.{false, length, drop, vec_len};
 ghost use Rattle.std.specs.Io.KnownBytes.{Appends, Consumes, IsAtEnd};
@@ -12,7 +14,7 @@ ghost use Rattle.byte_streams.specs.declared.fault.StreamFault.TheVariants.{Read
 ghost use Rattle.byte_streams.specs.declared.fault.StreamFault.TheVariants.{WriteFailed};
 ghost use Rattle.httparse.specs.Spans.{IsWithin};
 ghost use Rattle.http_answers.specs.Answers.{refusal_answer};
-ghost use Rattle.http_requests.specs.Requests.{HasAsk, IsFaulty, IsLook, ask_at};
+ghost use Rattle.http_requests.specs.Requests.{HasAsk, IsFaulty, IsLook, ask_at, longest_head};
 ghost use Rattle.http_requests.specs.declared.request.Look.TheVariants.{More};
 ghost use Rattle.http_stream.specs.Streams.{Item, Calls};
 ghost use Rattle.http_stream.specs.Answers.{ItemAnswered};
@@ -30,7 +32,7 @@ use std::io::{Read, Write};
 
 /// Where the server is in the stream.
 #[derive(Drop)]
-struct Progress {
+struct StreamProgress {
     buffer: Buffer,
     outbox: Outbox,
     /// How many requests were answered, 4294967295 for more.
@@ -68,13 +70,13 @@ fn answer_request<W: Write, H: Service>(
     }
 }
 
-impl Progress {
+impl StreamProgress {
     /// Before the first byte, with all its room.
-    fn new(alloc: Global) -> Result<Progress, AllocError>
+    fn new(alloc: Global) -> Result<StreamProgress, AllocError>
         ensures { IfOk result (λ progress. (progress.buffer ≡ []) × (progress.outbox ≡ [])
             × (progress.answered ≡ 0)) }
     {
-        Ok(Progress {
+        Ok(StreamProgress {
             buffer: Buffer::new(alloc)?,
             outbox: Outbox::new(alloc)?,
             answered: 0,
@@ -196,8 +198,8 @@ impl Progress {
         chunk: &mut [u8],
     ) -> Result<bool, StreamFault>
         requires short { length self.old.buffer < wanted }
-        requires most { wanted ≤ 73728 }
-        requires room { length chunk.old ≡ 65536 }
+        requires most { wanted ≤ (longest_head + longest_body) }
+        requires room { length chunk.old ≡ chunk_size }
         ensures count { self.new.answered ≡ self.old.answered }
         ensures read { (more : List ℕ)
             × Consumes (R.remaining (reader_of reader.old)) (R.remaining (reader_of reader.new)) more
@@ -259,7 +261,7 @@ pub fn serve_requests<R: Read, W: Write, H: Service>(
     ensures cause { FailsWithCause reader.old reader.new writer.old writer.new result }
     ensures flushed { LeavesFlushed writer.new result }
 {
-    let mut progress = Progress::new(alloc)?;
+    let mut progress = StreamProgress::new(alloc)?;
     let mut chunk = new_chunk(alloc)?;
     while let Some(wanted) = progress.answer_buffered(service, clock, state, writer)? {
         if !progress.read_up_to(wanted, reader, writer, &mut chunk)? {

@@ -3,10 +3,11 @@ use Rattle.std.proofs.Common.{◌≡◌, ◌≢◌, List, Option, ℕ, subst}
 use Rattle.csv_import.specs.Rows.{IsWrong, records_of}
 use Rattle.csv_import.specs.declared.fault.CsvFault.{CsvFault}
 use Rattle.csv_import.specs.declared.fault.CsvFault.TheVariants as csv
-use Rattle.keeper_programs.specs.Tables.{IsBadTable, IsShort}
+use Rattle.keeper_programs.specs.Tables.{IsBadTable, IsShort, longest_table}
 use Rattle.keeper_programs.specs.declared.table.TableFault.TheVariants.{Csv}
 
-wrong_text : (known : Option (List ℕ)) (text : List ℕ) (why : CsvFault) → IsShort 65536 known text →
+wrong_text : (known : Option (List ℕ)) (text : List ℕ) (why : CsvFault) →
+    IsShort longest_table known text →
     (why ≢ csv.ReadFailed → IsWrong (records_of text) why) → IsBadTable known (Csv why)
 wrong_text known text csv.BadHeader short wrong = (text, short, wrong (λ e. cc))
 wrong_text known text (csv.BadRow row) short wrong = (text, short, wrong (λ e. cc))
@@ -16,7 +17,7 @@ wrong_text known text csv.NoMemory short wrong = tt
 
 -- what is wrong with the text that was given
 pub bad_table : (known : Option (List ℕ)) (text given : List ℕ) (why : CsvFault) → given ≡ text →
-    IsShort 65536 known text → (why ≢ csv.ReadFailed → IsWrong (records_of given) why)
+    IsShort longest_table known text → (why ≢ csv.ReadFailed → IsWrong (records_of given) why)
     → IsBadTable known (Csv why)
 bad_table known text given why is short wrong =
     wrong_text known text why short

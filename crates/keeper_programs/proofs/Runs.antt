@@ -15,7 +15,7 @@ use Rattle.keeper_programs.specs.Running.{AnswersLines, StopsLines}
 use Rattle.keeper_programs.specs.Showing.{FailsToShow, IsAsked, Shows}
 use Rattle.keeper_programs.specs.declared.faults.ProgramFault.{ProgramFault}
 use Rattle.keeper_programs.specs.declared.importing.ImportAsk.{ImportAsk}
-use Rattle.keeper_programs.specs.declared.showing.Question.{Question}
+use Rattle.keeper_programs.specs.declared.showing.FileQuestion.{FileQuestion}
 
 -- what three facts on a result make where it is well
 pub well : {A E : Type 0} (result : Result A E) (Served : A → Type 0) (none flushed : Type 0)
@@ -99,7 +99,7 @@ module _ {K : Type 0} (g : Keeping K) (Begins Early Ends : K → Type 0)
   }
 
   module _ {W : Type 0} (contents : W → Option (List ℕ)) (writer later : CountedWriter W)
-      (question : Question) where
+      (question : FileQuestion) where
     pub shows : Shows g Begins Ends contents writer later question
         → Shows g Early IsAny contents writer later question
     shows s = (s.0, asked _ s.1, s.2, s.3, s.4)

@@ -12,20 +12,20 @@ use Rattle.keeper_programs.specs.declared.faults.ProgramFault.{ProgramFault}
 use Rattle.keeper_programs.specs.declared.faults.ProgramFault.TheVariants as fault
 
 -- the name of a fault
-abbrev pub fault_name : ProgramFault → List ℕ
-fault_name fault.NoRing = codes "NoRing"
-fault_name fault.NotAssigned = codes "NotAssigned"
-fault_name fault.Unreadable = codes "Unreadable"
-fault_name fault.NoMemory = codes "NoMemory"
-fault_name fault.StoreFault = codes "StoreFault"
-fault_name fault.BadStore = codes "BadStore"
-fault_name fault.NoFile = codes "NoFile"
-fault_name fault.NetFailed = codes "NetFailed"
-fault_name fault.TooLong = codes "TooLong"
-fault_name fault.BadPath = codes "BadPath"
-fault_name fault.NoVersion = codes "NoVersion"
-fault_name fault.ReadFailed = codes "ReadFailed"
-fault_name fault.WriteFailed = codes "WriteFailed"
+abbrev pub program_fault_name : ProgramFault → List ℕ
+program_fault_name fault.NoRing = codes "NoRing"
+program_fault_name fault.NotAssigned = codes "NotAssigned"
+program_fault_name fault.Unreadable = codes "Unreadable"
+program_fault_name fault.NoMemory = codes "NoMemory"
+program_fault_name fault.StoreFault = codes "StoreFault"
+program_fault_name fault.BadStore = codes "BadStore"
+program_fault_name fault.NoFile = codes "NoFile"
+program_fault_name fault.NetFailed = codes "NetFailed"
+program_fault_name fault.TooLong = codes "TooLong"
+program_fault_name fault.BadPath = codes "BadPath"
+program_fault_name fault.NoVersion = codes "NoVersion"
+program_fault_name fault.ReadFailed = codes "ReadFailed"
+program_fault_name fault.WriteFailed = codes "WriteFailed"
 
 -- the number of a fault
 abbrev pub fault_number : ProgramFault → ℕ
@@ -45,7 +45,8 @@ fault_number fault.WriteFailed = 51
 
 -- the line that tells a fault: its name and its number
 abbrev pub fault_line : ProgramFault → List ℕ
-fault_line why = codes "ringd: " ++ fault_name why ++ 32 ∷ decimal (fault_number why) ++ 10 ∷ []
+fault_line why = codes "ringd: " ++ program_fault_name why ++ 32
+    ∷ decimal (fault_number why) ++ 10 ∷ []
 
 -- what the fault of a stream is told as
 abbrev pub stream_fault : StreamFault → ProgramFault

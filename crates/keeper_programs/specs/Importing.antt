@@ -1,5 +1,6 @@
 -- What the program `import` does.
 use Rattle.std.specs.Prelude.{◌≡◌, ◌⊎◌, ◌++◌, ◌∷◌, [], ℕ, List, Option, Result}
+use Rattle.ring_words.specs.Limits.{greatest_long}
 use Rattle.std.specs.Io.KnownBytes.{Appends}
 use Rattle.byte_streams.specs.Counted.{IsFlushed, one_more, write_faults, writer_of}
 use Rattle.byte_streams.specs.Writing.{WritesBeginning}
@@ -22,7 +23,7 @@ use Rattle.ring_words.specs.declared.command.Act.TheVariants as act
 use Rattle.ring_words.specs.declared.command.Reply.{Reply}
 use Rattle.ring_words.specs.declared.device.Row.{Row}
 use Rattle.keeper_programs.specs.Begun.{IsBegun, IsStoreFault, Keeping}
-use Rattle.keeper_programs.specs.Tables.{IsBadTable, IsLong, ReadsTable}
+use Rattle.keeper_programs.specs.Tables.{IsBadTable, IsLong, ReadsTable, longest_table}
 use Rattle.keeper_programs.specs.declared.faults.ProgramFault.{ProgramFault}
 use Rattle.keeper_programs.specs.declared.faults.ProgramFault.TheVariants as fault
 use Rattle.keeper_programs.specs.declared.importing.ImportAsk.{ImportAsk}
@@ -32,7 +33,7 @@ use Rattle.keeper_programs.specs.declared.table.TableFault.TheVariants.{Csv}
 pub record AsksImport (name caller_word number_word : List ℕ) (ask : ImportAsk) : Type 0 where
   pub ring : SpellsName is_label name ask.ring
   pub caller : SpellsName is_label caller_word ask.key.caller
-  pub number : SpellsNumber number_word 0 4294967295 ask.key.number
+  pub number : SpellsNumber number_word 0 greatest_long ask.key.number
 
 -- an answer as it is printed: its line, and a line feed
 abbrev pub told_line : Told → List ℕ
@@ -90,7 +91,7 @@ module _ {K : Type 0} (g : Keeping K) (Begins Ends : K → Type 0) where
     -- writer failed and took a beginning of what the import is told. Else it wasn't touched.
     abbrev pub FailsToImport : Option (List ℕ) → ImportAsk → ℕ → ProgramFault → Type 0
     FailsToImport known ask hour why =
-        ((why ≡ fault.TooLong) × IsLong 65536 known × (later ≡ writer))
+        ((why ≡ fault.TooLong) × IsLong longest_table known × (later ≡ writer))
         ⊎ (IsStoreFault why × (later ≡ writer))
         ⊎ ((why ≡ fault.WriteFailed) × ((t : Told) × TellsImport known ask hour t
         × FailsTold contents writer later t))

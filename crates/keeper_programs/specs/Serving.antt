@@ -8,7 +8,7 @@ use Rattle.builder.specs.declared.machine.RingMachine.{RingMachine}
 use Rattle.byte_streams.specs.Counted.{IsFlushed, one_more, write_faults, writer_of}
 use Rattle.byte_streams.specs.declared.counted.CountedWriter.{CountedWriter}
 use Rattle.byte_streams.specs.declared.fault.StreamFault.TheVariants.{WriteFailed}
-use Rattle.http_sockets.specs.Connections.{ConnectionsServed, ServedAtMost}
+use Rattle.http_sockets.specs.Connections.{ConnectionsServed, ServedAtMost, most_looped}
 use Rattle.http_sockets.specs.Hours.{TellsGiven, given_hour, told_hour}
 use Rattle.http_sockets.specs.declared.fault.ServeFault.{ServeFault}
 use Rattle.http_sockets.specs.declared.fault.ServeFault.TheVariants.{Stream}
@@ -34,10 +34,10 @@ pub record IsSet (given : Option ℕ) (clock : MachineClock) : Type 0 where
 abbrev pub Service : Type 0 → Type 0
 Service K = MachineClock × Parts RingMachine K
 
--- The writer took answers, of at most 32,768 bytes.
+-- The writer took answers, of no more bytes than a connection of this machine with itself carries.
 abbrev pub TakesFew : {W : Type 0} → (W → Option (List ℕ)) → CountedWriter W → CountedWriter W →
     Type 0
-TakesFew contents writer later = (answers : List ℕ) × (length answers ≤ 32768)
+TakesFew contents writer later = (answers : List ℕ) × (length answers ≤ most_looped)
     × Appends (contents (writer_of writer)) (contents (writer_of later)) answers
 
 -- A book was opened over a keeper that begins so, and leaves it so, and a clock was given this hour,
@@ -91,11 +91,12 @@ module _ {K : Type 0} (g : Keeping K) (Begins Ends : K → Type 0) (given : Opti
         ⊎ ((cause : ServeFault) × (why ≡ serve_fault cause) × StopsLoop cause)
         ⊎ ((why ≡ fault.StoreFault) × LoopsOnce)
 
-    -- A reader that has these bytes left, where they are known, gave an input of at most 32,768
-    -- bytes, and one connection was served.
+    -- A reader that has these bytes left, where they are known, gave an input of no more
+    -- than such a connection carries, and one connection was served.
     abbrev pub LoopsInput : Option (List ℕ) → Type 0
-    LoopsInput known = (input : List ℕ) × IsShort 32768 known input × LoopsOnce
+    LoopsInput known = (input : List ℕ) × IsShort most_looped known input × LoopsOnce
 
     -- This fault ended it: the input wasn't read, and the writer wasn't touched; or one of the rest.
     abbrev pub FailsToLoopInput : Option (List ℕ) → ProgramFault → Type 0
-    FailsToLoopInput known why = (IsUnread 32768 known why × (later ≡ writer)) ⊎ FailsToLoop why
+    FailsToLoopInput known why = (IsUnread most_looped known why × (later ≡ writer))
+        ⊎ FailsToLoop why

@@ -1,5 +1,6 @@
 -- What the programs `table`, `nodes` and `export` show.
 use Rattle.std.specs.Prelude.{◌≡◌, ◌≢◌, ◌⊎◌, ⊤, ℕ, List, [], ◌∷◌, ◌++◌, Option, Some, None, true}
+use Rattle.ring_words.specs.Limits.{greatest_long}
 use Rattle.std.specs.Prelude.{false}
 use Rattle.std.specs.Borrow.{Bor}
 use Rattle.std.specs.Option.{option_map}
@@ -28,7 +29,7 @@ use Rattle.ring_words.specs.Texts.{is_label}
 use Rattle.keeper_programs.specs.Begun.{IsStoreFault, Keeping}
 use Rattle.keeper_programs.specs.declared.faults.ProgramFault.{ProgramFault}
 use Rattle.keeper_programs.specs.declared.faults.ProgramFault.TheVariants as fault
-use Rattle.keeper_programs.specs.declared.showing.Question.{Question}
+use Rattle.keeper_programs.specs.declared.showing.FileQuestion.{FileQuestion}
 use Rattle.keeper_programs.specs.declared.showing.View.{View}
 use Rattle.keeper_programs.specs.declared.showing.View.TheVariants.{Tables, Nodes, Published}
 
@@ -40,27 +41,27 @@ names_given account container object = names_of account.now (option_map (λ t. t
     (option_map (λ t. t.now) object)
 
 -- What `table` asks of the ring of this name.
-pub record AsksTables (name : List ℕ) (question : Question) : Type 0 where
+pub record AsksTables (name : List ℕ) (question : FileQuestion) : Type 0 where
   pub ring : SpellsName is_label name question.ring
   pub view : question.view ≡ Tables
 
 -- What `export` asks of the ring of this name, in a format.
-pub record AsksPublished (name word : List ℕ) (written : Format) (question : Question) : Type 0
+pub record AsksPublished (name word : List ℕ) (written : Format) (question : FileQuestion) : Type 0
   where
     pub ring : SpellsName is_label name question.ring
     pub number : ℕ
-    pub version : SpellsNumber word 0 4294967295 number
+    pub version : SpellsNumber word 0 greatest_long number
     pub view : question.view ≡ Published number written
 
 -- What `nodes` asks of the ring of this name.
-pub record AsksNodes (name : List ℕ) (path : PathNames) (names : HashNames) (question : Question) :
-    Type 0 where
+pub record AsksNodes (name : List ℕ) (path : PathNames) (names : HashNames)
+    (question : FileQuestion) : Type 0 where
   pub ring : SpellsName is_label name question.ring
   pub is_one : is_path path ≡ true
   pub view : question.view ≡ Nodes path names
 
 -- The task is to show this.
-abbrev pub AsksShown : Task → Question → Type 0
+abbrev pub AsksShown : Task → FileQuestion → Type 0
 AsksShown (task.Table file ring) question = AsksTables ring.now question
 AsksShown (task.Export file ring version written) question = AsksPublished ring.now version.now
     written question
@@ -74,7 +75,7 @@ IsNoName word = (name : List ℕ) → SpellsName is_label word name → ⊥
 
 -- No number of 32 bits is spelt so.
 abbrev pub IsNoNumber : List ℕ → Type 0
-IsNoNumber word = (number : ℕ) → SpellsNumber word 0 4294967295 number → ⊥
+IsNoNumber word = (number : ℕ) → SpellsNumber word 0 greatest_long number → ⊥
 
 -- The fault tells a word that isn't of its form, or names that make no path. Want of memory says
 -- nothing.
@@ -85,13 +86,13 @@ IsFormFault malformed pathless fault.NoMemory = ⊤
 IsFormFault malformed pathless _ = ⊥
 
 -- A name or a number of the task isn't of its form.
-abbrev pub IsMalformed : Task → Type 0
-IsMalformed (task.Table file ring) = IsNoName ring.now
-IsMalformed (task.Export file ring version written) = IsNoName ring.now ⊎ IsNoNumber version.now
-IsMalformed (task.Nodes file ring account container object names) = IsNoName ring.now
-IsMalformed (task.Import file ring caller number csv hour) = IsNoName ring.now ⊎ IsNoName caller.now
+abbrev pub HasBadWord : Task → Type 0
+HasBadWord (task.Table file ring) = IsNoName ring.now
+HasBadWord (task.Export file ring version written) = IsNoName ring.now ⊎ IsNoNumber version.now
+HasBadWord (task.Nodes file ring account container object names) = IsNoName ring.now
+HasBadWord (task.Import file ring caller number csv hour) = IsNoName ring.now ⊎ IsNoName caller.now
     ⊎ IsNoNumber number.now
-IsMalformed _ = ⊥
+HasBadWord _ = ⊥
 
 -- The names of the task make no path.
 abbrev pub IsPathless : Task → Type 0
@@ -124,11 +125,11 @@ abbrev pub SpellsNoRing : List ℕ → Type 0
 SpellsNoRing text = (snapshot : SnapshotRecord) → Spells text snapshot → ⊥
 
 -- The text is what is shown of a ring.
-abbrev pub IsShown : View → RingRecord → List ℕ → Type 0
-IsShown Tables ring text = AreTables ring text
-IsShown (Nodes path names) ring text = AreNodesTold ring path names text
-IsShown (Published version format.Text) ring text = published_at ring version ≡ Some text
-IsShown (Published version format.Swift) ring bytes = (text : List ℕ)
+abbrev pub IsTextOfView : View → RingRecord → List ℕ → Type 0
+IsTextOfView Tables ring text = AreTables ring text
+IsTextOfView (Nodes path names) ring text = AreNodesTold ring path names text
+IsTextOfView (Published version format.Text) ring text = published_at ring version ≡ Some text
+IsTextOfView (Published version format.Swift) ring bytes = (text : List ℕ)
     × (published_at ring version ≡ Some text) × IsSwiftFileOf text bytes
 
 -- This is why it isn't shown of a ring. A text of no ring is none that the machine has published.
@@ -140,12 +141,12 @@ IsHidden (Published version format.Swift) ring fault.BadStore = (text : List ℕ
 IsHidden _ ring _ = ⊥
 
 -- The text is what these rings show of what is asked.
-abbrev pub ShowsOf : State → Question → List ℕ → Type 0
+abbrev pub ShowsOf : State → FileQuestion → List ℕ → Type 0
 ShowsOf rings question text = (ring : RingRecord) × (ring_at question.ring rings ≡ Some ring)
-    × IsShown question.view ring text
+    × IsTextOfView question.view ring text
 
 -- This is why these rings show nothing: there is none of the name, or it isn't shown of that one.
-abbrev pub HidesOf : State → Question → ProgramFault → Type 0
+abbrev pub HidesOf : State → FileQuestion → ProgramFault → Type 0
 HidesOf rings question why =
     ((why ≡ fault.NoRing) × (ring_at question.ring rings ≡ None))
     ⊎ ((ring : RingRecord) × (ring_at question.ring rings ≡ Some ring) × IsHidden question.view ring
@@ -166,14 +167,14 @@ module _ {K : Type 0} (g : Keeping K) (Begins Ends : K → Type 0) where
 
   module _ {W : Type 0} (contents : W → Option (List ℕ)) (writer later : CountedWriter W) where
     -- What its rings show of what is asked was written and flushed.
-    abbrev pub Shows : Question → Type 0
+    abbrev pub Shows : FileQuestion → Type 0
     Shows question = (text : List ℕ) × IsAsked (λ rings. ShowsOf rings question text)
         × Appends (contents (writer_of writer)) (contents (writer_of later)) text
         × (write_faults later ≡ write_faults writer) × IsFlushed later
 
     -- This fault came of it: the store wasn't opened or failed, its rings don't show it, or the
     -- writer failed and took a beginning of what they show. Else it wasn't touched.
-    abbrev pub FailsToShow : Question → ProgramFault → Type 0
+    abbrev pub FailsToShow : FileQuestion → ProgramFault → Type 0
     FailsToShow question why =
         (IsStoreFault why × (later ≡ writer))
         ⊎ (IsAsked (λ rings. HidesOf rings question why) × (later ≡ writer))

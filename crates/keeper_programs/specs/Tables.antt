@@ -30,14 +30,20 @@ IsUnread most known fault.ReadFailed = ⊤
 IsUnread most known fault.NoMemory = ⊤
 IsUnread most known _ = ⊥
 
--- The text that a reader gives has at most 65,536 bytes, and tells these rows.
+-- how many bytes a table of rows has at most
+abbrev pub longest_table : ℕ
+longest_table = 65536
+
+-- The text that a reader gives has at most so many bytes, and tells these rows.
 abbrev pub ReadsTable : Option (List ℕ) → List Row → Type 0
-ReadsTable known rows = (text : List ℕ) × IsShort 65536 known text × AreRows (records_of text) rows
+ReadsTable known rows = (text : List ℕ) × IsShort longest_table known text
+    × AreRows (records_of text) rows
 
 -- This is why the text that a reader gives tells no rows. A read that failed and want of memory say
 -- nothing of it.
 abbrev pub IsBadTable : Option (List ℕ) → TableFault → Type 0
-IsBadTable known TooLong = IsLong 65536 known
+IsBadTable known TooLong = IsLong longest_table known
 IsBadTable known (Csv csv.ReadFailed) = ⊤
 IsBadTable known (Csv csv.NoMemory) = ⊤
-IsBadTable known (Csv why) = (text : List ℕ) × IsShort 65536 known text × IsWrong (records_of text) why
+IsBadTable known (Csv why) = (text : List ℕ) × IsShort longest_table known text
+    × IsWrong (records_of text) why

@@ -20,6 +20,6 @@ pub use hours::hour_of;
 pub use importing::{ImportAsk, ask_import, deliver_rows, write_told};
 pub use lines::{MemoryKeeper, answer_lines, run_over_memory};
 pub use serving::{loop_input, serve_port};
-pub use showing::{Question, View, ask_nodes, ask_published, ask_tables, told_bytes};
+pub use showing::{FileQuestion, View, ask_nodes, ask_published, ask_tables, told_bytes};
 pub use stores::Stores;
 pub use table::{TableFault, read_short, read_table};

@@ -5,7 +5,8 @@ ghost use Rattle.ring_model.specs.Ring.{published_at};
 ghost use Rattle.keeper_programs.specs.Begun.{IsStoreFault};
 ghost use Rattle.keeper_programs.specs.Showing.{AreNodesTold, AreTables, AsksNodes, AsksPublished};
 ghost use Rattle.keeper_programs.specs.Showing.{AsksTables, HidesOf, IsAsked, IsFormFault, IsHidden};
-ghost use Rattle.keeper_programs.specs.Showing.{IsNoName, IsNoNumber, IsShown, IsSwiftFileOf, ShowsOf};
+ghost use Rattle.keeper_programs.specs.Showing.{IsNoName, IsNoNumber, IsTextOfView, IsSwiftFileOf};
+ghost use Rattle.keeper_programs.specs.Showing.{ShowsOf};
 ghost use Rattle.keeper_programs.specs.Showing.{SpellsNoRing, names_given};
 ghost use Rattle.keeper_programs.specs.Inner.Forms.{form_fault};
 ghost use Rattle.keeper_programs.specs.declared.faults.ProgramFault.TheVariants.{BadStore, NoMemory};
@@ -37,7 +38,7 @@ pub enum View<'a> {
 
 /// What is shown of which ring.
 #[derive(Drop)]
-pub struct Question<'a> {
+pub struct FileQuestion<'a> {
     pub ring: RingName,
     pub view: View<'a>,
 }
@@ -53,12 +54,12 @@ pub(crate) fn form_fault(fault: SpellingFault) -> ProgramFault
 }
 
 /// What `table` shows.
-pub fn ask_tables<'a>(alloc: Global, ring: &str) -> Result<Question<'a>, ProgramFault>
+pub fn ask_tables<'a>(alloc: Global, ring: &str) -> Result<FileQuestion<'a>, ProgramFault>
     ensures asked { IfOk result (AsksTables ring.now) }
     ensures fault { IfErr result (IsFormFault (IsNoName ring.now) ⊥) }
 {
     match read_name(alloc, ring) {
-        Ok(ring) => Ok(Question {
+        Ok(ring) => Ok(FileQuestion {
             ring,
             view: View::Tables,
         }),
@@ -72,7 +73,7 @@ pub fn ask_published<'a>(
     ring: &str,
     version: &str,
     format: Format,
-) -> Result<Question<'a>, ProgramFault>
+) -> Result<FileQuestion<'a>, ProgramFault>
     ensures asked { IfOk result (AsksPublished ring.now version.now format) }
     ensures fault { IfErr result (IsFormFault (IsNoName ring.now ⊎ IsNoNumber version.now) ⊥) }
 {
@@ -81,7 +82,7 @@ pub fn ask_published<'a>(
         Err(fault) => return Err(form_fault(fault)),
     };
     match read_number(version, u32::MAX) {
-        Ok(version) => Ok(Question {
+        Ok(version) => Ok(FileQuestion {
             ring,
             view: View::Published(version, format),
         }),
@@ -119,7 +120,7 @@ pub fn ask_nodes<'a>(
     container: Option<&str>,
     object: Option<&str>,
     names: HashNames<'a>,
-) -> Result<Question<'a>, ProgramFault>
+) -> Result<FileQuestion<'a>, ProgramFault>
     ensures asked { IfOk result (AsksNodes ring.now
         (names_given account.entry container.entry object.entry) names.entry) }
     ensures fault { IfErr result (IsFormFault (IsNoName ring.now)
@@ -130,7 +131,7 @@ pub fn ask_nodes<'a>(
         Err(fault) => return Err(form_fault(fault)),
     };
     match path_given(alloc, account, container, object) {
-        Ok(path) => Ok(Question {
+        Ok(path) => Ok(FileQuestion {
             ring,
             view: View::Nodes(path, names),
         }),
@@ -204,7 +205,7 @@ fn published_bytes(
     version: u32,
     format: Format,
 ) -> Result<Vec<u8>, ProgramFault>
-    ensures told { IfOk result (λ bytes. IsShown (View.Published version format) ring.now
+    ensures told { IfOk result (λ bytes. IsTextOfView (View.Published version format) ring.now
         bytes.items) }
     ensures fault { IfErr result (λ why. (why ≡ NoMemory) ⊎ IsHidden (View.Published version
         format) ring.now why) }
@@ -221,7 +222,7 @@ fn published_bytes(
 
 /// What is shown of a ring.
 fn view_bytes(alloc: Global, ring: &Ring, view: &View<'_>) -> Result<Vec<u8>, ProgramFault>
-    ensures shown { IfOk result (λ bytes. IsShown view.now ring.now bytes.items) }
+    ensures shown { IfOk result (λ bytes. IsTextOfView view.now ring.now bytes.items) }
     ensures fault { IfErr result (λ why. IsStoreFault why ⊎ IsHidden view.now ring.now why) }
 {
     match view {
@@ -238,7 +239,7 @@ fn view_bytes(alloc: Global, ring: &Ring, view: &View<'_>) -> Result<Vec<u8>, Pr
 fn shown_bytes(
     alloc: Global,
     rings: &Rings,
-    question: &Question<'_>,
+    question: &FileQuestion<'_>,
 ) -> Result<Vec<u8>, ProgramFault>
     ensures shown { IfOk result (λ bytes. ShowsOf rings.now question.now bytes.items) }
     ensures fault { IfErr result (λ why. IsStoreFault why ⊎ HidesOf rings.now question.now why) }
@@ -253,7 +254,7 @@ fn shown_bytes(
 fn kept_bytes<K: Keeper<RingMachine>>(
     alloc: Global,
     keeper: &mut K,
-    question: &Question<'_>,
+    question: &FileQuestion<'_>,
 ) -> Result<Vec<u8>, ProgramFault>
     requires { K.fault_count keeper.old ≡ 0 }
     ensures shown { IfOk result (λ bytes. K.sound keeper.new
@@ -274,7 +275,7 @@ fn kept_bytes<K: Keeper<RingMachine>>(
 pub fn told_bytes<K: Keeper<RingMachine>>(
     alloc: Global,
     keeper: K,
-    question: &Question<'_>,
+    question: &FileQuestion<'_>,
 ) -> (Result<Vec<u8>, ProgramFault>, K)
     requires { K.fault_count keeper ≡ 0 }
     ensures shown { IfOk result.0 (λ bytes. IsAsked K.Keeper (λ k. k ≡ keeper) (λ k. k ≡ result.1)

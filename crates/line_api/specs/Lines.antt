@@ -1,5 +1,6 @@
 -- What `ringd run` answers to its lines.
 use Rattle.std.specs.Prelude.{◌≡◌, ◌⊎◌, ℕ, ◌^◌, ◌<◌, ◌≤◌, ◌++◌, ◌∷◌, [], List, IsTrue, MatchOption}
+use Rattle.line_stream.specs.Lines.{longest_line}
 use Rattle.std.specs.Prelude.{Option, Some, None, Result, Ok, Err, ⊤, codes, decimal, length}
 use Rattle.ring_model.specs.Ring.{RingRecord}
 use Rattle.ring_model.specs.Rings.{ring_at}
@@ -110,10 +111,10 @@ IsLost line (Some (Deliver delivery answer)) = Asks line delivery
 IsLost line (Some (Load answer)) = (question : Question) × AsksTable line question
 
 -- What a line is given where this is the call that it leads to, if any: its answer, or what stands
--- for an answer that found no memory. A line of more than 65536 bytes is unreadable and leads to no
--- call.
+-- for an answer that found no memory. A line of more than `longest_line` bytes is unreadable and
+-- leads to no call.
 abbrev pub Gets : (State → Type 0) → List ℕ → Asked → List ℕ → Type 0
 Gets Finds line asked text =
-    ((length line ≤ 65536) × (IsAnswer Finds line asked text ⊎
+    ((length line ≤ longest_line) × (IsAnswer Finds line asked text ⊎
     (IsLost line asked × (text ≡ answer_line told.NoMemory))))
-    ⊎ ((65536 < length line) × (asked ≡ None) × (text ≡ answer_line told.Unreadable))
+    ⊎ ((longest_line < length line) × (asked ≡ None) × (text ≡ answer_line told.Unreadable))

@@ -7,8 +7,8 @@ use Rattle.std.proofs.lemmas.List.Elements.{All-append}
 use Rattle.std.proofs.lemmas.List.Concat.{flat_map-append}
 use Rattle.std.proofs.lemmas.List.{length_push}
 use Rattle.std.proofs.lemmas.Bool.{cases_eq, leb-true, leb-false, lt-leb, cases_Bool}
-use Rattle.line_stream.specs.Lines.{IsLine, ended, Divides, with_rest, AreLines}
-use Rattle.line_stream.specs.Inner.Midway.{kept_of}
+use Rattle.line_stream.specs.Lines.{IsLine, ended, Divides, with_rest, AreLines, longest_line}
+use Rattle.line_stream.specs.Inner.Midway.{line_kept}
 
 pub ended-append : (a b : List (List ℕ)) → ended (a ++ b) ≡ ended a ++ ended b
 ended-append a b = flat_map-append (λ (line : List ℕ). line ++ 10 ∷ []) a b
@@ -179,32 +179,32 @@ one_list bytes a b x y =
     y.front t) same.1 ∙ sym y.all
 
 -- what is kept of a line
-pub kept_of-push : (line : List ℕ) (byte : ℕ) → kept_of (line ++ byte ∷ []) ≡ option_and_then
-    (λ (front : List ℕ). kept_of (front ++ byte ∷ [])) (kept_of line)
-kept_of-push line byte = elim (cases_Bool (nat_le (length line) 65536)) [
+pub kept_of-push : (line : List ℕ) (byte : ℕ) → line_kept (line ++ byte ∷ []) ≡ option_and_then
+    (λ (front : List ℕ). line_kept (front ++ byte ∷ [])) (line_kept line)
+kept_of-push line byte = elim (cases_Bool (nat_le (length line) longest_line)) [
   | inl fits ↦ rw fits refl
   | inr long ↦
-      let more : 65536 < length line = leb-false (length line) 65536 long in
-      let longer : nat_le (length (line ++ byte ∷ [])) 65536 ≡ false =
-      lt-leb (length (line ++ byte ∷ [])) 65536 (omega (arith, length_push line byte)) in
+      let more : longest_line < length line = leb-false (length line) longest_line long in
+      let longer : nat_le (length (line ++ byte ∷ [])) longest_line ≡ false =
+      lt-leb (length (line ++ byte ∷ [])) longest_line (omega (arith, length_push line byte)) in
       rw (long, longer) refl
 ]
 
-pub kept_cases : (line : List ℕ) → ((length line ≤ 65536) × (kept_of line ≡ Some line)) ⊎
-    ((65536 < length line) × (kept_of line ≡ None))
-kept_cases line = elim (cases_Bool (nat_le (length line) 65536)) [
-  | inl fits ↦ inl (leb-true (length line) 65536 fits, rw fits refl)
-  | inr long ↦ inr (leb-false (length line) 65536 long, rw long refl)
+pub kept_cases : (line : List ℕ) → ((length line ≤ longest_line) × (line_kept line ≡ Some line)) ⊎
+    ((longest_line < length line) × (line_kept line ≡ None))
+kept_cases line = elim (cases_Bool (nat_le (length line) longest_line)) [
+  | inl fits ↦ inl (leb-true (length line) longest_line fits, rw fits refl)
+  | inr long ↦ inr (leb-false (length line) longest_line long, rw long refl)
 ]
 
-pub kept_whole : (line kept : List ℕ) → Some kept ≡ kept_of line → (kept ≡ line) ×
-    (length line ≤ 65536)
+pub kept_whole : (line kept : List ℕ) → Some kept ≡ line_kept line → (kept ≡ line) ×
+    (length line ≤ longest_line)
 kept_whole line kept is = elim (kept_cases line) [
   | inl fits ↦ let same : Some kept ≡ Some line = is ∙ fits.1 in (cc, fits.0)
   | inr long ↦ let same : Some kept ≡ None = is ∙ long.1 in cc
 ]
 
-pub kept_none : (line : List ℕ) → None ≡ kept_of line → 65536 < length line
+pub kept_none : (line : List ℕ) → None ≡ line_kept line → longest_line < length line
 kept_none line is = elim (kept_cases line) [
   | inl fits ↦ let same : None ≡ Some line = is ∙ fits.1 in cc
   | inr long ↦ long.0

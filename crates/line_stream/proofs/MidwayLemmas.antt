@@ -12,7 +12,7 @@ use Rattle.byte_streams.specs.Serving.{Tells}
 use Rattle.byte_streams.specs.Writing.{Forwards, WritesBeginning}
 use Rattle.line_stream.specs.Serving.{LinesServed}
 use Rattle.line_stream.specs.Inner.Lines.{LinesServedInPart, LinesServedSoFar}
-use Rattle.line_stream.specs.Inner.Midway.{kept_of, IsMidway, IsEnded, IsCutOff}
+use Rattle.line_stream.specs.Inner.Midway.{line_kept, IsMidway, IsEnded, IsCutOff}
 use Rattle.byte_streams.proofs.KnownLemmas.{Forwards-then, Forwards-none, Forwards-all}
 use Rattle.byte_streams.proofs.KnownLemmas.{Forwards-whole, beginning_of_left, beginning_then}
 use Rattle.line_stream.proofs.LineLemmas.{Divides-nil, Divides-byte, Divides-feed, ended-push}
@@ -55,13 +55,14 @@ module _ {S : Type 0} (gives : S → List ℕ → List ℕ → S → Type 0) whe
   pub midway_byte : (bytes : List ℕ) (before now : Option (List ℕ)) (old new : S)
       (kept next : Option (List ℕ)) (waiting : List ℕ) (count byte : ℕ)
       → IsMidway gives bytes before now old new kept waiting count → byte ≢ 10 →
-      next ≡ option_and_then (λ (line : List ℕ). kept_of (line ++ byte ∷ [])) kept
+      next ≡ option_and_then (λ (line : List ℕ). line_kept (line ++ byte ∷ [])) kept
       → IsMidway gives (bytes ++ byte ∷ []) before now old new next waiting count
   midway_byte bytes before now old new kept next waiting count byte m other is = record {
     lines = m.lines;
     rest = m.rest ++ byte ∷ [];
     divides = Divides-byte bytes m.lines m.rest byte m.divides other;
-    kept_is = is ∙ ap (option_and_then (λ (line : List ℕ). kept_of (line ++ byte ∷ []))) m.kept_is ∙
+    kept_is = is ∙ ap (option_and_then (λ (line : List ℕ). line_kept (line ++ byte
+        ∷ []))) m.kept_is ∙
         sym (kept_of-push m.rest byte);
     texts = m.texts;
     in_turn = m.in_turn;
@@ -73,7 +74,7 @@ module _ {S : Type 0} (gives : S → List ℕ → List ℕ → S → Type 0) whe
   pub midway_feed : (bytes : List ℕ) (before now next : Option (List ℕ)) (old mid new : S)
       (kept : Option (List ℕ)) (waiting left text : List ℕ) (count counted : ℕ)
       → IsMidway gives bytes before now old mid kept waiting count →
-      ((line : List ℕ) → kept ≡ kept_of line → gives mid line text new)
+      ((line : List ℕ) → kept ≡ line_kept line → gives mid line text new)
       → Forwards now next (waiting ++ (text ++ 10 ∷ [])) left →
       counted ≡ min (count + 1) (2 ^ 32 - 1)
       → IsMidway gives (bytes ++ 10 ∷ []) before next old new (Some []) left counted
@@ -96,7 +97,7 @@ module _ {S : Type 0} (gives : S → List ℕ → List ℕ → S → Type 0) whe
   pub cut_at_feed : (bytes : List ℕ) (before now next : Option (List ℕ)) (old mid new : S)
       (kept : Option (List ℕ)) (waiting text : List ℕ) (count : ℕ)
       → IsMidway gives bytes before now old mid kept waiting count →
-      ((line : List ℕ) → kept ≡ kept_of line → gives mid line text new)
+      ((line : List ℕ) → kept ≡ line_kept line → gives mid line text new)
       → WritesBeginning now next (waiting ++ (text ++ 10 ∷ []))
       → IsCutOff gives (bytes ++ 10 ∷ []) before next old new
   cut_at_feed bytes before now next old mid new kept waiting text count m given more =
@@ -239,7 +240,7 @@ module _ {S : Type 0} (gives : S → List ℕ → List ℕ → S → Type 0) whe
   pub ends_line : (bytes : List ℕ) (before now next : Option (List ℕ)) (old mid new : S)
       (kept : Option (List ℕ)) (waiting left text : List ℕ) (count counted : ℕ)
       → IsMidway gives bytes before now old mid kept waiting count → kept ≢ Some [] →
-      ((line : List ℕ) → kept ≡ kept_of line → gives mid line text new)
+      ((line : List ℕ) → kept ≡ line_kept line → gives mid line text new)
       → Forwards now next (waiting ++ (text ++ 10 ∷ [])) left →
       counted ≡ min (count + 1) (2 ^ 32 - 1)
       → IsEnded gives bytes before next old new left counted
@@ -255,7 +256,7 @@ module _ {S : Type 0} (gives : S → List ℕ → List ℕ → S → Type 0) whe
           rest = m.rest;
           divides = m.divides;
           all =
-              some_rest m.lines m.rest (λ none. other (m.kept_is ∙ ap kept_of none));
+              some_rest m.lines m.rest (λ none. other (m.kept_is ∙ ap line_kept none));
         };
         texts = f.texts;
         in_turn = f.in_turn;
@@ -267,7 +268,7 @@ module _ {S : Type 0} (gives : S → List ℕ → List ℕ → S → Type 0) whe
   pub in_part_line : (bytes : List ℕ) (before now next : Option (List ℕ)) (old mid new : S)
       (kept : Option (List ℕ)) (waiting text : List ℕ) (count : ℕ)
       → IsMidway gives bytes before now old mid kept waiting count → kept ≢ Some [] →
-      ((line : List ℕ) → kept ≡ kept_of line → gives mid line text new)
+      ((line : List ℕ) → kept ≡ line_kept line → gives mid line text new)
       → WritesBeginning now next (waiting ++ (text ++ 10 ∷ []))
       → LinesServedInPart (InTurn gives) (Some bytes) before next old new
   unfolding cut_at_feed
@@ -284,7 +285,7 @@ module _ {S : Type 0} (gives : S → List ℕ → List ℕ → S → Type 0) whe
           divides = m.divides;
           all =
               append-nil (m.lines ++ m.rest ∷ []) ∙ some_rest m.lines m.rest
-              (λ none. other (m.kept_is ∙ ap kept_of none));
+              (λ none. other (m.kept_is ∙ ap line_kept none));
         };
         texts = x.texts;
         get = x.in_turn;

@@ -1,6 +1,10 @@
 -- The lines of bytes.
 use Rattle.std.specs.Prelude.{◌≡◌, ◌≢◌, ℕ, List, [], ◌∷◌, ◌++◌, All, flat_map}
 
+-- how many bytes a line has at most that is answered for what it says
+abbrev pub longest_line : ℕ
+longest_line = 65536
+
 -- a line has no line feed in it, the byte 10
 abbrev pub IsLine : List ℕ → Type 0
 IsLine line = All (λ byte. byte ≢ 10) line

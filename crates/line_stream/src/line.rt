@@ -2,7 +2,8 @@
 ghost use Rattle.std.specs.Prelude.{◌≡◌, ◌↔◌, ◌≤◌, ◌++◌, ℕ, List, [], ◌∷◌, Option, Some, None};
 ghost use Rattle.std.specs.Prelude.{IfOk, IsTrue, MatchOption, vec_len, vec_capacity};
 ghost use Rattle.std.specs.Prelude.{option_and_then, if◌then◌else◌};
-ghost use Rattle.line_stream.specs.Inner.Midway.{kept_of};
+ghost use Rattle.line_stream.specs.Inner.Midway.{line_kept};
+ghost use Rattle.line_stream.specs.declared.line.TheConstants.{LONGEST_LINE};
 
 use std::alloc::{AllocError, Global};
 use std::marker::Model;
@@ -22,7 +23,8 @@ impl Model for LineBuffer {
 
     ghost view = { λ line. if line.is_too_long then None else Some line.bytes.items };
 
-    ghost invariant = { λ line. (vec_len line.bytes ≤ 65536) × (65536 ≤ vec_capacity line.bytes) };
+    ghost invariant = { λ line. (vec_len line.bytes ≤ LONGEST_LINE)
+        × (LONGEST_LINE ≤ vec_capacity line.bytes) };
 }
 
 impl LineBuffer {
@@ -38,7 +40,7 @@ impl LineBuffer {
 
     /// Adds a byte at the end.
     pub fn push(&mut self, byte: u8)
-        ensures { self.new ≡ option_and_then (λ line. kept_of (line ++ byte ∷ [])) self.old }
+        ensures { self.new ≡ option_and_then (λ line. line_kept (line ++ byte ∷ [])) self.old }
     {
         if self.bytes.len() < LONGEST_LINE {
             self.bytes.push(byte).unwrap();

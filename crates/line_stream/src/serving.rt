@@ -10,7 +10,7 @@ ghost use Rattle.byte_streams.specs.declared.fault.StreamFault.TheVariants.{Writ
 ghost use Rattle.line_stream.specs.Answers.{Answered};
 ghost use Rattle.line_stream.specs.Serving.{LinesServed, LinesStopped};
 ghost use Rattle.line_stream.specs.Inner.Lines.{LinesServedInPart};
-ghost use Rattle.line_stream.specs.Inner.Midway.{kept_of, IsMidway, IsEnded, IsCutOff};
+ghost use Rattle.line_stream.specs.Inner.Midway.{line_kept, IsMidway, IsEnded, IsCutOff};
 
 use crate::handler::Handler;
 use crate::line::LineBuffer;
@@ -37,7 +37,7 @@ fn answer_line<W: Write, H: Handler>(
     writer: &mut CountedWriter<W>,
 ) -> Result<(), StreamFault>
     ensures answered { (text : List ℕ)
-        × ((whole : List ℕ) → line.now ≡ kept_of whole
+        × ((whole : List ℕ) → line.now ≡ line_kept whole
         → Answered H.answers H.loses H.no_memory H.too_long state.old whole text state.new)
         × MatchResult result
         (λ _. Forwards (W.contents (writer_of writer.old)) (W.contents (writer_of writer.new))
@@ -77,7 +77,7 @@ impl Progress {
         writer: &mut CountedWriter<W>,
     ) -> Result<(), StreamFault>
         ensures answered { (text : List ℕ)
-            × ((whole : List ℕ) → self.old.line ≡ kept_of whole
+            × ((whole : List ℕ) → self.old.line ≡ line_kept whole
             → Answered H.answers H.loses H.no_memory H.too_long state.old whole text state.new)
             × MatchResult result
             (λ _. (self.new.line ≡ Some []) × (self.new.answered ≡ min (self.old.answered + 1) (2 ^ 32 - 1))

@@ -1,5 +1,6 @@
 -- The task that words ask for, from what `clap` says of them.
 use Rattle.std.proofs.Common.{◌≡◌, List, [], true, Option, Some, None, refl, sym, ap}
+use Rattle.ring_words.specs.Limits.{greatest_short}
 use Rattle.std.proofs.Common.{subst, ◌∙◌, ⊎_elim, codes, ℕ, ◌∷◌, slice_index, arith}
 use Rattle.std.specs.Option.{option_map}
 use Rattle.std.proofs.lemmas.Option.{none-some, same_Some}
@@ -100,8 +101,8 @@ other_word first second one two same differ = differ (ap (λ (t : List ℕ). sli
 
 -- where a service has no port or no count, no task is one
 pub no_service : (rows : List Row) →
-    ((port count : ℕ) → HasNumber rows (codes "PORT") 1 65535 port →
-    HasNumber rows (codes "COUNT") 0 65535 count → ⊥) → IsTask (codes "serve") rows None
+    ((port count : ℕ) → HasNumber rows (codes "PORT") 1 greatest_short port →
+    HasNumber rows (codes "COUNT") 0 greatest_short count → ⊥) → IsTask (codes "serve") rows None
 no_service rows none (Serve file port count hour names) is_named (file_is, port_is, count_is, hour_is, names_are) =
     none port count port_is count_is
 no_service rows none (Run file) is_named has =

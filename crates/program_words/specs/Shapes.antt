@@ -45,8 +45,8 @@ import_rows = program (codes "import")
     needed (codes "NUMBER") ∷ needed (codes "CSV") ∷ optional (codes "hour") ∷ [])
 
 -- Shows a ring.
-abbrev pub table : Shape
-table = program (codes "table") (needed (codes "FILE") ∷ needed (codes "RING") ∷ [])
+abbrev pub table_shape : Shape
+table_shape = program (codes "table") (needed (codes "FILE") ∷ needed (codes "RING") ∷ [])
 
 -- Shows the devices of a path.
 abbrev pub nodes : Shape
@@ -68,5 +68,5 @@ renew = program (codes "renew") (needed (codes "FILE") ∷ needed (codes "NEW") 
 abbrev pub programs : App
 programs = record {
   top = record (new_shape (codes "ringd")) { is_leaf = false; subcommand_required = true };
-  subs = run ∷ serve ∷ looping ∷ import_rows ∷ table ∷ nodes ∷ export ∷ renew ∷ [];
+  subs = run ∷ serve ∷ looping ∷ import_rows ∷ table_shape ∷ nodes ∷ export ∷ renew ∷ [];
 }

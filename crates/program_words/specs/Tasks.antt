@@ -1,5 +1,6 @@
 -- What the words of the command line ask for.
 use Rattle.std.specs.Prelude.{◌≡◌, ℕ, List, [], Option, Some, None, MatchOption, codes, option_map}
+use Rattle.ring_words.specs.Limits.{greatest_long, greatest_short}
 use Rattle.std.specs.Prelude.{unwrap_or}
 use Rattle.std.specs.Borrow.{Bor}
 use Rattle.clap.specs.Faults.{fault_of}
@@ -34,7 +35,7 @@ HasNumber rows id least most n =
 -- The clock is told to tell this hour always, or is told nothing.
 abbrev pub HasHour : List Row → Option ℕ → Type 0
 HasHour rows hour = MatchOption hour (first_of (codes "hour") rows ≡ None)
-    (λ h. HasNumber rows (codes "hour") 0 4294967295 h)
+    (λ h. HasNumber rows (codes "hour") 0 greatest_long h)
 
 -- What is hashed before and after each path is this, and nothing where it isn't there.
 pub record HaveNames (rows : List Row) (names : HashNames) : Type 0 where
@@ -68,8 +69,9 @@ program_of (Renew file fresh) = codes "renew"
 abbrev pub HasArguments : List Row → Task → Type 0
 HasArguments rows (Run file) = MayHaveText rows (codes "file") file
 HasArguments rows (Serve file port count hour names) =
-    HasText rows (codes "FILE") file × HasNumber rows (codes "PORT") 1 65535 port
-    × HasNumber rows (codes "COUNT") 0 65535 count × HasHour rows hour × HaveNames rows names
+    HasText rows (codes "FILE") file × HasNumber rows (codes "PORT") 1 greatest_short port
+    × HasNumber rows (codes "COUNT") 0 greatest_short count × HasHour rows hour
+    × HaveNames rows names
 HasArguments rows (Loop file input hour names) =
     HasText rows (codes "FILE") file × HasText rows (codes "INPUT") input
     × HasHour rows hour × HaveNames rows names

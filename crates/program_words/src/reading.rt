@@ -1,11 +1,12 @@
 //! The task that the words ask for.
 ghost use Rattle.std.specs.Prelude.{◌≡◌, IfErr, IfOk, codes, map, option_map, string_bytes};
+ghost use Rattle.ring_words.specs.Limits.{greatest_short};
 ghost use Rattle.clap.specs.Matches.{found_of};
 ghost use Rattle.clap.specs.Values.{kind_of};
 ghost use Rattle.clap.specs.Walk.{first_of, rows_of};
 ghost use Rattle.clap.specs.declared.error.kind.ErrorKind.{ErrorKind};
 ghost use Rattle.program_words.specs.Tasks.{AskFor, AskForNothing, HaveNames, IfBad};
-ghost use Rattle.program_words.specs.Inner.Reading.{IsFormat, IsHour, IsNumber, IsTask};
+ghost use Rattle.program_words.specs.Inner.Reading.{IsFormat, IsHourWord, IsNumberWord, IsTask};
 
 use crate::commands::command;
 use crate::help::{ABOUT, FORMS};
@@ -25,7 +26,7 @@ fn text_of<'a>(matches: &ArgMatches<'a>, name: &str) -> Option<&'a str>
 
 /// The hour that the clock is to tell always, `None` where it is no hour.
 fn hour_of(matches: &ArgMatches<'_>) -> Option<Option<Hour>>
-    ensures { IsHour (rows_of (found_of matches.now)) result }
+    ensures { IsHourWord (rows_of (found_of matches.now)) result }
 {
     match text_of(matches, "hour") {
         None => Some(None),
@@ -38,7 +39,7 @@ fn hour_of(matches: &ArgMatches<'_>) -> Option<Option<Hour>>
 
 /// The port that is to be served, `None` where it is none.
 fn port_of(matches: &ArgMatches<'_>) -> Option<Port>
-    ensures { IsNumber (rows_of (found_of matches.now)) (codes "PORT") 1 65535 result }
+    ensures { IsNumberWord (rows_of (found_of matches.now)) (codes "PORT") 1 greatest_short result }
 {
     match read_bounded(text_of(matches, "PORT")?) {
         Ok(port) => Some(port),
@@ -48,7 +49,8 @@ fn port_of(matches: &ArgMatches<'_>) -> Option<Port>
 
 /// How many connections are to be served, `None` where it is no number from 0 to 65535.
 fn count_of(matches: &ArgMatches<'_>) -> Option<u16>
-    ensures { IsNumber (rows_of (found_of matches.now)) (codes "COUNT") 0 65535 result }
+    ensures { IsNumberWord (rows_of (found_of matches.now)) (codes "COUNT") 0 greatest_short
+        result }
 {
     match read_number16(text_of(matches, "COUNT")?) {
         Ok(count) => Some(count),

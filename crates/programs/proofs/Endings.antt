@@ -10,7 +10,7 @@ use Rattle.programs.specs.Performed.{EndsSo, FailsSo, ShowsStore}
 use Rattle.keeper_programs.specs.declared.faults.ProgramFault.{ProgramFault}
 use Rattle.programs.specs.declared.performing.Ending.{Ending}
 use Rattle.programs.specs.declared.performing.Ending.TheVariants.{Done}
-use Rattle.keeper_programs.specs.declared.showing.Question.{Question}
+use Rattle.keeper_programs.specs.declared.showing.FileQuestion.{FileQuestion}
 
 -- what is known of what was read
 read_well : {A E : Type 0} (read : Result A E) (Asks : A → Type 0) (value : A) → IfOk read Asks
@@ -25,8 +25,8 @@ read_ill read Fails why fails is = subst (λ r. IfErr r Fails) is fails
 module _ {K W : Type 0} (stores : Keeping K) (Begins : K → Type 0) (contents : W → Option (List ℕ))
     (writer later : CountedWriter W) where
   -- what was asked for was shown
-  pub ended_shown : (result : Result Ending ProgramFault) (read : Result Question ProgramFault)
-      (Asks : Question → Type 0) (Ends : Ending → Type 0) → IfOk read Asks
+  pub ended_shown : (result : Result Ending ProgramFault) (read : Result FileQuestion ProgramFault)
+      (Asks : FileQuestion → Type 0) (Ends : Ending → Type 0) → IfOk read Asks
       → (ShowsStore stores Begins contents writer later Asks → Ends Done)
       → IfOk result (λ ending. (ending ≡ Done)
       × ShowsStore stores Begins contents writer later (λ question. read ≡ Ok question))
@@ -61,15 +61,6 @@ module _ {M K R W : Type 0} (memory : Keeping M) (stores : Keeping K) (Begins : 
       → EndsSo memory stores Begins remaining contents reader late_reader writer later IsMade task ending
   ends_as ending task asked is = subst (λ t. EndsSo memory stores Begins remaining contents reader
       late_reader writer later IsMade t ending) (sym is)
-
-  -- and so where it had no fault
-  pub ended_as : (result : Result Ending ProgramFault) (task asked : Task) → task ≡ asked
-      → IfOk result (EndsSo memory stores Begins remaining contents reader late_reader writer later
-      IsMade asked)
-      → IfOk result (EndsSo memory stores Begins remaining contents reader late_reader writer later
-      IsMade task)
-  ended_as result task asked is = subst (λ t. IfOk result (EndsSo memory stores Begins remaining
-      contents reader late_reader writer later IsMade t)) (sym is)
 
   -- and so it is refused
   pub refused_as : (task : Task) (ending asked : Ending) → ending ≡ asked

@@ -12,7 +12,7 @@ use Rattle.keeper_programs.specs.Running.{AnswersLines, StopsLines}
 use Rattle.keeper_programs.specs.Showing.{FailsToShow, IsAsked, Shows}
 use Rattle.keeper_programs.specs.declared.faults.ProgramFault.{ProgramFault}
 use Rattle.keeper_programs.specs.declared.importing.ImportAsk.{ImportAsk}
-use Rattle.keeper_programs.specs.declared.showing.Question.{Question}
+use Rattle.keeper_programs.specs.declared.showing.FileQuestion.{FileQuestion}
 use Rattle.keeper_programs.proofs.Runs.{answers, asked, fails_to_show, imports, shows, stops}
 
 module _ {K : Type 0} (g : Keeping K) (Begins : K → Type 0) (kept : K) (is : Begins kept)
@@ -35,7 +35,7 @@ module _ {K : Type 0} (g : Keeping K) (Begins : K → Type 0) (kept : K) (is : B
         reader late_reader writer late_writer why all
 
   module _ {W : Type 0} (contents : W → Option (List ℕ)) (writer later : CountedWriter W)
-      (question : Question) where
+      (question : FileQuestion) where
     pub shows_kept : Shows g (λ k. k ≡ kept) Ends contents writer later question
         → Shows g Begins IsAny contents writer later question
     shows_kept s = shows g (λ k. k ≡ kept) Begins Ends same_kept contents writer later

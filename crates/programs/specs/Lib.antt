@@ -1,2 +1,3 @@
 pub mod Renewing
 pub mod Performed
+pub mod Inner

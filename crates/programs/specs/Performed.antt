@@ -16,26 +16,26 @@ use Rattle.programs.specs.Renewing.{Renews}
 use Rattle.keeper_programs.specs.Running.{AnswersLines, FailsLines, StopsLines}
 use Rattle.keeper_programs.specs.Serving.{FailsToLoopInput, FailsToServe, LoopsInput}
 use Rattle.keeper_programs.specs.Serving.{ServesConnections}
-use Rattle.keeper_programs.specs.Showing.{AsksShown, FailsToShow, IsFormFault, IsMalformed}
+use Rattle.keeper_programs.specs.Showing.{AsksShown, FailsToShow, IsFormFault, HasBadWord}
 use Rattle.keeper_programs.specs.Showing.{IsPathless, Shows}
 use Rattle.keeper_programs.specs.declared.faults.ProgramFault.{ProgramFault}
 use Rattle.keeper_programs.specs.declared.faults.ProgramFault.TheVariants as fault
 use Rattle.keeper_programs.specs.declared.importing.ImportAsk.{ImportAsk}
 use Rattle.programs.specs.declared.performing.Ending.{Ending}
 use Rattle.programs.specs.declared.performing.Ending.TheVariants.{Done, Refused}
-use Rattle.keeper_programs.specs.declared.showing.Question.{Question}
+use Rattle.keeper_programs.specs.declared.showing.FileQuestion.{FileQuestion}
 
 -- Keepers of stores are these, and begin so, and the writer is this, before and after.
 module _ {K W : Type 0} (stores : Keeping K) (Begins : K → Type 0) (contents : W → Option (List ℕ))
     (writer later : CountedWriter W) where
   -- What is asked for was shown of the rings in a store.
-  abbrev pub ShowsStore : (Question → Type 0) → Type 0
-  ShowsStore Asks = (question : Question) × Asks question
+  abbrev pub ShowsStore : (FileQuestion → Type 0) → Type 0
+  ShowsStore Asks = (question : FileQuestion) × Asks question
       × Shows stores Begins IsAny contents writer later question
 
   -- This fault came of it.
-  abbrev pub FailsToShowStore : (Question → Type 0) → ProgramFault → Type 0
-  FailsToShowStore Asks why = (question : Question) × Asks question
+  abbrev pub FailsToShowStore : (FileQuestion → Type 0) → ProgramFault → Type 0
+  FailsToShowStore Asks why = (question : FileQuestion) × Asks question
       × FailsToShow stores Begins IsAny contents writer later question why
 
   -- The table in a CSV file was imported as one request, at the hour that was given or any other,
@@ -129,7 +129,7 @@ module _ {M K R W : Type 0} (memory : Keeping M) (stores : Keeping K) (Begins : 
   -- This fault came of a task: of its words, and then neither stream was touched, or of its work.
   abbrev pub FailsSo : Task → ProgramFault → Type 0
   FailsSo t why =
-      (IsFormFault (IsMalformed t) (IsPathless t) why × (late_reader ≡ reader) × (later ≡ writer))
+      (IsFormFault (HasBadWord t) (IsPathless t) why × (late_reader ≡ reader) × (later ≡ writer))
       ⊎ FailsToDo t why
 
 -- The words of a command line are these, and a third stream tells of faults, before and after.

@@ -3,7 +3,7 @@ ghost use Rattle.std.specs.Prelude.{◌≡◌, ◌⊎◌, IfErr, IfOk};
 ghost use Rattle.keeper_programs.specs.Begun.{IsAny, IsStoreFault};
 ghost use Rattle.keeper_programs.specs.Importing.{AnswersImport, FailsToImport, Imports};
 ghost use Rattle.keeper_programs.specs.Importing.{TellsImport};
-ghost use Rattle.keeper_programs.specs.Tables.{IsLong};
+ghost use Rattle.keeper_programs.specs.Tables.{IsLong, longest_table};
 ghost use Rattle.keeper_programs.specs.declared.faults.ProgramFault.TheVariants.{TooLong};
 
 use builder::Told;
@@ -49,7 +49,8 @@ fn tell_import<S: Stores, R: Read + Drop>(
 ) -> Result<Told, ProgramFault>
     ensures told { IfOk result (TellsImport S.Kept.Keeper S.begins IsAny (R.remaining table) ask
         hour) }
-    ensures fault { IfErr result (λ why. ((why ≡ TooLong) × IsLong 65536 (R.remaining table))
+    ensures fault { IfErr result (λ why. ((why ≡ TooLong)
+        × IsLong longest_table (R.remaining table))
         ⊎ IsStoreFault why) }
 {
     match read_table(rt.alloc(), table) {

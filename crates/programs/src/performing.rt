@@ -4,9 +4,11 @@ ghost use Rattle.std.specs.Prelude.{string_bytes};
 ghost use Rattle.program_words.specs.Tasks.{AskForNothing};
 ghost use Rattle.keeper_programs.specs.Begun.{IsAny};
 ghost use Rattle.keeper_programs.specs.Serving.{LoopsInput};
+ghost use Rattle.keeper_programs.specs.Showing.{AsksShown, HasBadWord, IsFormFault, IsPathless};
 ghost use Rattle.programs.specs.Performed.{DoesAsked, EndsBy, EndsSo, FailsAsked, FailsSo};
 ghost use Rattle.programs.specs.Performed.{FailsToImportFile, FailsToLoopFile, FailsToRun};
 ghost use Rattle.programs.specs.Performed.{FailsToShowStore, ImportsFile, Runs, ShowsStore};
+ghost use Rattle.programs.specs.Inner.Showing.{IsShowing};
 ghost use Rattle.programs.specs.declared.performing.Ending.TheVariants.{Done};
 
 use crate::importing::import_table;
@@ -17,8 +19,8 @@ use crate::showing::show;
 use builder::RingMachine;
 use byte_streams::{CountedReader, CountedWriter, write_text};
 use keeper_programs::{
-    ImportAsk, MemoryKeeper, ProgramFault, Question, Stores, ask_import, ask_nodes, ask_published,
-    ask_tables, hour_of, run_over_memory, tell_fault,
+    FileQuestion, ImportAsk, MemoryKeeper, ProgramFault, Stores, ask_import, ask_nodes,
+    ask_published, ask_tables, hour_of, run_over_memory, tell_fault,
 };
 use program_words::{ArgsFault, HashNames, Task, task_of};
 use request_book::Keeper;
@@ -64,7 +66,7 @@ fn run<S: Stores, R: Read, W: Write>(
 fn show_asked<S: Stores, W: Write>(
     rt: &HostRuntime,
     file: &str,
-    asked: Result<Question<'_>, ProgramFault>,
+    asked: Result<FileQuestion<'_>, ProgramFault>,
     writer: &mut CountedWriter<W>,
     stores: S,
 ) -> Result<Ending, ProgramFault>
@@ -82,6 +84,50 @@ fn show_asked<S: Stores, W: Write>(
     match show(rt, file, &question, writer, stores) {
         Ok(()) => Ok(Ending::Done),
         Err(fault) => Err(fault),
+    }
+}
+
+/// Shows what a task asks to be shown.
+fn show_task<S: Stores, W: Write>(
+    rt: &HostRuntime,
+    task: &Task<'_>,
+    writer: &mut CountedWriter<W>,
+    stores: S,
+) -> Result<Ending, ProgramFault>
+    requires { IsShowing task.now }
+    ensures done { IfOk result (λ ending. (ending ≡ Done)
+        × ShowsStore S.Kept.Keeper S.begins W.contents writer.old writer.new (AsksShown task.now)) }
+    ensures failed { IfErr result (λ why. (IsFormFault (HasBadWord task.now) (IsPathless task.now) why
+        × (writer.new ≡ writer.old))
+        ⊎ FailsToShowStore S.Kept.Keeper S.begins W.contents writer.old writer.new
+        (AsksShown task.now) why) }
+{
+    let alloc = rt.alloc();
+    match task {
+        Task::Table { file, ring } => {
+            show_asked(rt, *file, ask_tables(alloc, *ring), writer, stores)
+        }
+        Task::Nodes {
+            file,
+            ring,
+            account,
+            container,
+            object,
+            names,
+        } => {
+            let asked = ask_nodes(alloc, *ring, *account, *container, *object, *names);
+            show_asked(rt, *file, asked, writer, stores)
+        }
+        Task::Export {
+            file,
+            ring,
+            version,
+            format,
+        } => {
+            let asked = ask_published(alloc, *ring, *version, *format);
+            show_asked(rt, *file, asked, writer, stores)
+        }
+        _ => unreachable!(),
     }
 }
 
@@ -176,28 +222,8 @@ fn perform_task<S: Stores, R: Read, W: Write>(
             Ok(()) => Ok(Ending::Done),
             Err(fault) => Err(fault),
         },
-        Task::Table { file, ring } => {
-            show_asked(rt, *file, ask_tables(alloc, *ring), writer, stores)
-        }
-        Task::Nodes {
-            file,
-            ring,
-            account,
-            container,
-            object,
-            names,
-        } => {
-            let asked = ask_nodes(alloc, *ring, *account, *container, *object, *names);
-            show_asked(rt, *file, asked, writer, stores)
-        }
-        Task::Export {
-            file,
-            ring,
-            version,
-            format,
-        } => {
-            let asked = ask_published(alloc, *ring, *version, *format);
-            show_asked(rt, *file, asked, writer, stores)
+        Task::Table { .. } | Task::Nodes { .. } | Task::Export { .. } => {
+            show_task(rt, task, writer, stores)
         }
         Task::Renew { file, new } => match renew_store(rt, *file, *new, stores) {
             Ok(()) => Ok(Ending::Done),

@@ -5,13 +5,11 @@ ghost use Rattle.keeper_programs.specs.Serving.{FailsToLoop, FailsToLoopInput, F
 ghost use Rattle.keeper_programs.specs.Serving.{LoopsInput, LoopsOnce, ServesConnections};
 
 use byte_streams::CountedWriter;
+use http_sockets::MOST_LOOPED;
 use keeper_programs::{ProgramFault, Stores, loop_input, read_short, serve_port};
 use program_words::HashNames;
 use ring_words::{Hour, Port};
 use std::io::{Read, Write};
-
-/// How many bytes an input may have.
-const MOST_INPUT: u32 = 32768;
 
 /// Serves so many connections of a port of 127.0.0.1, one after another, over a store, and closes
 /// it.
@@ -84,7 +82,7 @@ pub(crate) fn loop_reader<S: Stores, R: Read + Drop, W: Write>(
     ensures failed { IfErr result (FailsToLoopInput S.Kept.Keeper S.begins IsAny given names.entry
         W.contents writer.old writer.new (R.remaining input)) }
 {
-    let input = match read_short(rt.alloc(), input, MOST_INPUT) {
+    let input = match read_short(rt.alloc(), input, MOST_LOOPED as u32) {
         Ok(input) => input,
         Err(fault) => return Err(fault),
     };

@@ -4,14 +4,14 @@ ghost use Rattle.keeper_programs.specs.Begun.{IsAny, IsStoreFault};
 ghost use Rattle.keeper_programs.specs.Showing.{FailsToShow, HidesOf, IsAsked, Shows, ShowsOf};
 
 use byte_streams::{CountedWriter, write_text};
-use keeper_programs::{ProgramFault, Question, Stores, told_bytes};
+use keeper_programs::{FileQuestion, ProgramFault, Stores, told_bytes};
 use std::io::Write;
 
 /// What is shown of the rings in a store, which is closed then.
 fn store_bytes<S: Stores>(
     rt: &HostRuntime,
     file: &str,
-    question: &Question<'_>,
+    question: &FileQuestion<'_>,
     stores: S,
 ) -> Result<Vec<u8>, ProgramFault>
     ensures shown { IfOk result (λ bytes. IsAsked S.Kept.Keeper S.begins IsAny
@@ -38,7 +38,7 @@ fn store_bytes<S: Stores>(
 pub(crate) fn show<S: Stores, W: Write>(
     rt: &HostRuntime,
     file: &str,
-    question: &Question<'_>,
+    question: &FileQuestion<'_>,
     writer: &mut CountedWriter<W>,
     stores: S,
 ) -> Result<(), ProgramFault>

@@ -24,21 +24,22 @@ pub record Acts {S C R : Type 0} (step : S → ℕ → C → R → S → Type 0)
 
 -- What a call with this answer leaves: a reply to a new key its step and its entry, a fault of the
 -- store the same or nothing, any other answer nothing.
-abbrev pub Leaves : {S C R : Type 0} → (S → ℕ → C → R → S → Type 0) → ℕ → Content S C R → Call C R →
+abbrev pub LeavesContent : {S C R : Type 0} → (S → ℕ → C → R → S → Type 0) → ℕ → Content S C R →
+    Call C R →
     Content S C R → Type 0
-Leaves step limit old (Deliver d (Ok reply)) new = MatchOption (entry_of d.key old.book)
+LeavesContent step limit old (Deliver d (Ok reply)) new = MatchOption (entry_of d.key old.book)
     (Acts step old d reply new) (λ _. new ≡ old)
-Leaves {R} step limit old (Deliver d (Err StoreFault)) new = (new ≡ old) ⊎
+LeavesContent {R} step limit old (Deliver d (Err StoreFault)) new = (new ≡ old) ⊎
     ((entry_of d.key old.book ≡ None) × (length old.book < limit) ×
     ((reply : R) × Acts step old d reply new))
-Leaves step limit old (Deliver d (Err NumberReused)) new = new ≡ old
-Leaves step limit old (Deliver d (Err BookFull)) new = new ≡ old
-Leaves step limit old (Deliver d (Err NoMemory)) new = new ≡ old
-Leaves step limit old (Deliver d (Err Closed)) new = new ≡ old
-Leaves step limit old (Load answer) new = new ≡ old
+LeavesContent step limit old (Deliver d (Err NumberReused)) new = new ≡ old
+LeavesContent step limit old (Deliver d (Err BookFull)) new = new ≡ old
+LeavesContent step limit old (Deliver d (Err NoMemory)) new = new ≡ old
+LeavesContent step limit old (Deliver d (Err Closed)) new = new ≡ old
+LeavesContent step limit old (Load answer) new = new ≡ old
 
 -- From old, this call may have this answer and leave new.
 pub record Called {S C R : Type 0} (step : S → ℕ → C → R → S → Type 0) (limit : ℕ) (closed : Bool)
     (old : Content S C R) (call : Call C R) (new : Content S C R) : Type 0 where
   pub may : MayAnswer limit closed old.book call
-  pub leaves : Leaves step limit old call new
+  pub leaves : LeavesContent step limit old call new

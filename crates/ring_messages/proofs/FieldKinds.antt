@@ -4,7 +4,7 @@ use Rattle.serde_json.specs.Data.{Data}
 use Rattle.serde_json.specs.Find.{get}
 use Rattle.ring_words.specs.declared.device.Row.{Row}
 use Rattle.ring_messages.specs.Fields.{Field, Fields, within, device_name, address, weight, rows}
-use Rattle.ring_messages.specs.Inner.Says.{HasFields, Stands}
+use Rattle.ring_messages.specs.Inner.Says.{HasFields, StandsInMessage}
 use Rattle.ring_messages.proofs.OneValue.{same_number_read, same_name, same_weight, same_address}
 use Rattle.ring_messages.proofs.RowLists.{rows_there, same_rows}
 
@@ -48,7 +48,8 @@ same_within : (l m n l' m' n' : ℕ) → l ≡ l' → m ≡ m' → n ≡ n' → 
 same_within l m n l' m' n' e f g = cc
 
 -- fields of one kind that stand at one place are one field
-same_field : (found : Option Data) (f g : Field) → kind f ≡ kind g → Stands found f → Stands found g
+same_field : (found : Option Data) (f g : Field) → kind f ≡ kind g → StandsInMessage found f →
+    StandsInMessage found g
     → f ≡ g
 same_field found (within l m n) (within l' m' n') e h k =
     same_within l m n l' m' n' (same_least l m l' m' e) (same_most l m l' m' e)

@@ -13,20 +13,21 @@ use Rattle.ring_words.specs.declared.device.Row.{Row}
 use Rattle.ring_messages.specs.Fields.{Field, Fields, within, device_name, address, weight, rows}
 use Rattle.ring_messages.specs.Fields.{row_data, field_data, members, IsProperRow, IsProperField}
 use Rattle.ring_messages.specs.Fields.{AreProper}
-use Rattle.ring_messages.specs.Inner.Says.{HasFields, Stands}
+use Rattle.ring_messages.specs.Inner.Says.{HasFields, StandsInMessage}
 use Rattle.ring_messages.proofs.Plain.{IsPlain, ArePlain}
 use Rattle.ring_messages.proofs.Puts.{EachMember, each_put}
 
 -- ---- what stands is what is written, and proper
 
-pub written : (found : Option Data) (f : Field) → Stands found f → found ≡ Some (field_data f)
+pub written : (found : Option Data) (f : Field) → StandsInMessage found f →
+    found ≡ Some (field_data f)
 written found (within l m n) h = h.is
 written found (device_name n) h = h.is
 written found (address a) h = h.is
 written found (weight w) h = h.is
 written found (rows rs) h = h.is
 
-pub proper : (found : Option Data) (f : Field) → Stands found f → IsProperField f
+pub proper : (found : Option Data) (f : Field) → StandsInMessage found f → IsProperField f
 proper found (within l m n) h = (h.above, h.below)
 proper found (device_name n) h = h.valid
 proper found (address a) h = h.valid
@@ -34,7 +35,7 @@ proper found (weight w) h = h.valid
 proper found (rows rs) h = h.valid
 
 pub stands : (found : Option Data) (f : Field) → found ≡ Some (field_data f) → IsProperField f
-    → Stands found f
+    → StandsInMessage found f
 stands found (within l m n) is h = record { is = is; above = h.0; below = h.1 }
 stands found (device_name n) is h = record { is = is; valid = h }
 stands found (address a) is h = record { is = is; valid = h }
@@ -154,7 +155,8 @@ pub still_there : (k : List ℕ) (v : Data) (ms : Members) (fs : Fields) → IsN
     → HasFields (object ms) fs → HasFields (object (put k v ms)) fs
 still_there k v ms [] apart h = tt
 still_there k v ms (f ∷ fs) apart h = (
-  subst (λ (found : Option Data). Stands found f.1) (sym (get_member-put_other f.0 k v ms apart.0))
+  subst (λ (found : Option Data). StandsInMessage found f.1) (sym (get_member-put_other f.0 k v ms
+      apart.0))
       h.0,
   still_there k v ms fs apart.1 h.1,
 )
@@ -172,6 +174,6 @@ pub there_too : (d e : Data) (fs : Fields) → AllByRecursion (λ f. get f.0 e �
     → HasFields d fs → HasFields e fs
 there_too d e [] same h = tt
 there_too d e (f ∷ fs) same h = (
-  subst (λ (found : Option Data). Stands found f.1) (sym same.0) h.0,
+  subst (λ (found : Option Data). StandsInMessage found f.1) (sym same.0) h.0,
   there_too d e fs same.1 h.1,
 )

@@ -13,7 +13,7 @@ use Rattle.serde_json.specs.declared.value.Value.{Value}
 use Rattle.ring_words.specs.declared.device.Row.{Row}
 use Rattle.ring_messages.specs.Fields.{row_data, IsProperRow}
 use Rattle.ring_words.specs.Spelling.{Reads}
-use Rattle.ring_messages.specs.Inner.Says.{IsRow, IsRows, ListsRow, ListsRows}
+use Rattle.ring_messages.specs.Inner.Says.{SaysRow, IsRows, ListsRow, ListsRows}
 use Rattle.ring_words.specs.Inner.ReadsAs.{ReadsAs}
 use Rattle.ring_words.specs.declared.spelling.SpellingFault.{SpellingFault}
 use Rattle.ring_words.specs.declared.spelling.SpellingFault.TheVariants.{Bad, NoMemory}
@@ -32,7 +32,8 @@ equal_rows r q a b c d e f = ap (λ (x : ℕ). row_of x r.zone r.address r.port 
     ∙ ap (λ (x : ℕ). row_of q.region q.zone q.address q.port q.name x) f
 
 -- the same words are of one row
-pub same_row : (a b c d e f : Option Data) (r q : Row) → IsRow a b c d e f r → IsRow a b c d e f q
+pub same_row : (a b c d e f : Option Data) (r q : Row) → SaysRow a b c d e f r →
+    SaysRow a b c d e f q
     → r ≡ q
 same_row a b c d e f r q h k = equal_rows r q (same_number_read _ _ _ _ _ _ _ h.0 k.0)
     (same_number_read _ _ _ _ _ _ _ h.1.0 k.1.0) (same_address _ _ _ h.1.1.0 k.1.1.0)
@@ -125,7 +126,7 @@ rows_found found rows h = h.is
 
 -- ---- proper rows and their lists
 
-pub row_is : (r : Row) → IsProperRow r → IsRow (Some (number (unsigned r.region)))
+pub row_is : (r : Row) → IsProperRow r → SaysRow (Some (number (unsigned r.region)))
     (Some (number (unsigned r.zone))) (at 2 (row_data r)) (Some (number (unsigned r.port)))
     (Some (string r.name)) (at 5 (row_data r)) r
 row_is r h = (
@@ -150,7 +151,7 @@ each_is : (rows : List Row) → AllByRecursion IsProperRow rows
 each_is [] h = tt
 each_is (r ∷ rs) h = (record { row = row_is r h.0; end = refl }, each_is rs h.1)
 
-pub row_proper : (a b c d e g : Option Data) (r : Row) → IsRow a b c d e g r → IsProperRow r
+pub row_proper : (a b c d e g : Option Data) (r : Row) → SaysRow a b c d e g r → IsProperRow r
 row_proper a b c d e g r f = record {
   region = omega (arith, f.0.below);
   zone = omega (arith, f.1.0.below);

@@ -1,5 +1,6 @@
 -- The object and the one text of each command, and what holds of every command.
 use Rattle.std.specs.Prelude.{ℕ, List, [], ◌∷◌, IsTrue, codes}
+use Rattle.ring_words.specs.Limits.{greatest_long, greatest_power, greatest_short, most_replicas}
 use Rattle.serde_json.specs.Data.{Data, string, object, put}
 use Rattle.serde_json.specs.Written.{compact_text}
 use Rattle.ring_words.specs.Texts.{is_label}
@@ -27,20 +28,22 @@ act_word (Import rs) = codes "import"
 -- What stands under its further keys, beside the ring and the word.
 abbrev pub act_fields : Act → Fields
 act_fields (Create n) =
-    (codes "power", within 1 14 n.power) ∷ (codes "replicas", within 1 5 n.replicas)
-    ∷ (codes "min_hours", within 0 65535 n.min_hours) ∷ []
+    (codes "power", within 1 greatest_power n.power)
+    ∷ (codes "replicas", within 1 most_replicas n.replicas)
+    ∷ (codes "min_hours", within 0 greatest_short n.min_hours) ∷ []
 act_fields (Add r) =
-    (codes "region", within 0 65535 r.region) ∷ (codes "zone", within 0 65535 r.zone)
-    ∷ (codes "address", address r.address) ∷ (codes "port", within 1 65535 r.port)
+    (codes "region", within 0 greatest_short r.region)
+    ∷ (codes "zone", within 0 greatest_short r.zone)
+    ∷ (codes "address", address r.address) ∷ (codes "port", within 1 greatest_short r.port)
     ∷ (codes "name", device_name r.name) ∷ (codes "weight", weight r.weight) ∷ []
 act_fields (SetWeight w) =
-    (codes "id", within 0 65535 w.id) ∷ (codes "weight", weight w.weight) ∷ []
-act_fields (Remove id) = (codes "id", within 0 65535 id) ∷ []
-act_fields (SetHours hours) = (codes "min_hours", within 0 65535 hours) ∷ []
+    (codes "id", within 0 greatest_short w.id) ∷ (codes "weight", weight w.weight) ∷ []
+act_fields (Remove id) = (codes "id", within 0 greatest_short id) ∷ []
+act_fields (SetHours hours) = (codes "min_hours", within 0 greatest_short hours) ∷ []
 act_fields PretendPassed = []
 act_fields RaisePower = []
 act_fields Publish = []
-act_fields (Rebalance seed) = (codes "seed", within 0 4294967295 seed) ∷ []
+act_fields (Rebalance seed) = (codes "seed", within 0 greatest_long seed) ∷ []
 act_fields (Import rs) = (codes "rows", rows rs) ∷ []
 
 -- The object of a command with this word and these fields for this ring.

@@ -1,5 +1,6 @@
 -- Which bytes are a message, and of which key and command.
 use Rattle.std.specs.Prelude.{◌≡◌, ◌≢◌, ℕ, ◌+◌, List, Some, codes, IsUtf8}
+use Rattle.ring_words.specs.Limits.{greatest_long}
 use Rattle.serde_json.specs.Data.{Data, null, boolean, number, string, array, object}
 use Rattle.serde_json.specs.Events.{members_len}
 use Rattle.serde_json.specs.Find.{get}
@@ -23,7 +24,7 @@ members_count (object ms) = members_len ms
 -- object, and there are no more.
 pub record IsDelivery (d : Data) (k : Key) (c : Command) : Type 0 where
   pub caller : IsName is_label (get (codes "caller") d) k.caller
-  pub number : IsNumber (get (codes "number") d) 0 4294967295 k.number
+  pub number : IsNumber (get (codes "number") d) 0 greatest_long k.number
   pub proper : IsProperCommand c
   pub members : (name : List ℕ) → name ≢ codes "caller" → name ≢ codes "number" →
       get name d ≡ get name (command_data c)

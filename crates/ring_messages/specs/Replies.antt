@@ -1,5 +1,6 @@
 -- The text and the status of each answer: compact JSON, its keys in byte order.
 use Rattle.std.specs.Prelude.{ℕ, ◌<◌, ◌^◌, List, [], ◌∷◌, codes, ⊤}
+use Rattle.ring_words.specs.Limits.{greatest_long, greatest_short}
 use Rattle.serde_json.specs.Data.{Data, string, object, no_members, member, put}
 use Rattle.serde_json.specs.Written.{compact_text}
 use Rattle.ring_words.specs.declared.command.Done.{Done}
@@ -36,12 +37,12 @@ done_word (Import added reweighted version) = codes "import"
 
 -- The ring's version.
 abbrev pub version_field : ℕ → List ℕ × Field
-version_field version = (codes "version", within 0 4294967295 version)
+version_field version = (codes "version", within 0 greatest_long version)
 
 -- What is told of what was done: in each case the version that the ring has now.
 abbrev pub done_fields : Done → Fields
 done_fields (Create version) = version_field version ∷ []
-done_fields (Add id version) = version_field version ∷ (codes "id", within 0 65535 id) ∷ []
+done_fields (Add id version) = version_field version ∷ (codes "id", within 0 greatest_short id) ∷ []
 done_fields (SetWeight version) = version_field version ∷ []
 done_fields (Remove version) = version_field version ∷ []
 done_fields (SetHours version) = version_field version ∷ []
@@ -49,9 +50,9 @@ done_fields (PretendPassed version) = version_field version ∷ []
 done_fields (RaisePower version) = version_field version ∷ []
 done_fields (Publish version) = version_field version ∷ []
 done_fields (Rebalance balance changed dispersion version) =
-    version_field version ∷ (codes "balance", within 0 4294967295 balance)
-    ∷ (codes "changed", within 0 4294967295 changed)
-    ∷ (codes "dispersion", within 0 4294967295 dispersion) ∷ []
+    version_field version ∷ (codes "balance", within 0 greatest_long balance)
+    ∷ (codes "changed", within 0 greatest_long changed)
+    ∷ (codes "dispersion", within 0 greatest_long dispersion) ∷ []
 done_fields (Import added reweighted version) =
     version_field version ∷ (codes "added", within 0 18446744073709551615 added)
     ∷ (codes "reweighted", within 0 18446744073709551615 reweighted) ∷ []

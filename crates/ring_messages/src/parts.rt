@@ -1,6 +1,7 @@
 //! The parts of an object that a message is: each is read exactly where it is of its kind and
 //! range.
 ghost use Rattle.std.specs.Prelude.{◌≡◌, ℕ, List, Some, IsUtf8, IfSome, IfNone, option_map};
+ghost use Rattle.ring_words.specs.Limits.{greatest_long, greatest_short};
 ghost use Rattle.serde_json.specs.Data.{string};
 ghost use Rattle.serde_json.specs.View.{view};
 ghost use Rattle.serde_json.specs.Read.{read};
@@ -40,16 +41,16 @@ pub(crate) fn number(found: Option<&Value>, most: u64) -> Result<u64, MessageFau
 }
 
 pub(crate) fn number16(found: Option<&Value>) -> Result<u16, MessageFault>
-    ensures { Reads (IsNumber (option_map (λ v. view v.now) found.entry) 0 65535) result }
+    ensures { Reads (IsNumber (option_map (λ v. view v.now) found.entry) 0 greatest_short) result }
 {
-    let number = number(found, 65535)?;
+    let number = number(found, u64::from(u16::MAX))?;
     Ok(number as u16)
 }
 
 pub(crate) fn number32(found: Option<&Value>) -> Result<u32, MessageFault>
-    ensures { Reads (IsNumber (option_map (λ v. view v.now) found.entry) 0 4294967295) result }
+    ensures { Reads (IsNumber (option_map (λ v. view v.now) found.entry) 0 greatest_long) result }
 {
-    let number = number(found, 4_294_967_295)?;
+    let number = number(found, u64::from(u32::MAX))?;
     Ok(number as u32)
 }
 

@@ -1,5 +1,6 @@
 //! The one text of a reply, and back.
 ghost use Rattle.std.specs.Prelude.{◌∷◌, [], ◌≡◌, ◌≢◌, IfOk, IfSome, IfNone, Some, codes};
+ghost use Rattle.ring_words.specs.Limits.{greatest_long};
 ghost use Rattle.std.specs.Prelude.{string_bytes};
 ghost use Rattle.serde_json.specs.Data.{string};
 ghost use Rattle.serde_json.specs.Find.{get};
@@ -185,7 +186,7 @@ pub fn reply_text(alloc: Global, reply: &Reply) -> Result<String, AllocError>
 /// What an addition's reply tells, at this version of the ring.
 fn added(value: &Value, version: u32) -> Result<Done, MessageFault>
     requires word { get (codes "done") (view value.now) ≡ Some (string (codes "add")) }
-    requires version { IsNumber (get (codes "version") (view value.now)) 0 4294967295 version }
+    requires version { IsNumber (get (codes "version") (view value.now)) 0 greatest_long version }
     ensures { Reads (SaysDone (view value.now)) result }
 {
     let id = number16(value.get("id"))?;
@@ -195,7 +196,7 @@ fn added(value: &Value, version: u32) -> Result<Done, MessageFault>
 /// What an import's reply tells, at this version of the ring.
 fn imported(value: &Value, version: u32) -> Result<Done, MessageFault>
     requires word { get (codes "done") (view value.now) ≡ Some (string (codes "import")) }
-    requires version { IsNumber (get (codes "version") (view value.now)) 0 4294967295 version }
+    requires version { IsNumber (get (codes "version") (view value.now)) 0 greatest_long version }
     ensures { Reads (SaysDone (view value.now)) result }
 {
     let added = number(value.get("added"), u64::MAX)?;
@@ -210,7 +211,7 @@ fn imported(value: &Value, version: u32) -> Result<Done, MessageFault>
 /// What a rebalance's reply tells, at this version of the ring.
 fn rebalanced(value: &Value, version: u32) -> Result<Done, MessageFault>
     requires word { get (codes "done") (view value.now) ≡ Some (string (codes "rebalance")) }
-    requires version { IsNumber (get (codes "version") (view value.now)) 0 4294967295 version }
+    requires version { IsNumber (get (codes "version") (view value.now)) 0 greatest_long version }
     ensures { Reads (SaysDone (view value.now)) result }
 {
     let balance = number32(value.get("balance"))?;
@@ -227,7 +228,7 @@ fn rebalanced(value: &Value, version: u32) -> Result<Done, MessageFault>
 /// What a reply with this word under the key `done` tells, at this version of the ring.
 fn done_by_word(value: &Value, word: &str, version: u32) -> Result<Done, MessageFault>
     requires word { get (codes "done") (view value.now) ≡ Some (string word.now) }
-    requires version { IsNumber (get (codes "version") (view value.now)) 0 4294967295 version }
+    requires version { IsNumber (get (codes "version") (view value.now)) 0 greatest_long version }
     ensures { Reads (SaysDone (view value.now)) result }
 {
     match word {

@@ -7,7 +7,7 @@ ghost use Rattle.ring_messages.specs.Fields.{row_data, IsProperRow};
 ghost use Rattle.ring_words.specs.Spelling.{Reads};
 ghost use Rattle.ring_words.specs.Texts.{address_text, hundredths_text};
 ghost use Rattle.ring_words.specs.Inner.ReadsAs.{ReadsAs};
-ghost use Rattle.ring_messages.specs.Inner.Says.{seen, HasFields, IsRow, ListsRow};
+ghost use Rattle.ring_messages.specs.Inner.Says.{seen_value, HasFields, SaysRow, ListsRow};
 ghost use Rattle.ring_messages.specs.Commands.{act_fields};
 ghost use Rattle.ring_words.specs.declared.command.Act.TheVariants.{Add, Import};
 
@@ -71,8 +71,9 @@ fn row(
     name: Option<&Value>,
     weight: Option<&Value>,
 ) -> Result<Row, MessageFault>
-    ensures { Reads (IsRow (seen region.entry) (seen zone.entry) (seen address.entry)
-        (seen port.entry) (seen name.entry) (seen weight.entry)) result }
+    ensures { Reads (SaysRow (seen_value region.entry) (seen_value zone.entry)
+        (seen_value address.entry) (seen_value port.entry) (seen_value name.entry)
+        (seen_value weight.entry)) result }
 {
     let region = number16(region)?;
     let zone = number16(zone)?;

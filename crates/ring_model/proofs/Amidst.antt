@@ -1,5 +1,6 @@
 -- A text among those that are published.
 use Rattle.std.proofs.Common.{◌≡◌, ℕ, ◌+◌, ◌<◌, ◌≤◌, Bool, true, false, cond, List, [], ◌∷◌, ◌++◌}
+use Rattle.ring_words.specs.Limits.{most_versions}
 use Rattle.std.proofs.Common.{length, map, refl, ap, ⊎_elim, arith, lit≤, zero, suc, ◌-◌, filter}
 use Rattle.std.proofs.Common.{nat_lt, count_by}
 use native.Mathlib.Numerals.{unary_clauses}
@@ -144,7 +145,7 @@ among_rises version text xs rise =
     (filter_passes later versions))))
 
 pub among_valid : (ring : RingRecord) (text : List ℕ) → IsValid ring →
-    length ring.published < 1000 →
+    length ring.published < most_versions →
     IsValid (record ring { published = among ring.version text ring.published })
 among_valid ring text valid room = record {
   power = valid.power;

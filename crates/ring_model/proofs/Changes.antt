@@ -1,5 +1,6 @@
 -- A changed ring is valid.
 use Rattle.std.proofs.Common.{◌≡◌, ℕ, ◌+◌, ◌<◌, ◌≤◌, Bool, true, false, ◌||◌, cond, List, [], ◌∷◌}
+use Rattle.ring_words.specs.Limits.{greatest_long, most_devices, most_ids}
 use Rattle.std.proofs.Common.{◌++◌, length, get_or, take, drop, map, refl, sym, ap, ap₂, ◌∙◌}
 use Rattle.std.proofs.Common.{⊎_elim, lit≤, arith}
 use Rattle.std.specs.Prelude.{All, ◌==◌, slice_index}
@@ -21,11 +22,11 @@ use Rattle.ring_model.specs.declared.parts.RingParts.{RingParts}
 use Rattle.ring_model.specs.Parts.{record_of}
 use Rattle.ring_model.proofs.Validity.{any_fails_at}
 
-pub risen_fits : (version : ℕ) → version ≤ 4294967295 → risen version ≤ 4294967295
+pub risen_fits : (version : ℕ) → version ≤ greatest_long → risen version ≤ greatest_long
 risen_fits version fits = ⊎_elim
-    (λ e. rw (eq-eqb version 4294967295 e) (lit≤ tt))
-    (λ ne. rw (ne_eqb version 4294967295 ne) (omega arith))
-    (cases_eq version 4294967295)
+    (λ e. rw (eq-eqb version greatest_long e) (lit≤ tt))
+    (λ ne. rw (ne_eqb version greatest_long ne) (omega arith))
+    (cases_eq version greatest_long)
 
 -- ---- one more device
 
@@ -41,7 +42,7 @@ rising_push xs y rise below k lt =
     (cases_lt (k + 1) (length xs))
 
 pub devices_added : (next_id : ℕ) (devices : List Device) (row : Row) → AreDevices next_id devices →
-    length devices < 256 → has_place row devices ≡ false →
+    length devices < most_devices → has_place row devices ≡ false →
     AreDevices (next_id + 1) (devices ++ record { id = next_id; row = row; removed = false } ∷ [])
 devices_added next_id devices row valid room none =
     let device : Device = record { id = next_id; row = row; removed = false } in
@@ -68,8 +69,9 @@ seats_added partitions replicas devices more seats valid = record {
   distinct = valid.distinct;
 }
 
-pub added_valid : (ring : RingRecord) (row : Row) → IsValid ring → length ring.devices < 256 →
-    ring.next_id < 65536 → has_place row ring.devices ≡ false → IsValid (added ring row)
+pub added_valid : (ring : RingRecord) (row : Row) → IsValid ring →
+    length ring.devices < most_devices →
+    ring.next_id < most_ids → has_place row ring.devices ≡ false → IsValid (added ring row)
 added_valid ring row valid room numbers none = record {
   power = valid.power;
   replicas = valid.replicas;

@@ -1,5 +1,6 @@
 -- A raised ring is valid.
 use Rattle.std.proofs.Common.{◌≡◌, ℕ, ◌+◌, ◌*◌, ◌/◌, ◌%◌, ◌^◌, ◌<◌, ◌≤◌, ◌⊎◌, true, List, length}
+use Rattle.ring_words.specs.Limits.{greatest_power}
 use Rattle.std.proofs.Common.{get_or, Some, refl, sym, ap, subst, ◌∙◌, ⊎_elim, inl, inr, add-one}
 use Rattle.std.proofs.Common.{Option, None, arith}
 use Rattle.std.specs.Prelude.{All, slice_get, slice_index_or, unwrap_or}
@@ -58,7 +59,8 @@ twice_as_many : (old new : RingRecord) → IsRaised old new →
 twice_as_many old new raised = ap (λ (n : ℕ). 2 ^ n) raised.power ∙ rw (add-one, pow-suc)
     (mul_comm (2 ^ old.power) 2)
 
-pub raised_valid : (old new : RingRecord) → IsValid old → IsRaised old new → new.power ≤ 14 →
+pub raised_valid : (old new : RingRecord) → IsValid old → IsRaised old new →
+    new.power ≤ greatest_power →
     IsValid new
 raised_valid old new valid raised low =
     let same = same_replicas old new raised in

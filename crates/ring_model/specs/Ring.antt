@@ -1,5 +1,6 @@
 -- A ring: its devices, and which of them holds each replica of each partition.
 use Rattle.std.specs.Prelude.{ℕ, ◌+◌, ◌*◌, ◌^◌, ◌==◌, ◌&&◌, Bool, not, nat_lt, List, [], ◌∷◌, ◌++◌}
+use Rattle.ring_words.specs.Limits.{greatest_long}
 use Rattle.std.specs.Prelude.{length, map, replicate, slice_get, slice_index_or, find, Option, None}
 use Rattle.std.specs.Prelude.{false, true, if◌then◌else◌}
 use Rattle.std.specs.List.{list_any}
@@ -58,7 +59,7 @@ has_present id devices = list_any (λ device. (device.id == id) && not device.re
 
 -- the version after a change: one more, and the greatest stays
 abbrev pub risen : ℕ → ℕ
-risen version = if version == 4294967295 then 4294967295 else version + 1
+risen version = if version == greatest_long then greatest_long else version + 1
 
 -- a new ring: no device, no seat taken, never moved
 abbrev pub new_ring : ℕ → ℕ → ℕ → RingRecord

@@ -1,5 +1,7 @@
 -- When a ring's record is that of a ring.
 use Rattle.std.specs.Prelude.{◌≡◌, ℕ, ◌+◌, ◌*◌, ◌<◌, ◌≤◌, List, length, map, slice_get, Some, All}
+use Rattle.ring_words.specs.Limits.{greatest_long, greatest_power, greatest_short, most_devices}
+use Rattle.ring_words.specs.Limits.{most_ids, most_replicas, most_versions}
 use Rattle.std.specs.Prelude.{AllPairs, true, false}
 use Rattle.std.specs.List.Sorted.{IsStrictlyIncreasing}
 use Rattle.ring_model.specs.Ring.{RingRecord, partition_count, has_device}
@@ -18,7 +20,7 @@ AreDistinct replicas seats = (partition one other id : ℕ) → one < replicas �
 
 -- These are devices of a ring that gives the number next_id next.
 pub record AreDevices (next_id : ℕ) (devices : List Device) : Type 0 where
-  pub count : length devices ≤ 256
+  pub count : length devices ≤ most_devices
   -- their numbers rise and are below the next one
   pub below : All (λ device. device.id < next_id) devices
   pub rise : IsStrictlyIncreasing (map (λ device. device.id) devices)
@@ -34,17 +36,17 @@ pub record AreSeats (partitions replicas : ℕ) (devices : List Device) (seats :
 
 -- These are texts under rising versions.
 pub record ArePublished (published : List (ℕ × List ℕ)) : Type 0 where
-  pub count : length published ≤ 1000
+  pub count : length published ≤ most_versions
   pub rise : IsStrictlyIncreasing (map (λ entry. entry.0) published)
 
 -- The ring is valid: its numbers are within their limits, its devices are apart, and its seats are
 -- on devices of its own.
 pub record IsValid (ring : RingRecord) : Type 0 where
-  pub power : (1 ≤ ring.power) × (ring.power ≤ 14)
-  pub replicas : (1 ≤ ring.replicas) × (ring.replicas ≤ 5)
-  pub min_hours : ring.min_hours ≤ 65535
-  pub next_id : ring.next_id ≤ 65536
-  pub version : ring.version ≤ 4294967295
+  pub power : (1 ≤ ring.power) × (ring.power ≤ greatest_power)
+  pub replicas : (1 ≤ ring.replicas) × (ring.replicas ≤ most_replicas)
+  pub min_hours : ring.min_hours ≤ greatest_short
+  pub next_id : ring.next_id ≤ most_ids
+  pub version : ring.version ≤ greatest_long
   pub devices : AreDevices ring.next_id ring.devices
   pub seats : AreSeats (partition_count ring) ring.replicas ring.devices ring.seats
   pub moved : length ring.moved ≡ partition_count ring

@@ -1,5 +1,6 @@
 //! A ring that rows are put into.
 ghost use Rattle.std.specs.Prelude.{◌≡◌, ◌<◌, IfOk, OnOk, OnErr, false, find, length};
+ghost use Rattle.ring_words.specs.Limits.{most_devices, most_ids};
 ghost use Rattle.std.specs.Option.{option_copied};
 ghost use Rattle.ring_model.specs.Ring.{changed};
 ghost use Rattle.ring_words.specs.Rows.{has_place, same_place};
@@ -69,8 +70,10 @@ impl Draft {
     /// Puts a row in: the device of its address, port and name gets its weight, or there is one
     /// more device. Where there is no memory for one more, nothing is changed.
     pub fn put(&mut self, row: &Row) -> Result<(), AllocError>
-        requires room { has_place row.now self.old.devices ≡ false → length self.old.devices < 256 }
-        requires numbers { has_place row.now self.old.devices ≡ false → self.old.next_id < 65536 }
+        requires room { has_place row.now self.old.devices ≡ false
+            → length self.old.devices < most_devices }
+        requires numbers { has_place row.now self.old.devices ≡ false
+            → self.old.next_id < most_ids }
         ensures ok { OnOk result (self.new ≡ after_row self.old row.now) }
         ensures err { OnErr result (self.new ≡ self.old) }
     {

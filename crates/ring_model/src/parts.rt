@@ -1,5 +1,6 @@
 //! The parts that a ring is made of.
 ghost use Rattle.std.specs.Prelude.{◌≡◌, ◌==◌, ◌+◌, ◌*◌, ◌%◌, ◌<◌, ◌≤◌, ◌^◌, ◌↔◌, ℕ};
+ghost use Rattle.ring_words.specs.Limits.{most_partitions, most_replicas};
 ghost use Rattle.std.specs.Prelude.{slice_index_or};
 ghost use Rattle.std.specs.Prelude.{false, IfOk, IsTrue, All, length, map, find, true};
 ghost use Rattle.std.specs.List.{list_any};
@@ -13,7 +14,10 @@ ghost use Rattle.ring_model.specs.Inner.Twice.{IsTwice};
 ghost use Rattle.ring_model.specs.Valid.{AreApart, AreDevices, AreDistinct, ArePublished, AreSeats};
 ghost use Rattle.ring_model.specs.Valid.{IsValid};
 
-use ring_words::{Device, DeviceId, Hour, Power, Replicas, Row, partition_count};
+use ring_words::{
+    Device, DeviceId, Hour, MOST_DEVICES, MOST_IDS, MOST_VERSIONS, Power, Replicas, Row,
+    partition_count,
+};
 use std::alloc::{AllocError, Global};
 use std::rc::RcStr;
 
@@ -136,10 +140,10 @@ fn no_marks<const N: usize>() -> [bool; N]
 }
 
 /// Marks the numbers of devices, in a table of all numbers that there may be.
-fn known_ids(devices: &[Device]) -> [bool; 65536]
+fn known_ids(devices: &[Device]) -> [bool; MOST_IDS]
     ensures { (id : ℕ) → slice_index_or result id false ≡ has_device id devices.now }
 {
-    let mut known: [bool; 65536] = no_marks();
+    let mut known: [bool; MOST_IDS] = no_marks();
     for device in devices {
         known[usize::from(device.id)] = true;
     }
@@ -147,7 +151,7 @@ fn known_ids(devices: &[Device]) -> [bool; 65536]
 }
 
 /// Whether a number is marked.
-fn is_known(known: &[bool; 65536], id: DeviceId) -> bool
+fn is_known(known: &[bool; MOST_IDS], id: DeviceId) -> bool
     ensures { result ≡ slice_index_or known.now id false }
 {
     known[usize::from(id)]
@@ -186,7 +190,7 @@ fn are_distinct(seats: &[DeviceId], replicas: usize) -> bool
 fn are_devices(devices: &[Device], next_id: u32) -> bool
     ensures { IsTrue result ↔ AreDevices next_id devices.now }
 {
-    devices.len() <= 256
+    devices.len() <= MOST_DEVICES
         && are_ids_below(devices, next_id)
         && are_ids_rising(devices)
         && are_apart(devices)
@@ -195,14 +199,14 @@ fn are_devices(devices: &[Device], next_id: u32) -> bool
 fn are_published(published: &[(u32, RcStr)]) -> bool
     ensures { IsTrue result ↔ ArePublished (texts_of published.now) }
 {
-    let is_few = published.len() <= 1000;
+    let is_few = published.len() <= MOST_VERSIONS;
     is_few && are_versions_rising(published)
 }
 
 /// Whether these are the seats of so many partitions and replicas.
 fn are_seats(devices: &[Device], seats: &[DeviceId], partitions: usize, replicas: usize) -> bool
-    requires partitions { partitions ≤ 16384 }
-    requires replicas { (1 ≤ replicas) × (replicas ≤ 5) }
+    requires partitions { partitions ≤ most_partitions }
+    requires replicas { (1 ≤ replicas) × (replicas ≤ most_replicas) }
     ensures { IsTrue result ↔ AreSeats partitions replicas devices.now seats.now }
 {
     let is_whole = seats.is_empty() || seats.len() == partitions * replicas;
@@ -217,7 +221,7 @@ impl RingParts {
         let (_hours, _version) = (self.min_hours, self.version);
         let partitions = partition_count(self.power);
         let replicas = usize::from(self.replicas.get());
-        if self.next_id > 65536 || self.moved.len() != partitions {
+        if self.next_id > MOST_IDS as u32 || self.moved.len() != partitions {
             return false;
         }
         if !are_devices(&self.devices, self.next_id) || !are_published(&self.published) {

@@ -1,5 +1,6 @@
 //! Publishing a ring's text.
 ghost use Rattle.std.specs.Prelude.{◌≡◌, ◌<◌, false, IfOk, OnOk, filter, length, map, nat_lt};
+ghost use Rattle.ring_words.specs.Limits.{most_versions};
 ghost use Rattle.std.specs.List.Sorted.{IsStrictlyIncreasing};
 ghost use Rattle.std.specs.Rc.{rc_str_bytes};
 ghost use Rattle.ring_model.specs.Parts.{texts_of};
@@ -47,7 +48,7 @@ impl Ring {
     /// The ring with a text published under its version of now, and the ring as it is where one is
     /// already: what was published once never changes. The version stays.
     pub fn with_published(&self, alloc: Global, text: &str) -> Result<Ring, AllocError>
-        requires { is_published self.now ≡ false → length self.now.published < 1000 }
+        requires { is_published self.now ≡ false → length self.now.published < most_versions }
         ensures { IfOk result (λ ring. ring ≡ with_published self.now text.now) }
     {
         let mut parts = self.parts()?;

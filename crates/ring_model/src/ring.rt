@@ -1,5 +1,6 @@
 //! Rings.
 ghost use Rattle.std.specs.Prelude.{◌≡◌, ℕ, ◌<◌, ◌≤◌, ◌^◌, ◌↔◌, Bool, IfOk, IsTrue, IsFalse};
+ghost use Rattle.ring_words.specs.Limits.{greatest_power, most_devices, most_ids};
 ghost use Rattle.std.specs.Prelude.{length, map, Some, None};
 ghost use Rattle.std.specs.Option.{option_map, option_copied};
 
@@ -146,8 +147,8 @@ impl Ring {
 
     /// The ring with one more device, which gets the next number. The version rises.
     pub fn with_device(&self, row: &Row) -> Result<Ring, AllocError>
-        requires room { length self.now.devices < 256 }
-        requires numbers { self.now.next_id < 65536 }
+        requires room { length self.now.devices < most_devices }
+        requires numbers { self.now.next_id < most_ids }
         requires apart { has_place row.now self.now.devices ≡ false }
         ensures { IfOk result (λ ring. ring ≡ with_device self.now row.now) }
     {
@@ -230,7 +231,7 @@ impl Ring {
     /// version rises.
     pub fn raised(&self) -> Result<Ring, RaiseFault>
         ensures raised { IfOk result (λ ring. IsRaised self.now ring) }
-        ensures limit { IsErrOf result RaiseFault.PowerLimit ↔ (self.now.power ≡ 14) }
+        ensures limit { IsErrOf result RaiseFault.PowerLimit ↔ (self.now.power ≡ greatest_power) }
     {
         let Some(power) = Power::new(self.parts.power.get() + 1) else {
             return Err(RaiseFault::PowerLimit);

@@ -1,5 +1,8 @@
 -- A rebalance of a valid ring is valid.
 use Rattle.std.proofs.Common.{◌≡◌, ℕ, ◌+◌, ◌*◌, ◌/◌, ◌%◌, ◌^◌, ◌<◌, ◌≤◌, All, true, false, not}
+use Rattle.ring_words.specs.Limits.{greatest_short, most_ids}
+use Rattle.ring_words.specs.Limits.{greatest_long}
+use Rattle.ring_words.specs.Limits.{greatest_power, most_replicas}
 use Rattle.std.proofs.Common.{List, length, map, Some, sym, ap, subst, ◌∙◌, inl, inr, ⊎_elim, arith}
 use Rattle.std.proofs.Common.{slice_get}
 use Rattle.std.specs.List.{AllPairs}
@@ -58,7 +61,7 @@ devices_remain next_id devices are = record {
       (λ (device : Device). not device.removed) devices are.apart;
 }
 
-risen_few : (version : ℕ) → version ≤ 4294967295 → risen version ≤ 4294967295
+risen_few : (version : ℕ) → version ≤ greatest_long → risen version ≤ greatest_long
 risen_few version few = grind (arith, nat_tests)
 
 -- ---- seats on them
@@ -141,13 +144,14 @@ module _ (old new : RingRecord) (hour : ℕ) (valid : IsValid old) (on : AreOnRe
 
   pub valid_after : IsValid new
   valid_after = record {
-    power = subst (λ (n : ℕ). (1 ≤ n) × (n ≤ 14)) (sym power_same) valid.power;
-    replicas = subst (λ (n : ℕ). (1 ≤ n) × (n ≤ 5)) (sym replicas_same) valid.replicas;
-    min_hours = subst (λ (n : ℕ). n ≤ 65535) (sym (ap (λ (r : RingRecord). r.min_hours) after.rest))
+    power = subst (λ (n : ℕ). (1 ≤ n) × (n ≤ greatest_power)) (sym power_same) valid.power;
+    replicas = subst (λ (n : ℕ). (1 ≤ n) × (n ≤ most_replicas)) (sym replicas_same) valid.replicas;
+    min_hours = subst (λ (n : ℕ). n ≤ greatest_short) (sym (ap (λ (r : RingRecord). r.min_hours)
+        after.rest))
         valid.min_hours;
-    next_id = subst (λ (n : ℕ). n ≤ 65536) (sym (ap (λ (r : RingRecord). r.next_id) after.rest))
+    next_id = subst (λ (n : ℕ). n ≤ most_ids) (sym (ap (λ (r : RingRecord). r.next_id) after.rest))
         valid.next_id;
-    version = subst (λ (n : ℕ). n ≤ 4294967295) (sym after.version)
+    version = subst (λ (n : ℕ). n ≤ greatest_long) (sym after.version)
         (risen_few old.version valid.version);
     devices = subst (λ (n : ℕ). AreDevices n new.devices)
         (sym (ap (λ (r : RingRecord). r.next_id) after.rest))

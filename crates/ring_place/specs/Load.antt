@@ -1,5 +1,7 @@
 -- How many seats the devices of a ring want and have, while seats are put on them and taken off.
 use Rattle.std.specs.Prelude.{◌≡◌, ℕ, ◌+◌, ◌-◌, ◌&&◌, ◌≤◌, Bool, true, false, nat_lt, if◌then◌else◌}
+use Rattle.ring_words.specs.Limits.{greatest_long}
+use Rattle.ring_words.specs.Limits.{most_devices}
 use Rattle.std.specs.Prelude.{List, length, map, Option, Some, slice_index, slice_set}
 use Rattle.std.specs.List.Sorted.{IsStrictlyIncreasing}
 use Rattle.ring_words.specs.declared.device.Device.{Device}
@@ -15,7 +17,7 @@ pub record Load : Type 0 where
 -- The devices stand by rising number, with a want and a count for each.
 pub record IsLoad (load : Load) : Type 0 where
   pub rise : IsStrictlyIncreasing (map (λ device. device.id) load.devices)
-  pub few : length load.devices ≤ 256
+  pub few : length load.devices ≤ most_devices
   pub wants : length load.wanted ≡ length load.devices
   pub counted : length load.counts ≡ length load.devices
 
@@ -40,7 +42,7 @@ with_count load id count = record load {
 
 -- with one seat more on it; a count of 4294967295 stays
 abbrev pub load_put : Load → ℕ → Load
-load_put load id = with_count load id (if nat_lt (have_in load id) 4294967295 then
+load_put load id = with_count load id (if nat_lt (have_in load id) greatest_long then
     have_in load id + 1 else have_in load id)
 
 -- with one seat less on it; a count of 0 stays

@@ -57,8 +57,8 @@ kept_row ring gathered partition = map (λ replica. if gathered partition replic
     seat ring partition replica) (range_with_len 0 ring.replicas)
 
 -- how many seats that aren't gathered are on the device of a number
-abbrev pub kept : RingRecord → Gathered → ℕ → ℕ
-kept ring gathered id = sum_by (λ partition. seats_on id (kept_row ring gathered partition))
+abbrev pub kept_count : RingRecord → Gathered → ℕ → ℕ
+kept_count ring gathered id = sum_by (λ partition. seats_on id (kept_row ring gathered partition))
     (range_with_len 0 (partition_count ring))
 
 -- whether the device of a number has room and is outside a partition
@@ -99,7 +99,8 @@ pub record IsLawfulGathering (old : RingRecord) (hour : ℕ) (gathered : Gathere
 abbrev pub HasReason : RingRecord → List ℕ → Gathered → ℕ → ℕ → ℕ → Type 0
 HasReason old wanted gathered partition replica id =
     (has_less_crowded old wanted partition replica id ≡ true)
-    ⊎ ((has_free old wanted partition ≡ true) × (want_of old wanted id ≤ kept old gathered id))
+    ⊎ ((has_free old wanted partition ≡ true) ×
+    (want_of old wanted id ≤ kept_count old gathered id))
 
 -- Each gathered seat on a device that remains has a reason.
 abbrev pub AreReasons : RingRecord → List ℕ → Gathered → Type 0
@@ -126,7 +127,7 @@ pub record IsWhole (old : RingRecord) (hour : ℕ) (wanted : List ℕ) (gathered
     pub surplus : (partition replica id : ℕ) → IsSeat old partition replica →
         IsLeft old hour gathered partition →
         seat old partition replica ≡ Some id → has_free old wanted partition ≡ true →
-        kept old gathered id ≤ want_of old wanted id
+        kept_count old gathered id ≤ want_of old wanted id
 
 -- ---- where they are put
 
@@ -172,7 +173,7 @@ takes_room old gathered new wanted id partition replica = gathered partition rep
 -- No more seats take room on a device than it wants beyond those that it keeps.
 abbrev pub IsWithinRoom : RingRecord → Gathered → RingRecord → List ℕ → Type 0
 IsWithinRoom old gathered new wanted = (id : ℕ) → has_present id old.devices ≡ true →
-    count_seats old (takes_room old gathered new wanted id) ≤ want_of new wanted id - kept old
+    count_seats old (takes_room old gathered new wanted id) ≤ want_of new wanted id - kept_count old
     gathered id
 
 -- A seat that has left a device that remains is on a less crowded one, or the device that it left

@@ -1,5 +1,6 @@
 //! Which seats are gathered: each is lifted, which leaves it empty.
 ghost use Rattle.std.specs.Prelude.{◌≡◌, ◌<◌, ◌≤◌, ℕ, true, length, map, IfOk, IfSome, IfNone};
+ghost use Rattle.ring_words.specs.Limits.{most_replicas};
 ghost use Rattle.std.specs.List.{list_any, range_with_len};
 ghost use Rattle.std.specs.List.Sorted.{IsPermutation};
 ghost use Rattle.std.specs.Option.{ForSome};
@@ -11,7 +12,7 @@ ghost use Rattle.ring_place.specs.Inner.SeatRows.{is_empty, AreKnown};
 ghost use Rattle.ring_place.specs.Inner.Gathering.{is_lost_in, present_only, has_free_in};
 ghost use Rattle.ring_place.specs.Inner.Gathering.{has_less_in, is_crowded_in, Lifts, Takes};
 ghost use Rattle.ring_place.specs.Inner.Gathering.{AreUncrowded, HaveNoSurplus, Falls, IsFirst};
-ghost use Rattle.ring_place.specs.Inner.Gathering.{IsSecond, IsFilled, AreRows, IsGathered};
+ghost use Rattle.ring_place.specs.Inner.Gathering.{IsSecond, IsFilled, AreRowsOfSeats, IsGathered};
 ghost use Rattle.ring_place.specs.Inner.Gathering.{IsLifting, IsPass};
 
 use crate::rooms::Room;
@@ -49,7 +50,7 @@ fn has_lost(room: &Room, row: &[Option<DeviceId>]) -> bool
 /// Whether some device outside a partition has room.
 fn has_free(room: &Room, row: &[Option<DeviceId>]) -> bool
     requires row { AreKnown room.now.devices row.now }
-    requires few { length row.now ≤ 5 }
+    requires few { length row.now ≤ most_replicas }
     ensures { result ≡ has_free_in room.now row.now }
 {
     let (ids, count) = devices_on(row);
@@ -60,7 +61,7 @@ fn has_free(room: &Room, row: &[Option<DeviceId>]) -> bool
 /// seat on it.
 fn has_less_crowded(room: &Room, row: &[Option<DeviceId>], device: DeviceId) -> bool
     requires row { AreKnown room.now.devices row.now }
-    requires few { length row.now ≤ 5 }
+    requires few { length row.now ≤ most_replicas }
     requires device { has_device device room.now.devices ≡ true }
     ensures { result ≡ has_less_in room.now row.now row.now device }
 {
@@ -95,7 +96,7 @@ fn lift_lost(kept: &mut Room, row: &mut [Option<DeviceId>])
 /// what device it was on.
 fn lift_crowded(was: &Room, row: &mut [Option<DeviceId>]) -> Option<DeviceId>
     requires row { AreKnown was.now.devices row.old }
-    requires few { length row.old ≤ 5 }
+    requires few { length row.old ≤ most_replicas }
     ensures some { IfSome result (λ id. (replica : ℕ) × Lifts row.old row.new replica id ×
         (is_crowded_in was.now row.old replica id ≡ true)) }
     ensures none { IfNone result ((row.new ≡ row.old) × AreUncrowded was.now row.old) }
@@ -137,7 +138,7 @@ fn gather_first(was: &Room, kept: &mut Room, locked: bool, row: &mut [Option<Dev
     requires load { IsLoad kept.old }
     requires same { kept.old.devices ≡ was.now.devices }
     requires row { AreKnown was.now.devices row.old }
-    requires few { length row.old ≤ 5 }
+    requires few { length row.old ≤ most_replicas }
     requires has { (id : ℕ) → has_device id kept.old.devices ≡ true →
         seats_on id row.old ≤ have_in kept.old id }
     ensures first { IsFirst was.now locked row.old row.new }
@@ -158,7 +159,7 @@ fn gather_second(was: &Room, kept: &mut Room, locked: bool, row: &mut [Option<De
     requires load { IsLoad kept.old }
     requires same { kept.old.devices ≡ was.now.devices }
     requires row { AreKnown was.now.devices row.old }
-    requires few { length row.old ≤ 5 }
+    requires few { length row.old ≤ most_replicas }
     ensures second { IsSecond was.now kept.new locked row.old row.new }
     ensures takes { Takes kept.old kept.new row.old row.new }
     ensures falls { Falls kept.old kept.new }
@@ -185,7 +186,7 @@ fn gather_row(pass: Pass, was: &Room, kept: &mut Room, locked: bool, row: &mut [
     requires load { IsLoad kept.old }
     requires same { kept.old.devices ≡ was.now.devices }
     requires row { AreKnown was.now.devices row.old }
-    requires few { length row.old ≤ 5 }
+    requires few { length row.old ≤ most_replicas }
     requires has { (id : ℕ) → has_device id kept.old.devices ≡ true →
         seats_on id row.old ≤ have_in kept.old id }
     ensures lifted { IsLifting pass was.now kept.new locked row.old row.new }
@@ -209,7 +210,7 @@ fn gather(
 )
     requires locked { length locked.now ≡ length seats.old }
     requires order { IsPermutation (range_with_len 0 (length seats.old)) order.now }
-    requires rows { AreRows was.now.devices seats.old }
+    requires rows { AreRowsOfSeats was.now.devices seats.old }
     requires filled { IsFilled kept.old was.now.devices was.now.wanted seats.old }
     ensures { IsPass pass order.now was.now kept.new locked.now seats.old seats.new }
 {

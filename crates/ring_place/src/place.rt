@@ -1,5 +1,7 @@
 //! Where lifted seats are put.
 ghost use Rattle.std.specs.Prelude.{◌≡◌, ◌<◌, ◌≤◌, ◌+◌, ℕ, true, All, count_by, length, sum_by};
+ghost use Rattle.ring_words.specs.Limits.{greatest_long};
+ghost use Rattle.ring_words.specs.Limits.{most_replicas};
 ghost use Rattle.std.specs.Prelude.{IfSome, take};
 ghost use Rattle.std.specs.List.{range_with_len};
 ghost use Rattle.std.specs.List.Sorted.{IsPermutation};
@@ -17,12 +19,12 @@ use crate::seats::{Seats, devices_on, has_empty, row_copy};
 use crate::tiers::is_less;
 use rand_core::Rng;
 use rand_pcg::Pcg32;
-use ring_words::DeviceId;
+use ring_words::{DeviceId, MOST_SEATS};
 
 /// The place of the seat's own device where that is as good as the best.
 fn own_or(room: &Room, others: &[usize], own: Option<DeviceId>, best: usize) -> usize
     requires others { All (λ other. other < length room.now.devices) others.now }
-    requires few { length others.now ≤ 5 }
+    requires few { length others.now ≤ most_replicas }
     requires own { IfSome own (λ id. has_device id room.now.devices ≡ true) }
     requires within { best < length room.now.devices }
     requires best { IsLeast room.now (seats_at room.now.devices others.now)
@@ -51,7 +53,7 @@ fn own_or(room: &Room, others: &[usize], own: Option<DeviceId>, best: usize) -> 
 /// its own if that isn't marked to be removed, and else to an open device outside.
 fn choose(room: &Room, others: &[usize], own: Option<DeviceId>, draw: u32) -> usize
     requires others { All (λ other. other < length room.now.devices) others.now }
-    requires few { length others.now ≤ 5 }
+    requires few { length others.now ≤ most_replicas }
     requires own { IfSome own (λ id. has_device id room.now.devices ≡ true) }
     requires apart { IfSome own (λ id. has_present id room.now.devices ≡ true →
         seats_on id (seats_at room.now.devices others.now) ≡ 0) }
@@ -73,11 +75,11 @@ fn choose(room: &Room, others: &[usize], own: Option<DeviceId>, draw: u32) -> us
 
 /// The places of the devices of a partition's seats, in any order, and how many they are. What
 /// stands behind them is left over.
-fn places_on(room: &Room, row: &[Option<DeviceId>]) -> ([usize; 5], usize)
+fn places_on(room: &Room, row: &[Option<DeviceId>]) -> ([usize; MOST_SEATS], usize)
     requires row { AreKnown room.now.devices row.now }
-    requires few { length row.now ≤ 5 }
-    ensures long { length result.0 ≡ 5 }
-    ensures few { result.1 ≤ 5 }
+    requires few { length row.now ≤ most_replicas }
+    ensures long { length result.0 ≡ most_replicas }
+    ensures few { result.1 ≤ most_replicas }
     ensures places { ArePlacesOf room.now.devices row.now (take result.1 result.0) }
 {
     let (ids, count) = devices_on(row);
@@ -95,7 +97,7 @@ fn place_row(
     requires load { IsLoad room.old }
     requires closed { OpenWant room.old }
     requires fits { (id : ℕ) → has_device id room.old.devices ≡ true →
-        have_in room.old id + length row.old < 4294967295 }
+        have_in room.old id + length row.old < greatest_long }
     ensures { RowPlaced room.old room.new old.now row.old row.new }
 {
     let (mut places, mut count) = places_on(room, row);

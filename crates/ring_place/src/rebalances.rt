@@ -1,5 +1,6 @@
 //! One rebalance.
 ghost use Rattle.std.specs.Prelude.{◌≡◌, ◌<◌, ◌≤◌, ◌↔◌, count_by, length, IfOk, IsErrOf, filter};
+ghost use Rattle.ring_words.specs.Limits.{most_replicas};
 ghost use Rattle.std.specs.Prelude.{not};
 ghost use Rattle.ring_model.specs.Valid.{IsValid};
 ghost use Rattle.ring_share.specs.Crowd.{rows_of};
@@ -55,9 +56,9 @@ fn open_count(devices: &[Device]) -> usize
 /// How many seats of a partition differ.
 fn count_changed(old: &[Option<DeviceId>], new: &[Option<DeviceId>]) -> u32
     requires as_many { length new.now ≡ length old.now }
-    requires few { length old.now ≤ 5 }
+    requires few { length old.now ≤ most_replicas }
     ensures count { result ≡ changed_in old.now new.now }
-    ensures few { result ≤ 5 }
+    ensures few { result ≤ most_replicas }
 {
     let mut changed = 0;
     for (replica, seat) in old.iter().enumerate() {

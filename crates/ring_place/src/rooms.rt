@@ -1,5 +1,6 @@
 //! How many seats devices want and have, and where there is room for more.
 ghost use Rattle.std.specs.Prelude.{◌≡◌, ◌<◌, ◌≤◌, ◌&&◌, ℕ, true, false, All, List, length, nat_lt};
+ghost use Rattle.ring_words.specs.Limits.{most_devices};
 ghost use Rattle.std.specs.Prelude.{take, count_by, slice_set, IfOk, IfSome, IfNone};
 ghost use Rattle.ring_model.specs.Ring.{has_device, has_present};
 ghost use Rattle.ring_share.specs.Crowd.{is_outside};
@@ -13,7 +14,7 @@ ghost use Rattle.ring_share.specs.Tiers.{AreTier};
 
 use ring_model::Ring;
 use ring_share::{Tier, counts_of, is_open, one_each, place_in, tier_codes};
-use ring_words::{Device, DeviceId};
+use ring_words::{Device, DeviceId, MOST_DEVICES};
 use std::alloc::{AllocError, Global};
 use std::marker::Model;
 
@@ -35,9 +36,9 @@ pub struct Room {
     pub(crate) servers: Vec<usize>,
     /// For the device at each place a number that tells its region, one that tells its zone, and
     /// one that tells its server.
-    pub(crate) in_region: [u8; 256],
-    pub(crate) in_zone: [u8; 256],
-    pub(crate) in_server: [u8; 256],
+    pub(crate) in_region: [u8; MOST_DEVICES],
+    pub(crate) in_zone: [u8; MOST_DEVICES],
+    pub(crate) in_server: [u8; MOST_DEVICES],
 }
 
 impl Model for Room {
@@ -119,7 +120,7 @@ fn list_roomy(devices: &[Device], wanted: &[u32], counts: &[u32], places: &mut [
 
 /// The place of one open device in each tier of a kind that has any.
 fn tier_places(alloc: Global, devices: &[Device], tier: Tier) -> Result<Vec<usize>, AllocError>
-    requires { length devices.now ≤ 256 }
+    requires { length devices.now ≤ most_devices }
     ensures { IfOk result (λ places. AreTier tier devices.now places.items) }
 {
     let (places, count) = one_each(devices, tier);

@@ -1,5 +1,6 @@
 //! The search of a room for a device that is least crowded for a seat.
 ghost use Rattle.std.specs.Prelude.{◌≡◌, ◌<◌, ◌≤◌, ◌+◌, ℕ, true, false, All, length, slice_index};
+ghost use Rattle.ring_words.specs.Limits.{most_replicas};
 ghost use Rattle.std.specs.Prelude.{IfSome, IfNone, List, Option, if◌then◌else◌};
 ghost use Rattle.std.specs.List.{list_any};
 ghost use Rattle.ring_model.specs.Ring.{has_device};
@@ -18,7 +19,7 @@ use crate::rooms::Room;
 use crate::seats::devices_on;
 use crate::tiers::{Crowd, cut, is_less, lesser};
 use ring_share::{Tier, stand_apart};
-use ring_words::DeviceId;
+use ring_words::{DeviceId, MOST_SEATS};
 
 /// After so many steps a search looks for a floor down to zones and servers.
 const STEPS_BY_REGIONS: usize = 3;
@@ -82,7 +83,7 @@ impl Room {
     /// these places.
     pub(crate) fn crowd_at(&self, others: &[usize], place: usize) -> Crowd
         requires others { All (λ other. other < length self.now.devices) others.now }
-        requires few { length others.now ≤ 5 }
+        requires few { length others.now ≤ most_replicas }
         requires place { place < length self.now.devices }
         ensures { result ≡ crowd_in self.now (seats_at self.now.devices others.now)
             (id_at self.now.devices place) }
@@ -96,15 +97,15 @@ impl Room {
     }
 
     /// The places of at most five devices of the ring.
-    pub(crate) fn places_of(&self, ids: &[DeviceId]) -> [usize; 5]
+    pub(crate) fn places_of(&self, ids: &[DeviceId]) -> [usize; MOST_SEATS]
         requires known { All (λ id. has_device id self.now.devices ≡ true) ids.now }
-        requires few { length ids.now ≤ 5 }
-        ensures long { length result ≡ 5 }
+        requires few { length ids.now ≤ most_replicas }
+        ensures long { length result ≡ most_replicas }
         ensures stand { (index : ℕ) → index < length ids.now →
             (slice_index result index < length self.now.devices) ×
             (id_at self.now.devices (slice_index result index) ≡ slice_index ids.now index) }
     {
-        let mut places = [0; 5];
+        let mut places = [0; MOST_SEATS];
         for (index, id) in ids.iter().enumerate() {
             places[index] = self.place_of(*id);
         }
@@ -114,7 +115,7 @@ impl Room {
     /// How crowded a device of the ring is for a seat whose other seats are on these devices.
     pub(crate) fn crowd(&self, others: &[DeviceId], device: DeviceId) -> Crowd
         requires others { All (λ id. has_device id self.now.devices ≡ true) others.now }
-        requires few { length others.now ≤ 5 }
+        requires few { length others.now ≤ most_replicas }
         requires device { has_device device self.now.devices ≡ true }
         ensures { result ≡ crowd_in self.now (seats_of others.now) device }
     {
@@ -126,7 +127,7 @@ impl Room {
     /// for any of its seats, none of which is empty.
     pub(crate) fn is_calm(&self, row: &[Option<DeviceId>]) -> bool
         requires row { AreKnown self.now.devices row.now }
-        requires few { length row.now ≤ 5 }
+        requires few { length row.now ≤ most_replicas }
         requires full { list_any is_empty row.now ≡ false }
         ensures { result ≡ true → AreUncrowded self.now row.now }
     {
@@ -173,7 +174,7 @@ impl Room {
     /// takes one.
     pub fn least(&self, others: &[DeviceId], draw: u32) -> Option<DeviceId>
         requires others { All (λ id. has_device id self.now.devices ≡ true) others.now }
-        requires few { length others.now ≤ 5 }
+        requires few { length others.now ≤ most_replicas }
         ensures found { IfSome result (λ id. IsLeast self.now (seats_of others.now) id) }
         ensures none { IfNone result ((id : ℕ) → is_free_in self.now (seats_of others.now) id ≡
             false) }
@@ -190,7 +191,7 @@ impl Room {
     /// takes one.
     pub(crate) fn least_at(&self, others: &[usize], draw: u32) -> Option<usize>
         requires others { All (λ other. other < length self.now.devices) others.now }
-        requires few { length others.now ≤ 5 }
+        requires few { length others.now ≤ most_replicas }
         ensures within { IfSome result (λ place. place < length self.now.devices) }
         ensures found { IfSome result (λ place. IsLeast self.now
             (seats_at self.now.devices others.now) (id_at self.now.devices place)) }
@@ -210,7 +211,7 @@ impl Room {
     /// seats are on the devices at these places.
     fn floor_for(&self, others: &[usize]) -> Crowd
         requires others { All (λ other. other < length self.now.devices) others.now }
-        requires few { length others.now ≤ 5 }
+        requires few { length others.now ≤ most_replicas }
         ensures { IsFloor self.now (seats_at self.now.devices others.now) result }
     {
         // some region has none of the others
@@ -223,7 +224,7 @@ impl Room {
     /// How many of the devices at some places are in the region of the device at a place.
     fn in_region_of(&self, others: &[usize], place: usize) -> u32
         requires others { All (λ other. other < length self.now.devices) others.now }
-        requires few { length others.now ≤ 5 }
+        requires few { length others.now ≤ most_replicas }
         requires place { place < length self.now.devices }
         ensures { result ≡ (crowd_in self.now (seats_at self.now.devices others.now)
             (id_at self.now.devices place)).0 }
@@ -241,7 +242,7 @@ impl Room {
         requires load { IsLoad self.now }
         requires tier { AreTier Region self.now.devices places.now }
         requires others { All (λ other. other < length self.now.devices) others.now }
-        requires few { length others.now ≤ 5 }
+        requires few { length others.now ≤ most_replicas }
         ensures { IsFloor self.now (seats_at self.now.devices others.now) result }
     {
         // more than any has: a partition has at most five other seats
@@ -256,7 +257,7 @@ impl Room {
     /// regions. Zones and servers are looked at once, in a search that takes some steps.
     fn floor_after(&self, steps: usize, others: &[usize], floor: Crowd) -> Crowd
         requires others { All (λ other. other < length self.now.devices) others.now }
-        requires few { length others.now ≤ 5 }
+        requires few { length others.now ≤ most_replicas }
         requires floor { IsFloor self.now (seats_at self.now.devices others.now) floor }
         ensures { IsFloor self.now (seats_at self.now.devices others.now) result }
     {
@@ -279,7 +280,7 @@ impl Room {
         requires load { IsLoad self.now }
         requires tier { AreTier tier self.now.devices places.now }
         requires others { All (λ other. other < length self.now.devices) others.now }
-        requires few { length others.now ≤ 5 }
+        requires few { length others.now ≤ most_replicas }
         requires floor { IsFloor self.now (seats_at self.now.devices others.now) floor }
         ensures { IsFloor self.now (seats_at self.now.devices others.now) result }
     {
@@ -312,7 +313,7 @@ impl Room {
             places.now }
         requires start { start < length places.now }
         requires others { All (λ other. other < length self.now.devices) others.now }
-        requires few { length others.now ≤ 5 }
+        requires few { length others.now ≤ most_replicas }
         requires floor { IsFloor self.now (seats_at self.now.devices others.now) floor }
         ensures best { IsBestSoFar places.now start (length places.now) self.now
             (seats_at self.now.devices others.now) result }
@@ -347,7 +348,7 @@ impl Room {
         requires start { start < length places.now }
         requires step { step < length places.now }
         requires others { All (λ other. other < length self.now.devices) others.now }
-        requires few { length others.now ≤ 5 }
+        requires few { length others.now ≤ most_replicas }
         requires best { IsBestSoFar places.now start step self.now (seats_at self.now.devices
             others.now) best }
         ensures { IsBestSoFar places.now start (step + 1) self.now (seats_at self.now.devices

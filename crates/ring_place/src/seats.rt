@@ -1,5 +1,6 @@
 //! Seats of partitions while some of them are empty.
 ghost use Rattle.std.specs.Prelude.{◌≡◌, ◌<◌, ◌≤◌, ℕ, length, slice_get, slice_set, take, IfOk};
+ghost use Rattle.ring_words.specs.Limits.{most_replicas};
 ghost use Rattle.std.specs.Prelude.{slice_index_or, None};
 ghost use Rattle.std.specs.List.{flat_map, list_any};
 ghost use Rattle.ring_model.specs.Valid.{IsValid};
@@ -7,17 +8,17 @@ ghost use Rattle.ring_share.specs.Crowd.{rows_of};
 ghost use Rattle.ring_place.specs.Inner.SeatRows.{row_at, devices_on, is_empty};
 
 use ring_model::Ring;
-use ring_words::{DeviceId, partition_count};
+use ring_words::{DeviceId, MOST_SEATS, partition_count};
 use std::alloc::{AllocError, Global};
 use std::marker::Model;
 
 /// The seats of a partition, at most five, apart from all others, and how many they are.
-pub(crate) fn row_copy(row: &[Option<DeviceId>]) -> ([Option<DeviceId>; 5], usize)
-    requires { length row.now ≤ 5 }
+pub(crate) fn row_copy(row: &[Option<DeviceId>]) -> ([Option<DeviceId>; MOST_SEATS], usize)
+    requires { length row.now ≤ most_replicas }
     ensures row { take result.1 result.0 ≡ row.now }
-    ensures few { result.1 ≤ 5 }
+    ensures few { result.1 ≤ most_replicas }
 {
-    let mut copy = [None; 5];
+    let mut copy = [None; MOST_SEATS];
     copy[..row.len()].copy_from_slice(row);
     (copy, row.len())
 }
@@ -125,12 +126,12 @@ impl Seats {
 
 /// The devices of a partition's seats that aren't empty, by replica, and how many they are. What
 /// stands behind them is left over.
-pub(crate) fn devices_on(row: &[Option<DeviceId>]) -> ([DeviceId; 5], usize)
-    requires { length row.now ≤ 5 }
+pub(crate) fn devices_on(row: &[Option<DeviceId>]) -> ([DeviceId; MOST_SEATS], usize)
+    requires { length row.now ≤ most_replicas }
     ensures devices { take result.1 result.0 ≡ devices_on row.now }
-    ensures few { result.1 ≤ 5 }
+    ensures few { result.1 ≤ most_replicas }
 {
-    let mut ids = [0; 5];
+    let mut ids = [0; MOST_SEATS];
     let mut count = 0;
     for seat in row {
         if let Some(id) = *seat {

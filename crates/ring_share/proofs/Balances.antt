@@ -1,5 +1,7 @@
 -- Balances.
 use Rattle.std.proofs.Common.{◌≡◌, ℕ, ◌+◌, ◌*◌, ◌/◌, ◌^◌, ◌<◌, ◌≤◌, List, [], ◌∷◌, ◌++◌, length}
+use Rattle.ring_words.specs.Limits.{most_partitions, most_replicas}
+use Rattle.ring_words.specs.Limits.{greatest_power}
 use Rattle.std.proofs.Common.{map, min, max, fold, take, get_or, ◌==◌, sym, ap, ◌∙◌, ⊎_elim, arith}
 use Rattle.std.proofs.Math.Nat.{div-mul-le_self, mul-le-mul_right}
 use Rattle.std.proofs.Math.Pow.{pow_mono}
@@ -26,8 +28,9 @@ beyond distance share some far =
 
 pub few_seats : (ring : RingRecord) → IsValid ring → seat_count ring ≤ 81920
 few_seats ring valid =
-    let low : partition_count ring ≤ 2 ^ 14 = pow_mono valid.power.1 in
-    let le = mul-le (partition_count ring) ring.replicas 16384 5 (omega (arith, low))
+    let low : partition_count ring ≤ 2 ^ greatest_power = pow_mono valid.power.1 in
+    let le = mul-le (partition_count ring) ring.replicas most_partitions most_replicas (omega
+    (arith, low))
     valid.replicas.1 in
     omega (arith, le)
 

@@ -1,5 +1,6 @@
 -- What the table finds is what the crowds say.
 use Rattle.std.proofs.Common.{◌≡◌, ◌≢◌, ◌==◌, ℕ, zero, suc, ◌+◌, ◌*◌, ◌<◌, ◌≤◌, Bool, true, false}
+use Rattle.ring_words.specs.Limits.{most_replicas}
 use Rattle.std.proofs.Common.{not, cond, ◌&&◌, ◌||◌, List, [], ◌∷◌, length, get_or, count_by, map}
 use Rattle.std.proofs.Common.{Option, Some, None, refl, sym, ap, ◌∙◌, ⊎_elim, arith}
 use Rattle.std.specs.Prelude.{slice_get, nat_lt, if◌then◌else◌}
@@ -17,7 +18,7 @@ use Rattle.std.proofs.lemmas.Option.{slice_get_within, get_or_from_slice_get, sl
 use Rattle.std.proofs.lemmas.Option.{same_Some}
 use Rattle.ring_words.specs.declared.device.Device.{Device}
 use Rattle.ring_share.specs.Want.{is_open}
-use Rattle.ring_share.specs.Crowd.{in_region, in_zone, on_server, device_of, pass_both, Tiers}
+use Rattle.ring_share.specs.Crowd.{in_region, in_zone, on_server, device_by_id, pass_both, Tiers}
 use Rattle.ring_share.specs.Crowd.{tiers_of, is_on, is_outside, others, crowd, is_less}
 use Rattle.ring_share.specs.Figures.{has_better, is_crowded, has_crowded}
 use Rattle.ring_share.specs.Near.{is_open_at, StandsAt}
@@ -30,7 +31,7 @@ use Rattle.ring_share.proofs.Rows.{some_below}
 
 pub device_of_at : (devices : List Device) →
     IsStrictlyIncreasing (map (λ device. device.id) devices) → (place : ℕ) (x : Device) →
-    slice_get devices place ≡ Some x → device_of x.id devices ≡ Some x
+    slice_get devices place ≡ Some x → device_by_id x.id devices ≡ Some x
 device_of_at devices rise place x at =
     let within = slice_get_within devices place x at in
     let here : position_or_len (λ (device : Device). device.id == x.id) devices ≡ place =
@@ -48,7 +49,8 @@ device_of_at devices rise place x at =
 abbrev pub key : ℕ × ℕ × ℕ → ℕ
 key c = 36 * c.0 + (6 * c.1 + c.2)
 
-less_by_key : (a b c d e f : ℕ) → a ≤ 5 → b ≤ 5 → c ≤ 5 → d ≤ 5 → e ≤ 5 → f ≤ 5
+less_by_key : (a b c d e f : ℕ) → a ≤ most_replicas → b ≤ most_replicas → c ≤ most_replicas →
+    d ≤ most_replicas → e ≤ most_replicas → f ≤ most_replicas
     → (nat_lt a d || ((a == d) && (nat_lt b e || ((b == e) && nat_lt c f)))) ≡ nat_lt
     (36 * a + (6 * b + c)) (36 * d + (6 * e + f))
 less_by_key a b c d e f ha hb hc hd he hf = grind (arith, nat_tests)
@@ -116,11 +118,14 @@ near_seat_is : (devices : List Device) → IsStrictlyIncreasing (map (λ device.
 near_seat_is devices rise one other x y at bt =
     let first = device_of_at devices rise one x at in
     let second = device_of_at devices rise other y bt in
-    let of_region = ap (λ (o : Option Device). pass_both in_region o (device_of y.id devices)) first
+    let of_region = ap (λ (o : Option Device). pass_both in_region o (device_by_id y.id devices))
+    first
     ∙ ap (pass_both in_region (Some x)) second in
-    let of_zone = ap (λ (o : Option Device). pass_both in_zone o (device_of y.id devices)) first ∙
+    let of_zone = ap (λ (o : Option Device). pass_both in_zone o (device_by_id y.id devices)) first
+    ∙
     ap (pass_both in_zone (Some x)) second in
-    let of_server = ap (λ (o : Option Device). pass_both on_server o (device_of y.id devices)) first
+    let of_server = ap (λ (o : Option Device). pass_both on_server o (device_by_id y.id devices))
+    first
     ∙ ap (pass_both on_server (Some x)) second in
     tiers_near of_region of_zone of_server
     ∙ near_symm x y
@@ -223,7 +228,7 @@ and_comm false false = refl
 less_is : (devices : List Device) → IsStrictlyIncreasing (map (λ device. device.id) devices) →
     (one : ℕ) (x : Device) → slice_get devices one ≡ Some x → (ids places : List ℕ) →
     AreStanding devices ids places
-    → length ids ≤ 5 → (replica : ℕ) → replica < length ids
+    → length ids ≤ most_replicas → (replica : ℕ) → replica < length ids
     → is_less (crowd (tiers_of devices) (others (map Some ids) replica) x.id)
     (crowd (tiers_of devices) (others (map Some ids) replica) (get_or ids replica 0))
     ≡ nat_lt (nearness devices places one + near_at devices (get_or places replica 0)
@@ -268,7 +273,8 @@ less_is devices rise one x at ids places all few replica lt =
       x_sum,
     )) (omega (arith, e_key, e_near, e_sum))
   where
-    at_most : (test : Option ℕ → Bool) → count_by test (others (map Some ids) replica) ≤ 5
+    at_most : (test : Option ℕ → Bool) → count_by test (others (map Some ids) replica) ≤
+        most_replicas
     at_most test = let le = count_by-le-length test (others (map Some ids) replica) in
         omega (arith, le, few, length-set (map Some ids) replica None, length-map ids Some)
 
@@ -280,7 +286,7 @@ less_is devices rise one x at ids places all few replica lt =
 better_is : (devices : List Device) → IsStrictlyIncreasing (map (λ device. device.id) devices) →
     (one : ℕ) (x : Device) → slice_get devices one ≡ Some x → (ids places : List ℕ) →
     AreStanding devices ids places
-    → length ids ≤ 5 → (replica : ℕ) → replica < length ids
+    → length ids ≤ most_replicas → (replica : ℕ) → replica < length ids
     → (is_open x && is_outside (map Some ids) x.id &&
     is_less (crowd (tiers_of devices) (others (map Some ids) replica) x.id)
     (crowd (tiers_of devices) (others (map Some ids) replica) (get_or ids replica 0)))
@@ -317,7 +323,7 @@ found_below test n some =
 -- a partition's seats have a better place exactly where one of them is crowded
 pub better_is_crowded : (devices : List Device) →
     IsStrictlyIncreasing (map (λ device. device.id) devices) → (ids places : List ℕ) →
-    AreStanding devices ids places → length ids ≤ 5
+    AreStanding devices ids places → length ids ≤ most_replicas
     → has_better_at devices places ≡ has_crowded devices (map Some ids)
 better_is_crowded devices rise ids places all few = bool_ext (has_better_at devices places)
     (has_crowded devices (map Some ids)) forth back

@@ -7,7 +7,7 @@ use Rattle.std.proofs.lemmas.List.{get_or-set_same, get_or-set_other}
 use Rattle.std.proofs.lemmas.List.Sums.{sum_by-le-sum_by}
 use Rattle.std.proofs.lemmas.Option.{slice_get_past, slice_get_cases, same_Some}
 use Rattle.ring_words.specs.declared.device.Device.{Device}
-use Rattle.ring_share.specs.Inner.Nearness.{near, near_if_both, near_at, IsTable}
+use Rattle.ring_share.specs.Inner.Nearness.{near, near_if_both, near_at, IsNearnessTable}
 
 -- one more entry of a row
 pub row_more : (devices : List Device) (device : Device) (row : List ℕ) (place : ℕ) (x : Device)
@@ -61,7 +61,8 @@ table_more devices table place row lt is filled one other below = ⊎_elim
 -- the whole table
 pub table_is : (devices : List Device) (table : List (List ℕ)) (n : ℕ) → n ≡ length devices →
     ((one other : ℕ) → one < n → get_or (get_or table one []) other 0 ≡ near_at devices one other)
-    → ((one other : ℕ) → n ≤ one → get_or (get_or table one []) other 0 ≡ 0) → IsTable devices table
+    → ((one other : ℕ) → n ≤ one → get_or (get_or table one []) other 0 ≡ 0) →
+    IsNearnessTable devices table
 table_is devices table n all filled rest one other = ⊎_elim
     (λ inside. filled one other inside)
     (λ past. rest one other past ∙ sym

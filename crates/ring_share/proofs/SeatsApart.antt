@@ -13,7 +13,8 @@ use Rattle.std.proofs.lemmas.List.Sums.{sum_by-set}
 use Rattle.std.proofs.lemmas.Option.{get_or_from_slice_get, slice_get-get_or}
 use Rattle.std.proofs.lemmas.Option.{slice_get_within}
 use Rattle.ring_words.specs.declared.device.Device.{Device}
-use Rattle.ring_share.specs.Crowd.{crowd, device_of, in_region, in_zone, is_less, is_on, is_outside}
+use Rattle.ring_share.specs.Crowd.{crowd, device_by_id, in_region, in_zone, is_less, is_on}
+use Rattle.ring_share.specs.Crowd.{is_outside}
 use Rattle.ring_share.specs.Crowd.{on_server, others, pass_both, tiers_of}
 use Rattle.ring_share.specs.Figures.{has_better, has_crowded, is_crowded}
 use Rattle.ring_share.specs.Tiers.{AreTier}
@@ -76,7 +77,8 @@ server_in_zone : (devices : List Device) (id : ℕ) (seat : Option ℕ) →
     is_on ((tiers_of devices).server id) seat ≡ true → is_on ((tiers_of devices).zone id) seat ≡
     true
 server_in_zone devices id None h = h
-server_in_zone devices id (Some other) h = both (device_of id devices) (device_of other devices) h
+server_in_zone devices id (Some other) h = both (device_by_id id devices) (device_by_id other
+    devices) h
   where
     both : (a b : Option Device) → pass_both on_server a b ≡ true → pass_both in_zone a b ≡ true
     both None b h = h
@@ -110,10 +112,10 @@ module _ (devices : List Device) (rise : IsStrictlyIncreasing (map (λ device. d
   -- a tier has as many seats as places share it
   tier_count : (tier : Device → Device → Bool) (one : ℕ) (x : Device) →
       slice_get devices one ≡ Some x
-      → count_by (is_on (λ n. pass_both tier (device_of x.id devices) (device_of n devices)))
+      → count_by (is_on (λ n. pass_both tier (device_by_id x.id devices) (device_by_id n devices)))
       (map Some ids) ≡ sharing tier devices places x
   tier_count tier one x at =
-      let test = is_on (λ n. pass_both tier (device_of x.id devices) (device_of n devices)) in
+      let test = is_on (λ n. pass_both tier (device_by_id x.id devices) (device_by_id n devices)) in
       count_alike test (λ place. pass_both tier (Some x) (slice_get devices place)) (map Some ids)
       places (all.count ∙ sym (length-map ids Some))
       (λ k seat place read there.
@@ -124,11 +126,11 @@ module _ (devices : List Device) (rise : IsStrictlyIncreasing (map (λ device. d
       let is : seat ≡ Some (get_or ids k 0) =
       sym (get_or_from_slice_get (map Some ids) k seat None read) ∙ get_or-map Some ids k 0 None lt
       in
-      let other : device_of (get_or ids k 0) devices ≡ Some stands.device =
-      ap (λ n. device_of n devices) (sym stands.named) ∙ device_of_at devices rise
+      let other : device_by_id (get_or ids k 0) devices ≡ Some stands.device =
+      ap (λ n. device_by_id n devices) (sym stands.named) ∙ device_of_at devices rise
       (get_or places k 0) stands.device stands.at in
       ap test is
-      ∙ ap (λ found. pass_both tier found (device_of (get_or ids k 0) devices))
+      ∙ ap (λ found. pass_both tier found (device_by_id (get_or ids k 0) devices))
       (device_of_at devices rise one x at)
       ∙ ap (λ found. pass_both tier (Some x) found) (other ∙ sym stands.at)
       ∙ ap (λ n. pass_both tier (Some x) (slice_get devices n)) here)
@@ -161,14 +163,15 @@ module _ (devices : List Device) (rise : IsStrictlyIncreasing (map (λ device. d
       let id = get_or ids k 0 in
       let tiers = tiers_of devices in
       let counts = own e stands.at in
-      let there : device_of id devices ≡ Some e = ap (λ n. device_of n devices) (sym stands.named) ∙
+      let there : device_by_id id devices ≡ Some e = ap (λ n. device_by_id n devices) (sym
+      stands.named) ∙
       device_of_at devices rise (get_or places k 0) e stands.at in
       let self_region : tiers.region id id ≡ true =
-      ap (λ found. pass_both in_region found (device_of id devices)) there ∙ ap
+      ap (λ found. pass_both in_region found (device_by_id id devices)) there ∙ ap
       (λ found. pass_both in_region (Some e) found) there ∙ eq-eqb e.row.region e.row.region
       refl in
       let self_zone : tiers.zone id id ≡ true =
-      ap (λ found. pass_both in_zone found (device_of id devices)) there ∙ ap
+      ap (λ found. pass_both in_zone found (device_by_id id devices)) there ∙ ap
       (λ found. pass_both in_zone (Some e) found) there
       ∙ both_true _ _ (eq-eqb e.row.region e.row.region refl) (eq-eqb e.row.zone e.row.zone refl) in
       let region_total : count_by (is_on (tiers.region id)) (map Some ids) ≡ sharing in_region
@@ -185,7 +188,8 @@ module _ (devices : List Device) (rise : IsStrictlyIncreasing (map (λ device. d
       (server_in_zone devices id) (others (map Some ids) k) in
       let other_total = tier_count in_region one x at in
       let region_read : tiers.region x.id id ≡ in_region x e =
-      ap (λ found. pass_both in_region found (device_of id devices)) (device_of_at devices rise one
+      ap (λ found. pass_both in_region found (device_by_id id devices)) (device_of_at devices rise
+      one
       x at) ∙ ap (λ found. pass_both in_region (Some x) found) there in
       let region_less : count_by (is_on (tiers.region id)) (others (map Some ids) k) ≤ count_by
       (is_on (tiers.region x.id)) (others (map Some ids) k) =

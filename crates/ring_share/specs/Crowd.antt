@@ -21,8 +21,8 @@ abbrev pub on_server : Device → Device → Bool
 on_server a b = in_zone a b && (a.row.address == b.row.address)
 
 -- the device of a number
-abbrev pub device_of : ℕ → List Device → Option Device
-device_of id devices = find (λ device. device.id == id) devices
+abbrev pub device_by_id : ℕ → List Device → Option Device
+device_by_id id devices = find (λ device. device.id == id) devices
 
 -- whether two devices are there and pass a test
 abbrev pub pass_both : (Device → Device → Bool) → Option Device → Option Device → Bool
@@ -39,9 +39,9 @@ pub record Tiers : Type 0 where
 -- which devices of a ring share a region, a zone or a server, by their numbers
 abbrev pub tiers_of : List Device → Tiers
 tiers_of devices = record {
-  region = λ a b. pass_both in_region (device_of a devices) (device_of b devices);
-  zone = λ a b. pass_both in_zone (device_of a devices) (device_of b devices);
-  server = λ a b. pass_both on_server (device_of a devices) (device_of b devices);
+  region = λ a b. pass_both in_region (device_by_id a devices) (device_by_id b devices);
+  zone = λ a b. pass_both in_zone (device_by_id a devices) (device_by_id b devices);
+  server = λ a b. pass_both on_server (device_by_id a devices) (device_by_id b devices);
 }
 
 -- the seats of a partition

@@ -1,6 +1,7 @@
 //! Whether the seats of a partition stand apart, which shows at a glance that none of them is
 //! crowded.
 ghost use Rattle.std.specs.Prelude.{◌≡◌, ◌<◌, ◌≤◌, ℕ, true, false, All, length, map, slice_get};
+ghost use Rattle.ring_words.specs.Limits.{most_devices, most_replicas};
 ghost use Rattle.std.specs.Prelude.{◌+◌, ◌*◌, ◌==◌, if◌then◌else◌, slice_index, take, Some};
 ghost use Rattle.std.specs.List.Sorted.{IsStrictlyIncreasing};
 ghost use Rattle.ring_model.specs.Ring.{has_device};
@@ -13,7 +14,7 @@ ghost use Rattle.ring_share.specs.Inner.Coded.{coded};
 
 use crate::places::places_of;
 use crate::tiers::{Tier, shares};
-use ring_words::{Device, DeviceId};
+use ring_words::{Device, DeviceId, MOST_DEVICES};
 
 /// No codes yet.
 fn no_codes<const N: usize>() -> [u8; N]
@@ -38,11 +39,11 @@ fn first_sharing(devices: &[Device], tier: Tier, place: usize) -> usize
 
 /// For the device at each place a number that those devices have who share its tier of a kind, and
 /// no others. Behind the last device it is left open what stands.
-pub fn tier_codes(devices: &[Device], tier: Tier) -> [u8; 256]
-    requires { length devices.now ≤ 256 }
+pub fn tier_codes(devices: &[Device], tier: Tier) -> [u8; MOST_DEVICES]
+    requires { length devices.now ≤ most_devices }
     ensures { AreCodes tier devices.now result }
 {
-    let mut codes: [u8; 256] = no_codes();
+    let mut codes: [u8; MOST_DEVICES] = no_codes();
     for place in 0..devices.len() {
         codes[place] = first_sharing(devices, tier, place) as u8;
     }
@@ -50,11 +51,11 @@ pub fn tier_codes(devices: &[Device], tier: Tier) -> [u8; 256]
 }
 
 /// Counts how many of at most five places have each code.
-fn count_at(counts: &mut [u8; 256], codes: &[u8; 256], places: &[usize])
+fn count_at(counts: &mut [u8; MOST_DEVICES], codes: &[u8; MOST_DEVICES], places: &[usize])
     requires zero { (code : ℕ) → slice_index counts.old code ≡ 0 }
-    requires places { All (λ place. place < 256) places.now }
-    requires few { length places.now ≤ 5 }
-    ensures { (code : ℕ) → code < 256 →
+    requires places { All (λ place. place < most_devices) places.now }
+    requires few { length places.now ≤ most_replicas }
+    ensures { (code : ℕ) → code < most_devices →
         slice_index counts.new code ≡ coded codes.now places.now code }
 {
     for place in places {
@@ -63,8 +64,8 @@ fn count_at(counts: &mut [u8; 256], codes: &[u8; 256], places: &[usize])
 }
 
 /// The least of these counts at any of some places, 6 where there is none or none is less.
-fn fewest_at(counts: &[u8; 256], codes: &[u8; 256], places: &[usize]) -> u8
-    requires { All (λ place. place < 256) places.now }
+fn fewest_at(counts: &[u8; MOST_DEVICES], codes: &[u8; MOST_DEVICES], places: &[usize]) -> u8
+    requires { All (λ place. place < most_devices) places.now }
     ensures least { (index : ℕ) → index < length places.now →
         result ≤ slice_index counts.now (slice_index codes.now (slice_index places.now index)) }
     ensures few { result ≤ 6 }
@@ -83,24 +84,24 @@ fn fewest_at(counts: &[u8; 256], codes: &[u8; 256], places: &[usize]) -> u8
 pub fn stand_apart(
     devices: &[Device],
     regions: &[usize],
-    in_region: &[u8; 256],
-    in_zone: &[u8; 256],
+    in_region: &[u8; MOST_DEVICES],
+    in_zone: &[u8; MOST_DEVICES],
     row: &[DeviceId],
 ) -> bool
     requires rise { IsStrictlyIncreasing (map (λ device. device.id) devices.now) }
-    requires devices { length devices.now ≤ 256 }
+    requires devices { length devices.now ≤ most_devices }
     requires regions { AreTier Region devices.now regions.now }
     requires in_region { AreCodes Region devices.now in_region.now }
     requires in_zone { AreCodes Zone devices.now in_zone.now }
     requires known { All (λ id. has_device id devices.now ≡ true) row.now }
-    requires few { length row.now ≤ 5 }
+    requires few { length row.now ≤ most_replicas }
     ensures { result ≡ true → has_crowded devices.now (map Some row.now) ≡ false }
 {
     let places = places_of(devices, row);
     let places = &places[..row.len()];
-    let mut by_region: [u8; 256] = no_codes();
+    let mut by_region: [u8; MOST_DEVICES] = no_codes();
     count_at(&mut by_region, in_region, places);
-    let mut by_zone: [u8; 256] = no_codes();
+    let mut by_zone: [u8; MOST_DEVICES] = no_codes();
     count_at(&mut by_zone, in_zone, places);
     let most = fewest_at(&by_region, in_region, regions) + 1;
     for place in places {

@@ -3,7 +3,7 @@ ghost use Rattle.std.specs.Prelude.{◌≡◌, ◌<◌, ◌+◌, ◌≤◌, ℕ,
 ghost use Rattle.std.specs.Prelude.{Option, Some, None, if◌then◌else◌};
 ghost use Rattle.std.specs.Option.{option_map};
 ghost use Rattle.ring_model.specs.Ring.{partition_count, has_device};
-ghost use Rattle.ring_share.specs.Crowd.{in_region, in_zone, on_server, device_of, tiers_of};
+ghost use Rattle.ring_share.specs.Crowd.{in_region, in_zone, on_server, device_by_id, tiers_of};
 ghost use Rattle.ring_share.specs.Crowd.{row_of, others, crowd, crowd_for};
 
 use ring_model::Ring;
@@ -31,8 +31,8 @@ pub fn on_server(a: &Device, b: &Device) -> bool
 }
 
 /// The device of a number.
-pub(crate) fn device_of(devices: &[Device], id: DeviceId) -> Option<&Device>
-    ensures { option_map (λ device. device.now) result ≡ device_of id devices.now }
+pub(crate) fn device_by_id(devices: &[Device], id: DeviceId) -> Option<&Device>
+    ensures { option_map (λ device. device.now) result ≡ device_by_id id devices.now }
 {
     devices.iter().find(|device| device.id == id)
 }
@@ -65,10 +65,10 @@ fn shared(devices: &[Device], id: DeviceId, seat: Option<DeviceId>) -> (u32, u32
     let Some(seat) = seat else {
         return (0, 0, 0);
     };
-    let Some(device) = device_of(devices, id) else {
+    let Some(device) = device_by_id(devices, id) else {
         return (0, 0, 0);
     };
-    let Some(other) = device_of(devices, seat) else {
+    let Some(other) = device_by_id(devices, seat) else {
         return (0, 0, 0);
     };
     shared_tiers(device, other)

@@ -1,5 +1,6 @@
 //! Balance and dispersion.
 ghost use Rattle.std.specs.Prelude.{◌≡◌, ◌==◌, ◌<◌, ◌≤◌, ◌+◌, ◌*◌, ◌/◌, ◌^◌, ℕ, true, All, length};
+ghost use Rattle.ring_words.specs.Limits.{most_ids, most_replicas};
 ghost use Rattle.std.specs.Prelude.{map, min, max, slice_get, slice_index, slice_index_or};
 ghost use Rattle.std.specs.Prelude.{count_by, Some, None};
 ghost use Rattle.std.specs.Option.{option_map};
@@ -9,23 +10,23 @@ ghost use Rattle.ring_model.specs.Valid.{AreDevices};
 ghost use Rattle.ring_words.specs.declared.device.Device.{Device as DeviceModel};
 ghost use Rattle.ring_share.specs.Want.{total_weight};
 ghost use Rattle.ring_share.specs.Room.{have};
-ghost use Rattle.ring_share.specs.Inner.Nearness.{IsTable};
+ghost use Rattle.ring_share.specs.Inner.Nearness.{IsNearnessTable};
 ghost use Rattle.ring_share.specs.Tiers.{AreTier};
 ghost use Rattle.ring_share.specs.declared.tiers.Tier.TheVariants.{Region, Zone};
 ghost use Rattle.ring_share.specs.Codes.{AreCodes};
-ghost use Rattle.ring_share.specs.Crowd.{device_of, row_of, rows_of};
+ghost use Rattle.ring_share.specs.Crowd.{device_by_id, row_of, rows_of};
 ghost use Rattle.ring_share.specs.Figures.{distance, greatest_balance, device_balance};
 ghost use Rattle.ring_share.specs.Figures.{ring_balance, has_crowded, ring_dispersion};
 
 use crate::apart::{stand_apart, tier_codes};
-use crate::crowds::device_of;
-use crate::nearness::{Table, has_better_at, table_of};
+use crate::crowds::device_by_id;
+use crate::nearness::{NearnessTable, has_better_at, table_of};
 use crate::places::{place_in, places_of};
 use crate::rooms::have;
 use crate::tiers::{Tier, one_each};
 use crate::wants::{is_open, seat_count, total_weight};
 use ring_model::Ring;
-use ring_words::{Device, DeviceId, partition_count};
+use ring_words::{Device, DeviceId, MOST_DEVICES, partition_count};
 
 const GREATEST_BALANCE: u64 = 99_999;
 
@@ -77,9 +78,9 @@ fn device_balance(ring: &Ring, total: u64, device: &Device, seats: u32) -> u32
 /// most 99999. For a device that isn't open, 99999 if it has a seat, and else 0. `None` exactly
 /// where the ring has no such device.
 pub fn balance_of(ring: &Ring, device: DeviceId) -> Option<u32>
-    ensures { result ≡ option_map (device_balance ring.now) (device_of device ring.now.devices) }
+    ensures { result ≡ option_map (device_balance ring.now) (device_by_id device ring.now.devices) }
 {
-    let found = device_of(ring.devices(), device)?;
+    let found = device_by_id(ring.devices(), device)?;
     let total = total_weight(ring.devices());
     Some(device_balance(ring, total, found, have(ring, found.id)))
 }
@@ -94,13 +95,13 @@ pub fn balance_with(ring: &Ring, device: &Device, seats: u32) -> u32
 }
 
 /// How many seats the device at each place has. Behind the last device it is left open what stands.
-pub fn counts_of(ring: &Ring) -> [u32; 256]
+pub fn counts_of(ring: &Ring) -> [u32; MOST_DEVICES]
     ensures { (place : ℕ) (device : DeviceModel) → slice_get ring.now.devices place ≡ Some device →
         slice_index result place ≡ have ring.now device.id }
 {
     let devices = ring.devices();
     let seats = ring.seats();
-    let mut counts: [u32; 256] = zero_counts();
+    let mut counts: [u32; MOST_DEVICES] = zero_counts();
     for seat in seats {
         counts[place_in(devices, *seat)] += 1;
     }
@@ -133,18 +134,18 @@ pub fn balance(ring: &Ring) -> u32
 fn has_crowded(
     devices: &[Device],
     regions: &[usize],
-    in_region: &[u8; 256],
-    in_zone: &[u8; 256],
-    table: &Table,
+    in_region: &[u8; MOST_DEVICES],
+    in_zone: &[u8; MOST_DEVICES],
+    table: &NearnessTable,
     row: &[DeviceId],
 ) -> bool
-    requires devices { AreDevices 65536 devices.now }
+    requires devices { AreDevices most_ids devices.now }
     requires regions { AreTier Region devices.now regions.now }
     requires in_region { AreCodes Region devices.now in_region.now }
     requires in_zone { AreCodes Zone devices.now in_zone.now }
-    requires table { IsTable devices.now table.now }
+    requires table { IsNearnessTable devices.now table.now }
     requires known { All (λ id. has_device id devices.now ≡ true) row.now }
-    requires few { length row.now ≤ 5 }
+    requires few { length row.now ≤ most_replicas }
     ensures { result ≡ has_crowded devices.now (map Some row.now) }
 {
     if stand_apart(devices, regions, in_region, in_zone, row) {
@@ -160,7 +161,7 @@ fn row_in(ring: &Ring, partition: usize) -> &[DeviceId]
     requires partition { partition < partitions_of ring.now }
     ensures row { map Some result.now ≡ row_of ring.now partition }
     ensures known { All (λ id. has_device id ring.now.devices ≡ true) result.now }
-    ensures few { length result.now ≤ 5 }
+    ensures few { length result.now ≤ most_replicas }
 {
     let replicas = usize::from(ring.replicas().get());
     let first = partition * replicas;
@@ -172,8 +173,8 @@ fn row_in(ring: &Ring, partition: usize) -> &[DeviceId]
 fn all_stand_apart(
     ring: &Ring,
     regions: &[usize],
-    in_region: &[u8; 256],
-    in_zone: &[u8; 256],
+    in_region: &[u8; MOST_DEVICES],
+    in_zone: &[u8; MOST_DEVICES],
 ) -> bool
     requires assigned { is_assigned ring.now ≡ true }
     requires regions { AreTier Region ring.now.devices regions.now }

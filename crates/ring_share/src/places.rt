@@ -1,12 +1,13 @@
 //! The places of devices among those of a ring.
 ghost use Rattle.std.specs.Prelude.{◌≡◌, ◌<◌, ◌≤◌, ℕ, true, All, length, map, slice_get};
+ghost use Rattle.ring_words.specs.Limits.{most_replicas};
 ghost use Rattle.std.specs.Prelude.{slice_index, Some};
 ghost use Rattle.std.specs.List.Sorted.{IsStrictlyIncreasing};
 ghost use Rattle.ring_model.specs.Ring.{has_device};
 ghost use Rattle.ring_share.specs.Near.{StandsAt};
 ghost use Rattle.ring_words.specs.declared.device.Device.{Device as DeviceModel};
 
-use ring_words::{Device, DeviceId};
+use ring_words::{Device, DeviceId, MOST_SEATS};
 
 /// The places between which the device of a number stands, the second one left out: numbers rise,
 /// so no more devices stand before it than there are numbers below its own, and no more behind it
@@ -69,14 +70,14 @@ fn place_by_halving(devices: &[Device], id: DeviceId) -> usize
 }
 
 /// The places of the devices of at most five numbers.
-pub(crate) fn places_of(devices: &[Device], ids: &[DeviceId]) -> [usize; 5]
+pub(crate) fn places_of(devices: &[Device], ids: &[DeviceId]) -> [usize; MOST_SEATS]
     requires rise { IsStrictlyIncreasing (map (λ device. device.id) devices.now) }
     requires known { All (λ id. has_device id devices.now ≡ true) ids.now }
-    requires few { length ids.now ≤ 5 }
+    requires few { length ids.now ≤ most_replicas }
     ensures { (replica : ℕ) → replica < length ids.now →
         StandsAt devices.now (slice_index ids.now replica) (slice_index result replica) }
 {
-    let mut places = [0; 5];
+    let mut places = [0; MOST_SEATS];
     for (replica, id) in ids.iter().enumerate() {
         places[replica] = place_in(devices, *id);
     }

@@ -1,12 +1,13 @@
 //! The tiers in which devices stand: regions, zones in these, and servers in zones.
 ghost use Rattle.std.specs.Prelude.{◌≡◌, ◌<◌, ◌≤◌, All, Some, length, slice_get, take};
+ghost use Rattle.ring_words.specs.Limits.{most_devices};
 ghost use Rattle.std.specs.List.{list_any};
 ghost use Rattle.ring_share.specs.Crowd.{pass_both};
 ghost use Rattle.ring_share.specs.Tiers.{AreTier, shares};
 
 use crate::crowds::{in_region, in_zone, on_server};
 use crate::wants::is_open;
-use ring_words::Device;
+use ring_words::{Device, MOST_DEVICES};
 
 /// A kind of tier, from the widest.
 #[derive(Clone, Copy)]
@@ -52,12 +53,12 @@ fn no_places<const N: usize>() -> [usize; N]
 
 /// The place of one open device in each tier of a kind that has any, and how many they are. What
 /// stands behind them is left over.
-pub fn one_each(devices: &[Device], tier: Tier) -> ([usize; 256], usize)
-    requires { length devices.now ≤ 256 }
+pub fn one_each(devices: &[Device], tier: Tier) -> ([usize; MOST_DEVICES], usize)
+    requires { length devices.now ≤ most_devices }
     ensures tier { AreTier tier devices.now (take result.1 result.0) }
     ensures few { result.1 ≤ length devices.now }
 {
-    let mut places: [usize; 256] = no_places();
+    let mut places: [usize; MOST_DEVICES] = no_places();
     let mut count = 0;
     for (place, device) in devices.iter().enumerate() {
         if !is_open(device) || has_shared(devices, &places[..count], tier, device) {

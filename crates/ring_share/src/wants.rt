@@ -1,5 +1,6 @@
 //! Seats that devices want.
 ghost use Rattle.std.specs.Prelude.{◌≡◌, ◌<◌, ◌≤◌, ◌+◌, ◌*◌, ◌^◌, ℕ, true, false, length, map};
+ghost use Rattle.ring_words.specs.Limits.{most_devices};
 ghost use Rattle.std.specs.Prelude.{replicate, sum, slice_get, slice_index, IfOk, IfSome, IfNone};
 ghost use Rattle.std.specs.Prelude.{Some, if◌then◌else◌};
 ghost use Rattle.std.specs.List.{list_any};
@@ -34,7 +35,7 @@ fn open_weight(device: &Device) -> u64
 
 /// What the open devices weigh together, in hundredths.
 pub(crate) fn total_weight(devices: &[Device]) -> u64
-    requires { length devices.now ≤ 256 }
+    requires { length devices.now ≤ most_devices }
     ensures value { result ≡ total_weight devices.now }
     ensures small { result ≤ 2 ^ 35 }
 {
@@ -130,7 +131,7 @@ fn whole_shares(alloc: Global, ring: &Ring, total: u64) -> Result<Vec<u32>, Allo
 }
 
 fn sum_of(shares: &[u32]) -> u64
-    requires { length shares.now ≤ 256 }
+    requires { length shares.now ≤ most_devices }
     ensures { result ≡ sum shares.now }
 {
     let mut sum = 0;

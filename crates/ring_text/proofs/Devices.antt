@@ -1,5 +1,6 @@
 -- The lines of devices.
 use Rattle.std.proofs.Common.{lit≤, ◌≡◌, ℕ, ◌+◌, ◌^◌, ◌<◌, Bool, true, false, true≢false, List, []}
+use Rattle.ring_words.specs.Limits.{greatest_short}
 use Rattle.std.proofs.Common.{◌∷◌, ◌++◌, length, get_or, take, drop, map, decimal, Bor, refl, sym}
 use Rattle.std.proofs.Common.{ap, ap₂, ◌∙◌, arith}
 use Rattle.std.specs.Prelude.{All, ◌==◌}
@@ -48,7 +49,7 @@ limits_of_device ws d h = record {
   weight = h.weight.valid;
 }
 
-number_of : (w : List ℕ) (n : ℕ) → w ≡ decimal n → n < 2 ^ 16 → SpellsNumber w 0 65535 n
+number_of : (w : List ℕ) (n : ℕ) → w ≡ decimal n → n < 2 ^ 16 → SpellsNumber w 0 greatest_short n
 number_of w n e lt = record { is = e; above = omega arith; below = omega arith }
 
 device_of_words : (ws : List (List ℕ)) (d : Device) → ws ≡ device_line d → d.id < 2 ^ 16 →
@@ -137,8 +138,10 @@ equal_devices : (d e : Device) → d.id ≡ e.id → d.row ≡ e.row → d.remov
 equal_devices d e a b c = ap (λ (x : ℕ). device x d.row d.removed) a ∙ ap (λ (x : Row). device e.id
     x d.removed) b ∙ ap (λ (x : Bool). device e.id e.row x) c
 
-same_short : (w : List ℕ) (l a b : ℕ) → SpellsNumber w l 65535 a → SpellsNumber w l 65535 b → a ≡ b
-same_short w l a b h i = let all : 65535 < 2 ^ 32 = omega arith in one_number w l 65535 l 65535 a b
+same_short : (w : List ℕ) (l a b : ℕ) → SpellsNumber w l greatest_short a →
+    SpellsNumber w l greatest_short b → a ≡ b
+same_short w l a b h i = let all : greatest_short < 2 ^ 32 = omega arith in one_number w l
+    greatest_short l greatest_short a b
     all all h i
 
 one_of_words : (ws : List (List ℕ)) (d e : Device) → IsDevice ws d → IsDevice ws e → d ≡ e

@@ -8,7 +8,7 @@ use Rattle.std.proofs.lemmas.List.FromFn.{length-range_with_len}
 use Rattle.std.proofs.lemmas.List.Splits.{join_with_byte-slice_split}
 use Rattle.ring_text.specs.Snapshot.{SnapshotRecord, IsValidSnapshot}
 use Rattle.ring_text.specs.Spelling.{head_lines, device_line, partition_lines, lines_of, Spells}
-use Rattle.ring_text.specs.Inner.Reading.{AreLines}
+use Rattle.ring_text.specs.Inner.Reading.{AreRingLines}
 use Rattle.ring_text.specs.declared.head.Head.{Head}
 use Rattle.ring_text.proofs.Text.{lines_of_text, split-lines, all_words}
 use Rattle.ring_text.proofs.Whole.{head_of, first_texts, length-first_texts, head_is, one_head}
@@ -24,7 +24,8 @@ joined words = join_with_byte 32 words
 abbrev cut_at_feeds : List ℕ → Texts
 cut_at_feeds bytes = slice_split (λ b. b == 10) bytes
 
-pub one_snapshot : (ts : Texts) (s t : SnapshotRecord) → AreLines ts s → AreLines ts t → s ≡ t
+pub one_snapshot : (ts : Texts) (s t : SnapshotRecord) → AreRingLines ts s → AreRingLines ts t →
+    s ≡ t
 one_snapshot ts s t a b =
     let g : Head = head_of s in
     let tells = head_within ts s a in
@@ -50,7 +51,8 @@ front_lines h d a r e more = simp (map-append, append_assoc)
 
 -- lines that begin with those of a snapshot, which are those of another
 same_count : (ts more : Texts) (s t : SnapshotRecord) → IsValidSnapshot s →
-    ts ≡ map joined (lines_of s) ++ more → AreLines ts t → length (lines_of s) ≡ length (lines_of t)
+    ts ≡ map joined (lines_of s) ++ more → AreRingLines ts t →
+    length (lines_of s) ≡ length (lines_of t)
 same_count ts more s t v e are =
     let whole = e ∙ front_lines (head_lines s) (map device_line s.devices) ((codes "seats" ∷ []) ∷
     []) (partition_lines (2 ^ s.power) s.replicas s.seats) ((codes "end" ∷ []) ∷ []) more in
@@ -66,7 +68,7 @@ pub no_more : (a more : List ℕ) (s t : SnapshotRecord) → Spells a s → Spel
     more ≡ []
 no_more a more s t mine other =
     let ts : Texts = cut_at_feeds (a ++ more) in
-    let are : AreLines ts t = lines_of_text (a ++ more) ts t refl other in
+    let are : AreRingLines ts t = lines_of_text (a ++ more) ts t refl other in
     let begun : ts ≡ map joined (lines_of s) ++ cut_at_feeds more =
     ap (λ (x : List ℕ). cut_at_feeds (x ++ more)) mine.text ∙ split-lines (lines_of s) more
     (all_words s mine.valid) in

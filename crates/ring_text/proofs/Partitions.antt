@@ -1,5 +1,6 @@
 -- The lines of partitions.
 use Rattle.std.proofs.Common.{lit≤, ◌≡◌, ℕ, zero, suc, ◌+◌, ◌*◌, ◌-◌, ◌^◌, ◌<◌, ◌≤◌, List, [], ◌∷◌}
+use Rattle.ring_words.specs.Limits.{greatest_short}
 use Rattle.std.proofs.Common.{◌++◌, length, get_or, take, drop, map, decimal, Bor, refl, sym, ap}
 use Rattle.std.proofs.Common.{ap₂, ◌∙◌, arith}
 use Rattle.std.specs.Prelude.{All, ◌==◌}
@@ -28,7 +29,7 @@ joined words = join_with_byte 32 words
 
 pub number_inside : (words : List (Bor (List ℕ))) (i : ℕ) (word : Bor (List ℕ)) (ns : List ℕ) →
     i < length words → AreNumbers (map (λ w. w.now) words) ns → (n : ℕ) ×
-    SpellsNumber (get_or words i word).now 0 65535 n
+    SpellsNumber (get_or words i word).now 0 greatest_short n
 number_inside words i word ns lt are =
     let n : ℕ = get_or ns i 0 in
     let long : length words ≡ length ns = simp length-map at (ap (λ (x : List (List ℕ)). length x)

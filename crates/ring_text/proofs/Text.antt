@@ -16,7 +16,7 @@ use Rattle.ring_words.specs.declared.device.Device.{Device}
 use Rattle.ring_text.specs.Snapshot.{SnapshotRecord, IsValidSnapshot}
 use Rattle.ring_text.specs.Spelling.{line, head_lines, device_line, partition_line, partition_lines}
 use Rattle.ring_text.specs.Spelling.{lines_of, spelling, Spells}
-use Rattle.ring_text.specs.Inner.Reading.{AreLines}
+use Rattle.ring_text.specs.Inner.Reading.{AreRingLines}
 use Rattle.ring_text.proofs.Graphic.{IsGraphic, AreGraphic, Lacks, graphic_from, graphic-decimal}
 use Rattle.ring_text.proofs.Graphic.{graphic-label}
 use Rattle.ring_text.proofs.Devices.{graphic-device}
@@ -155,7 +155,7 @@ join-lines (l ∷ m ∷ ls) = ap (λ (x : List ℕ). joined l ++ 10 ∷ x) (join
     (append_assoc (joined l) (10 ∷ []) (flat_map line (m ∷ ls)))
 
 pub text_of_lines : (bytes : List ℕ) (texts : Words) (s : SnapshotRecord) →
-    texts ≡ slice_split (λ b. b == 10) bytes → AreLines texts s → Spells bytes s
+    texts ≡ slice_split (λ b. b == 10) bytes → AreRingLines texts s → Spells bytes s
 text_of_lines bytes texts s e are = record {
   valid = are.valid;
   text = sym (join_with_byte-slice_split 10 bytes) ∙ ap (join_with_byte 10) (sym e ∙ are.are) ∙
@@ -163,7 +163,7 @@ text_of_lines bytes texts s e are = record {
 }
 
 pub lines_of_text : (bytes : List ℕ) (texts : Words) (s : SnapshotRecord) →
-    texts ≡ slice_split (λ b. b == 10) bytes → Spells bytes s → AreLines texts s
+    texts ≡ slice_split (λ b. b == 10) bytes → Spells bytes s → AreRingLines texts s
 lines_of_text bytes texts s e spells = record {
   valid = spells.valid;
   are = e ∙ ap (slice_split (λ b. b == 10)) (spells.text ∙ sym (append-nil (spelling s))) ∙

@@ -1,5 +1,6 @@
 -- The snapshot of a valid ring is valid.
 use Rattle.std.proofs.Common.{◌≡◌, ℕ, ◌<◌, ◌≤◌, List, true, arith}
+use Rattle.ring_words.specs.Limits.{most_ids}
 use Rattle.std.specs.Prelude.{All, IsTrue}
 use Rattle.std.proofs.lemmas.Bool.{ltb-true}
 use Rattle.std.proofs.lemmas.List.Elements.{All-weaker}
@@ -28,7 +29,7 @@ valid_of_ring name ring valid assigned label limits = record {
   version = omega (arith, valid.version);
   power = valid.power;
   replicas = valid.replicas;
-  devices = devices_below ring.next_id 65536 ring.devices valid.next_id valid.devices;
+  devices = devices_below ring.next_id most_ids ring.devices valid.next_id valid.devices;
   limits = limits;
   taken = valid.seats.whole (ltb-true _ _ assigned);
   seats = valid.seats;

@@ -11,7 +11,8 @@ use Rattle.ring_words.specs.declared.device.Device.{Device}
 use Rattle.ring_text.specs.Snapshot.{SnapshotRecord, IsValidSnapshot}
 use Rattle.ring_text.specs.Spelling.{head_lines, device_line, partition_lines}
 use Rattle.ring_text.specs.Inner.Reading.{text_at, IsHead, IsNumberAfter, IsNameAfter, IsCut}
-use Rattle.ring_text.specs.Inner.Reading.{AreDeviceLines, ArePartitionLines, IsMade, AreLines, made}
+use Rattle.ring_text.specs.Inner.Reading.{AreDeviceLines, ArePartitionLines, IsMadeOfLines}
+use Rattle.ring_text.specs.Inner.Reading.{AreRingLines, made}
 use Rattle.ring_text.specs.declared.head.Head.{Head}
 use Rattle.ring_text.proofs.Text.{seats_below}
 use Rattle.ring_text.proofs.Devices.{same_devices}
@@ -51,7 +52,7 @@ regrouped : (h d r : List Texts) (a e : Texts) → map joined (h ++ d ++ a ∷ [
     [] ∷ [] ≡ map joined h ++ (map joined d ++ joined a ∷ (map joined r ++ joined e ∷ [] ∷ []))
 regrouped h d r a e = simp (map-append, append_assoc)
 
-pub whole_text : (ts : Texts) (s : SnapshotRecord) → AreLines ts s → ts ≡ first_texts s ++
+pub whole_text : (ts : Texts) (s : SnapshotRecord) → AreRingLines ts s → ts ≡ first_texts s ++
     last_texts s
 whole_text ts s are = are.are ∙ regrouped (head_lines s) (map device_line s.devices)
     (partition_lines (2 ^ s.power) s.replicas s.seats) (codes "seats" ∷ []) (codes "end" ∷ [])
@@ -116,7 +117,7 @@ pub record PartsAre (ts : Texts) (g : Head) (first second : Texts) (s : Snapshot
     pub seats : ArePartitionLines g.replicas second s.seats
 
 pub parts_are : (ts : Texts) (g : Head) (x : Texts × Texts) (s : SnapshotRecord) →
-    IsHead (take 6 ts) g → IsCut g.devices (2 ^ g.power) (drop 6 ts) x → AreLines ts s →
+    IsHead (take 6 ts) g → IsCut g.devices (2 ^ g.power) (drop 6 ts) x → AreRingLines ts s →
     PartsAre ts g x.0 x.1 s
 parts_are ts g x s tells cut are =
     let v = are.valid in
@@ -146,7 +147,7 @@ parts_are ts g x s tells cut are =
       });
     }
 
-pub at_least_six : (ts : Texts) (s : SnapshotRecord) → AreLines ts s → 6 ≤ length ts
+pub at_least_six : (ts : Texts) (s : SnapshotRecord) → AreRingLines ts s → 6 ≤ length ts
 at_least_six ts s are = omega (
   arith,
   ap (λ (t : Texts). length t) (whole_text ts s are),
@@ -154,14 +155,19 @@ at_least_six ts s are = omega (
   length-first_texts s,
 )
 
-pub head_within : (ts : Texts) (s : SnapshotRecord) → AreLines ts s → IsHead (take 6 ts) (head_of s)
+pub head_within : (ts : Texts) (s : SnapshotRecord) → AreRingLines ts s →
+    IsHead (take 6 ts) (head_of s)
 head_within ts s are =
     let front : take 6 ts ≡ first_texts s = ap (take 6) (whole_text ts s are) ∙ take_at
     (first_texts s) (last_texts s) 6 (length-first_texts s) in
     rw front (head_is s are.valid)
 
 pub cut_within : (ts : Texts) (g : Head) (s : SnapshotRecord) → IsHead (take 6 ts) g →
-    AreLines ts s → IsCut g.devices (2 ^ g.power) (drop 6 ts) (device_texts s, partition_texts s)
+    AreRingLines ts s → IsCut g.devices (2 ^ g.power) (drop 6 ts) (
+      device_texts s,
+      partition_texts
+          s,
+    )
 cut_within ts g s tells are =
     let back : drop 6 ts ≡ last_texts s = ap (drop 6) (whole_text ts s are) ∙ drop_at
     (first_texts s) (last_texts s) 6 (length-first_texts s) in
@@ -193,7 +199,7 @@ first_texts_of ts s h = six ts h.count ∙ rw (
 pub lines_made : (ts : Texts) (g : Head) (x : Texts × Texts) (ds : List Device) (seats : List ℕ) →
     IsHead (take 6 ts) g → IsCut g.devices (2 ^ g.power) (drop 6 ts) x → AreDeviceLines x.0 ds →
     ArePartitionLines g.replicas x.1 seats
-    → IsValidSnapshot (made g ds seats) → AreLines ts (made g ds seats)
+    → IsValidSnapshot (made g ds seats) → AreRingLines ts (made g ds seats)
 lines_made ts g x ds seats tells cut devices partitions valid =
     let s : SnapshotRecord = made g ds seats in
     let count : length ds ≡ g.devices =
@@ -212,16 +218,17 @@ lines_made ts g x ds seats tells cut devices partitions valid =
 pub lines_of_parts : (ts : Texts) (g : Head) (x : Texts × Texts) (ds : List Device) (seats : List ℕ)
     (s : SnapshotRecord) → IsHead (take 6 ts) g → IsCut g.devices (2 ^ g.power) (drop 6 ts) x →
     AreDeviceLines x.0 ds → ArePartitionLines g.replicas x.1 seats
-    → IsMade g ds seats s → AreLines ts s
+    → IsMadeOfLines g ds seats s → AreRingLines ts s
 lines_of_parts ts g x ds seats s tells cut devices partitions is =
-    subst (λ (t : SnapshotRecord). AreLines ts t) (sym is.is) (lines_made ts g x ds seats tells cut
+    subst (λ (t : SnapshotRecord). AreRingLines ts t) (sym is.is) (lines_made ts g x ds seats tells
+    cut
     devices partitions (subst (λ (t : SnapshotRecord). IsValidSnapshot t) is.is is.valid))
 
 -- parts that are read make the snapshot of the lines
 pub lines_of_made : (ts : Texts) (g : Head) (x : Texts × Texts) (ds : List Device) (seats : List ℕ)
     (s : SnapshotRecord) → IsHead (take 6 ts) g → IsCut g.devices (2 ^ g.power) (drop 6 ts) x →
     AreDeviceLines x.0 ds → ArePartitionLines g.replicas x.1 seats
-    → AreLines ts s → IsMade g ds seats s
+    → AreRingLines ts s → IsMadeOfLines g ds seats s
 lines_of_made ts g x ds seats s tells cut devices partitions are =
     let parts = parts_are ts g x s tells cut are in
     let some : 0 < g.replicas = tells.replicas.above in

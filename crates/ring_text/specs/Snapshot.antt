@@ -1,5 +1,6 @@
 -- A snapshot of a ring: what its text tells.
 use Rattle.std.specs.Prelude.{◌≡◌, ℕ, ◌*◌, ◌^◌, ◌<◌, ◌≤◌, List, length, All, IsTrue}
+use Rattle.ring_words.specs.Limits.{greatest_power, most_ids, most_replicas}
 use Rattle.ring_model.specs.Ring.{RingRecord}
 use Rattle.ring_words.specs.Texts.{is_label, is_device_name, greatest_weight, address_limit}
 use Rattle.ring_model.specs.Valid.{AreDevices, AreSeats}
@@ -32,9 +33,9 @@ pub record IsWithinLimits (device : Device) : Type 0 where
 pub record IsValidSnapshot (snapshot : SnapshotRecord) : Type 0 where
   pub name : IsTrue (is_label snapshot.name)
   pub version : snapshot.version < 2 ^ 32
-  pub power : (1 ≤ snapshot.power) × (snapshot.power ≤ 14)
-  pub replicas : (1 ≤ snapshot.replicas) × (snapshot.replicas ≤ 5)
-  pub devices : AreDevices 65536 snapshot.devices
+  pub power : (1 ≤ snapshot.power) × (snapshot.power ≤ greatest_power)
+  pub replicas : (1 ≤ snapshot.replicas) × (snapshot.replicas ≤ most_replicas)
+  pub devices : AreDevices most_ids snapshot.devices
   pub limits : All IsWithinLimits snapshot.devices
   pub taken : length snapshot.seats ≡ 2 ^ snapshot.power * snapshot.replicas
   pub seats : AreSeats (2 ^ snapshot.power) snapshot.replicas snapshot.devices snapshot.seats

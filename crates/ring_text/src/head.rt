@@ -27,10 +27,10 @@ pub(crate) fn read_head(alloc: Global, lines: &[&str]) -> Result<Head, TextFault
         return Err(TextFault::Bad);
     }
     let name = name_after(alloc, text_at(lines, 1), "ring ")?;
-    let version = number_after(text_at(lines, 2), "version ", 4_294_967_295)?;
+    let version = number_after(text_at(lines, 2), "version ", u32::MAX)?;
     let power = bounded_after(text_at(lines, 3), "power ")?;
     let replicas = bounded_after(text_at(lines, 4), "replicas ")?;
-    let devices = number_after(text_at(lines, 5), "devices ", 65535)?;
+    let devices = number_after(text_at(lines, 5), "devices ", u16::MAX as u32)?;
     Ok(Head {
         name,
         version,

@@ -1,7 +1,8 @@
 //! From bytes to the snapshot that they spell.
 ghost use Rattle.std.specs.Prelude.{◌^◌, ◌≤◌, map};
+ghost use Rattle.ring_words.specs.Limits.{most_partitions};
 ghost use Rattle.ring_text.specs.Spelling.{Spells};
-ghost use Rattle.ring_text.specs.Inner.Reading.{AreLines, IsCut, IsMade};
+ghost use Rattle.ring_text.specs.Inner.Reading.{AreRingLines, IsCut, IsMadeOfLines};
 ghost use Rattle.ring_words.specs.Spelling.{Reads};
 ghost use Rattle.ring_words.specs.Inner.ReadsAs.{ReadsAs};
 
@@ -12,7 +13,7 @@ use crate::state::Snapshot;
 use crate::taking::snapshot;
 use crate::words::{parts_of, text_at};
 use ring_model::{BuildFault, Ring, RingParts};
-use ring_words::{Device, DeviceId, partition_count};
+use ring_words::{Device, DeviceId, MOST_IDS, partition_count};
 use std::alloc::Global;
 
 /// The lines of the devices and those of the partitions, among the lines that follow the first.
@@ -21,7 +22,7 @@ fn cut<'a>(
     devices: u16,
     partitions: usize,
 ) -> Result<(&'a [&'a str], &'a [&'a str]), TextFault>
-    requires { partitions ≤ 16384 }
+    requires { partitions ≤ most_partitions }
     ensures { ReadsAs (λ parts. (
       map (λ line. line.now) parts.0.now,
       map (λ line. line.now) parts.1.now,
@@ -53,13 +54,13 @@ fn checked(
     devices: Vec<Device>,
     seats: Vec<DeviceId>,
 ) -> Result<Snapshot, TextFault>
-    ensures { Reads (IsMade head devices.items seats.items) result }
+    ensures { Reads (IsMadeOfLines head devices.items seats.items) result }
 {
     let parts = RingParts {
         power: head.power,
         replicas: head.replicas,
         min_hours: 0,
-        next_id: 65536,
+        next_id: MOST_IDS as u32,
         version: head.version,
         devices,
         seats,
@@ -79,7 +80,7 @@ fn checked(
 
 /// The snapshot of lines.
 fn read_lines(alloc: Global, lines: &[&str]) -> Result<Snapshot, TextFault>
-    ensures { Reads (AreLines (map (λ line. line.now) lines.now)) result }
+    ensures { Reads (AreRingLines (map (λ line. line.now) lines.now)) result }
 {
     if lines.len() < 6 {
         return Err(TextFault::Bad);

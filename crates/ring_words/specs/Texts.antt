@@ -40,15 +40,20 @@ is_upper b = nat_le 65 b && nat_le b 90
 abbrev pub is_label_byte : ℕ → Bool
 is_label_byte b = is_lower b || is_digit b || (b == 45)
 
--- the name of a ring or of a caller: 1 to 32 such bytes, the first a letter
+-- how many bytes a name has at most
+abbrev pub longest_name : ℕ
+longest_name = 32
+
+-- the name of a ring or of a caller: such bytes, one at least, the first a letter
 abbrev pub is_label : List ℕ → Bool
-is_label t = nat_lt 0 (length t) && nat_le (length t) 32 && is_lower (slice_index t 0) &&
+is_label t = nat_lt 0 (length t) && nat_le (length t) longest_name && is_lower (slice_index t 0) &&
     list_all is_label_byte t
 
 -- A to Z, a to z, 0 to 9, _ and -
 abbrev pub is_device_name_byte : ℕ → Bool
 is_device_name_byte b = is_upper b || is_lower b || is_digit b || (b == 95) || (b == 45)
 
--- the name of a device: 1 to 32 such bytes
+-- the name of a device: such bytes, one at least
 abbrev pub is_device_name : List ℕ → Bool
-is_device_name t = nat_lt 0 (length t) && nat_le (length t) 32 && list_all is_device_name_byte t
+is_device_name t = nat_lt 0 (length t) && nat_le (length t) longest_name &&
+    list_all is_device_name_byte t

@@ -1,5 +1,6 @@
 //! Whole numbers within bounds.
 ghost use Rattle.std.specs.Prelude.{◌≡◌, ◌≤◌, ◌^◌, ℕ, Some, SomeIff, decimal};
+ghost use Rattle.ring_words.specs.Limits.{greatest_power, most_partitions};
 
 use std::fmt;
 use std::marker::Model;
@@ -10,11 +11,22 @@ pub struct Bounded<const LEAST: u16, const MOST: u16> {
     number: u16,
 }
 
-/// How many times two is multiplied: a ring of power `p` has `2^p` partitions. From 1 to 14.
-pub type Power = Bounded<1, 14>;
+/// The greatest power.
+pub const GREATEST_POWER: u16 = 14;
 
-/// How many replicas of each partition a ring keeps, each on a device of its own. From 1 to 5.
-pub type Replicas = Bounded<1, 5>;
+/// How many replicas a partition has at most.
+pub const MOST_REPLICAS: u16 = 5;
+
+/// How many seats a partition has at most: one for each replica.
+pub const MOST_SEATS: usize = MOST_REPLICAS as usize;
+
+/// How many times two is multiplied: a ring of power `p` has `2^p` partitions. From 1 to
+/// [`GREATEST_POWER`].
+pub type Power = Bounded<1, GREATEST_POWER>;
+
+/// How many replicas of each partition a ring keeps, each on a device of its own. From 1 to
+/// [`MOST_REPLICAS`].
+pub type Replicas = Bounded<1, MOST_REPLICAS>;
 
 /// The port that a device's server listens on. From 1 to 65535.
 pub type Port = Bounded<1, 65535>;
@@ -54,8 +66,8 @@ impl<const LEAST: u16, const MOST: u16> Bounded<LEAST, MOST> {
 pub fn partition_count(power: Power) -> usize
     ensures value { result ≡ 2 ^ power }
     ensures some { 2 ≤ result }
-    ensures small { result ≤ 16384 }
-    ensures power { (1 ≤ power) × (power ≤ 14) }
+    ensures small { result ≤ most_partitions }
+    ensures power { (1 ≤ power) × (power ≤ greatest_power) }
 {
     1usize << power.get()
 }

@@ -28,6 +28,9 @@ pub trait NameKind {
         ensures { result ≡ allows text.now };
 }
 
+/// How many bytes a name has at most.
+const LONGEST_NAME: usize = 32;
+
 fn is_label_byte(byte: u8) -> bool
     ensures { result ≡ is_label_byte byte }
 {
@@ -46,7 +49,7 @@ fn is_label(text: &str) -> bool
 {
     let bytes = text.as_bytes();
     !bytes.is_empty()
-        && bytes.len() <= 32
+        && bytes.len() <= LONGEST_NAME
         && bytes[0].is_ascii_lowercase()
         && are_label_bytes(bytes)
 }
@@ -68,7 +71,7 @@ fn is_device_name(text: &str) -> bool
     ensures { result ≡ is_device_name text.now }
 {
     let bytes = text.as_bytes();
-    !bytes.is_empty() && bytes.len() <= 32 && are_device_name_bytes(bytes)
+    !bytes.is_empty() && bytes.len() <= LONGEST_NAME && are_device_name_bytes(bytes)
 }
 
 /// The kind of a ring's name.

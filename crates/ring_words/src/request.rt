@@ -1,5 +1,7 @@
 //! Numbered requests as they come, and the bounds on what is kept.
 ghost use Rattle.std.specs.Prelude.{◌≡◌, ◌≤◌};
+ghost use Rattle.ring_words.specs.Limits.{most_devices, most_ids, most_numbers, most_rings};
+ghost use Rattle.ring_words.specs.Limits.{most_versions};
 
 use crate::name::Caller;
 
@@ -26,6 +28,15 @@ pub struct Delivery<C> {
     pub command: C,
 }
 
+/// How many devices a ring has at most.
+pub const MOST_DEVICES: usize = 256;
+
+/// How many numbers a ring gives to devices at most.
+pub const MOST_IDS: usize = 65536;
+
+/// How many published versions a ring keeps at most.
+pub const MOST_VERSIONS: usize = 1000;
+
 /// How much is kept at most. Tests take small limits, a service those of [`Limits::full`].
 #[derive(Clone, Copy, Debug, PartialEq, Eq)]
 pub struct Limits {
@@ -39,27 +50,27 @@ pub struct Limits {
     pub versions: u32,
     /// Numbers of callers that are kept with their replies, at most 100000.
     pub numbers: u32,
-    pub ghost rings_within: { rings ≤ 16 },
-    pub ghost devices_within: { devices ≤ 256 },
-    pub ghost ids_within: { ids ≤ 65536 },
-    pub ghost versions_within: { versions ≤ 1000 },
-    pub ghost numbers_within: { numbers ≤ 100000 },
+    pub ghost rings_within: { rings ≤ most_rings },
+    pub ghost devices_within: { devices ≤ most_devices },
+    pub ghost ids_within: { ids ≤ most_ids },
+    pub ghost versions_within: { versions ≤ most_versions },
+    pub ghost numbers_within: { numbers ≤ most_numbers },
 }
 
 impl Limits {
     /// The limits of a service, which are the greatest that there are.
     pub fn full() -> Limits
-        ensures rings { result.rings ≡ 16 }
-        ensures devices { result.devices ≡ 256 }
-        ensures ids { result.ids ≡ 65536 }
-        ensures versions { result.versions ≡ 1000 }
-        ensures numbers { result.numbers ≡ 100000 }
+        ensures rings { result.rings ≡ most_rings }
+        ensures devices { result.devices ≡ most_devices }
+        ensures ids { result.ids ≡ most_ids }
+        ensures versions { result.versions ≡ most_versions }
+        ensures numbers { result.numbers ≡ most_numbers }
     {
         Limits {
             rings: 16,
-            devices: 256,
-            ids: 65536,
-            versions: 1000,
+            devices: MOST_DEVICES as u32,
+            ids: MOST_IDS as u32,
+            versions: MOST_VERSIONS as u32,
             numbers: 100_000,
         }
     }

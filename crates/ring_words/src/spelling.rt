@@ -3,6 +3,7 @@
 //! Ring texts, tables, messages and routes read their words here, so a value has the same one
 //! spelling everywhere. What takes no memory never answers that memory was refused.
 ghost use Rattle.std.specs.Prelude.{◌≡◌, IsErrOf};
+ghost use Rattle.ring_words.specs.Limits.{greatest_short};
 ghost use Rattle.ring_words.specs.Spelling.{Reads, SpellsAddress, SpellsName, SpellsNumber};
 ghost use Rattle.ring_words.specs.Spelling.{SpellsWeight};
 ghost use Rattle.ring_words.specs.declared.spelling.SpellingFault.TheVariants.{NoMemory};
@@ -55,10 +56,10 @@ pub fn read_number(word: &str, most: u32) -> Result<u32, SpellingFault>
 
 /// The number of a word in decimal, from 0 to 65535.
 pub fn read_number16(word: &str) -> Result<u16, SpellingFault>
-    ensures read { Reads (SpellsNumber word.now 0 65535) result }
+    ensures read { Reads (SpellsNumber word.now 0 greatest_short) result }
     ensures memory { IsErrOf result SpellingFault.NoMemory → ⊥ }
 {
-    let number = read_number(word, 65535)?;
+    let number = read_number(word, u32::from(u16::MAX))?;
     Ok(number as u16)
 }
 

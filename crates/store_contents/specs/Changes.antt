@@ -8,21 +8,22 @@ use Rattle.store_contents.specs.declared.rows.MetaRow.{MetaRow}
 use Rattle.store_contents.specs.declared.rows.RequestRow.{RequestRow}
 use Rattle.store_contents.specs.Contents.{Contents, device_key, ring_of, device_of, part_of}
 use Rattle.store_contents.specs.Contents.{published_of, request_of, meta_of, without_device}
-use Rattle.store_contents.specs.Contents.{with_ring, with_device, with_part, with_published}
-use Rattle.store_contents.specs.Contents.{with_request, with_meta, without_seats, without_moved}
+use Rattle.store_contents.specs.Contents.{with_ring_row, with_device_row, with_part}
+use Rattle.store_contents.specs.Contents.{with_published_row}
+use Rattle.store_contents.specs.Contents.{with_request, with_meta_row, without_seats, without_moved}
 
 -- What one change makes of the contents.
-abbrev pub changed : Contents → RowChange → Contents
-changed c (DropDevice key) = without_device c (device_key key)
-changed c (PutRing row) = with_ring c (ring_of row).0 (ring_of row).1
-changed c (AddDevice row) = with_device c (device_of row).0 (device_of row).1
-changed c (PutPart row) = with_part c (part_of row).0 (part_of row).1
-changed c (PutPublished row) = with_published c (published_of row).0 (published_of row).1
+abbrev pub with_change : Contents → RowChange → Contents
+with_change c (DropDevice key) = without_device c (device_key key)
+with_change c (PutRing row) = with_ring_row c (ring_of row).0 (ring_of row).1
+with_change c (AddDevice row) = with_device_row c (device_of row).0 (device_of row).1
+with_change c (PutPart row) = with_part c (part_of row).0 (part_of row).1
+with_change c (PutPublished row) = with_published_row c (published_of row).0 (published_of row).1
 
 -- What the changes make of the contents, one after another.
 abbrev pub changed_all : Contents → List RowChange → Contents
 changed_all c [] = c
-changed_all c (change ∷ changes) = changed_all (changed c change) changes
+changed_all c (change ∷ changes) = changed_all (with_change c change) changes
 
 -- The contents with the request.
 abbrev pub with_kept : Contents → RequestRow → Contents
@@ -33,10 +34,10 @@ abbrev pub with_decided : Contents → RequestRow → MetaRow → Contents
 with_decided c request meta =
     let asked = request_of request in
     let now = meta_of meta in
-    with_meta (with_request c asked.0 asked.1) now.0 now.1
+    with_meta_row (with_request c asked.0 asked.1) now.0 now.1
 
 -- The contents with the changes, without the rows of schema 1, and with the row on the whole store.
 abbrev pub prepared : Contents → List RowChange → MetaRow → Contents
 prepared c changes meta =
     let now = meta_of meta in
-    with_meta (without_moved (without_seats (changed_all c changes))) now.0 now.1
+    with_meta_row (without_moved (without_seats (changed_all c changes))) now.0 now.1

@@ -108,16 +108,16 @@ part_of row = (
 
 -- ---- what a write makes of the contents
 
-abbrev pub with_meta : Contents → ℤ → Meta → Contents
-with_meta c key value = record c { meta = insert c.meta key value }
+abbrev pub with_meta_row : Contents → ℤ → Meta → Contents
+with_meta_row c key value = record c { meta = insert c.meta key value }
 
 -- The contents with this row of `ring`, in place of one with its key.
-abbrev pub with_ring : Contents → List ℕ → Ring → Contents
-with_ring c key value = record c { rings = insert c.rings key value }
+abbrev pub with_ring_row : Contents → List ℕ → Ring → Contents
+with_ring_row c key value = record c { rings = insert c.rings key value }
 
 -- The contents with this row of `device`, in place of one with its key.
-abbrev pub with_device : Contents → NameNumber → Device → Contents
-with_device c key value = record c { devices = insert c.devices key value }
+abbrev pub with_device_row : Contents → NameNumber → Device → Contents
+with_device_row c key value = record c { devices = insert c.devices key value }
 
 -- The contents without the row of `device` that has this key.
 abbrev pub without_device : Contents → NameNumber → Contents
@@ -132,8 +132,8 @@ abbrev pub without_moved : Contents → Contents
 without_moved c = record c { moved = empty }
 
 -- The contents with this row of `published`, in place of one with its key.
-abbrev pub with_published : Contents → NameNumber → List ℕ → Contents
-with_published c key value = record c { published = insert c.published key value }
+abbrev pub with_published_row : Contents → NameNumber → List ℕ → Contents
+with_published_row c key value = record c { published = insert c.published key value }
 
 -- The contents with this row of `request`, in place of one with its key.
 abbrev pub with_request : Contents → NameNumber → Request → Contents

@@ -10,7 +10,7 @@ use Rattle.std.proofs.lemmas.Bool.{cases_Bool, and_parts}
 use Rattle.std.proofs.lemmas.Cmp.{tied_itself}
 use Rattle.store_contents.specs.Contents.{Contents, device_key, ring_of, device_of, part_of}
 use Rattle.store_contents.specs.Contents.{published_of}
-use Rattle.store_contents.specs.Changes.{changed, changed_all}
+use Rattle.store_contents.specs.Changes.{with_change, changed_all}
 use Rattle.store_contents.specs.declared.change.RowChange.{RowChange}
 use Rattle.store_contents.specs.declared.change.RowChange.TheVariants.{DropDevice, PutRing}
 use Rattle.store_contents.specs.declared.change.RowChange.TheVariants.{AddDevice, PutPart}
@@ -38,7 +38,7 @@ remove_all m (k ∷ ks) = remove_all (remove m k) ks
 pub changed-append : (xs ys : List RowChange) (c : Contents) →
     changed_all c (xs ++ ys) ≡ changed_all (changed_all c xs) ys
 changed-append [] ys c = refl
-changed-append (x ∷ xs) ys c = changed-append xs ys (changed c x)
+changed-append (x ∷ xs) ys c = changed-append xs ys (with_change c x)
 
 pub drops_are : (c : Contents) (keys : List DeviceKey) → changed_all c (map DropDevice keys) ≡
     record c { devices = remove_all c.devices (map device_key keys) }

@@ -1,5 +1,6 @@
 -- A book with one more request.
 use Rattle.std.proofs.Common.{◌≡◌, inl, inr, ℕ, ◌+◌, ◌<◌, ◌≤◌, suc, zero, pos, false, cond, List}
+use Rattle.ring_words.specs.Limits.{most_numbers}
 use Rattle.std.proofs.Common.{[], ◌∷◌, ◌++◌, map, length, Some, None, All, refl, sym, ap, subst}
 use Rattle.std.proofs.Common.{◌∙◌, arith, zero-add}
 use Rattle.std.specs.List.{enumerate_from, AllPairs, AllByRecursion}
@@ -15,7 +16,7 @@ use Rattle.ring_words.specs.declared.request.Key.{Key}
 use Rattle.request_book.specs.Content.{entry_of, same_key}
 use Rattle.request_book.specs.Run.{last_hour}
 use Rattle.store_contents.specs.Entries as rows
-use Rattle.store_contents.specs.Contents.{Contents, with_meta, with_request}
+use Rattle.store_contents.specs.Contents.{Contents, with_meta_row, with_request}
 use Rattle.store_contents.proofs.Keys.{name_number_total, name_number_exact}
 use Rattle.store_rows.specs.Stands.{DecidedRequest, RingContent, IsDecision, IsHoldable}
 use Rattle.store_rows.specs.Stands.{contents_for, gained, key_of_request, meta_value, request_entry}
@@ -58,13 +59,14 @@ module _ (content : RingContent) (e : DecidedRequest) (none : entry_of e.key con
     pub stands_more : (key : rows.NameNumber) (row : rows.Request) (now : rows.Meta) →
         key ≡ key_of_request e.key → row ≡ (request_entry (length content.book, e)).1 →
         now ≡ meta_value 2 e.hour
-        → with_meta (with_request (contents_for content) key row) (pos 1) now ≡ contents_for
+        → with_meta_row (with_request (contents_for content) key row) (pos 1) now ≡ contents_for
         (gained content e)
     stands_more key row now at is meta =
-        ap (λ k. with_meta (with_request (contents_for content) k row) (pos 1) now) at
-        ∙ ap (λ r. with_meta (with_request (contents_for content) (key_of_request e.key) r) (pos 1)
+        ap (λ k. with_meta_row (with_request (contents_for content) k row) (pos 1) now) at
+        ∙ ap (λ r. with_meta_row (with_request (contents_for content) (key_of_request e.key) r) (pos
+        1)
         now) is
-        ∙ ap (λ m. with_meta (with_request (contents_for content) (key_of_request e.key)
+        ∙ ap (λ m. with_meta_row (with_request (contents_for content) (key_of_request e.key)
         (request_entry (length content.book, e)).1) (pos 1) m) meta
         ∙ ap (λ m. changed content m (maps.insert (maps.from_entries (request_entries content.book))
         (key_of_request e.key) (request_entry (length content.book, e)).1))
@@ -120,7 +122,7 @@ last-more first [] e = refl
 last-more first (b ∷ bs) e = last-more b.hour bs e
 
 pub holds_more : (content : RingContent) (e : DecidedRequest) → IsHoldable content →
-    length content.book < 100000 → IsDecision e → entry_of e.key content.book ≡ None →
+    length content.book < most_numbers → IsDecision e → entry_of e.key content.book ≡ None →
     content.hour ≤ e.hour → IsHoldable (gained content e)
 holds_more content e held few decided none later =
     let one : length (e ∷ []) ≡ 1 = omega arith in

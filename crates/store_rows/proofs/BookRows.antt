@@ -1,5 +1,6 @@
 -- The rows of a book, in the order of their places.
 use Rattle.std.proofs.Common.{◌≡◌, ℕ, ◌+◌, ◌<◌, ◌≤◌, Bool, true, false, List, [], ◌∷◌, ◌++◌, map}
+use Rattle.ring_words.specs.Limits.{most_numbers}
 use Rattle.std.proofs.Common.{length, take, get_or, Ordering, Less, Equal, Greater, refl, sym, ap}
 use Rattle.std.proofs.Common.{subst, ◌∙◌, arith, zero-add}
 use Rattle.std.specs.List.{AllByRecursion, AllPairs, IsDistinct, enumerate_from}
@@ -135,9 +136,9 @@ module _ (rs sorted : List RequestRow) (m : FinMap rows.name_number_cmp rows.Req
   length_said = sym (length-map sorted request_of) ∙ ap length said.rows_are ∙ length-map
       (enumerate_from 0 book) request_entry ∙ length-enumerate_from 0 book
 
-  pub book_said : length sorted ≤ 100000 → IsBook book
+  pub book_said : length sorted ≤ most_numbers → IsBook book
   book_said few = record {
-    count = subst (λ n. n ≤ 100000) length_said few;
+    count = subst (λ n. n ≤ most_numbers) length_said few;
     apart = pairs_apart 0 book distinct;
     each = said.each;
     rise = said.rise;

@@ -19,7 +19,7 @@ use Rattle.std.proofs.lemmas.List.{length-drop, length-map, take_all}
 use Rattle.std.proofs.lemmas.List.FromFn.{length-enumerate_from}
 use Rattle.std.proofs.lemmas.List.Elements.{All-drop, All-take, recursion_from_All}
 use Rattle.store_rows.proofs.OneBook.{of_all}
-use Rattle.store_rows.specs.RingRows.{hour_number, part_entry, seat_bytes, two_bytes}
+use Rattle.store_rows.specs.RingRows.{hour_number, part_entry, stored_seats, two_bytes}
 use Rattle.store_rows.specs.FirstRows.{moved_entry}
 use Rattle.store_rows.specs.Inner.Found.{Places, StandForMove, StandForMoves, StandForParts}
 use Rattle.store_rows.specs.Numbers.{IsHour}
@@ -212,7 +212,7 @@ part_there rs places stand i row lt at =
       hour_of_all places.1 i there.0 stand.hours there.3,
       ap (λ k. take k places.1) next ∙ there.2,
       ap (λ (e : NameNumber × rows.Part). e.1.devices) there.1
-          ∙ ap (seat_bytes stand.replicas places.0) place,
+          ∙ ap (stored_seats stand.replicas places.0) place,
     )
 
 pub seats_then : (seats : List ℕ) (replicas i : ℕ) → take ((i + 1) * replicas) seats ≡

@@ -6,7 +6,7 @@ use Rattle.std.proofs.lemmas.Int.{ints}
 use Rattle.std.specs.List.{AllByRecursion, AllZip}
 use Rattle.ring_words.specs.declared.spelling.SpellingFault.{SpellingFault}
 use Rattle.ring_words.specs.declared.spelling.SpellingFault.TheVariants.{Bad, NoMemory}
-use Rattle.store_rows.specs.Inner.Found.{Finds}
+use Rattle.store_rows.specs.Inner.Found.{ReadsRow}
 use Rattle.store_rows.specs.Inner.Parted.{BeginsElsewhere}
 use Rattle.ring_words.specs.Spelling.{Reads}
 use Rattle.ring_words.specs.Texts.{address_text, address_limit}
@@ -135,21 +135,21 @@ module _ {R : Type 0} (name_of : R → List ℕ) (name : List ℕ) where
 -- Where what a row stands for gives what another row stands for, and reading this one failed,
 -- reading that one fails likewise.
 pub fails_likewise : {X V Y W : Type 0} (value : X → V) (Holds : V → Type 0) (other : Y → W)
-    (HoldsToo : W → Type 0) (fault : SpellingFault) → Finds value Holds (Err fault) →
-    ((w : W) → HoldsToo w → (v : V) × Holds v) → Finds other HoldsToo (Err fault)
+    (HoldsToo : W → Type 0) (fault : SpellingFault) → ReadsRow value Holds (Err fault) →
+    ((w : W) → HoldsToo w → (v : V) × Holds v) → ReadsRow other HoldsToo (Err fault)
 fails_likewise value Holds other HoldsToo Bad found gives = λ w holds. let v = gives w holds in found v.0 v.1
 fails_likewise value Holds other HoldsToo NoMemory found gives = tt
 
 -- Reading fails by this fault where a bad one can't be.
 pub fails_where : {Y W : Type 0} (other : Y → W) (Holds : W → Type 0) (fault : SpellingFault) →
-    (fault ≡ Bad → (w : W) → Holds w → ⊥) → Finds other Holds (Err fault)
+    (fault ≡ Bad → (w : W) → Holds w → ⊥) → ReadsRow other Holds (Err fault)
 fails_where other Holds Bad never = never refl
 fails_where other Holds NoMemory never = tt
 
 -- Where what a row stands for has a spelling, reading it failed for want of memory.
 pub reads_likewise : {X Y W : Type 0} (Spells : X → Type 0) (other : Y → W) (Holds : W → Type 0)
     (fault : SpellingFault) → Reads Spells (Err fault) → ((w : W) → Holds w → (x : X) × Spells x) →
-    Finds other Holds (Err fault)
+    ReadsRow other Holds (Err fault)
 reads_likewise Spells other Holds Bad read gives = λ w holds. let x = gives w holds in read x.0 x.1
 reads_likewise Spells other Holds NoMemory read gives = tt
 

@@ -1,5 +1,6 @@
 -- The parts of a ring are those for which its rows stand.
 use Rattle.std.proofs.Common.{◌≡◌, ℕ, ℤ, ◌+◌, ◌*◌, ◌<◌, ◌≤◌, ◌^◌, ◌==◌, ◌||◌, Bool, true, false}
+use Rattle.ring_words.specs.Limits.{most_ids}
 use Rattle.std.proofs.Common.{List, [], ◌∷◌, map, All, inl, inr, pos, sym, ap, ◌∙◌}
 use Rattle.std.proofs.Common.{to_z, of_z, w64, arith}
 use Rattle.std.proofs.lemmas.Bool.{cases_Bool, eqb-true}
@@ -82,7 +83,7 @@ pub seats_zip : (rs : List SeatRow) (seats : List ℕ) → StandForSeats rs seat
 seats_zip rs seats s = seats_each s.name s.replicas 0 rs seats s.is
     (recursion_from_All (λ (id : ℕ). id < 2 ^ 16) seats s.small)
 
-known_small : (next id : ℕ) (ds : List Device) → next ≤ 65536 → has_device id ds ≡ true →
+known_small : (next id : ℕ) (ds : List Device) → next ≤ most_ids → has_device id ds ≡ true →
     AllByRecursion (λ (d : Device). d.id < next) ds → id < 2 ^ 16
 known_small next id [] few known below = cc
 known_small next id (d ∷ ds) few known below = elim (cases_Bool (d.id == id)) [

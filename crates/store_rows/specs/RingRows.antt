@@ -72,8 +72,8 @@ two_bytes id = id / 256 ∷ id % 256 ∷ []
 
 -- The devices of a partition in order of replica, in two bytes each, where the seats stand by
 -- partition and so many a partition. Nothing where the seats are empty.
-abbrev pub seat_bytes : ℕ → List ℕ → ℕ → List ℕ
-seat_bytes replicas seats partition =
+abbrev pub stored_seats : ℕ → List ℕ → ℕ → List ℕ
+stored_seats replicas seats partition =
     flat_map two_bytes (take replicas (drop (partition * replicas) seats))
 
 -- The hour of a last move, -1 for never.
@@ -86,7 +86,7 @@ abbrev pub part_entry : List ℕ → ℕ → List ℕ → ℕ × Option ℕ → 
 part_entry name replicas seats part = (
   (name, pos part.0),
   record {
-    devices = seat_bytes replicas seats part.0;
+    devices = stored_seats replicas seats part.0;
     hour = hour_number part.1;
   },
 )

@@ -1,5 +1,6 @@
 -- What the tables contain where the store holds rings and a book.
 use Rattle.std.specs.Prelude.{◌≡◌, ◌<◌, ◌≤◌, ◌^◌, ℕ, pos, false, List, [], ◌∷◌, ◌++◌, map, length}
+use Rattle.ring_words.specs.Limits.{most_numbers}
 use Rattle.std.specs.Prelude.{All, AllPairs, IsTrue}
 use Rattle.std.specs.List.{enumerate_from}
 use Rattle.std.specs.FinMap.{from_entries, empty}
@@ -114,7 +115,7 @@ pub record IsDecision (e : DecidedRequest) : Type 0 where
 
 -- At most 100000 requests, each under a key of its own, at hours that do not fall.
 pub record IsBook (book : List DecidedRequest) : Type 0 where
-  pub count : length book ≤ 100000
+  pub count : length book ≤ most_numbers
   pub apart : AllPairs (λ a b. same_key a.key b.key ≡ false) book
   pub each : All IsDecision book
   pub rise : AllPairs (λ a b. a.hour ≤ b.hour) book

@@ -1,5 +1,6 @@
 //! The book, read from the rows of decided requests.
 ghost use Rattle.std.specs.Prelude.{◌≡◌, ◌<◌, ◌≤◌, IfOk, IsTrue, List, length, map};
+ghost use Rattle.ring_words.specs.Limits.{most_numbers};
 ghost use Rattle.std.specs.FinMap.{FinMap, entries, from_entries};
 ghost use Rattle.request_book.specs.Run.{last_hour};
 ghost use Rattle.ring_words.specs.Spelling.{Reads};
@@ -41,7 +42,7 @@ fn read_request(
 /// any. Bad where a row is no request's, where a place is missing, and where an hour is before that
 /// of an earlier request.
 fn judge_in_order(alloc: Global, rows: &[RequestRow]) -> Result<Hour, SpellingFault>
-    requires { length rows.now ≤ 100000 }
+    requires { length rows.now ≤ most_numbers }
     ensures { IfOk result (λ hour. (book : List DecidedRequest) × IsSaid rows.now book ×
         (last_hour 0 book ≡ hour)) }
 {

@@ -3,7 +3,7 @@ ghost use Rattle.std.specs.Prelude.{◌≡◌, ◌↔◌, ◌<◌, ◌^◌, ◌�
 ghost use Rattle.std.specs.Prelude.{cond, false};
 ghost use Rattle.ring_words.specs.Spelling.{Reads};
 ghost use Rattle.store_rows.specs.Stands.{AreRings};
-ghost use Rattle.store_rows.specs.Inner.Found.{Finds};
+ghost use Rattle.store_rows.specs.Inner.Found.{ReadsRow};
 ghost use Rattle.std.specs.Prelude.{map, pos, true};
 ghost use Rattle.store_contents.specs.Contents.{meta_of, part_of, Contents};
 ghost use Rattle.store_contents.specs.declared.change.RowChange.TheVariants.{PutPart};
@@ -146,7 +146,7 @@ fn are_rings(
 /// The rings that rows say, in a store of schema 1 or of schema 2.
 fn judge_rings(alloc: Global, is_first: bool, rows: &StoreRows) -> Result<Rings, SpellingFault>
     ensures says { IfOk result (λ rings. SayRings is_first rows.now rings) }
-    ensures finds { Finds (λ rings. rings) (λ rings. AreRings rings × SayRings is_first rows.now
+    ensures finds { ReadsRow (λ rings. rings) (λ rings. AreRings rings × SayRings is_first rows.now
         rings) result }
 {
     let tables = RingTables {

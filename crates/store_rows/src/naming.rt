@@ -5,7 +5,7 @@ ghost use Rattle.store_rows.specs.Inner.Parted.{ArePartedAt};
 use store_contents::{DeviceRow, MovedRow, PartRow, PublishedRow, SeatRow};
 
 /// A row that says of which ring it is.
-pub(crate) trait OfRing {
+pub(crate) trait RowOfRing {
     /// The name of the ring.
     ghost ring_name: { Self → List ℕ };
 
@@ -14,7 +14,7 @@ pub(crate) trait OfRing {
         ensures { result.now ≡ ring_name self.now };
 }
 
-impl OfRing for DeviceRow {
+impl RowOfRing for DeviceRow {
     ghost ring_name = { λ row. string_bytes row.ring };
 
     fn ring(&self) -> &str {
@@ -22,7 +22,7 @@ impl OfRing for DeviceRow {
     }
 }
 
-impl OfRing for PublishedRow {
+impl RowOfRing for PublishedRow {
     ghost ring_name = { λ row. string_bytes row.ring };
 
     fn ring(&self) -> &str {
@@ -30,7 +30,7 @@ impl OfRing for PublishedRow {
     }
 }
 
-impl OfRing for PartRow {
+impl RowOfRing for PartRow {
     ghost ring_name = { λ row. string_bytes row.ring };
 
     fn ring(&self) -> &str {
@@ -38,7 +38,7 @@ impl OfRing for PartRow {
     }
 }
 
-impl OfRing for SeatRow {
+impl RowOfRing for SeatRow {
     ghost ring_name = { λ row. string_bytes row.ring };
 
     fn ring(&self) -> &str {
@@ -46,7 +46,7 @@ impl OfRing for SeatRow {
     }
 }
 
-impl OfRing for MovedRow {
+impl RowOfRing for MovedRow {
     ghost ring_name = { λ row. string_bytes row.ring };
 
     fn ring(&self) -> &str {
@@ -55,7 +55,7 @@ impl OfRing for MovedRow {
 }
 
 /// How many rows at the front are of a ring.
-fn count_named<T: OfRing>(rows: &[T], name: &str) -> usize
+fn count_named<T: RowOfRing>(rows: &[T], name: &str) -> usize
     ensures within { result ≤ length rows.now }
     ensures parted { ArePartedAt T.ring_name name.now (take result rows.now) (drop result rows.now) }
 {
@@ -68,7 +68,7 @@ fn count_named<T: OfRing>(rows: &[T], name: &str) -> usize
 }
 
 /// The rows of a ring at the front, and those behind them.
-pub(crate) fn split_named<'a, T: OfRing>(rows: &'a [T], name: &str) -> (&'a [T], &'a [T])
+pub(crate) fn split_named<'a, T: RowOfRing>(rows: &'a [T], name: &str) -> (&'a [T], &'a [T])
     ensures whole { result.0.now ++ result.1.now ≡ rows.now }
     ensures parted { ArePartedAt T.ring_name name.now result.0.now result.1.now }
 {

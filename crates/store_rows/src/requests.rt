@@ -1,5 +1,6 @@
 //! The rows of decided requests.
 ghost use Rattle.std.specs.Prelude.{◌≡◌, ◌<◌, ◌≤◌, ◌↔◌, IfOk, IsErrOf, IsTrue, None, length};
+ghost use Rattle.ring_words.specs.Limits.{most_numbers};
 ghost use Rattle.std.specs.Option.{option_map};
 ghost use Rattle.std.specs.FinMap.{get};
 ghost use Rattle.request_book.specs.Content.{entry_of};
@@ -51,7 +52,7 @@ pub fn decided_rows(
     command: &Command,
     reply: &Reply,
 ) -> Result<DecidedRows, AllocError>
-    requires { count < 100000 }
+    requires { count < most_numbers }
     ensures rows { IfOk result (λ rows. (content : RingContent) → length content.book ≡ count
         → entry_of key.now content.book ≡ None
         → with_decided (contents_for content) rows.request rows.meta

@@ -4,7 +4,8 @@ ghost use Rattle.std.specs.List.{flat_map};
 ghost use Rattle.ring_model.specs.Parts.{record_of};
 ghost use Rattle.store_contents.specs.Contents.{moved_of};
 ghost use Rattle.store_rows.specs.RingRows.{two_bytes};
-ghost use Rattle.store_rows.specs.Inner.Found.{Finds, StandForMoves, StandForParts, StandForPlaces};
+ghost use Rattle.store_rows.specs.Inner.Found.{ReadsRow, StandForMoves, StandForParts};
+ghost use Rattle.store_rows.specs.Inner.Found.{StandForPlaces};
 ghost use Rattle.store_rows.specs.Inner.Found.{StandForMove, StandForRing};
 
 use crate::naming::RingTables;
@@ -36,7 +37,7 @@ fn push_seats(into: &mut Vec<DeviceId>, bytes: &[u8]) -> Result<(), AllocError>
 
 /// The seats and moves of a ring, from the rows of its partitions.
 fn read_parts(alloc: Global, rows: &[PartRow]) -> Result<Assignment, SpellingFault>
-    ensures { Finds (λ a. (a.seats.items, a.moved.items)) (StandForParts rows.now) result }
+    ensures { ReadsRow (λ a. (a.seats.items, a.moved.items)) (StandForParts rows.now) result }
 {
     let mut seats = Vec::new(alloc);
     let mut moved = Vec::new(alloc);
@@ -53,7 +54,8 @@ fn split_move(
     rows: &[MovedRow],
     partition: u32,
 ) -> Result<(Option<Hour>, &[MovedRow]), SpellingFault>
-    ensures { Finds (λ found. (found.0, map moved_of found.1.now)) (StandForMove rows.now partition)
+    ensures { ReadsRow (λ found. (found.0, map moved_of found.1.now))
+        (StandForMove rows.now partition)
         result }
 {
     match rows.split_first() {
@@ -70,7 +72,7 @@ fn read_moves(
     rows: &[MovedRow],
     partitions: u32,
 ) -> Result<Vec<Option<Hour>>, SpellingFault>
-    ensures { Finds (λ moved. moved.items) (StandForMoves rows.now partitions) result }
+    ensures { ReadsRow (λ moved. moved.items) (StandForMoves rows.now partitions) result }
 {
     let mut moved = Vec::new(alloc);
     let mut rest = rows;
@@ -88,7 +90,8 @@ fn read_first(
     tables: &RingTables<'_>,
     power: Power,
 ) -> Result<Assignment, SpellingFault>
-    ensures { Finds (λ a. (a.seats.items, a.moved.items)) (StandForPlaces true tables.now (2 ^ power))
+    ensures { ReadsRow (λ a. (a.seats.items, a.moved.items))
+        (StandForPlaces true tables.now (2 ^ power))
         result }
 {
     Ok(Assignment {
@@ -104,7 +107,7 @@ fn read_assignment(
     tables: &RingTables<'_>,
     power: Power,
 ) -> Result<Assignment, SpellingFault>
-    ensures { Finds (λ a. (a.seats.items, a.moved.items))
+    ensures { ReadsRow (λ a. (a.seats.items, a.moved.items))
         (StandForPlaces is_first tables.now (2 ^ power)) result }
 {
     if is_first {
@@ -121,7 +124,7 @@ fn read_ring_parts(
     row: &RingRow,
     tables: &RingTables<'_>,
 ) -> Result<RingParts, SpellingFault>
-    ensures { Finds record_of (StandForRing is_first row.now tables.now) result }
+    ensures { ReadsRow record_of (StandForRing is_first row.now tables.now) result }
 {
     let power = bounded(row.power)?;
     let replicas = bounded(row.replicas)?;
@@ -146,7 +149,7 @@ pub(crate) fn read_ring(
     row: &RingRow,
     tables: &RingTables<'_>,
 ) -> Result<Ring, SpellingFault>
-    ensures { Finds (λ ring. ring) (StandForRing is_first row.now tables.now) result }
+    ensures { ReadsRow (λ ring. ring) (StandForRing is_first row.now tables.now) result }
 {
     let parts = read_ring_parts(alloc, is_first, row, tables)?;
     match Ring::build(alloc, parts) {

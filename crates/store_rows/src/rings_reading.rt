@@ -2,7 +2,7 @@
 ghost use Rattle.std.specs.Prelude.{◌≡◌, ◌<◌, ◌++◌, ◌∷◌, [], All, IfErr, IfOk, length, true};
 ghost use Rattle.ring_model.specs.Rings.{is_before};
 ghost use Rattle.ring_words.specs.declared.spelling.SpellingFault.TheVariants.{NoMemory};
-ghost use Rattle.store_rows.specs.Inner.Found.{Finds};
+ghost use Rattle.store_rows.specs.Inner.Found.{ReadsRow};
 ghost use Rattle.store_rows.specs.Inner.Parted.{SayTables};
 
 use crate::naming::RingTables;
@@ -43,7 +43,7 @@ pub(crate) fn read_rings(
     rows: &[RingRow],
     tables: RingTables<'_>,
 ) -> Result<Rings, SpellingFault>
-    ensures { Finds (λ rings. rings) (SayTables is_first rows.now tables.entry) result }
+    ensures { ReadsRow (λ rings. rings) (SayTables is_first rows.now tables.entry) result }
 {
     let mut rings = Rings::new(alloc);
     let mut rest = tables;

@@ -1,7 +1,7 @@
 //! Rows, read one by one.
 ghost use Rattle.std.specs.Prelude.{map, ℕ, List};
 ghost use Rattle.std.specs.List.{AllZip};
-ghost use Rattle.store_rows.specs.Inner.Found.{Finds};
+ghost use Rattle.store_rows.specs.Inner.Found.{ReadsRow};
 
 use crate::numbers::{bounded, mark, number16, number32, weight};
 use ring_words::{Device, DeviceId, Row, SpellingFault, read_address, read_name};
@@ -25,7 +25,7 @@ pub(crate) trait Readable {
 
     /// What the row stands for.
     fn read(&self, alloc: Global) -> Result<Self::Thing, SpellingFault>
-        ensures { Finds value (stands self.now) result };
+        ensures { ReadsRow value (stands self.now) result };
 }
 
 impl Readable for DeviceRow {
@@ -97,7 +97,7 @@ pub(crate) fn read_each<T: Readable>(
     alloc: Global,
     rows: &[T],
 ) -> Result<Vec<T::Thing>, SpellingFault>
-    ensures { Finds (λ things. map T.value things.items) (AllZip T.stands rows.now) result }
+    ensures { ReadsRow (λ things. map T.value things.items) (AllZip T.stands rows.now) result }
 {
     let mut things = Vec::new(alloc);
     for row in rows {

@@ -9,12 +9,15 @@ use Rattle.sqlite.specs.Change.{created}
 use Rattle.sqlite.specs.State.{State, Executes}
 use Rattle.sqlite.proofs.Callers.{IsPlain, command_of, statement_of}
 use Rattle.store_tables.specs.Plain.{table_of}
-use Rattle.store_tables.specs.Tables.{meta, ring, device, seat, moved, published, request, part}
-use Rattle.store_tables.specs.Tables.{no_tables, with_meta, with_rings, with_devices, with_seats}
-use Rattle.store_tables.specs.Tables.{with_moved, with_published, with_requests, store_schema}
+use Rattle.store_tables.specs.Tables.{meta, ring, device, seat_table, moved, published, request}
+use Rattle.store_tables.specs.Tables.{part}
+use Rattle.store_tables.specs.Tables.{no_tables, schema_with_meta, with_rings, with_devices}
+use Rattle.store_tables.specs.Tables.{with_seats}
+use Rattle.store_tables.specs.Tables.{with_moved, schema_with_published, with_requests}
+use Rattle.store_tables.specs.Tables.{store_schema}
 use Rattle.store_tables.specs.Entries.{map_of, meta_rows, ring_rows, device_rows, seat_rows}
 use Rattle.store_tables.specs.Entries.{moved_rows, published_rows, request_rows, part_rows}
-use Rattle.store_tables.specs.Store.{IsBegun, begun_contents}
+use Rattle.store_tables.specs.Store.{HasMadeTables, begun_contents}
 use Rattle.store_tables.specs.Inner.Texts.{create_meta, create_ring, create_device, create_seat}
 use Rattle.store_tables.specs.Inner.Texts.{create_moved, create_published, create_request}
 use Rattle.store_tables.specs.Inner.Texts.{create_part, create_text}
@@ -39,11 +42,11 @@ meta_plain : IsPlain (understood no_tables create_meta)
 unfolding understood everything
 meta_plain = (refl, refl)
 
-meta_created : created no_tables (record (table_of meta) { tree = 0 }) ≡ with_meta
+meta_created : created no_tables (record (table_of meta) { tree = 0 }) ≡ schema_with_meta
 unfolding understood everything
 meta_created = refl
 
-meta_text : CreateText no_tables with_meta create_meta (record (table_of meta) { tree = 0 })
+meta_text : CreateText no_tables schema_with_meta create_meta (record (table_of meta) { tree = 0 })
     meta.tree
 meta_text = record {
   is = meta_means.0;
@@ -56,21 +59,21 @@ meta_text = record {
   next = refl;
 }
 
-ring_means : (command_of (understood with_meta create_ring) ≡ CreateTable)
-    × (statement_of create_ring (understood with_meta create_ring) ≡ create_ring)
+ring_means : (command_of (understood schema_with_meta create_ring) ≡ CreateTable)
+    × (statement_of create_ring (understood schema_with_meta create_ring) ≡ create_ring)
     × (table_defined_by create_ring ≡ Ok (record (table_of ring) { tree = 0 }))
 unfolding understood everything
 ring_means = (refl, refl, refl)
 
-ring_plain : IsPlain (understood with_meta create_ring)
+ring_plain : IsPlain (understood schema_with_meta create_ring)
 unfolding understood everything
 ring_plain = (refl, refl)
 
-ring_created : created with_meta (record (table_of ring) { tree = 0 }) ≡ with_rings
+ring_created : created schema_with_meta (record (table_of ring) { tree = 0 }) ≡ with_rings
 unfolding understood everything
 ring_created = refl
 
-ring_text : CreateText with_meta with_rings create_ring (record (table_of ring) { tree = 0 })
+ring_text : CreateText schema_with_meta with_rings create_ring (record (table_of ring) { tree = 0 })
     ring.tree
 ring_text = record {
   is = ring_means.0;
@@ -113,7 +116,7 @@ device_text = record {
 
 seat_means : (command_of (understood with_devices create_seat) ≡ CreateTable)
     × (statement_of create_seat (understood with_devices create_seat) ≡ create_seat)
-    × (table_defined_by create_seat ≡ Ok (record (table_of seat) { tree = 0 }))
+    × (table_defined_by create_seat ≡ Ok (record (table_of seat_table) { tree = 0 }))
 unfolding understood everything
 seat_means = (refl, refl, refl)
 
@@ -121,12 +124,14 @@ seat_plain : IsPlain (understood with_devices create_seat)
 unfolding understood everything
 seat_plain = (refl, refl)
 
-seat_created : created with_devices (record (table_of seat) { tree = 0 }) ≡ with_seats
+seat_created : created with_devices (record (table_of seat_table) { tree = 0 }) ≡ with_seats
 unfolding understood everything
 seat_created = refl
 
-seat_text : CreateText with_devices with_seats create_seat (record (table_of seat) { tree = 0 })
-    seat.tree
+seat_text : CreateText with_devices with_seats create_seat (record (table_of seat_table) {
+  tree = 0;
+})
+    seat_table.tree
 seat_text = record {
   is = seat_means.0;
   whole = seat_means.1;
@@ -176,11 +181,13 @@ published_plain : IsPlain (understood with_moved create_published)
 unfolding understood everything
 published_plain = (refl, refl)
 
-published_created : created with_moved (record (table_of published) { tree = 0 }) ≡ with_published
+published_created : created with_moved (record (table_of published) { tree = 0 }) ≡
+    schema_with_published
 unfolding understood everything
 published_created = refl
 
-published_text : CreateText with_moved with_published create_published (record (table_of published)
+published_text : CreateText with_moved schema_with_published create_published (record (table_of
+    published)
     { tree = 0 }) published.tree
 published_text = record {
   is = published_means.0;
@@ -194,21 +201,24 @@ published_text = record {
       refl;
 }
 
-request_means : (command_of (understood with_published create_request) ≡ CreateTable)
-    × (statement_of create_request (understood with_published create_request) ≡ create_request)
+request_means : (command_of (understood schema_with_published create_request) ≡ CreateTable)
+    × (statement_of create_request (understood schema_with_published create_request) ≡
+    create_request)
     × (table_defined_by create_request ≡ Ok (record (table_of request) { tree = 0 }))
 unfolding understood everything
 request_means = (refl, refl, refl)
 
-request_plain : IsPlain (understood with_published create_request)
+request_plain : IsPlain (understood schema_with_published create_request)
 unfolding understood everything
 request_plain = (refl, refl)
 
-request_created : created with_published (record (table_of request) { tree = 0 }) ≡ with_requests
+request_created : created schema_with_published (record (table_of request) { tree = 0 }) ≡
+    with_requests
 unfolding understood everything
 request_created = refl
 
-request_text : CreateText with_published with_requests create_request (record (table_of request)
+request_text : CreateText schema_with_published with_requests create_request (record (table_of
+    request)
     { tree = 0 }) request.tree
 request_text = record {
   is = request_means.0;
@@ -248,18 +258,22 @@ part_text = record {
 }
 
 -- a text that makes a table keeps what the tables before it contain, and the new one is empty
-pub creates_next : (made : ℕ) → made < 8 → (old new : State) (count : ℕ) → IsBegun made old.now
+pub creates_next : (made : ℕ) → made < 8 → (old new : State) (count : ℕ) →
+    HasMadeTables made old.now
     → Executes (create_text made) [] old new (Ok count)
-    → IsBegun (made + 1) new.now × (begun_contents (made + 1) new.now.trees
+    → HasMadeTables (made + 1) new.now × (begun_contents (made + 1) new.now.trees
     ≡ begun_contents made old.now.trees)
 creates_next zero low old new count is h =
-    let it = creates_table no_tables with_meta create_meta (record (table_of meta) { tree = 0 })
+    let it = creates_table no_tables schema_with_meta create_meta (record (table_of meta) {
+      tree = 0;
+    })
     meta.tree meta_text old new count is.schema h in (
       record {
         schema = it.schema_is;
         sound = it.sound;
         ordered =
-            made_ordered old.now new.now no_tables with_meta (table_of meta) is.ordered refl it;
+            made_ordered old.now new.now no_tables schema_with_meta (table_of meta) is.ordered refl
+            it;
       },
       λ j. record {
         meta = (ap (map_of meta_rows) it.empty ∙ no_entries meta_facts.total meta_facts.exact) j;
@@ -273,13 +287,17 @@ creates_next zero low old new count is h =
       },
     )
 creates_next (suc zero) low old new count is h =
-    let it = creates_table with_meta with_rings create_ring (record (table_of ring) { tree = 0 })
+    let it = creates_table schema_with_meta with_rings create_ring (record (table_of ring) {
+      tree =
+          0;
+    })
     ring.tree ring_text old new count is.schema h in (
       record {
         schema = it.schema_is;
         sound = it.sound;
         ordered =
-            made_ordered old.now new.now with_meta with_rings (table_of ring) is.ordered refl it;
+            made_ordered old.now new.now schema_with_meta with_rings (table_of ring) is.ordered refl
+            it;
       },
       λ j. record {
         meta = map_of meta_rows (it.others.0 j);
@@ -317,13 +335,17 @@ creates_next (suc (suc zero)) low old new count is h =
       },
     )
 creates_next (suc (suc (suc zero))) low old new count is h =
-    let it = creates_table with_devices with_seats create_seat (record (table_of seat) { tree = 0 })
-    seat.tree seat_text old new count is.schema h in (
+    let it = creates_table with_devices with_seats create_seat (record (table_of seat_table) {
+      tree
+          = 0;
+    })
+    seat_table.tree seat_text old new count is.schema h in (
       record {
         schema = it.schema_is;
         sound = it.sound;
         ordered =
-            made_ordered old.now new.now with_devices with_seats (table_of seat) is.ordered refl it;
+            made_ordered old.now new.now with_devices with_seats (table_of seat_table) is.ordered
+            refl it;
       },
       λ j. record {
         meta = map_of meta_rows (it.others.0 j);
@@ -358,13 +380,15 @@ creates_next (suc (suc (suc (suc zero)))) low old new count is h =
       },
     )
 creates_next (suc (suc (suc (suc (suc zero))))) low old new count is h =
-    let it = creates_table with_moved with_published create_published (record (table_of published)
+    let it = creates_table with_moved schema_with_published create_published (record (table_of
+    published)
     { tree = 0 }) published.tree published_text old new count is.schema h in (
       record {
         schema = it.schema_is;
         sound = it.sound;
         ordered =
-            made_ordered old.now new.now with_moved with_published (table_of published) is.ordered
+            made_ordered old.now new.now with_moved schema_with_published (table_of published)
+            is.ordered
             refl it;
       },
       λ j. record {
@@ -380,13 +404,15 @@ creates_next (suc (suc (suc (suc (suc zero))))) low old new count is h =
       },
     )
 creates_next (suc (suc (suc (suc (suc (suc zero)))))) low old new count is h =
-    let it = creates_table with_published with_requests create_request (record (table_of request)
+    let it = creates_table schema_with_published with_requests create_request (record (table_of
+    request)
     { tree = 0 }) request.tree request_text old new count is.schema h in (
       record {
         schema = it.schema_is;
         sound = it.sound;
         ordered =
-            made_ordered old.now new.now with_published with_requests (table_of request) is.ordered
+            made_ordered old.now new.now schema_with_published with_requests (table_of request)
+            is.ordered
             refl it;
       },
       λ j. record {

@@ -8,7 +8,7 @@ use Rattle.sqlite.specs.Effect.{Database, IsDatabase}
 use Rattle.sqlite.specs.State.{State}
 use Rattle.sqlite.specs.Steps.{IsEmpty}
 use Rattle.store_tables.specs.Tables.{schema_of_first, store_schema}
-use Rattle.store_tables.specs.Store.{AreOrdered, IsBegun, IsStore, IsStoreOf}
+use Rattle.store_tables.specs.Store.{AreOrdered, HasMadeTables, IsStore, IsStoreOf}
 use Rattle.store_tables.proofs.Plain.Facts.{Lives}
 
 pub lives_in : (db : Database) → IsStore db → Lives store_schema db
@@ -30,12 +30,12 @@ no_entries {R = R} o exact = same_map o exact _ _ (λ q. get-from_entries o [] q
     (get-empty R q))
 
 -- once all tables are made, it is a store
-pub store_begun : (db : Database) → IsBegun 8 db → IsStore db
+pub store_begun : (db : Database) → HasMadeTables 8 db → IsStore db
 unfolding IsStore
 store_begun db it = record { schema = it.schema; sound = it.sound; ordered = it.ordered }
 
 -- nothing is the beginning of a store
-pub begun_empty : (s : State) → IsEmpty s → IsBegun 0 s.now
+pub begun_empty : (s : State) → IsEmpty s → HasMadeTables 0 s.now
 begun_empty s e = record {
   schema = e.2;
   sound = (e.1 e.0.is_open).0;
@@ -45,7 +45,7 @@ begun_empty s e = record {
 
 -- what is declared so, and whose rowids rise, has begun
 pub begun_of : (db : Database) (made : ℕ) → db.schema ≡ schema_of_first made → IsDatabase db
-    → AreOrdered db → IsBegun made db
+    → AreOrdered db → HasMadeTables made db
 begun_of db made is sound ordered = record {
   schema = is;
   sound = sound;

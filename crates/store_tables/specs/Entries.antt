@@ -89,7 +89,7 @@ device_rows = record {
 -- The shape of the rows of `seat`: their key, their value, and how both are read of a row.
 abbrev pub seat_rows : Layout SeatKey ℤ
 seat_rows = record {
-  plain = tables.seat;
+  plain = tables.seat_table;
   cmp = seat_cmp;
   row = λ id key device. Int id ∷ Text key.0 ∷ Int key.1.0 ∷ Int key.1.1 ∷ Int device ∷ [];
   entry = λ r. ((bytes (column r 1), (id_in (column r 2), id_in (column r 3))), id_in (column r 4));

@@ -13,24 +13,24 @@ use Rattle.sqlite_value.specs.declared.keys.Order.{Order}
 use Rattle.sqlite_value.specs.Keys.{plain}
 
 -- What a column holds.
-pub data Holds : Type 0 where
-  text : Holds
-  number : Holds
-  bytes : Holds
+pub data ColumnKind : Type 0 where
+  text : ColumnKind
+  number : ColumnKind
+  bytes : ColumnKind
 
 -- The kind of column that a value fits.
-abbrev pub kind_of : Holds → Kind
+abbrev pub kind_of : ColumnKind → Kind
 kind_of text = Text
 kind_of number = Integer
 kind_of bytes = Blob
 
 -- A column by its name and what it holds.
-pub record Field : Type 0 where
+pub record PlainColumn : Type 0 where
   pub name : List ℕ
-  pub holds : Holds
+  pub holds : ColumnKind
 
 -- A column of a STRICT table that is never NULL.
-abbrev pub column_of : Field → Column
+abbrev pub column_of : PlainColumn → Column
 column_of f = record {
   name = f.name;
   kind = kind_of f.holds;
@@ -44,7 +44,7 @@ column_of f = record {
 pub record Plain : Type 0 where
   pub name : List ℕ
   pub tree : ℕ
-  pub fields : List Field
+  pub fields : List PlainColumn
   pub primary : List ℕ
   pub uniques : List (List ℕ)
   pub orders : List Order

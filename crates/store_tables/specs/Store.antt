@@ -70,7 +70,7 @@ pub record CommitsTables (old new : State) {A : Type 0} (result : Result A Error
 
 -- The database has the first so many tables of the store and no other, obeys their rules, and its
 -- rowids rise.
-pub record IsBegun (made : ℕ) (db : Database) : Type 0 where
+pub record HasMadeTables (made : ℕ) (db : Database) : Type 0 where
   pub schema : db.schema ≡ schema_of_first made
   pub sound : IsDatabase db
   pub ordered : (t : Table) → Has (schema_of_first made).tables t

@@ -5,10 +5,11 @@ use Rattle.sqlite_schema.specs.declared.schema.Reference.{Reference}
 use Rattle.sqlite_schema.specs.declared.schema.Action.TheVariants.{NoAction}
 use Rattle.sqlite_schema.specs.declared.schema.Index.{Index}
 use Rattle.sqlite_value.specs.Keys.{plain}
-use Rattle.store_tables.specs.Plain.{Field, Holds, Plain, text, number, bytes, table_of, unique}
+use Rattle.store_tables.specs.Plain.{PlainColumn, ColumnKind, Plain, text, number, bytes, table_of}
+use Rattle.store_tables.specs.Plain.{unique}
 
 -- A column by its name and what it holds.
-abbrev field : List ℕ → Holds → Field
+abbrev field : List ℕ → ColumnKind → PlainColumn
 field name holds = record { name = name; holds = holds }
 
 -- These columns name a row of another table.
@@ -85,8 +86,8 @@ device = record {
 }
 
 -- The index on the key of `device`.
-abbrev pub device_key : Index
-device_key = unique (codes "sqlite_autoindex_device_1") 5 4 (1 ∷ 2 ∷ [])
+abbrev pub device_index : Index
+device_index = unique (codes "sqlite_autoindex_device_1") 5 4 (1 ∷ 2 ∷ [])
 
 -- The index on the ring, address, port and name of `device`: no two devices of a ring have one
 -- place.
@@ -94,8 +95,8 @@ abbrev pub device_place : Index
 device_place = unique (codes "sqlite_autoindex_device_2") 6 4 (1 ∷ 5 ∷ 6 ∷ 7 ∷ [])
 
 -- The seats, in a store of schema 1 alone.
-abbrev pub seat : Plain
-seat = record {
+abbrev pub seat_table : Plain
+seat_table = record {
   name = codes "seat";
   tree = 7;
   fields =
@@ -211,8 +212,8 @@ no_tables = record {
 }
 
 -- The schema once `meta` is made, and the tables before it.
-abbrev pub with_meta : Schema
-with_meta = record {
+abbrev pub schema_with_meta : Schema
+schema_with_meta = record {
   tables = table_of meta ∷ [];
   indexes = meta_key ∷ [];
   views = [];
@@ -230,33 +231,34 @@ with_rings = record {
 abbrev pub with_devices : Schema
 with_devices = record {
   tables = table_of meta ∷ table_of ring ∷ table_of device ∷ [];
-  indexes = meta_key ∷ ring_key ∷ device_key ∷ device_place ∷ [];
+  indexes = meta_key ∷ ring_key ∷ device_index ∷ device_place ∷ [];
   views = [];
 }
 
 -- The schema once `seat` is made, and the tables before it.
 abbrev pub with_seats : Schema
 with_seats = record {
-  tables = table_of meta ∷ table_of ring ∷ table_of device ∷ table_of seat ∷ [];
-  indexes = meta_key ∷ ring_key ∷ device_key ∷ device_place ∷ seat_key ∷ seat_device ∷ [];
+  tables = table_of meta ∷ table_of ring ∷ table_of device ∷ table_of seat_table ∷ [];
+  indexes = meta_key ∷ ring_key ∷ device_index ∷ device_place ∷ seat_key ∷ seat_device ∷ [];
   views = [];
 }
 
 -- The schema once `moved` is made, and the tables before it.
 abbrev pub with_moved : Schema
 with_moved = record {
-  tables = table_of meta ∷ table_of ring ∷ table_of device ∷ table_of seat ∷ table_of moved ∷ [];
-  indexes = meta_key ∷ ring_key ∷ device_key ∷ device_place ∷ seat_key ∷ seat_device ∷
+  tables = table_of meta ∷ table_of ring ∷ table_of device ∷ table_of seat_table
+      ∷ table_of moved ∷ [];
+  indexes = meta_key ∷ ring_key ∷ device_index ∷ device_place ∷ seat_key ∷ seat_device ∷
       moved_key ∷ [];
   views = [];
 }
 
 -- The schema once `published` is made, and the tables before it.
-abbrev pub with_published : Schema
-with_published = record {
-  tables = table_of meta ∷ table_of ring ∷ table_of device ∷ table_of seat ∷ table_of moved ∷
+abbrev pub schema_with_published : Schema
+schema_with_published = record {
+  tables = table_of meta ∷ table_of ring ∷ table_of device ∷ table_of seat_table ∷ table_of moved ∷
       table_of published ∷ [];
-  indexes = meta_key ∷ ring_key ∷ device_key ∷ device_place ∷ seat_key ∷ seat_device ∷
+  indexes = meta_key ∷ ring_key ∷ device_index ∷ device_place ∷ seat_key ∷ seat_device ∷
       moved_key ∷ published_key ∷ [];
   views = [];
 }
@@ -264,9 +266,9 @@ with_published = record {
 -- The schema once `request` is made, and the tables before it.
 abbrev pub with_requests : Schema
 with_requests = record {
-  tables = table_of meta ∷ table_of ring ∷ table_of device ∷ table_of seat ∷ table_of moved ∷
+  tables = table_of meta ∷ table_of ring ∷ table_of device ∷ table_of seat_table ∷ table_of moved ∷
       table_of published ∷ table_of request ∷ [];
-  indexes = meta_key ∷ ring_key ∷ device_key ∷ device_place ∷ seat_key ∷ seat_device ∷
+  indexes = meta_key ∷ ring_key ∷ device_index ∷ device_place ∷ seat_key ∷ seat_device ∷
       moved_key ∷ published_key ∷ request_key ∷ request_place ∷ [];
   views = [];
 }
@@ -274,9 +276,9 @@ with_requests = record {
 -- The eight tables with their indexes, and nothing else.
 abbrev pub store_schema : Schema
 store_schema = record {
-  tables = table_of meta ∷ table_of ring ∷ table_of device ∷ table_of seat ∷ table_of moved ∷
+  tables = table_of meta ∷ table_of ring ∷ table_of device ∷ table_of seat_table ∷ table_of moved ∷
       table_of published ∷ table_of request ∷ table_of part ∷ [];
-  indexes = meta_key ∷ ring_key ∷ device_key ∷ device_place ∷ seat_key ∷ seat_device ∷
+  indexes = meta_key ∷ ring_key ∷ device_index ∷ device_place ∷ seat_key ∷ seat_device ∷
       moved_key ∷ published_key ∷ request_key ∷ request_place ∷ part_key ∷ [];
   views = [];
 }
@@ -284,5 +286,6 @@ store_schema = record {
 -- The schema once the first so many tables are made, in the order above.
 abbrev pub schema_of_first : ℕ → Schema
 schema_of_first made =
-    slice_index_or (no_tables ∷ with_meta ∷ with_rings ∷ with_devices ∷ with_seats ∷ with_moved ∷
-    with_published ∷ with_requests ∷ []) made store_schema
+    slice_index_or (no_tables ∷ schema_with_meta ∷ with_rings ∷ with_devices ∷ with_seats
+    ∷ with_moved ∷
+    schema_with_published ∷ with_requests ∷ []) made store_schema

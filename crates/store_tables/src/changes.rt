@@ -2,12 +2,12 @@
 
 ghost use Rattle.std.specs.Prelude.{◌≡◌, ◌≤◌, false};
 ghost use Rattle.sqlite.specs.Held.{state};
-ghost use Rattle.store_contents.specs.Changes.{changed, changed_all, prepared, with_decided};
+ghost use Rattle.store_contents.specs.Changes.{with_change, changed_all, prepared, with_decided};
 ghost use Rattle.store_contents.specs.Changes.{with_kept};
 ghost use Rattle.sqlite.specs.State.{HasCleanDisk};
 ghost use Rattle.store_tables.specs.Contents.{contents_of};
 ghost use Rattle.store_tables.specs.Inner.Writing.{Writes};
-ghost use Rattle.store_tables.specs.Store.{CommitsTables, IsBegun, Reaches, SeesStore};
+ghost use Rattle.store_tables.specs.Store.{CommitsTables, HasMadeTables, Reaches, SeesStore};
 ghost use Rattle.store_tables.specs.Store.{begun_contents};
 
 use crate::creating::create_missing;
@@ -22,7 +22,7 @@ fn apply_one<S: Alter>(tx: &mut Transaction<'_, S>, change: &RowChange) -> Resul
     requires { SeesStore (state S.Store tx.old.conn.now) }
     ensures same_reference { tx.new.conn.ghost_name ≡ tx.old.conn.ghost_name }
     ensures writes { Writes (state S.Store tx.old.conn.now) (state S.Store tx.new.conn.now) result
-        (λ c. changed c change.now) }
+        (λ c. with_change c change.now) }
 {
     match change {
         RowChange::DropDevice(key) => drop_device(tx, key),
@@ -130,7 +130,7 @@ fn write_prepared<S: Alter>(
 ) -> Result<(), Error>
     requires within { made ≤ 8 }
     requires begun { HasCleanDisk (state S.Store tx.old.conn.now)
-        → IsBegun made (state S.Store tx.old.conn.now).now }
+        → HasMadeTables made (state S.Store tx.old.conn.now).now }
     ensures same_reference { tx.new.conn.ghost_name ≡ tx.old.conn.ghost_name }
     ensures reaches { Reaches (state S.Store tx.old.conn.now) (state S.Store tx.new.conn.now) result
         (prepared (begun_contents made (state S.Store tx.old.conn.now).now.trees)
@@ -156,7 +156,7 @@ pub fn prepare_store<S: Alter>(
     requires mode { conn.old.in_transaction ≡ false }
     requires within { made ≤ 8 }
     requires begun { HasCleanDisk (state S.Store conn.old)
-        → IsBegun made (state S.Store conn.old).now }
+        → HasMadeTables made (state S.Store conn.old).now }
     ensures mode { conn.new.in_transaction ≡ false }
     ensures commits { CommitsTables (state S.Store conn.old) (state S.Store conn.new) result
         (prepared (begun_contents made (state S.Store conn.old).now.trees) changes.now meta.now) }

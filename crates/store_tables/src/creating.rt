@@ -3,7 +3,7 @@
 ghost use Rattle.std.specs.Prelude.{◌≡◌, ◌<◌, ◌≤◌, ◌+◌};
 ghost use Rattle.sqlite.specs.Held.{state};
 ghost use Rattle.sqlite.specs.State.{HasCleanDisk};
-ghost use Rattle.store_tables.specs.Store.{IsBegun, Reaches, begun_contents};
+ghost use Rattle.store_tables.specs.Store.{HasMadeTables, Reaches, begun_contents};
 ghost use Rattle.store_tables.specs.Inner.Making.{MakesTables};
 ghost use Rattle.store_tables.specs.Inner.Texts.{create_text as text_of};
 
@@ -67,7 +67,7 @@ fn create_text(made: usize) -> &'static str
 fn create_next<S: Alter>(tx: &mut Transaction<'_, S>, made: usize) -> Result<(), Error>
     requires missing { made < 8 }
     requires begun { HasCleanDisk (state S.Store tx.old.conn.now)
-        → IsBegun made (state S.Store tx.old.conn.now).now }
+        → HasMadeTables made (state S.Store tx.old.conn.now).now }
     ensures same_reference { tx.new.conn.ghost_name ≡ tx.old.conn.ghost_name }
     ensures makes { MakesTables made (made + 1) (state S.Store tx.old.conn.now)
         (state S.Store tx.new.conn.now) result }
@@ -83,7 +83,7 @@ pub(crate) fn create_range<S: Alter>(
 ) -> Result<(), Error>
     requires within { (made ≤ all) × (all ≤ 8) }
     requires begun { HasCleanDisk (state S.Store tx.old.conn.now)
-        → IsBegun made (state S.Store tx.old.conn.now).now }
+        → HasMadeTables made (state S.Store tx.old.conn.now).now }
     ensures same_reference { tx.new.conn.ghost_name ≡ tx.old.conn.ghost_name }
     ensures makes { MakesTables made all (state S.Store tx.old.conn.now)
         (state S.Store tx.new.conn.now) result }
@@ -99,7 +99,7 @@ pub(crate) fn create_range<S: Alter>(
 pub fn create_missing<S: Alter>(tx: &mut Transaction<'_, S>, made: usize) -> Result<(), Error>
     requires within { made ≤ 8 }
     requires begun { HasCleanDisk (state S.Store tx.old.conn.now)
-        → IsBegun made (state S.Store tx.old.conn.now).now }
+        → HasMadeTables made (state S.Store tx.old.conn.now).now }
     ensures same_reference { tx.new.conn.ghost_name ≡ tx.old.conn.ghost_name }
     ensures reaches { Reaches (state S.Store tx.old.conn.now) (state S.Store tx.new.conn.now) result
         (begun_contents made (state S.Store tx.old.conn.now).now.trees) }

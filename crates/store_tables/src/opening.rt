@@ -3,7 +3,7 @@
 ghost use Rattle.std.specs.Prelude.{◌≡◌, ◌≤◌, ◌↔◌, IfOk, IfSome, IsTrue, OnOk, false};
 ghost use Rattle.sqlite.specs.Held.{state};
 ghost use Rattle.sqlite.specs.State.{HasCleanDisk};
-ghost use Rattle.store_tables.specs.Store.{AreOrdered, IsBegun};
+ghost use Rattle.store_tables.specs.Store.{AreOrdered, HasMadeTables};
 ghost use Rattle.store_tables.specs.Tables.{no_tables, schema_of_first};
 
 use crate::creating::{TABLE_COUNT, create_range};
@@ -16,7 +16,7 @@ fn make_first<S: Alter>(conn: &mut Connection<S>, made: usize) -> Result<(), Err
     requires mode { conn.old.in_transaction ≡ false }
     requires within { made ≤ 8 }
     requires begun { HasCleanDisk (state S.Store conn.old)
-        → IsBegun 0 (state S.Store conn.old).now }
+        → HasMadeTables 0 (state S.Store conn.old).now }
     ensures schema { HasCleanDisk (state S.Store conn.new) → OnOk result (conn.new.schema
         ≡ schema_of_first made) }
 {
@@ -43,7 +43,8 @@ pub fn tables_made<S: Alter>(alloc: Global, conn: &Connection<S>) -> Result<Opti
         × (conn.now.schema ≡ schema_of_first made))) }
     ensures begun { IsTrue (state S.Store conn.now).is_open
         → AreOrdered (state S.Store conn.now).now
-        → IfOk result (λ found. IfSome found (λ made. IsBegun made (state S.Store conn.now).now)) }
+        → IfOk result (λ found. IfSome found
+        (λ made. HasMadeTables made (state S.Store conn.now).now)) }
 {
     let schema = conn.schema();
     let made = schema.tables.as_slice().len();
@@ -61,7 +62,7 @@ pub fn tables_made<S: Alter>(alloc: Global, conn: &Connection<S>) -> Result<Opti
 pub fn is_blank<S: Alter>(conn: &Connection<S>) -> bool
     ensures blank { IsTrue result ↔ (conn.now.schema ≡ no_tables) }
     ensures begun { IsTrue result → IsTrue (state S.Store conn.now).is_open
-        → IsBegun 0 (state S.Store conn.now).now }
+        → HasMadeTables 0 (state S.Store conn.now).now }
 {
     let schema = conn.schema();
     schema.tables.as_slice().is_empty()

@@ -5,7 +5,7 @@ ghost use Rattle.sqlite.specs.Held.{state};
 ghost use Rattle.sqlite.specs.State.{Executes, HasCleanDisk, KeepsCommit, Survives};
 ghost use Rattle.sqlite.specs.Values.{bound};
 ghost use Rattle.store_contents.specs.Contents.{device_key, device_of, published_of, request_of};
-ghost use Rattle.store_contents.specs.Contents.{with_device, with_published, with_request};
+ghost use Rattle.store_contents.specs.Contents.{with_device_row, with_published_row, with_request};
 ghost use Rattle.store_contents.specs.Contents.{without_device, without_moved, without_seats};
 ghost use Rattle.store_tables.specs.Contents.{contents_of};
 ghost use Rattle.store_tables.specs.Inner.Writing.{Writes};
@@ -91,9 +91,9 @@ pub(crate) trait Replaces {
 }
 
 impl Replaces for MetaRow {
-    ghost use Rattle.store_contents.specs.Contents.{meta_of, with_meta};
+    ghost use Rattle.store_contents.specs.Contents.{meta_of, with_meta_row};
 
-    ghost with_row = { λ c row. with_meta c (meta_of row).0 (meta_of row).1 };
+    ghost with_row = { λ c row. with_meta_row c (meta_of row).0 (meta_of row).1 };
 
     fn set<S: Alter>(&self, tx: &mut Transaction<'_, S>) -> Result<usize, Error> {
         count(
@@ -113,9 +113,9 @@ impl Replaces for MetaRow {
 }
 
 impl Replaces for RingRow {
-    ghost use Rattle.store_contents.specs.Contents.{ring_of, with_ring};
+    ghost use Rattle.store_contents.specs.Contents.{ring_of, with_ring_row};
 
-    ghost with_row = { λ c row. with_ring c (ring_of row).0 (ring_of row).1 };
+    ghost with_row = { λ c row. with_ring_row c (ring_of row).0 (ring_of row).1 };
 
     fn set<S: Alter>(&self, tx: &mut Transaction<'_, S>) -> Result<usize, Error> {
         count(
@@ -196,7 +196,7 @@ pub(crate) fn put_published<S: Alter>(
     requires { SeesStore (state S.Store tx.old.conn.now) }
     ensures same_reference { tx.new.conn.ghost_name ≡ tx.old.conn.ghost_name }
     ensures writes { Writes (state S.Store tx.old.conn.now) (state S.Store tx.new.conn.now) result
-        (λ c. with_published c (published_of row.now).0 (published_of row.now).1) }
+        (λ c. with_published_row c (published_of row.now).0 (published_of row.now).1) }
 {
     run(
         tx,
@@ -214,7 +214,7 @@ pub(crate) fn add_device<S: Alter>(
     requires { SeesStore (state S.Store tx.old.conn.now) }
     ensures same_reference { tx.new.conn.ghost_name ≡ tx.old.conn.ghost_name }
     ensures writes { Writes (state S.Store tx.old.conn.now) (state S.Store tx.new.conn.now) result
-        (λ c. with_device c (device_of row.now).0 (device_of row.now).1) }
+        (λ c. with_device_row c (device_of row.now).0 (device_of row.now).1) }
 {
     run(
         tx,

@@ -16,7 +16,7 @@ use ring_words::Limits;
 use sqlite::{Alter, Connection};
 use std::alloc::{AllocError, Global};
 use std::test::Fail;
-use worked_rows::{AT_THE_HOUR, FIRST, FULL, LOCKED, RUNS, Row};
+use worked_rows::{AT_THE_HOUR, FIRST, FULL, LOCKED, RUNS, WorkedRow};
 
 /// A text with `"` for `'`.
 fn quoted(alloc: Global, text: &str) -> Result<String, AllocError> {
@@ -28,7 +28,7 @@ fn quoted(alloc: Global, text: &str) -> Result<String, AllocError> {
 }
 
 /// The message of a row on the ring `object`.
-fn message(alloc: Global, row: &Row<'_>) -> Result<String, AllocError> {
+fn message(alloc: Global, row: &WorkedRow<'_>) -> Result<String, AllocError> {
     let (_, number, what, _) = row;
     let text = format!(in alloc; "{{'caller':'ops','number':{number},'ring':'object',{what}}}")?;
     quoted(alloc, text.as_str())
@@ -50,14 +50,14 @@ fn told(answer: Result<ring_words::Reply, Fault>) -> Told {
 fn answer<K: Keeper<RingMachine>>(
     alloc: Global,
     book: &mut Book<RingMachine, K>,
-    row: &Row<'_>,
+    row: &WorkedRow<'_>,
 ) -> Result<Told, MessageFault> {
     let (key, command) = read_delivery(alloc, message(alloc, row)?.as_bytes())?;
     Ok(told(book.deliver(row.0, key, command)))
 }
 
 /// Whether an answer is a row's.
-fn is_answer(alloc: Global, told: &Told, row: &Row<'_>) -> Result<bool, AllocError> {
+fn is_answer(alloc: Global, told: &Told, row: &WorkedRow<'_>) -> Result<bool, AllocError> {
     let status = status_of(told);
     let text = told_text(alloc, told)?;
     let line = format!(in alloc; "{status} {text}")?;
@@ -75,7 +75,7 @@ enum Ended {
 
 impl Ended {
     /// How a run ends that ended so, once a further row is answered so.
-    fn after(self, alloc: Global, told: Told, row: &Row<'_>) -> Result<Ended, AllocError> {
+    fn after(self, alloc: Global, told: Told, row: &WorkedRow<'_>) -> Result<Ended, AllocError> {
         match (self, told) {
             (Ended::Whole, Told::StoreFault) | (Ended::Failed, Told::Closed) => Ok(Ended::Failed),
             (Ended::Whole, told) if is_answer(alloc, &told, row)? => Ok(Ended::Whole),
@@ -88,7 +88,7 @@ impl Ended {
 fn deliver<K: Keeper<RingMachine>>(
     alloc: Global,
     book: &mut Book<RingMachine, K>,
-    rows: &[&[Row<'_>]],
+    rows: &[&[WorkedRow<'_>]],
 ) -> Result<Ended, MessageFault> {
     let mut ended = Ended::Whole;
     for some in rows {
@@ -105,7 +105,7 @@ fn run_kept<K: Keeper<RingMachine>>(
     alloc: Global,
     keeper: K,
     limits: Limits,
-    rows: &[&[Row<'_>]],
+    rows: &[&[WorkedRow<'_>]],
 ) -> (Result<Ended, MessageFault>, K)
     requires { K.fault_count keeper ≡ 0 }
 {
@@ -128,7 +128,7 @@ fn adopted<S: Alter + Drop>(alloc: Global, conn: Connection<S>) -> Result<SqlKee
 fn run_over<S: Alter + Drop>(
     alloc: Global,
     conn: Connection<S>,
-    rows: &[&[Row<'_>]],
+    rows: &[&[WorkedRow<'_>]],
 ) -> Result<(Ended, Connection<S>), Fail> {
     let (ended, keeper) = run_kept(alloc, adopted(alloc, conn)?, Limits::full(), rows);
     let conn = keeper.close();
@@ -136,7 +136,7 @@ fn run_over<S: Alter + Drop>(
 }
 
 /// Whether rows are answered as they say over memory that holds no more than this.
-fn runs_in_memory(alloc: Global, limits: Limits, rows: &[&[Row<'_>]]) -> Result<bool, Fail> {
+fn runs_in_memory(alloc: Global, limits: Limits, rows: &[&[WorkedRow<'_>]]) -> Result<bool, Fail> {
     let (ended, _) = run_kept(alloc, open_memory(alloc, limits)?, limits, rows);
     Ok(ended? == Ended::Whole)
 }
@@ -151,7 +151,7 @@ fn the_worked_rows_are_answered_over_memory(rt: HostRuntime) -> Result<(), Fail>
 
 /// How many runs end whole, one after the other, over a database file that is opened again for
 /// each.
-fn runs_in_turn(alloc: Global, runs: &[&[Row<'_>]]) -> Result<usize, Fail> {
+fn runs_in_turn(alloc: Global, runs: &[&[WorkedRow<'_>]]) -> Result<usize, Fail> {
     let mut files = new_files(alloc);
     for (turn, rows) in runs.iter().enumerate() {
         let (found, left) = in_files(alloc, files, &Run(&[rows]))?;
@@ -166,7 +166,7 @@ fn runs_in_turn(alloc: Global, runs: &[&[Row<'_>]]) -> Result<usize, Fail> {
 #[test]
 fn a_file_that_is_opened_again_goes_on(rt: HostRuntime) -> Result<(), Fail> {
     // Each request that comes again gets its reply, and what is new is decided.
-    let runs: [&[Row]; 4] = [&FIRST, &FIRST, &LOCKED, &AT_THE_HOUR];
+    let runs: [&[WorkedRow]; 4] = [&FIRST, &FIRST, &LOCKED, &AT_THE_HOUR];
     assert_eq!(rt; runs_in_turn(rt.alloc(), &runs)?, 4);
     Ok(())
 }

@@ -1,5 +1,6 @@
 -- Where the seats stand in a file.
 use Rattle.std.proofs.Common.{◌≡◌, ◌∙◌, ℕ, zero, suc, ◌+◌, ◌-◌, ◌*◌, ◌^◌, ◌<◌, ◌≤◌, true}
+use Rattle.ring_words.specs.Limits.{most_ids}
 use Rattle.std.proofs.Common.{List, [], ◌∷◌, ◌++◌, length, take, drop, arith, ap, refl, subst, sym}
 use Rattle.std.proofs.Common.{⊎_elim, append_assoc, length-append}
 use Rattle.std.proofs.Math.Seq.{drop-append-add, take-append_seam}
@@ -109,17 +110,18 @@ seat_stands partitions replicas seats replica partition r p =
     replica partition) (replica * (partitions * 2)) (partition * 2) (omega arith) outer inner)
 
 -- the number of a device of the ring fits two bytes
-small_id : (devices : List Device) (id : ℕ) → AllByRecursion (λ device. device.id < 65536) devices →
-    has_device id devices ≡ true → id < 65536
+small_id : (devices : List Device) (id : ℕ) → AllByRecursion (λ device. device.id < most_ids)
+    devices →
+    has_device id devices ≡ true → id < most_ids
 small_id [] id all h = absurd (false≢true h)
 small_id (device ∷ devices) id all h =
-    let here : (device.id == id) ≡ true → id < 65536 = λ (e : (device.id == id) ≡ true).
-    subst (λ n. n < 65536) (eqb-true device.id id e) all.0 in
+    let here : (device.id == id) ≡ true → id < most_ids = λ (e : (device.id == id) ≡ true).
+    subst (λ n. n < most_ids) (eqb-true device.id id e) all.0 in
     ⊎_elim here (λ rest. small_id devices id all.1 rest) (or_cases _ _ h)
 
 small_of : (devices : List Device) (seats : List ℕ) (place : ℕ) → AllByRecursion (λ device.
-    device.id < 65536) devices → AllByRecursion (λ id. has_device id devices ≡ true) seats →
-    slice_index seats place < 65536
+    device.id < most_ids) devices → AllByRecursion (λ id. has_device id devices ≡ true) seats →
+    slice_index seats place < most_ids
 small_of devices [] place small known = omega arith
 small_of devices (id ∷ seats) zero small known = small_id devices id small known.0
 small_of devices (id ∷ seats) (suc place) small known = small_of devices seats place small known.1
@@ -127,7 +129,7 @@ small_of devices (id ∷ seats) (suc place) small known = small_of devices seats
 small_seat : (snapshot : SnapshotRecord) (place : ℕ) → IsValidSnapshot snapshot →
     slice_index snapshot.seats place < 2 ^ 16
 small_seat snapshot place valid = small_of snapshot.devices snapshot.seats place
-    (recursion_from_All (λ device. device.id < 65536) snapshot.devices valid.devices.below)
+    (recursion_from_All (λ device. device.id < most_ids) snapshot.devices valid.devices.below)
     (recursion_from_All (λ id. has_device id snapshot.devices ≡ true) snapshot.seats
     valid.seats.known)
 

@@ -1,5 +1,6 @@
 -- The JSON of a ring is shorter than 2 ^ 32 bytes.
 use Rattle.std.proofs.Common.{◌≡◌, ℕ, zero, suc, ◌+◌, ◌-◌, ◌*◌, ◌/◌, ◌%◌, ◌^◌, ◌<◌, ◌≤◌, Bool, true, false}
+use Rattle.ring_words.specs.Limits.{most_ids}
 use Rattle.std.proofs.Common.{List, [], ◌∷◌, ◌++◌, length, map, arith, decimal, length-append}
 use Rattle.std.specs.Prelude.{Option, Some, IsTrue, All, ◌==◌, codes, find, if◌then◌else◌}
 use Rattle.std.specs.Prelude.{slice_get}
@@ -12,7 +13,7 @@ use Rattle.ring_words.specs.Texts.{address_text, is_device_name, two_digits}
 use Rattle.ring_words.specs.declared.device.Device.{Device}
 use Rattle.ring_text.specs.Snapshot.{SnapshotRecord, IsValidSnapshot, IsWithinLimits}
 use Rattle.swift_ring.specs.Json.{array, hundredths, listed, member, object, quoted}
-use Rattle.swift_ring.specs.SwiftFile.{after, device_members, entries, entry_of, number_count}
+use Rattle.swift_ring.specs.SwiftFile.{after, device_members, entries, device_text, number_count}
 use Rattle.swift_ring.specs.SwiftFile.{number_entry, ring_json}
 
 -- ---- JSON
@@ -103,7 +104,7 @@ hundredths_size h small =
 -- The device has what a snapshot's devices have.
 pub record IsSized (device : Device) : Type 0 where
   pub limits : IsWithinLimits device
-  pub id : device.id < 65536
+  pub id : device.id < most_ids
 
 name_size : (name : List ℕ) → IsTrue (is_device_name name) → length name ≤ 32
 name_size name h = leb-true _ _ (and_parts _ _ (and_parts _ _ h).0).1
@@ -162,8 +163,8 @@ device_size device h =
 
 -- ---- entries
 
-picked_size : (here : Bool) (device : Device) (rest : Option Device) → length (entry_of (Some
-    device)) ≤ 602 → length (entry_of rest) ≤ 602 → length (entry_of (if here then Some device
+picked_size : (here : Bool) (device : Device) (rest : Option Device) → length (device_text (Some
+    device)) ≤ 602 → length (device_text rest) ≤ 602 → length (device_text (if here then Some device
     else rest)) ≤ 602
 picked_size true device rest h i = h
 picked_size false device rest h i = i
@@ -181,25 +182,25 @@ each_size devices [] all = tt
 each_size devices (id ∷ ids) all = (entry_size devices id all, each_size devices ids all)
 
 after_size : (devices : List Device) (place : ℕ) → AllByRecursion IsSized devices →
-    after (slice_get devices place) ≤ 65536
+    after (slice_get devices place) ≤ most_ids
 after_size [] place all = omega arith
 after_size (device ∷ devices) zero all = let small = all.0.id in omega arith
 after_size (device ∷ devices) (suc place) all = after_size devices place all.1
 
 entries_size : (devices : List Device) → AllByRecursion IsSized devices → length (array (entries
-    devices)) ≤ 65536 * 604 + 2
+    devices)) ≤ most_ids * 604 + 2
 entries_size devices all =
     let count = after_size devices (length devices - 1) all in
     let each = listed_size 602 (entries devices) (each_size devices (range_with_len 0 (number_count
     devices)) all) in
-    array_size (entries devices) (65536 * 604) (omega (
+    array_size (entries devices) (most_ids * 604) (omega (
       arith,
       length-map-range_with_len (number_entry
           devices) 0 (number_count devices),
     ))
 
 sized_devices : (devices : List Device) → All IsWithinLimits devices → All (λ device. device.id <
-    65536) devices → All IsSized devices
+    most_ids) devices → All IsSized devices
 sized_devices devices limits below = λ k d lt. record { limits = limits k d lt; id = below k d lt }
 
 -- the length of the JSON fits the four bytes that tell it
@@ -208,14 +209,14 @@ pub json_size : (snapshot : SnapshotRecord) → IsValidSnapshot snapshot → len
 json_size snapshot valid =
     let all = recursion_from_All IsSized snapshot.devices (sized_devices snapshot.devices valid.limits
     valid.devices.below) in
-    let most : ℕ = 65536 * 604 + 100 in
+    let most : ℕ = most_ids * 604 + 100 in
     let order : length (member (codes "byteorder") (quoted (codes "little"))) ≤ most =
     omega arith in
     let devs : length (member (codes "devs") (array (entries snapshot.devices))) ≤ most =
     omega (
       arith,
       member_size (codes "devs") (array (entries snapshot.devices)) 4
-          (65536 * 604 + 2) (omega arith) (entries_size snapshot.devices all),
+          (most_ids * 604 + 2) (omega arith) (entries_size snapshot.devices all),
     ) in
     let shift : length (member (codes "part_shift") (decimal (32 - snapshot.power))) ≤ most =
     omega (

@@ -23,13 +23,13 @@ device_members device = member (codes "device") (quoted device.row.name)
     ∷ []
 
 -- what stands at a number: its device, or `null` where no device has it
-abbrev pub entry_of : Option Device → List ℕ
-entry_of None = codes "null"
-entry_of (Some device) = object (device_members device)
+abbrev pub device_text : Option Device → List ℕ
+device_text None = codes "null"
+device_text (Some device) = object (device_members device)
 
 -- what stands at this number among these devices
 abbrev pub number_entry : List Device → ℕ → List ℕ
-number_entry devices id = entry_of (find (λ device. device.id == id) devices)
+number_entry devices id = device_text (find (λ device. device.id == id) devices)
 
 -- the number after that of a device
 abbrev pub after : Option Device → ℕ

@@ -1,10 +1,11 @@
 //! What a file tells of a ring beside its seats, as JSON.
 ghost use Rattle.std.specs.Prelude.{◌≡◌, ◌==◌, ◌++◌, ◌+◌, ◌≤◌, IfOk, OnOk, find, string_bytes};
+ghost use Rattle.ring_words.specs.Limits.{most_ids};
 ghost use Rattle.std.specs.Prelude.{codes, if◌then◌else◌};
 ghost use Rattle.std.specs.Option.{option_copied};
 ghost use Rattle.ring_words.specs.Texts.{two_digits};
 ghost use Rattle.swift_ring.specs.Json.{hundredths, listed};
-ghost use Rattle.swift_ring.specs.SwiftFile.{device_members, entries, entry_of, number_count};
+ghost use Rattle.swift_ring.specs.SwiftFile.{device_members, entries, device_text, number_count};
 ghost use Rattle.swift_ring.specs.SwiftFile.{number_entry, ring_json};
 
 use ring_text::Snapshot;
@@ -50,7 +51,7 @@ fn push_members(text: &mut String, device: &Device) -> Result<(), AllocError>
 /// Appends what stands at a number with this device, or with none.
 fn push_entry(text: &mut String, device: Option<&Device>) -> Result<(), AllocError>
     ensures { OnOk result (string_bytes text.new ≡ string_bytes text.old ++
-        entry_of (option_copied device.entry)) }
+        device_text (option_copied device.entry)) }
 {
     let Some(device) = device else {
         return text.push_str("null");
@@ -70,7 +71,7 @@ fn device_at(devices: &[Device], id: u32) -> Option<&Device>
 /// The number after that of a device.
 fn after(device: &Device) -> u32
     ensures value { result ≡ device.now.id + 1 }
-    ensures small { result ≤ 65536 }
+    ensures small { result ≤ most_ids }
 {
     u32::from(device.id) + 1
 }
@@ -78,7 +79,7 @@ fn after(device: &Device) -> u32
 /// How many numbers there are, up to the greatest.
 fn count(devices: &[Device]) -> u32
     ensures value { result ≡ number_count devices.now }
-    ensures small { result ≤ 65536 }
+    ensures small { result ≤ most_ids }
 {
     match devices.last() {
         Some(device) => after(device),

@@ -3,7 +3,7 @@
 #![tactic(auto)]
 
 /// The hour of a delivery, its number, what it asks of its ring, and its answer.
-pub type Row<'a> = (u32, u32, &'a str, &'a str);
+pub type WorkedRow<'a> = (u32, u32, &'a str, &'a str);
 
 pub const CREATE: &str = "'do':'create','power':2,'replicas':1,'min_hours':24";
 
@@ -45,7 +45,7 @@ pub const ASSIGNED: &str =
 pub const TOO_FEW: &str = "422 {'refused':'TooFewDevices','rule':9}";
 
 /// Four partitions of one replica are assigned to devices 0 and 1, and stay for 24 hours.
-pub const FIRST: [Row; 4] = [
+pub const FIRST: [WorkedRow; 4] = [
     (0, 1, CREATE, CREATED),
     (0, 2, ADD_D0, ADDED_D0),
     (0, 3, ADD_D1, ADDED_D1),
@@ -53,7 +53,7 @@ pub const FIRST: [Row; 4] = [
 ];
 
 /// Four partitions of two replicas are assigned to devices 0 and 1.
-pub const PAIRS: [Row; 4] = [
+pub const PAIRS: [WorkedRow; 4] = [
     (0, 1, CREATE_PAIRS, CREATED),
     (0, 2, ADD_D0, ADDED_D0),
     (0, 3, ADD_D1, ADDED_D1),
@@ -66,7 +66,7 @@ pub const PAIRS: [Row; 4] = [
 ];
 
 /// Two partitions of two replicas are assigned to devices 0 and 1, and may move at once.
-pub const SMALL: [Row; 4] = [
+pub const SMALL: [WorkedRow; 4] = [
     (0, 1, CREATE_SMALL, CREATED),
     (0, 2, ADD_D0, ADDED_D0),
     (0, 3, ADD_D1, ADDED_D1),
@@ -74,7 +74,7 @@ pub const SMALL: [Row; 4] = [
 ];
 
 /// A number that comes again, and one that comes with another command.
-pub const REPEATED: [Row; 3] = [
+pub const REPEATED: [WorkedRow; 3] = [
     (9, 4, REBALANCE, ASSIGNED),
     (
         9,
@@ -86,7 +86,7 @@ pub const REPEATED: [Row; 3] = [
 ];
 
 /// Device 2 comes, and is to wait for the 24th hour.
-pub const LOCKED: [Row; 2] = [
+pub const LOCKED: [WorkedRow; 2] = [
     (1, 5, ADD_D2, "200 {'done':'add','id':2,'version':4}"),
     (
         23,
@@ -97,7 +97,7 @@ pub const LOCKED: [Row; 2] = [
 ];
 
 /// The hour comes.
-pub const AT_THE_HOUR: [Row; 1] = [(
+pub const AT_THE_HOUR: [WorkedRow; 1] = [(
     24,
     7,
     REBALANCE,
@@ -105,7 +105,7 @@ pub const AT_THE_HOUR: [Row; 1] = [(
 )];
 
 /// The hour comes with a command that moves nothing.
-pub const RISEN: [Row; 1] = [(
+pub const RISEN: [WorkedRow; 1] = [(
     24,
     7,
     "'do':'set_hours','min_hours':24",
@@ -113,7 +113,7 @@ pub const RISEN: [Row; 1] = [(
 )];
 
 /// What a number that was used before is answered in a renewed store, though its own hour is early.
-pub const RENEWED: [Row; 2] = [
+pub const RENEWED: [WorkedRow; 2] = [
     (
         5,
         4,
@@ -129,7 +129,7 @@ pub const RENEWED: [Row; 2] = [
 ];
 
 /// The hours are set aside.
-pub const SET_ASIDE: [Row; 2] = [
+pub const SET_ASIDE: [WorkedRow; 2] = [
     (23, 7, PRETEND, "200 {'done':'pretend_passed','version':6}"),
     (
         23,
@@ -140,7 +140,7 @@ pub const SET_ASIDE: [Row; 2] = [
 ];
 
 /// A removed device gives its seats away at once.
-pub const REMOVAL: [Row; 3] = [
+pub const REMOVAL: [WorkedRow; 3] = [
     (1, 5, ADD_D2, "200 {'done':'add','id':2,'version':4}"),
     (
         1,
@@ -157,7 +157,7 @@ pub const REMOVAL: [Row; 3] = [
 ];
 
 /// A want that no seats can meet.
-pub const UNREACHABLE: [Row; 5] = [
+pub const UNREACHABLE: [WorkedRow; 5] = [
     (0, 1, CREATE_PAIRS, CREATED),
     (0, 2, ADD_HEAVY, ADDED_D0),
     (0, 3, ADD_D1, ADDED_D1),
@@ -176,10 +176,10 @@ pub const UNREACHABLE: [Row; 5] = [
 ];
 
 /// A device in another region, which takes a seat of each of two partitions.
-pub const FAR: [Row; 1] = [(0, 5, ADD_FAR, "200 {'done':'add','id':2,'version':4}")];
+pub const FAR: [WorkedRow; 1] = [(0, 5, ADD_FAR, "200 {'done':'add','id':2,'version':4}")];
 
 /// A refusal is kept, though the command could be done later.
-pub const FEW: [Row; 7] = [
+pub const FEW: [WorkedRow; 7] = [
     (
         0,
         1,
@@ -200,7 +200,7 @@ pub const FEW: [Row; 7] = [
 ];
 
 /// Requests that come in another order.
-pub const REORDERED: [Row; 4] = [
+pub const REORDERED: [WorkedRow; 4] = [
     (0, 2, ADD_D0, "422 {'refused':'NoRing','rule':1}"),
     (0, 1, CREATE, CREATED),
     (0, 2, ADD_D0, "422 {'refused':'NoRing','rule':1}"),
@@ -208,7 +208,7 @@ pub const REORDERED: [Row; 4] = [
 ];
 
 /// A clock that goes back.
-pub const CLOCK_BACK: [Row; 8] = [
+pub const CLOCK_BACK: [WorkedRow; 8] = [
     (0, 1, CREATE, CREATED),
     (0, 2, ADD_D0, ADDED_D0),
     (0, 3, ADD_D1, ADDED_D1),
@@ -235,7 +235,7 @@ pub const CLOCK_BACK: [Row; 8] = [
 ];
 
 /// A book with room for two numbers.
-pub const FULL: [Row; 5] = [
+pub const FULL: [WorkedRow; 5] = [
     (0, 1, CREATE, CREATED),
     (0, 2, ADD_D0, ADDED_D0),
     (0, 3, ADD_D1, "507 {'fault':'BookFull','rule':22}"),
@@ -244,7 +244,7 @@ pub const FULL: [Row; 5] = [
 ];
 
 /// Each run begins with nothing.
-pub const RUNS: [&[&[Row]]; 9] = [
+pub const RUNS: [&[&[WorkedRow]]; 9] = [
     &[&FIRST, &REPEATED],
     &[&FIRST, &LOCKED, &AT_THE_HOUR],
     &[&FIRST, &LOCKED, &SET_ASIDE],

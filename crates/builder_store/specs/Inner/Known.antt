@@ -10,7 +10,7 @@ use Rattle.sqlite_trees.specs.declared.store.Store.{Ghosts}
 use Rattle.sqlite.specs.Held.{Held, state}
 use Rattle.store_rows.specs.RingRows.{NamedRings}
 use Rattle.store_rows.specs.Stands.{RingContent}
-use Rattle.builder_store.specs.Standing.{Holds, StandsAlone, IsKnown, is_known, the_content}
+use Rattle.builder_store.specs.Standing.{Holds, StandsAlone, IsKnown, stands_for_one, the_content}
 use Rattle.builder_store.specs.Standing.{content_told}
 use Rattle.builder_store.specs.Inner.Codes.{content_set}
 use Rattle.builder_store.specs.Inner.Sets.{state_set}
@@ -37,25 +37,25 @@ told_is db clean known other c is h =
     (content_set _ c) (λ j. k.1 _ j.0))
 
 -- the connection of a keeper whose store hasn't failed
-pub whole : {A : Type 0} (n : ℕ) (last conn : A) → n ≡ 0 → cond (nat_lt 0 n) last conn ≡ conn
-whole n last conn e = subst (λ m. cond (nat_lt 0 m) last conn ≡ conn) (sym e) refl
+pub whole_store : {A : Type 0} (n : ℕ) (last conn : A) → n ≡ 0 → cond (nat_lt 0 n) last conn ≡ conn
+whole_store n last conn e = subst (λ m. cond (nat_lt 0 m) last conn ≡ conn) (sym e) refl
 
 -- and what it committed
 pub whole_trees : {S : Type 0} (g : Ghosts S) (n : ℕ) (last conn : Held S) → n ≡ 0 → (state g (cond
     (nat_lt 0 n) last conn)).committed.trees ≡ (state g conn).committed.trees
-whole_trees g n last conn e = ap (λ h. (state g h).committed.trees) (whole n last conn e)
+whole_trees g n last conn e = ap (λ h. (state g h).committed.trees) (whole_store n last conn e)
 
 -- what is told has the rings, the count and the hour that are held
 pub told_agrees : (db : Trees) (clean : Bool) (rings : NamedRings) (count hour : ℕ)
     (held : doubt clean ≡ 0 → Holds db rings count hour) (other : RingContent) → doubt clean ≡ 0
-    → ((content_told db clean (λ i. is_known (held i)) other).state ≡ rings) × (length
-    (content_told db clean (λ i. is_known (held i)) other).book ≡ count) ×
-    ((content_told db clean (λ i. is_known (held i)) other).hour ≡ hour)
+    → ((content_told db clean (λ i. stands_for_one (held i)) other).state ≡ rings) × (length
+    (content_told db clean (λ i. stands_for_one (held i)) other).book ≡ count) ×
+    ((content_told db clean (λ i. stands_for_one (held i)) other).hour ≡ hour)
 told_agrees db clean rings count hour held other is =
-    let told : RingContent = content_told db clean (λ i. is_known (held i)) other in
+    let told : RingContent = content_told db clean (λ i. stands_for_one (held i)) other in
     ∥∥₁_elim (held is) (×₃_prop (state_set told.state rings) (Coded-set coded_ℕ
     (length told.book) count) (Coded-set coded_ℕ told.hour hour)) (λ h.
-    let same : told ≡ h.0 = told_is db clean (λ i. is_known (held i)) other h.0 is ∣ h.1 ∣₁ in
+    let same : told ≡ h.0 = told_is db clean (λ i. stands_for_one (held i)) other h.0 is ∣ h.1 ∣₁ in
     (ap (λ c. c.state) same ∙ h.2, ap (λ c. length c.book) same ∙ h.3, ap (λ c. c.hour) same ∙ h.4))
 
 -- equal trees tell equal contents

@@ -8,7 +8,7 @@ use Rattle.sqlite_trees.specs.Tree.{Trees}
 use Rattle.sqlite.specs.State.{State, HasCleanDisk, Survives}
 use Rattle.request_book.specs.Keeper.{CrashLeaves, LeavesOnly}
 use Rattle.store_rows.specs.Stands.{RingContent}
-use Rattle.builder_store.specs.Standing.{Finds, IsKnown, MayLeave, content_told, Stands}
+use Rattle.builder_store.specs.Standing.{WouldFind, IsKnown, MayLeave, content_told, Stands}
 use Rattle.builder_store.specs.Standing.{StandsAlone}
 use Rattle.sqlite_trees.specs.View.{doubt}
 use Rattle.builder_store.specs.Inner.Known.{told_stands}
@@ -16,7 +16,7 @@ use Rattle.builder_store.specs.Inner.Codes.{content_set}
 
 -- What is found of trees that stand for a content is that content.
 pub found_only : (db : Trees) (c : RingContent) → ∥ StandsAlone db c ∥₁ → (left : Option
-    (RingContent)) → Finds db left → IsSomeAnd left (λ d. d ≡ c)
+    (RingContent)) → WouldFind db left → IsSomeAnd left (λ d. d ≡ c)
 found_only db c stands None none = ∥∥₁_elim stands ⊥_prop (λ h. none c h.0)
 found_only db c stands (Some d) is = ∥∥₁_elim stands (content_set d c) (λ h. h.1 d is)
 

@@ -12,8 +12,9 @@ use Rattle.builder_store.specs.declared.reading.Opened.{Opened}
 use Rattle.builder_store.specs.declared.fault.OpenFault.{OpenFault}
 
 -- The tables stand for the content that is found in these contents.
-abbrev pub Leads : Contents → Trees → Type 0
-Leads c db = (content : RingContent) × OpensAs c content × (contents_of db ≡ contents_for content)
+abbrev pub LeadsInStore : Contents → Trees → Type 0
+LeadsInStore c db = (content : RingContent) × OpensAs c content
+    × (contents_of db ≡ contents_for content)
 
 -- The same, and this is what is to be held of the content.
 pub record LeadsTo (c : Contents) (db : Trees) (held : Opened) : Type 0 where
@@ -30,7 +31,7 @@ pub record OpensRows (c : Contents) (old new : State) (result : Result Opened Op
   where
     pub tables : HasCleanDisk new → OnOk result (HasTables new)
     pub found : HasCleanDisk new → IfOk result (LeadsTo c new.committed.trees)
-    pub survives : Survives old new (Leads c)
+    pub survives : Survives old new (LeadsInStore c)
 
 -- What is known of a connection that was made over a store.
 pub record IsFresh (s : State) : Type 0 where

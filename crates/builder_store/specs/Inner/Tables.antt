@@ -18,7 +18,7 @@ abbrev pub HasTables : State → Type 0
 HasTables s = IsTrue s.is_open × (s.now.schema ≡ store_schema) × AreOrdered s.now
 
 -- The connection is open and sees a store, which is committed.
-pub record IsSettled (s : State) : Type 0 where
+pub record IsSettledState (s : State) : Type 0 where
   pub is_open : IsTrue s.is_open
   pub store : IsStore s.now
   pub committed : s.now ≡ s.committed

@@ -1,5 +1,6 @@
 -- What looking through the fields of a head finds.
 use Rattle.std.specs.Prelude.{◌≡◌, ℕ, ◌≤◌, List, [], ◌∷◌, length, ⊤}
+use Rattle.http_requests.specs.Requests.{longest_body}
 use Rattle.httparse.specs.Spans.{span_bytes, IsWithin}
 use Rattle.http_requests.specs.declared.fields.FieldFound.{FieldFound}
 use Rattle.http_requests.specs.declared.fields.FieldFound.TheVariants.{Missing, One, Several}
@@ -16,4 +17,4 @@ IsFieldFound buf Several values = 2 ≤ length values
 -- a body that is read has at most so many bytes
 abbrev pub IsSmall : Framing → Type 0
 IsSmall (Faulty why) = ⊤
-IsSmall (Body count) = count ≤ 65536
+IsSmall (Body count) = count ≤ longest_body

@@ -1,5 +1,6 @@
 -- What a route asks for whose path and method are right.
 use Rattle.std.specs.Prelude.{◌≡◌, ◌≢◌, ℕ, List, ⊤, IsTrue, true}
+use Rattle.ring_words.specs.Limits.{greatest_long}
 use Rattle.path_lookup.specs.Names.{PathNames, is_path}
 use Rattle.ring_words.specs.Spelling.{SpellsNumber}
 use Rattle.ring_words.specs.Texts.{is_label}
@@ -28,7 +29,7 @@ RouteAsks at ring version query (Read name (Nodes names)) =
     × IsPathQuery (pairs_of query) names × (is_path names ≡ true)
 RouteAsks at ring version query (Read name (Text number)) =
     (at ≡ endpoint.Text) × (name ≡ ring) × IsTrue (is_label ring) ×
-    SpellsNumber version 0 4294967295 number
+    SpellsNumber version 0 greatest_long number
 
 -- The route asks for nothing, for this reason.
 abbrev pub RouteFails : Endpoint → List ℕ → List ℕ → List ℕ → TargetFault → Type 0

@@ -1,5 +1,6 @@
 -- What the parts of the server know in mid-stream.
-use Rattle.std.specs.Prelude.{◌≡◌, ℕ, ◌-◌, ◌^◌, ◌<◌, ◌≤◌, min, Bool, true, false, List, [], ◌∷◌}
+use Rattle.std.specs.Prelude.{◌≡◌, ℕ, ◌+◌, ◌-◌, ◌^◌, ◌<◌, ◌≤◌, min, Bool, true, false, List, []}
+use Rattle.std.specs.Prelude.{◌∷◌}
 use Rattle.std.specs.Prelude.{length, Option}
 use Rattle.std.specs.Io.KnownBytes.{Appends}
 use Rattle.byte_streams.specs.declared.fault.StreamFault.{StreamFault}
@@ -10,6 +11,12 @@ use Rattle.byte_streams.specs.Writing.{Forwards, WritesBeginning}
 use Rattle.http_requests.specs.Requests.{HasAsk}
 use Rattle.http_stream.specs.Streams.{Item, Calls, Refuses, Follow, BeginWith}
 use Rattle.http_stream.specs.Answers.{joined}
+use Rattle.byte_streams.specs.Pieces.{chunk_size}
+use Rattle.http_requests.specs.Requests.{longest_body, longest_head}
+
+-- how many bytes of a stream wait at most: a request of the greatest length, and one more read
+abbrev pub buffer_room : ℕ
+buffer_room = longest_head + longest_body + chunk_size
 
 -- The bytes begin with these requests, of which none is the last, and then the rest comes.
 abbrev pub LeadTo : List ℕ → List Item → List ℕ → Type 0

@@ -1,13 +1,13 @@
 -- What the parts of the server know in mid-stream.
 use Rattle.std.specs.Prelude.{◌≡◌, ℕ, ◌-◌, ◌^◌, min, List, ◌++◌, length, All, nat_le, if◌then◌else◌}
 use Rattle.std.specs.Prelude.{Option, Some, None}
-use Rattle.line_stream.specs.Lines.{IsLine, Divides, AreLines, ended}
+use Rattle.line_stream.specs.Lines.{IsLine, Divides, AreLines, ended, longest_line}
 use Rattle.byte_streams.specs.InTurn.{InTurn}
 use Rattle.byte_streams.specs.Writing.{Forwards, WritesBeginning}
 
 -- what is kept of a line: all of it, or nothing where it is too long
-abbrev pub kept_of : List ℕ → Option (List ℕ)
-kept_of line = if nat_le (length line) 65536 then Some line else None
+abbrev pub line_kept : List ℕ → Option (List ℕ)
+line_kept line = if nat_le (length line) longest_line then Some line else None
 
 -- Each line that had its line feed in the bytes is answered. The answers are written or wait, and
 -- what is kept of the next line is known.
@@ -17,7 +17,7 @@ pub record IsMidway {S : Type 0} (gives : S → List ℕ → List ℕ → S → 
   pub lines : List (List ℕ)
   pub rest : List ℕ
   pub divides : Divides bytes lines rest
-  pub kept_is : kept ≡ kept_of rest
+  pub kept_is : kept ≡ line_kept rest
   pub texts : List (List ℕ)
   pub in_turn : InTurn gives old lines texts new
   pub forwards : Forwards before now (ended texts) waiting

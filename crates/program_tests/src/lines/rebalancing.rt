@@ -8,8 +8,8 @@ use std::alloc::{AllocError, Global};
 use std::test::Fail;
 use worked_rows::{
     ADD_D0, ADD_D1, ADD_D2, ADD_D3, ADDED_D0, AT_THE_HOUR, CLOCK_BACK, CREATED, FAR, FEW, FIRST,
-    FULL, LOCKED, PAIRS, PRETEND, REBALANCE, REMOVAL, REORDERED, REPEATED, Row, SET_ASIDE, SMALL,
-    TOO_FEW, UNREACHABLE,
+    FULL, LOCKED, PAIRS, PRETEND, REBALANCE, REMOVAL, REORDERED, REPEATED, SET_ASIDE, SMALL,
+    TOO_FEW, UNREACHABLE, WorkedRow,
 };
 
 const PUBLISH: &str = "'do':'publish'";
@@ -31,7 +31,7 @@ fn push_line(
     alloc: Global,
     lines: &mut String,
     ring: &str,
-    row: &Row<'_>,
+    row: &WorkedRow<'_>,
 ) -> Result<(), AllocError> {
     let (hour, number, what, _) = *row;
     let line = format!(in alloc;
@@ -45,7 +45,7 @@ fn push_lines(
     alloc: Global,
     lines: &mut String,
     ring: &str,
-    rows: &[&[Row]],
+    rows: &[&[WorkedRow]],
 ) -> Result<(), AllocError> {
     for part in rows {
         for row in *part {
@@ -56,7 +56,12 @@ fn push_lines(
 }
 
 /// The lines of rows on a ring, and a last one.
-fn lines_of(alloc: Global, ring: &str, rows: &[&[Row]], last: &str) -> Result<String, AllocError> {
+fn lines_of(
+    alloc: Global,
+    ring: &str,
+    rows: &[&[WorkedRow]],
+    last: &str,
+) -> Result<String, AllocError> {
     let mut lines = String::new(alloc);
     push_lines(alloc, &mut lines, ring, rows)?;
     lines.push_str(last)?;
@@ -64,7 +69,7 @@ fn lines_of(alloc: Global, ring: &str, rows: &[&[Row]], last: &str) -> Result<St
 }
 
 /// Puts the answers of rows behind others.
-fn push_answers(answers: &mut String, rows: &[&[Row]]) -> Result<(), AllocError> {
+fn push_answers(answers: &mut String, rows: &[&[WorkedRow]]) -> Result<(), AllocError> {
     for part in rows {
         for (_, _, _, answer) in *part {
             push_quoted(answers, answer)?;
@@ -74,7 +79,7 @@ fn push_answers(answers: &mut String, rows: &[&[Row]]) -> Result<(), AllocError>
 }
 
 /// The answers of rows.
-fn answers_of(alloc: Global, rows: &[&[Row]]) -> Result<String, AllocError> {
+fn answers_of(alloc: Global, rows: &[&[WorkedRow]]) -> Result<String, AllocError> {
     let mut answers = String::new(alloc);
     push_answers(&mut answers, rows)?;
     Ok(answers)
@@ -85,7 +90,7 @@ fn all_told(
     alloc: Global,
     limits: Limits,
     ring: &str,
-    rows: &[&[Row]],
+    rows: &[&[WorkedRow]],
     last: &str,
 ) -> Result<Vec<u8>, Fail> {
     let lines = lines_of(alloc, ring, rows, last)?;
@@ -105,7 +110,7 @@ fn told(
     alloc: Global,
     limits: Limits,
     ring: &str,
-    rows: &[&[Row]],
+    rows: &[&[WorkedRow]],
     last: &str,
 ) -> Result<String, Fail> {
     let answers = answers_of(alloc, rows)?;
@@ -115,7 +120,7 @@ fn told(
 
 /// Rows on a ring, named by what they show; what is asked of the ring behind them; and what that is
 /// answered.
-type Shown<'a> = (&'a str, &'a [&'a [Row<'a>]], &'a str, &'a str);
+type Shown<'a> = (&'a str, &'a [&'a [WorkedRow<'a>]], &'a str, &'a str);
 
 /// Whether rows on a ring are answered as they say, and what is asked behind them.
 fn is_shown(alloc: Global, limits: Limits, ring: &str, shown: &Shown<'_>) -> Result<bool, Fail> {
@@ -414,7 +419,7 @@ fn a_far_device_takes_a_seat_of_each_partition(rt: HostRuntime) -> Result<(), Fa
 }
 
 /// The ring `tiny` with one device, assigned at version 2 and published.
-static TINY: [Row; 6] = [
+static TINY: [WorkedRow; 6] = [
     (
         0,
         1,
@@ -434,7 +439,7 @@ static TINY: [Row; 6] = [
 ];
 
 /// What follows where one version may be published.
-static THEN: [Row; 2] = [
+static THEN: [WorkedRow; 2] = [
     (
         0,
         7,

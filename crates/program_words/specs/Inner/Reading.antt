@@ -12,15 +12,15 @@ IsTask name rows None = (task : Task) → program_of task ≡ name → HasArgume
 
 -- The hour is the one that the clock is to tell, if it is told one; None stands for a text that is
 -- no hour.
-abbrev pub IsHour : List Row → Option (Option ℕ) → Type 0
-IsHour rows (Some hour) = HasHour rows hour
-IsHour rows None = (hour : Option ℕ) → HasHour rows hour → ⊥
+abbrev pub IsHourWord : List Row → Option (Option ℕ) → Type 0
+IsHourWord rows (Some hour) = HasHour rows hour
+IsHourWord rows None = (hour : Option ℕ) → HasHour rows hour → ⊥
 
 -- The number is the one that an argument spells within these bounds; None stands for an argument
 -- that spells none.
-abbrev pub IsNumber : List Row → Text → ℕ → ℕ → Option ℕ → Type 0
-IsNumber rows id least most (Some n) = HasNumber rows id least most n
-IsNumber rows id least most None = (n : ℕ) → HasNumber rows id least most n → ⊥
+abbrev pub IsNumberWord : List Row → Text → ℕ → ℕ → Option ℕ → Type 0
+IsNumberWord rows id least most (Some n) = HasNumber rows id least most n
+IsNumberWord rows id least most None = (n : ℕ) → HasNumber rows id least most n → ⊥
 
 -- The format is the one that is named, if one is; None stands for a word that names none.
 abbrev pub IsFormat : List Row → Option Format → Type 0

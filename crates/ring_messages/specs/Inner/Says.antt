@@ -1,6 +1,7 @@
 -- Words that only carry proofs: what an object says of a command or a reply, whatever else stands
 -- in it.
 use Rattle.std.specs.Prelude.{◌≡◌, ℕ, ◌+◌, ◌<◌, ◌≤◌, List, [], ◌∷◌, length, Option, Some, None}
+use Rattle.ring_words.specs.Limits.{greatest_long, greatest_short}
 use Rattle.std.specs.Prelude.{codes, ⊤, option_map}
 use Rattle.std.specs.Borrow.{Bor}
 use Rattle.std.specs.List.{AllByRecursion, AllZip}
@@ -27,8 +28,8 @@ use Rattle.ring_messages.specs.Reads.{IsNumber, IsName}
 use Rattle.ring_messages.specs.Replies.{cause_rule, done_word, done_fields, refusal_rule}
 
 -- What is seen of a value that may stand there.
-abbrev pub seen : Option (Bor Value) → Option Data
-seen found = option_map (λ v. view v.now) found
+abbrev pub seen_value : Option (Bor Value) → Option Data
+seen_value found = option_map (λ v. view v.now) found
 
 -- The text of this address stands there.
 pub record IsAddress (found : Option Data) (address : ℕ) : Type 0 where
@@ -41,17 +42,17 @@ pub record IsWeight (found : Option Data) (hundredths : ℕ) : Type 0 where
   pub valid : hundredths ≤ greatest_weight
 
 -- These say what device is asked for.
-abbrev pub IsRow : (of_region of_zone of_address of_port of_name of_weight : Option Data) → Row
+abbrev pub SaysRow : (of_region of_zone of_address of_port of_name of_weight : Option Data) → Row
     → Type 0
-IsRow of_region of_zone of_address of_port of_name of_weight r =
-    IsNumber of_region 0 65535 r.region × (IsNumber of_zone 0 65535 r.zone
-    × (IsAddress of_address r.address × (IsNumber of_port 1 65535 r.port
+SaysRow of_region of_zone of_address of_port of_name of_weight r =
+    IsNumber of_region 0 greatest_short r.region × (IsNumber of_zone 0 greatest_short r.zone
+    × (IsAddress of_address r.address × (IsNumber of_port 1 greatest_short r.port
     × (IsName is_device_name of_name r.name × (IsWeight of_weight r.weight × ⊤)))))
 
 -- The list of region, zone, address, port, name and weight says what device is asked for, and has
 -- nothing behind them.
 pub record ListsRow (d : Data) (r : Row) : Type 0 where
-  pub row : IsRow (at 0 d) (at 1 d) (at 2 d) (at 3 d) (at 4 d) (at 5 d) r
+  pub row : SaysRow (at 0 d) (at 1 d) (at 2 d) (at 3 d) (at 4 d) (at 5 d) r
   pub end : at 6 d ≡ None
 
 -- A list of such lists stands there, one for each row.
@@ -66,17 +67,17 @@ pub record IsRows (found : Option Data) (rs : List Row) : Type 0 where
   pub valid : AllByRecursion IsProperRow rs
 
 -- The field stands there.
-abbrev pub Stands : Option Data → Field → Type 0
-Stands found (within least most n) = IsNumber found least most n
-Stands found (device_name name) = IsName is_device_name found name
-Stands found (address a) = IsAddress found a
-Stands found (weight h) = IsWeight found h
-Stands found (rows rs) = IsRows found rs
+abbrev pub StandsInMessage : Option Data → Field → Type 0
+StandsInMessage found (within least most n) = IsNumber found least most n
+StandsInMessage found (device_name name) = IsName is_device_name found name
+StandsInMessage found (address a) = IsAddress found a
+StandsInMessage found (weight h) = IsWeight found h
+StandsInMessage found (rows rs) = IsRows found rs
 
 -- Each field stands under its key.
 abbrev pub HasFields : Data → Fields → Type 0
 HasFields d [] = ⊤
-HasFields d (f ∷ fs) = Stands (get f.0 d) f.1 × HasFields d fs
+HasFields d (f ∷ fs) = StandsInMessage (get f.0 d) f.1 × HasFields d fs
 
 -- The object says what is to be done.
 pub record SaysAct (d : Data) (a : Act) : Type 0 where
@@ -92,7 +93,7 @@ pub record SaysCommand (further : ℕ) (d : Data) (c : Command) : Type 0 where
 -- The object is that of the command, with the key's two members.
 pub record SaysDelivery (d : Data) (k : Key) (c : Command) : Type 0 where
   pub caller : IsName is_label (get (codes "caller") d) k.caller
-  pub number : IsNumber (get (codes "number") d) 0 4294967295 k.number
+  pub number : IsNumber (get (codes "number") d) 0 greatest_long k.number
   pub command : SaysCommand 2 d c
 
 -- The object says that this was done.

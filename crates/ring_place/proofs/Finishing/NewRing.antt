@@ -15,7 +15,7 @@ use Rattle.ring_model.specs.Ring.{RingRecord, has_device, has_present, is_assign
 use Rattle.ring_model.specs.Ring.{seat}
 use Rattle.ring_model.specs.Valid.{IsValid}
 use Rattle.ring_words.specs.declared.device.Device.{Device}
-use Rattle.ring_share.specs.Crowd.{crowd, crowd_for, device_of, in_region, in_zone, on_server}
+use Rattle.ring_share.specs.Crowd.{crowd, crowd_for, device_by_id, in_region, in_zone, on_server}
 use Rattle.ring_share.specs.Crowd.{is_less, is_on, is_outside, others, pass_both, row_of, rows_of}
 use Rattle.ring_share.specs.Crowd.{seats_on, tiers_of}
 use Rattle.ring_share.specs.Room.{has_open, has_room, have, place_of, want_of}
@@ -26,7 +26,7 @@ use Rattle.ring_place.specs.Inner.Placing.{AllPlaced, MayTakeSeat, RowSeated, dr
 use Rattle.ring_place.specs.Inner.Placing.{drawn_in, has_left_from, have_on}
 use Rattle.ring_place.specs.Rebalance.{AreSettled, Gathered, IsAfter, IsGain, IsRebalance, IsSeat}
 use Rattle.ring_place.specs.Rebalance.{IsSeated, IsWithinRoom, MayTake, count_seats, has_free}
-use Rattle.ring_place.specs.Rebalance.{has_left, is_free, kept, kept_row, takes_room}
+use Rattle.ring_place.specs.Rebalance.{has_left, is_free, kept_count, kept_row, takes_room}
 use Rattle.ring_place.specs.Inner.SeatRows.{row_at}
 use Rattle.ring_place.proofs.Placing.Filling.{free_room, present_known, room_open, want_fills}
 use Rattle.ring_place.proofs.Placing.Placeable.{is_kept, is_up, old_get, open_present, put_there}
@@ -61,12 +61,13 @@ others_remain devices row replica all k id at = elim (cases_eq replica k) [
 
 tier_same : (test : Device → Device → Bool) (devices : List Device) (x y : ℕ) → Remains x devices →
     Remains y devices
-    → pass_both test (device_of x (remaining devices)) (device_of y (remaining devices)) ≡ pass_both
-    test (device_of x devices) (device_of y devices)
+    → pass_both test (device_by_id x (remaining devices)) (device_by_id y (remaining devices)) ≡
+    pass_both
+    test (device_by_id x devices) (device_by_id y devices)
 tier_same test devices x y one other =
-    ap (λ (d : Option Device). pass_both test d (device_of y (remaining devices)))
+    ap (λ (d : Option Device). pass_both test d (device_by_id y (remaining devices)))
     (device_of_remaining x devices one)
-    ∙ ap (λ (d : Option Device). pass_both test (device_of x devices) d)
+    ∙ ap (λ (d : Option Device). pass_both test (device_by_id x devices) d)
     (device_of_remaining y devices other)
 
 -- a device is as crowded beside the devices that remain as beside all
@@ -77,8 +78,8 @@ pub crowd_remaining : (devices : List Device) →
 crowd_remaining devices rise row all id present =
     let here = present_remains devices rise id present in
     let same = λ (test : Device → Device → Bool). row_count_same
-    (λ y. pass_both test (device_of id (remaining devices)) (device_of y (remaining devices)))
-    (λ y. pass_both test (device_of id devices) (device_of y devices)) row
+    (λ y. pass_both test (device_by_id id (remaining devices)) (device_by_id y (remaining devices)))
+    (λ y. pass_both test (device_by_id id devices) (device_by_id y devices)) row
     (λ k y at. tier_same test devices id y here (present_remains devices rise y (all k y at))) in
     rw (same in_region, same in_zone, same on_server) refl
 
@@ -219,7 +220,7 @@ module _ (old next : RingRecord) (hour : ℕ) (left after : Load) (rows : List (
       some : (n : ℕ) → 0 < n → nat_lt 0 n ≡ true
       some n h = grind (arith, nat_tests)
 
-  kept_rows : (id : ℕ) → have_on id rows ≡ kept old (gathered_in rows) id
+  kept_rows : (id : ℕ) → have_on id rows ≡ kept_count old (gathered_in rows) id
   kept_rows id = ap (sum_by (seats_on id)) gathered.rows_are ∙ sum_map (seats_on id)
       (λ p. kept_row old (gathered_in rows) p) (range_with_len 0 (partition_count old))
 

@@ -10,7 +10,7 @@ use Rattle.std.proofs.lemmas.List.Folds.{Any-from_list_any, list_any_at}
 use Rattle.std.proofs.lemmas.List.Sums.{sum_by-cons}
 use Rattle.ring_model.specs.Ring.{RingRecord, has_device, has_present}
 use Rattle.ring_words.specs.declared.device.Device.{Device}
-use Rattle.ring_share.specs.Crowd.{device_of}
+use Rattle.ring_share.specs.Crowd.{device_by_id}
 use Rattle.ring_share.specs.Room.{has_open, place_of}
 use Rattle.ring_share.specs.Want.{AreShares, AreWanted, IsBefore, is_open, open_weight, seat_count}
 use Rattle.ring_share.specs.Want.{share_rest, total_weight, whole_share}
@@ -71,15 +71,15 @@ with_first device devices kept =
     ap (λ b. cond (not b) (device ∷ remaining devices) (remaining devices)) kept
 
 pub device_of_remaining : (id : ℕ) (devices : List Device) → Remains id devices →
-    device_of id (remaining devices) ≡ device_of id devices
+    device_by_id id (remaining devices) ≡ device_by_id id devices
 device_of_remaining id [] clean = refl
 device_of_remaining id (device ∷ devices) clean =
     let rest = device_of_remaining id devices (rest_remains id device devices clean) in
     elim (cases_Bool device.removed) [
-      | inl marked ↦ ap (device_of id) (without device devices marked) ∙ rest ∙ ap
-          (λ b. cond b (Some device) (device_of id devices))
+      | inl marked ↦ ap (device_by_id id) (without device devices marked) ∙ rest ∙ ap
+          (λ b. cond b (Some device) (device_by_id id devices))
           (sym (other_number id device devices clean marked))
-      | inr kept ↦ ap (device_of id) (with_first device devices kept) ∙ ap
+      | inr kept ↦ ap (device_by_id id) (with_first device devices kept) ∙ ap
           (λ found. cond (device.id == id) (Some device) found) rest
     ]
 

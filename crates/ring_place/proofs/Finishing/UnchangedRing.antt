@@ -25,7 +25,7 @@ use Rattle.ring_share.proofs.Rows.{length-row_of, row_of_at}
 use Rattle.ring_place.specs.Rebalance.{IsAtRest, IsLeft, IsRebalance, IsSeat, changed_seats}
 use Rattle.ring_place.specs.Rebalance.{count_seats, differs, has_changed, has_free, has_left}
 use Rattle.ring_place.specs.Rebalance.{has_less_crowded, has_lost, is_free, is_locked, is_lost}
-use Rattle.ring_place.specs.Rebalance.{is_recent, kept, kept_row, takes_room}
+use Rattle.ring_place.specs.Rebalance.{is_recent, kept_count, kept_row, takes_room}
 use Rattle.ring_place.proofs.Lawful.{lawful}
 use Rattle.ring_place.proofs.Finishing.NewRing.{AllRemain, crowd_remaining, others_remain}
 use Rattle.ring_place.proofs.Placing.Placeable.{fails, open_present}
@@ -282,7 +282,7 @@ module _ (old new : RingRecord) (hour : ℕ) (wanted : List ℕ) (valid : IsVali
         replica_there = below;
       })))
 
-  kept_is_have : (id : ℕ) → kept old r.gathered id ≡ have old id
+  kept_is_have : (id : ℕ) → kept_count old r.gathered id ≡ have old id
   kept_is_have id =
       sum_same (λ p. seats_on id (kept_row old r.gathered p)) (λ p. seats_on id (row_of old p))
       (partition_count old) (λ p lt. ap (seats_on id) (kept_all p lt))

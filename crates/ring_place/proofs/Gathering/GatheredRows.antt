@@ -14,7 +14,7 @@ use Rattle.ring_share.specs.Room.{have, want_of}
 use Rattle.ring_share.proofs.Rows.{length-row_of, row_of_at}
 use Rattle.ring_place.specs.Load.{Load, have_in, want_in}
 use Rattle.ring_place.specs.Rebalance.{AreReasons, HasReason, IsLawfulGathering, IsWhole, has_free}
-use Rattle.ring_place.specs.Rebalance.{has_less_crowded, has_lost, is_locked, is_lost, kept}
+use Rattle.ring_place.specs.Rebalance.{has_less_crowded, has_lost, is_locked, is_lost, kept_count}
 use Rattle.ring_place.specs.Rebalance.{kept_row}
 use Rattle.ring_place.specs.Inner.SeatRows.{is_empty, row_at}
 use Rattle.ring_place.specs.Inner.Gathering.{IsFilled, Lifts, gathered_in, has_free_in}
@@ -66,7 +66,7 @@ module _ (ring : RingRecord) (hour : ℕ) (was left : Load) (wanted : List ℕ)
       (partition_count ring) [] many (λ partition lt. row_is_kept partition lt)
 
   pub counts_are_kept : (id : ℕ) → has_device id ring.devices ≡ true →
-      have_in left id ≡ kept ring (gathered_in rows) id
+      have_in left id ≡ kept_count ring (gathered_in rows) id
   counts_are_kept id known =
       filled.counts id known ∙ ap (sum_by (seats_on id)) rows_are_kept
       ∙ fold-map (λ (n : ℕ) (row : List (Option ℕ)). n + seats_on id row)
@@ -240,7 +240,7 @@ module _ (ring : RingRecord) (hour : ℕ) (was left : Load) (wanted : List ℕ)
       seat ring partition replica ≡ Some id → has_device id ring.devices ≡ true →
       has_free ring wanted partition ≡ true
       → IsBoth was left locked (row_of ring partition) (row_at rows partition) →
-      kept ring (gathered_in rows) id ≤ want_of ring wanted id
+      kept_count ring (gathered_in rows) id ≤ want_of ring wanted id
   surplus_by partition replica id locked lt unlocked has stays at known free (Lost some is) =
       absurd (let same = has_lost_same ring was wanted devices wants counts partition in
       cc (same, some, has))

@@ -13,7 +13,8 @@ use Rattle.ring_place.specs.Load.{Load, is_free_in, want_in}
 use Rattle.ring_place.specs.Inner.SeatRows.{AreKnown, row_at}
 use Rattle.ring_place.specs.declared.gather.Pass.{Pass}
 use Rattle.ring_place.specs.declared.gather.Pass.TheVariants.{First, Second}
-use Rattle.ring_place.specs.Inner.Gathering.{AreRows, Calm, Crowded, Falls, IsFilled, IsFirst}
+use Rattle.ring_place.specs.Inner.Gathering.{AreRowsOfSeats, Calm, Crowded, Falls, IsFilled}
+use Rattle.ring_place.specs.Inner.Gathering.{IsFirst}
 use Rattle.ring_place.specs.Inner.Gathering.{IsLifting, IsPass, IsSecond, LostFirst, Same, Surplus}
 use Rattle.ring_place.specs.Inner.Gathering.{Takes, is_among, present_only}
 use Rattle.ring_place.proofs.Rows.LiftedSeats.{known_lifted}
@@ -106,7 +107,7 @@ no_second done was kept locked rows filled none = record {
 pass_step : (pass : Pass) (done more : List ℕ) (n : ℕ) (was kept after : Load) (locked : List Bool)
     (old rows next : List (List (Option ℕ))) → IsPass pass done was kept locked old rows →
     n < length old
-    → ((p : ℕ) → is_among done p ≡ true → p < length old) → AreRows was.devices old →
+    → ((p : ℕ) → is_among done p ≡ true → p < length old) → AreRowsOfSeats was.devices old →
     is_among done n ≡ false → ((p : ℕ) → is_among more p ≡ (is_among done p || (n == p)))
     → next ≡ set rows n (row_at next n) → IsLifting pass was after (slice_index_or locked n false)
     (row_at rows n) (row_at next n) → Takes kept after (row_at rows n) (row_at next n)
@@ -140,7 +141,7 @@ pass_step pass done more n was kept after locked old rows next so_far within ins
 pub pass_written : (pass : Pass) (done more : List ℕ) (n : ℕ) (was kept after : Load)
     (locked : List Bool) (old rows next : List (List (Option ℕ))) (row : List (Option ℕ))
     → IsPass pass done was kept locked old rows → n < length old →
-    ((p : ℕ) → is_among done p ≡ true → p < length old) → AreRows was.devices old →
+    ((p : ℕ) → is_among done p ≡ true → p < length old) → AreRowsOfSeats was.devices old →
     is_among done n ≡ false
     → ((p : ℕ) → is_among more p ≡ (is_among done p || (n == p))) → next ≡ set rows n row →
     IsLifting pass was after (slice_index_or locked n false) (row_at rows n) row
@@ -194,8 +195,8 @@ first_length was locked old row (Calm none is calm) = ap length is
 
 pub first_rows : (done : List ℕ) (devices : List Device) (was kept : Load) (locked : List Bool)
     (old rows : List (List (Option ℕ))) → IsPass First done was kept locked old rows
-    → ((p : ℕ) → p < length old → is_among done p ≡ true) → AreRows devices old →
-    AreRows devices rows
+    → ((p : ℕ) → p < length old → is_among done p ≡ true) → AreRowsOfSeats devices old →
+    AreRowsOfSeats devices rows
 first_rows done devices was kept locked old rows first whole are = record {
   known = λ p lt.
       let many = first.as_many in

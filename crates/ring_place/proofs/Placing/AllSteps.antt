@@ -1,5 +1,6 @@
 -- All partitions: those that were gone through are put, and the step to the next.
 use Rattle.std.proofs.Common.{◌≡◌, ◌≢◌, ◌==◌, ℕ, zero, suc, ◌+◌, ◌-◌, ◌<◌, ◌≤◌, ◌||◌, Bool, true}
+use Rattle.ring_words.specs.Limits.{greatest_long}
 use Rattle.std.proofs.Common.{false, cond, List, [], ◌∷◌, length, Option, Some, None, refl, sym}
 use Rattle.std.proofs.Common.{◌∙◌, ap, subst, arith, ⊎_elim, sum_by, slice_get, set, get_or, take}
 use Rattle.std.specs.List.{range_with_len}
@@ -291,7 +292,7 @@ pub all_fit : (done : List ℕ) (p : ℕ) (before now : Load) (old lifted rows :
     ((id : ℕ) → has_device id before.devices ≡ true → have_in before id ≡ have_on id lifted) →
     sum_by (λ row. length row) lifted ≤ 81920 →
     (id : ℕ) → has_device id now.devices ≡ true → have_in now id + length (row_at rows p) <
-    4294967295
+    greatest_long
 all_fit done p before now old lifted rows so_far within counts few id known =
     let known' = subst (λ (ds : List Device). has_device id ds ≡ true) so_far.fills.devices known in
     omega (

@@ -1,5 +1,6 @@
 -- Devices as they fill up.
 use Rattle.std.proofs.Common.{◌≡◌, ◌==◌, ℕ, zero, suc, ◌+◌, ◌<◌, ◌≤◌, Bool, true, false, not, cond}
+use Rattle.ring_words.specs.Limits.{greatest_long}
 use Rattle.std.proofs.Common.{◌&&◌, List, [], ◌∷◌, length, Option, Some, None, refl, sym, ◌∙◌, ap}
 use Rattle.std.proofs.Common.{subst, arith, inl, inr, slice_get, slice_index, set, get_or, nat_lt}
 use Rattle.std.specs.List.{list_any}
@@ -8,7 +9,7 @@ use Rattle.std.proofs.lemmas.Bool.{and_parts, eq-eqb, eqb-true}
 use Rattle.std.proofs.lemmas.List.Folds.{Any-from_list_any, list_any_at}
 use Rattle.ring_model.specs.Ring.{has_device, has_present}
 use Rattle.ring_words.specs.declared.device.Device.{Device}
-use Rattle.ring_share.specs.Crowd.{crowd, device_of, in_region, in_zone, is_less, is_outside}
+use Rattle.ring_share.specs.Crowd.{crowd, device_by_id, in_region, in_zone, is_less, is_outside}
 use Rattle.ring_share.specs.Crowd.{on_server, others, pass_both, seats_on, tiers_of}
 use Rattle.ring_share.specs.Room.{has_open, place_of}
 use Rattle.ring_share.specs.Want.{is_open}
@@ -44,12 +45,12 @@ both_within test wider within None b h = h
 
 tier_holds : (test : Device → Device → Bool) → ((x y : Device) → test x y ≡ test y x) →
     ((x y z : Device) → test x y ≡ true → test y z ≡ true → test x z ≡ true)
-    → (devices : List Device) → IsSame (λ a b. pass_both test (device_of a devices)
-    (device_of b devices))
+    → (devices : List Device) → IsSame (λ a b. pass_both test (device_by_id a devices)
+    (device_by_id b devices))
 tier_holds test symm trans devices = record {
-  symm = λ a b. both_symm test symm (device_of a devices) (device_of b devices);
-  trans = λ a b c h k. both_trans test trans (device_of a devices) (device_of b devices)
-      (device_of c devices) h k;
+  symm = λ a b. both_symm test symm (device_by_id a devices) (device_by_id b devices);
+  trans = λ a b c h k. both_trans test trans (device_by_id a devices) (device_by_id b devices)
+      (device_by_id c devices) h k;
 }
 
 region_symm : (x y : Device) → in_region x y ≡ in_region y x
@@ -82,10 +83,10 @@ tiers_hold devices = record {
   region = tier_holds in_region region_symm region_trans devices;
   zone = tier_holds in_zone zone_symm zone_trans devices;
   server = tier_holds on_server server_symm server_trans devices;
-  zone_in_region = λ a b h. both_within in_zone in_region zone_region (device_of a devices)
-      (device_of b devices) h;
-  server_in_zone = λ a b h. both_within on_server in_zone server_zone (device_of a devices)
-      (device_of b devices) h;
+  zone_in_region = λ a b h. both_within in_zone in_region zone_region (device_by_id a devices)
+      (device_by_id b devices) h;
+  server_in_zone = λ a b h. both_within on_server in_zone server_zone (device_by_id a devices)
+      (device_by_id b devices) h;
 }
 
 -- ---- free devices
@@ -208,7 +209,7 @@ set_more (c ∷ cs) zero (suc x) value le = omega arith
 set_more (c ∷ cs) (suc here) zero value le = omega arith
 set_more (c ∷ cs) (suc here) (suc x) value le = set_more cs here x value le
 
-one_or_none : (n : ℕ) → n ≤ cond (nat_lt n 4294967295) (n + 1) n
+one_or_none : (n : ℕ) → n ≤ cond (nat_lt n greatest_long) (n + 1) n
 one_or_none n = grind (arith, nat_tests)
 
 pub fills_put : (load : Load) (id : ℕ) → Fills load (load_put load id)
@@ -216,7 +217,7 @@ fills_put load id = record {
   devices = refl;
   wanted = refl;
   counts = λ x. set_more load.counts (place_of id load.devices) (place_of x load.devices)
-      (cond (nat_lt (have_in load id) 4294967295) (have_in load id + 1) (have_in load id))
+      (cond (nat_lt (have_in load id) greatest_long) (have_in load id + 1) (have_in load id))
       (one_or_none (have_in load id));
 }
 

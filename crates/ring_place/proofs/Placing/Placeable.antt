@@ -25,7 +25,7 @@ use Rattle.ring_place.specs.Load.{Load, have_in}
 use Rattle.ring_place.specs.Inner.Placing.{AllPlaced, CanPlace, IsAlone, IsLifted, MayTakeSeat}
 use Rattle.ring_place.specs.Inner.Placing.{OpenWant, RowSeated, have_on}
 use Rattle.ring_place.specs.Inner.Finishing.{AreWhole}
-use Rattle.ring_place.specs.Rebalance.{IsSeat, has_lost, is_lost, kept, kept_row}
+use Rattle.ring_place.specs.Rebalance.{IsSeat, has_lost, is_lost, kept_row}
 use Rattle.ring_place.specs.Inner.SeatRows.{row_at}
 use Rattle.ring_place.proofs.Searching.DevicesAt.{open_at, place_stands}
 use Rattle.ring_place.proofs.Placing.Filling.{stands}

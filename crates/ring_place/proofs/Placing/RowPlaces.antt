@@ -1,5 +1,6 @@
 -- The places of the devices of a partition's seats.
 use Rattle.std.proofs.Common.{◌≡◌, ◌≢◌, ◌==◌, ℕ, zero, suc, ◌+◌, ◌<◌, ◌≤◌, Bool, true, false, not}
+use Rattle.ring_words.specs.Limits.{most_replicas}
 use Rattle.std.proofs.Common.{cond, ◌&&◌, All, List, [], ◌∷◌, length, get_or, map, set, take}
 use Rattle.std.proofs.Common.{count_by, Option, Some, None, IfSome, refl, sym, ap, subst, ◌∙◌}
 use Rattle.std.proofs.Common.{arith}
@@ -76,7 +77,8 @@ apart_alike devices at row (Some id) alike apart = λ present. alike (λ other. 
 -- ---- the places of a partition's seats, as seats are put
 
 pub places_first : (devices : List Device) (row : List (Option ℕ)) (ids places : List ℕ)
-    (count : ℕ) → ids ≡ devices_on row → length ids ≡ count → length ids ≤ 5 → length places ≡ 5
+    (count : ℕ) → ids ≡ devices_on row → length ids ≡ count → length ids ≤ most_replicas →
+    length places ≡ most_replicas
     → ((k : ℕ) → k < length ids → (get_or places k 0 < length devices) ×
     (id_at devices (get_or places k 0) ≡ get_or ids k 0)) →
     ArePlacesOf devices row (take count places)

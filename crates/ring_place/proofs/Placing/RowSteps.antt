@@ -1,5 +1,6 @@
 -- A partition whose lifted seats before the n-th are put, and the step to the next.
 use Rattle.std.proofs.Common.{◌≡◌, ◌≢◌, ◌==◌, ℕ, zero, suc, ◌+◌, ◌-◌, ◌<◌, ◌≤◌, Bool, true, false}
+use Rattle.ring_words.specs.Limits.{greatest_long}
 use Rattle.std.proofs.Common.{cond, not, ◌&&◌, ◌||◌, ◌⊎◌, List, [], ◌∷◌, length, Option, Some, None}
 use Rattle.std.proofs.Common.{refl, sym, ◌∙◌, ap, subst, arith, inl, inr, if◌then◌else◌, slice_get}
 use Rattle.std.proofs.Common.{set, get_or, below_more, IfSome, is_some, nat_lt}
@@ -210,7 +211,7 @@ no_room_full false have want closed h = let none = closed refl in omega (arith, 
 -- The step: an empty seat goes to the device that is chosen for it.
 module _ (n : ℕ) (before now : Load) (old lifted row : List (Option ℕ)) (own : Option ℕ) (d : ℕ)
     (so_far : PlacedUpTo n before now old lifted row) (alone : IsAlone now.devices old lifted)
-    (closed : OpenWant now) (few : have_in now d < 4294967295)
+    (closed : OpenWant now) (few : have_in now d < greatest_long)
     (was : slice_get old n ≡ Some own) (empty : slice_get row n ≡ Some None)
     (chosen : IsChosen now row own d) where
   fuller : Fills now (load_put now d)
@@ -469,8 +470,9 @@ own_apart n before now old lifted row so_far within empty =
 -- a count that has room for a partition's seats has it for one more
 pub put_fits : (n : ℕ) (before now : Load) (old lifted row : List (Option ℕ)) (id : ℕ) →
     PlacedUpTo n before now old lifted row → has_device id now.devices ≡ true →
-    ((x : ℕ) → has_device x before.devices ≡ true → have_in before x + length lifted < 4294967295) →
-    have_in now id < 4294967295
+    ((x : ℕ) → has_device x before.devices ≡ true → have_in before x + length lifted <
+    greatest_long) →
+    have_in now id < greatest_long
 put_fits n before now old lifted row id so_far known fits =
     let known' = subst (λ (ds : List Device). has_device id ds ≡ true) so_far.fills.devices known in
     let few = count_by-le-length (is_on (λ e. e == id)) row in

@@ -17,7 +17,7 @@ use Rattle.ring_share.proofs.AllSeats.{have_is_rows}
 use Rattle.ring_share.proofs.Rows.{length-row_of, row_of_at}
 use Rattle.ring_place.specs.Load.{Load, IsLoad, have_in}
 use Rattle.ring_place.specs.Inner.SeatRows.{AreKnown, row_at}
-use Rattle.ring_place.specs.Inner.Gathering.{AreRows, IsFilled}
+use Rattle.ring_place.specs.Inner.Gathering.{AreRowsOfSeats, IsFilled}
 
 pub length-rows_of : (ring : RingRecord) → length (rows_of ring) ≡ partition_count ring
 length-rows_of ring = length-map-range_with_len (λ p. row_of ring p) 0 (partition_count ring)
@@ -44,7 +44,7 @@ row_known ring valid partition replica id at =
     seat_known ring valid partition replica id (sym (row_of_at ring partition replica lt) ∙
     get_or_from_slice_get (row_of ring partition) replica (Some id) None at)
 
-pub ring_rows : (ring : RingRecord) → IsValid ring → AreRows ring.devices (rows_of ring)
+pub ring_rows : (ring : RingRecord) → IsValid ring → AreRowsOfSeats ring.devices (rows_of ring)
 ring_rows ring valid = record {
   known = λ partition lt.
       let within : partition < partition_count ring = omega (arith, lt, length-rows_of ring) in

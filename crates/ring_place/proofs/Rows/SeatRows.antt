@@ -1,5 +1,6 @@
 -- Rows of seats that stand one after another.
 use Rattle.std.proofs.Common.{◌≡◌, ℕ, zero, suc, ◌+◌, ◌-◌, ◌*◌, ◌<◌, ◌≤◌, List, [], ◌∷◌, ◌++◌}
+use Rattle.ring_words.specs.Limits.{most_partitions}
 use Rattle.std.proofs.Common.{length, get_or, take, drop, map, Option, Some, None, refl, sym, ap}
 use Rattle.std.proofs.Common.{◌∙◌, arith}
 use Rattle.std.specs.Prelude.{slice_get, slice_range}
@@ -31,7 +32,7 @@ pub row_below : (seats : List (Option ℕ)) (partitions replicas partition : ℕ
 row_below seats partitions replicas partition are lt =
     let within = row_within partitions replicas partition lt in
     let count = are.count in
-    let most : partitions * replicas ≤ 16384 * replicas =
+    let most : partitions * replicas ≤ most_partitions * replicas =
     mul-le-mul_right replicas are.few_partitions in
     let few = are.few_replicas in
     (omega (arith, within, count), omega (arith, within, most, few))

@@ -12,7 +12,7 @@ use Rattle.std.proofs.lemmas.List.Sums.{position_or_len_is, sum_by_more}
 use Rattle.std.proofs.lemmas.Option.{slice_get_within, get_or_from_slice_get, slice_get-get_or}
 use Rattle.ring_model.specs.Ring.{has_present}
 use Rattle.ring_words.specs.declared.device.Device.{Device}
-use Rattle.ring_share.specs.Crowd.{device_of, is_on, pass_both}
+use Rattle.ring_share.specs.Crowd.{device_by_id, is_on, pass_both}
 use Rattle.ring_share.specs.Near.{StandsAt}
 use Rattle.ring_share.specs.Room.{has_open, place_of}
 use Rattle.ring_share.specs.Want.{is_open}
@@ -142,8 +142,8 @@ present_in load now same is place id x lt read named =
 pub tier_at : (tier : Device → Device → Bool) (devices : List Device) →
     IsStrictlyIncreasing (map (λ device. device.id) devices) → (place other : ℕ) (x y : Device) →
     slice_get devices place ≡ Some x
-    → slice_get devices other ≡ Some y → pass_both tier (device_of (id_at devices place) devices)
-    (device_of (id_at devices other) devices) ≡ tier x y
+    → slice_get devices other ≡ Some y → pass_both tier (device_by_id (id_at devices place) devices)
+    (device_by_id (id_at devices other) devices) ≡ tier x y
 tier_at tier devices rise place other x y at bt =
     rw (
       id_at_is devices place x at,

@@ -1,5 +1,6 @@
 -- Devices outside a partition, by their places.
 use Rattle.std.proofs.Common.{◌≡◌, ◌==◌, ℕ, zero, suc, ◌+◌, ◌-◌, ◌<◌, ◌≤◌, Bool, true, false, not}
+use Rattle.ring_words.specs.Limits.{most_replicas}
 use Rattle.std.proofs.Common.{cond, ◌&&◌, ◌||◌, All, List, [], ◌∷◌, length, get_or, take, map}
 use Rattle.std.proofs.Common.{Option, Some, None, refl, sym, ap, subst, ◌∙◌, ⊎_elim, arith}
 use Rattle.std.specs.Prelude.{slice_get}
@@ -183,7 +184,8 @@ none_roomy load row places are none = none_listed load row places are
     (λ k lt. absurd (omega (arith, lt, none)))
 
 -- so it is where the places are the first of an array
-pub seats_first : (devices : List Device) (ids places : List ℕ) → length ids ≤ 5 → length places ≡ 5
+pub seats_first : (devices : List Device) (ids places : List ℕ) → length ids ≤ most_replicas →
+    length places ≡ most_replicas
     → ((k : ℕ) → k < length ids → (get_or places k 0 < length devices) ×
     (id_at devices (get_or places k 0) ≡ get_or ids k 0)) →
     seats_at devices (take (length ids) places) ≡ seats_of ids

@@ -1,5 +1,6 @@
 -- The lists of a room, as the counts of seats change.
 use Rattle.std.proofs.Common.{◌≡◌, ◌≢◌, ◌&&◌, ◌<◌, ◌≤◌, ℕ, Bool, true, false, not, All, List}
+use Rattle.ring_words.specs.Limits.{most_replicas}
 use Rattle.std.proofs.Common.{length, get_or, set, take, refl, sym, ap, subst, ◌∙◌, ⊎_elim, arith}
 use Rattle.std.proofs.Math.Bool.{beq}
 use Rattle.std.specs.Prelude.{nat_lt}
@@ -109,8 +110,8 @@ room_kept load roomy listed regions zones servers in_region in_zone in_server is
     }
 
 -- the first of some places are places of devices
-pub places_within : (devices : List Device) (ids places : List ℕ) → length ids ≤ 5 →
-    length places ≡ 5
+pub places_within : (devices : List Device) (ids places : List ℕ) → length ids ≤ most_replicas →
+    length places ≡ most_replicas
     → ((k : ℕ) → k < length ids → (get_or places k 0 < length devices) ×
     (id_at devices (get_or places k 0) ≡ get_or ids k 0)) →
     All (λ place. place < length devices) (take (length ids) places)

@@ -1,5 +1,6 @@
 -- How many seats devices have, as seats are put on them.
 use Rattle.std.proofs.Common.{◌≡◌, ◌≢◌, ◌==◌, ℕ, ◌+◌, ◌<◌, true, cond, List, length, get_or, map}
+use Rattle.ring_words.specs.Limits.{greatest_long}
 use Rattle.std.proofs.Common.{set, take, Some, refl, sym, ap, ◌∙◌, ⊎_elim, arith}
 use Rattle.std.specs.Prelude.{slice_get, nat_lt, if◌then◌else◌}
 use Rattle.std.specs.List.Sorted.{IsStrictlyIncreasing}
@@ -62,7 +63,7 @@ counted_have ring load counts rise devices counted each id known =
 -- one seat more at a place is one more of the device there
 pub put_there : (load now new : Load) → load ≡ now → IsLoad load → (place count more : ℕ) →
     place < length now.devices → count ≡ get_or load.counts place count
-    → more ≡ (if nat_lt count 4294967295 then count + 1 else count) →
+    → more ≡ (if nat_lt count greatest_long then count + 1 else count) →
     new ≡ with_count_at now place more → new ≡ load_put now (id_at now.devices place)
 put_there load now new same is place count more lt read more_is new_is =
     let there = is_load load now same is in
@@ -74,17 +75,18 @@ put_there load now new same is place count more lt read more_is new_is =
     (read ∙ ap (λ (l : Load). get_or l.counts place count) same) in
     new_is ∙ ap (with_count_at now place) more_is ∙ sym (rw (here, has) refl)
 
-pub more_if : (count : ℕ) → count < 4294967295 → (if nat_lt count 4294967295 then count + 1 else
+pub more_if : (count : ℕ) → count < greatest_long → (if nat_lt count greatest_long then count + 1
+    else
     count) ≡ count + 1
-more_if count lt = let yes : nat_lt count 4294967295 ≡ true = grind (arith, nat_tests) in
+more_if count lt = let yes : nat_lt count greatest_long ≡ true = grind (arith, nat_tests) in
     rw yes refl
 
 -- one seat more is on the device that it was put on, and on no other
 pub put_more : (load : Load) → IsLoad load → (id other : ℕ) → has_device id load.devices ≡ true →
-    has_device other load.devices ≡ true → have_in load id < 4294967295
+    has_device other load.devices ≡ true → have_in load id < greatest_long
     → have_in (load_put load id) other ≡ have_in load other + cond (id == other) 1 0
 put_more load is id other known also few =
-    let value = if nat_lt (have_in load id) 4294967295 then have_in load id + 1 else
+    let value = if nat_lt (have_in load id) greatest_long then have_in load id + 1 else
     have_in load id in
     let here = place_of id load.devices in
     ⊎_elim

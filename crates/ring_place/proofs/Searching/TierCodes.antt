@@ -6,7 +6,7 @@ use mir.Val.{bool_byte}
 use Rattle.std.specs.List.Sorted.{IsStrictlyIncreasing}
 use Rattle.ring_words.specs.declared.device.Device.{Device}
 use Rattle.ring_share.specs.Codes.{AreCodes}
-use Rattle.ring_share.specs.Crowd.{device_of, pass_both}
+use Rattle.ring_share.specs.Crowd.{device_by_id, pass_both}
 use Rattle.ring_share.specs.Tiers.{shares}
 use Rattle.ring_share.specs.declared.tiers.Tier.{Tier}
 use Rattle.ring_share.proofs.Coding.{code_told}
@@ -19,8 +19,8 @@ pub told_at : (tier : Tier) (devices : List Device) →
     IsStrictlyIncreasing (map (λ device. device.id) devices) → (codes : List ℕ) →
     AreCodes tier devices codes → (place other : ℕ) → place < length devices →
     other < length devices
-    → pass_both (shares tier) (device_of (id_at devices place) devices)
-    (device_of (id_at devices other) devices) ≡ (get_or codes place 0 == get_or codes other 0)
+    → pass_both (shares tier) (device_by_id (id_at devices place) devices)
+    (device_by_id (id_at devices other) devices) ≡ (get_or codes place 0 == get_or codes other 0)
 told_at tier devices rise codes told place other lt mt =
     let x = device_there devices place lt in
     let y = device_there devices other mt in
@@ -36,8 +36,8 @@ byte_if false = refl
 pub share_told : (tier : Tier) (load now : Load) → load ≡ now → IsLoad load → (codes : List ℕ) →
     AreCodes tier load.devices codes → (place other more : ℕ) → place < length now.devices →
     other < length now.devices → more ≡ bool_byte (get_or codes place 0 == get_or codes other 0)
-    → more ≡ (if pass_both (shares tier) (device_of (id_at now.devices place) now.devices)
-    (device_of (id_at now.devices other) now.devices) then 1 else 0)
+    → more ≡ (if pass_both (shares tier) (device_by_id (id_at now.devices place) now.devices)
+    (device_by_id (id_at now.devices other) now.devices) then 1 else 0)
 share_told tier load now same is codes told place other more lt mt read =
     let rise = (is_load load now same is).rise in
     let codes_told = subst (λ (l : Load). AreCodes tier l.devices codes) same told in

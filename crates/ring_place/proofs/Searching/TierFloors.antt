@@ -11,7 +11,7 @@ use Rattle.std.proofs.lemmas.List.Folds.{Any-from_list_any, list_any_at}
 use Rattle.std.proofs.lemmas.List.Sums.{sum_by-cons}
 use Rattle.std.proofs.lemmas.Option.{get_or_from_slice_get, slice_get-get_or}
 use Rattle.ring_words.specs.declared.device.Device.{Device}
-use Rattle.ring_share.specs.Crowd.{device_of, in_region, in_zone, is_less, is_on, on_server}
+use Rattle.ring_share.specs.Crowd.{device_by_id, in_region, in_zone, is_less, is_on, on_server}
 use Rattle.ring_share.specs.Crowd.{pass_both}
 use Rattle.ring_share.specs.Room.{has_open}
 use Rattle.ring_share.specs.Want.{is_open}
@@ -88,16 +88,17 @@ count_same f g same (seat ∷ row) =
     omega (arith, one, other, head, tail)
 
 tier_same : (tier : Device → Device → Bool) (devices : List Device) (one other : ℕ) (x y : Device) →
-    device_of one devices ≡ Some x → device_of other devices ≡ Some y
+    device_by_id one devices ≡ Some x → device_by_id other devices ≡ Some y
     → ((found : Option Device) → pass_both tier (Some x) found ≡ pass_both tier (Some y) found) →
     (row : List (Option ℕ))
-    → count_by (is_on (λ n. pass_both tier (device_of one devices) (device_of n devices))) row ≡
-    count_by (is_on (λ n. pass_both tier (device_of other devices) (device_of n devices))) row
+    → count_by (is_on (λ n. pass_both tier (device_by_id one devices) (device_by_id n devices))) row
+    ≡
+    count_by (is_on (λ n. pass_both tier (device_by_id other devices) (device_by_id n devices))) row
 tier_same tier devices one other x y there other_there same =
-    count_same (λ n. pass_both tier (device_of one devices) (device_of n devices))
-    (λ n. pass_both tier (device_of other devices) (device_of n devices))
-    (λ n. ap (λ found. pass_both tier found (device_of n devices)) there ∙ same
-    (device_of n devices) ∙ ap (λ found. pass_both tier found (device_of n devices))
+    count_same (λ n. pass_both tier (device_by_id one devices) (device_by_id n devices))
+    (λ n. pass_both tier (device_by_id other devices) (device_by_id n devices))
+    (λ n. ap (λ found. pass_both tier found (device_by_id n devices)) there ∙ same
+    (device_by_id n devices) ∙ ap (λ found. pass_both tier found (device_by_id n devices))
     (sym other_there))
 
 -- ---- so they are as crowded, down to it
@@ -115,7 +116,8 @@ server_floor : (a b least : ℕ × ℕ × ℕ) → a.0 ≡ b.0 → a.1 ≡ b.1 �
 server_floor a b least region zone server no_less = grind (arith, nat_tests)
 
 by_tier : (tier : Tier) (load : Load) (row : List (Option ℕ)) (one other : ℕ) (x y : Device)
-    (least : ℕ × ℕ × ℕ) → device_of one load.devices ≡ Some x → device_of other load.devices ≡ Some
+    (least : ℕ × ℕ × ℕ) → device_by_id one load.devices ≡ Some x →
+    device_by_id other load.devices ≡ Some
     y
     → shares tier y x ≡ true → is_less (crowd_in load row other) least ≡ false →
     is_less (crowd_in load row one) (cut tier least) ≡ false

@@ -1,5 +1,6 @@
 -- What a rebalance writes of the rows of a ring once their seats are put.
 use Rattle.std.specs.Prelude.{◌≡◌, ℕ, ◌<◌, ◌≤◌, nat_lt, if◌then◌else◌, List, length, map, count_by}
+use Rattle.ring_words.specs.Limits.{most_replicas}
 use Rattle.std.specs.Prelude.{sum_by, true, Option, Some, None, slice_get, slice_index_or}
 use Rattle.std.specs.List.{range_with_len}
 use Rattle.ring_model.specs.Ring.{RingRecord, has_present, partition_count}
@@ -32,7 +33,7 @@ pub record AreAlike (old new : List (List (Option ℕ))) : Type 0 where
   pub as_many : length new ≡ length old
   pub long : (partition : ℕ) → partition < length old → length (row_at new partition) ≡ length
       (row_at old partition)
-  pub few : (partition : ℕ) → partition < length old → length (row_at old partition) ≤ 5
+  pub few : (partition : ℕ) → partition < length old → length (row_at old partition) ≤ most_replicas
 
 -- These are seats for all partitions and replicas of a ring: each is on a device that remains,
 -- those of a partition on different ones.

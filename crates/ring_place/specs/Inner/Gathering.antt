@@ -2,6 +2,7 @@
 -- before and `row` or `lifted` those after; `was` is how full the devices are with all seats, and
 -- `kept` how full they are without the lifted ones.
 use Rattle.std.specs.Prelude.{◌≡◌, ℕ, ◌+◌, ◌<◌, ◌≤◌, ◌==◌, ◌&&◌, Bool, not, true, false}
+use Rattle.ring_words.specs.Limits.{most_replicas}
 use Rattle.std.specs.Prelude.{if◌then◌else◌, List, length, map, Option, Some, None, slice_get}
 use Rattle.std.specs.Prelude.{slice_index_or, slice_set, sum_by}
 use Rattle.std.specs.List.{list_any, range_with_len}
@@ -13,7 +14,7 @@ use Rattle.ring_place.specs.declared.gather.Pass.{Pass}
 use Rattle.ring_place.specs.declared.gather.Pass.TheVariants.{First, Second}
 use Rattle.ring_place.specs.Load.{Load, IsLoad, crowd_in, have_in, is_free_in, want_in}
 use Rattle.ring_place.specs.Rebalance.{Gathered, AreReasons, IsLawfulGathering, IsWhole}
-use Rattle.ring_place.specs.Rebalance.{kept as kept_by, kept_row}
+use Rattle.ring_place.specs.Rebalance.{kept_count as kept_by, kept_row}
 use Rattle.ring_place.specs.Inner.SeatRows.{AreKnown, is_empty, row_at}
 
 -- ---- words
@@ -110,9 +111,10 @@ pub record IsFilled (filled : Load) (devices : List Device) (wanted : List ℕ)
       rows
 
 -- Each row has at most five seats, each empty or on a device of these.
-pub record AreRows (devices : List Device) (rows : List (List (Option ℕ))) : Type 0 where
+pub record AreRowsOfSeats (devices : List Device) (rows : List (List (Option ℕ))) : Type 0 where
   pub known : (partition : ℕ) → partition < length rows → AreKnown devices (row_at rows partition)
-  pub few : (partition : ℕ) → partition < length rows → length (row_at rows partition) ≤ 5
+  pub few : (partition : ℕ) → partition < length rows →
+      length (row_at rows partition) ≤ most_replicas
 
 -- whether a partition is among those that were gone through
 abbrev pub is_among : List ℕ → ℕ → Bool

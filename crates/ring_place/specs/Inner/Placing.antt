@@ -1,6 +1,7 @@
 -- What putting the lifted seats of partitions keeps: `old` is a partition before a rebalance,
 -- `lifted` is it without its gathered seats, and `row` is it later.
 use Rattle.std.specs.Prelude.{◌≡◌, ◌≢◌, ◌==◌, ℕ, ◌+◌, ◌-◌, ◌<◌, ◌≤◌, Bool, true, false, ◌&&◌, ◌||◌}
+use Rattle.ring_words.specs.Limits.{most_replicas}
 use Rattle.std.specs.Prelude.{◌⊎◌, if◌then◌else◌, List, ◌∷◌, length, Option, Some, None, IfSome}
 use Rattle.std.specs.Prelude.{slice_get, count_by, sum_by}
 use Rattle.ring_model.specs.Ring.{has_device, has_present}
@@ -64,7 +65,7 @@ IsAlone devices old lifted = (replica id : ℕ) → IsLifted lifted replica →
 -- A partition whose lifted seats can be put.
 pub record CanPlace (devices : List Device) (old lifted : List (Option ℕ)) : Type 0 where
   pub as_many : length old ≡ length lifted
-  pub few : length lifted ≤ 5
+  pub few : length lifted ≤ most_replicas
   pub old_known : AreKnown devices old
   pub known : AreKnown devices lifted
   pub alone : IsAlone devices old lifted

@@ -1,5 +1,6 @@
 -- The rows of seats that are in work.
 use Rattle.std.specs.Prelude.{◌≡◌, ℕ, ◌*◌, ◌≤◌, Bool, true, false, List, [], length}
+use Rattle.ring_words.specs.Limits.{most_partitions, most_replicas}
 use Rattle.std.specs.Prelude.{Option, Some, None, slice_get, slice_index_or}
 use Rattle.std.specs.List.{filter_map}
 use Rattle.ring_model.specs.Ring.{has_device}
@@ -16,8 +17,8 @@ devices_on row = filter_map (λ seat. seat) row
 -- These are the seats of so many partitions, each of so many replicas.
 pub record AreSeatRows (seats : List (Option ℕ)) (partitions replicas : ℕ) : Type 0 where
   pub count : length seats ≡ partitions * replicas
-  pub few_partitions : partitions ≤ 16384
-  pub few_replicas : replicas ≤ 5
+  pub few_partitions : partitions ≤ most_partitions
+  pub few_replicas : replicas ≤ most_replicas
 
 abbrev pub is_empty : Option ℕ → Bool
 is_empty None = true

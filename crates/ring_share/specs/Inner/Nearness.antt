@@ -27,9 +27,9 @@ abbrev pub nearness : List Device → List ℕ → ℕ → ℕ
 nearness devices places place = sum_by (λ other. near_at devices other place) places
 
 -- An entry of the table is how near the devices at its two places are.
-abbrev pub IsTable : List Device → List (List ℕ) → Type 0
-IsTable devices table = (one other : ℕ) → slice_index (slice_index_or table one []) other ≡ near_at
-    devices one other
+abbrev pub IsNearnessTable : List Device → List (List ℕ) → Type 0
+IsNearnessTable devices table = (one other : ℕ) →
+    slice_index (slice_index_or table one []) other ≡ near_at devices one other
 
 -- whether the device at a place is open, and at none of the places of a partition's seats
 abbrev pub is_free_at : List Device → List ℕ → ℕ → Bool

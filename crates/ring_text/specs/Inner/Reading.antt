@@ -1,5 +1,7 @@
 -- The parts of a text, as they are read one after another.
 use Rattle.std.specs.Prelude.{◌≡◌, ℕ, ◌*◌, ◌≤◌, ◌<◌, ◌^◌, ◌++◌, List, [], ◌∷◌, length, map}
+use Rattle.ring_words.specs.Limits.{greatest_long, greatest_power, greatest_short}
+use Rattle.ring_words.specs.Limits.{most_replicas}
 use Rattle.std.specs.Prelude.{slice_index_or, IsTrue, All, codes, decimal}
 use Rattle.std.specs.List.{join_with_byte}
 use Rattle.ring_words.specs.Texts.{is_label, is_device_name}
@@ -29,19 +31,19 @@ pub record IsHead (texts : List (List ℕ)) (head : Head) : Type 0 where
   pub count : length texts ≡ 6
   pub form : text_at texts 0 ≡ codes "swift-ring-text 1"
   pub name : IsNameAfter (codes "ring ") (text_at texts 1) head.name
-  pub version : IsNumberAfter (codes "version ") (text_at texts 2) 0 4294967295 head.version
-  pub power : IsNumberAfter (codes "power ") (text_at texts 3) 1 14 head.power
-  pub replicas : IsNumberAfter (codes "replicas ") (text_at texts 4) 1 5 head.replicas
-  pub devices : IsNumberAfter (codes "devices ") (text_at texts 5) 0 65535 head.devices
+  pub version : IsNumberAfter (codes "version ") (text_at texts 2) 0 greatest_long head.version
+  pub power : IsNumberAfter (codes "power ") (text_at texts 3) 1 greatest_power head.power
+  pub replicas : IsNumberAfter (codes "replicas ") (text_at texts 4) 1 most_replicas head.replicas
+  pub devices : IsNumberAfter (codes "devices ") (text_at texts 5) 0 greatest_short head.devices
 
 -- These are the words of a device.
 pub record IsDevice (words : List (List ℕ)) (device : Device) : Type 0 where
   pub count : length words ≡ 8
-  pub id : SpellsNumber (text_at words 0) 0 65535 device.id
-  pub region : SpellsNumber (text_at words 1) 0 65535 device.row.region
-  pub zone : SpellsNumber (text_at words 2) 0 65535 device.row.zone
+  pub id : SpellsNumber (text_at words 0) 0 greatest_short device.id
+  pub region : SpellsNumber (text_at words 1) 0 greatest_short device.row.region
+  pub zone : SpellsNumber (text_at words 2) 0 greatest_short device.row.zone
   pub address : SpellsAddress (text_at words 3) device.row.address
-  pub port : SpellsNumber (text_at words 4) 1 65535 device.row.port
+  pub port : SpellsNumber (text_at words 4) 1 greatest_short device.row.port
   pub weight : SpellsWeight (text_at words 5) device.row.weight
   pub state : text_at words 6 ≡ state_word device.removed
   pub name : SpellsName is_device_name (text_at words 7) device.row.name
@@ -95,12 +97,12 @@ made head devices seats = record {
 }
 
 -- These are the parts of a snapshot.
-pub record IsMade (head : Head) (devices : List Device) (seats : List ℕ) (snapshot : SnapshotRecord)
-    : Type 0 where
+pub record IsMadeOfLines (head : Head) (devices : List Device) (seats : List ℕ)
+    (snapshot : SnapshotRecord) : Type 0 where
   pub valid : IsValidSnapshot snapshot
   pub is : snapshot ≡ made head devices seats
 
 -- These are the lines of a snapshot's text, and nothing follows the last line feed.
-pub record AreLines (texts : List (List ℕ)) (snapshot : SnapshotRecord) : Type 0 where
+pub record AreRingLines (texts : List (List ℕ)) (snapshot : SnapshotRecord) : Type 0 where
   pub valid : IsValidSnapshot snapshot
   pub are : texts ≡ map (join_with_byte 32) (lines_of snapshot) ++ [] ∷ []

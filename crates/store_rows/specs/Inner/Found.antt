@@ -25,10 +25,10 @@ use Rattle.store_rows.specs.declared.naming.RingTables.{RingTables}
 
 -- Where there is one thing of which this holds, it is what was read, and nothing was bad. Want of
 -- memory says nothing.
-abbrev pub Finds : {X V : Type 0} → (X → V) → (V → Type 0) → Result X SpellingFault → Type 0
-Finds {V = V} value Holds (Ok x) = (v : V) → Holds v → v ≡ value x
-Finds {V = V} value Holds (Err Bad) = (v : V) → Holds v → ⊥
-Finds value Holds (Err NoMemory) = ⊤
+abbrev pub ReadsRow : {X V : Type 0} → (X → V) → (V → Type 0) → Result X SpellingFault → Type 0
+ReadsRow {V = V} value Holds (Ok x) = (v : V) → Holds v → v ≡ value x
+ReadsRow {V = V} value Holds (Err Bad) = (v : V) → Holds v → ⊥
+ReadsRow value Holds (Err NoMemory) = ⊤
 
 -- The row stands for this device of a ring.
 pub record StandsForDevice (row : DeviceRow) (device : Device) : Type 0 where

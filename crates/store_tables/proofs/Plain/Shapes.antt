@@ -11,24 +11,24 @@ use Rattle.sqlite_trees.specs.View.{is_int}
 use Rattle.sqlite_sql.specs.Ops.{is_null}
 use Rattle.sqlite_schema.specs.declared.schema.Kind.TheVariants as kind
 use Rattle.sqlite_schema.specs.Rules.{is_of, are_typed, are_present}
-use Rattle.store_tables.specs.Plain.{Holds, text, number, bytes, Field, column_of}
+use Rattle.store_tables.specs.Plain.{ColumnKind, text, number, bytes, PlainColumn, column_of}
 
 -- what a column of this kind holds, and the value of it
-abbrev pub Held : Holds → Type 0
+abbrev pub Held : ColumnKind → Type 0
 Held text = List ℕ
 Held number = ℤ
 Held bytes = List ℕ
 
-abbrev pub value_of : (h : Holds) → Held h → Value
+abbrev pub value_of : (h : ColumnKind) → Held h → Value
 value_of text t = Text t
 value_of number n = Int n
 value_of bytes b = Blob b
 
-abbrev pub Cells : List Field → Type 0
+abbrev pub Cells : List PlainColumn → Type 0
 Cells [] = Unit {0}
 Cells (f ∷ fs) = Held f.holds × Cells fs
 
-abbrev pub cells_of : (fs : List Field) → Cells fs → Row
+abbrev pub cells_of : (fs : List PlainColumn) → Cells fs → Row
 cells_of [] cells = []
 cells_of (f ∷ fs) cells = value_of f.holds cells.0 ∷ cells_of fs cells.1
 
@@ -53,7 +53,7 @@ as_blob (Real x) h k = absurd (true≢false (sym h))
 as_blob (Text t) h k = absurd (true≢false (sym h))
 as_blob (Blob b) h k = (b, refl)
 
-as_held : (h : Holds) (v : Value) → is_of (column_of (record { name = []; holds = h })).kind v
+as_held : (h : ColumnKind) (v : Value) → is_of (column_of (record { name = []; holds = h })).kind v
     ≡ true → is_null v ≡ false → (x : Held h) × (v ≡ value_of h x)
 as_held text v = as_text v
 as_held number v = as_int v
@@ -78,7 +78,7 @@ column_past : (front : Row) → column (front ++ []) (length front) ≡ Null
 column_past [] = refl
 column_past (x ∷ front) = column_past front
 
-cells_in : (fs : List Field) (at : ℕ) (front vs : Row) → length front ≡ at + 1
+cells_in : (fs : List PlainColumn) (at : ℕ) (front vs : Row) → length front ≡ at + 1
     → are_typed None at (map column_of fs) vs ≡ true
     → are_present None at (map column_of fs) (front ++ vs) ≡ true
     → (cells : Cells fs) × (vs ≡ cells_of fs cells)
@@ -103,7 +103,7 @@ cells_in (f ∷ fs) at front (v ∷ vs) long t p =
     ((one.0, more.0), λ j. one.1 j ∷ more.1 j)
 
 -- a row of these columns is a rowid and their values
-pub shape_of : (fs : List Field) (x : Row) → is_int (rowid x) ≡ true
+pub shape_of : (fs : List PlainColumn) (x : Row) → is_int (rowid x) ≡ true
     → are_typed None 0 (map column_of fs) (drop 1 x) ≡ true
     → are_present None 0 (map column_of fs) x ≡ true → (id : ℤ) × (cells : Cells fs) × (x
     ≡ Int id ∷ cells_of fs cells)

@@ -7,7 +7,7 @@ use Rattle.store_tables.specs.Tables.{store_schema}
 use Rattle.store_contents.specs.Entries.{NameNumber, Device}
 use Rattle.store_tables.specs.Entries.{map_of, meta_rows, ring_rows, device_rows, seat_rows}
 use Rattle.store_tables.specs.Entries.{moved_rows, published_rows, request_rows, part_rows}
-use Rattle.store_contents.specs.Contents.{with_device, without_device}
+use Rattle.store_contents.specs.Contents.{with_device_row, without_device}
 use Rattle.store_tables.specs.Contents.{contents_of}
 use Rattle.store_tables.specs.Store.{IsStore, Becomes}
 use Rattle.store_tables.specs.Inner.Texts.{put_device, drop_device}
@@ -35,7 +35,7 @@ device_only old new h m is = λ j. record {
 
 pub adds_device : (old new : State) (key : NameNumber) (value : Device) (count : ℕ)
     → IsStore old.now → Executes put_device (device_params key value) old new (Ok count)
-    → Becomes new.now (with_device (contents_of old.now.trees) key value)
+    → Becomes new.now (with_device_row (contents_of old.now.trees) key value)
 adds_device old new key value count is h =
     let it = adds_row store_schema device_rows device_facts put_device device_params device_adds key
     value old new count (lives_in old.now is) h in

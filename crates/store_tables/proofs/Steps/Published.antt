@@ -7,7 +7,7 @@ use Rattle.store_tables.specs.Tables.{store_schema}
 use Rattle.store_contents.specs.Entries.{NameNumber}
 use Rattle.store_tables.specs.Entries.{map_of, meta_rows, ring_rows, device_rows, seat_rows}
 use Rattle.store_tables.specs.Entries.{moved_rows, published_rows, request_rows, part_rows}
-use Rattle.store_contents.specs.Contents.{with_published}
+use Rattle.store_contents.specs.Contents.{with_published_row}
 use Rattle.store_tables.specs.Contents.{contents_of}
 use Rattle.store_tables.specs.Store.{IsStore, Becomes}
 use Rattle.store_tables.specs.Inner.Texts.{put_published}
@@ -34,7 +34,7 @@ published_only old new h m is = λ j. record {
 
 pub puts_published : (old new : State) (key : NameNumber) (value : List ℕ) (count : ℕ)
     → IsStore old.now → Executes put_published (published_params key value) old new (Ok count)
-    → Becomes new.now (with_published (contents_of old.now.trees) key value)
+    → Becomes new.now (with_published_row (contents_of old.now.trees) key value)
 puts_published old new key value count is h =
     let it = puts_row store_schema published_rows published_facts put_published published_params
     published_puts key value old new count (lives_in old.now is) h in

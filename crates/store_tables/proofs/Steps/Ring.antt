@@ -7,7 +7,7 @@ use Rattle.store_tables.specs.Tables.{store_schema}
 use Rattle.store_contents.specs.Entries.{Ring}
 use Rattle.store_tables.specs.Entries.{map_of, meta_rows, ring_rows, device_rows, seat_rows}
 use Rattle.store_tables.specs.Entries.{moved_rows, published_rows, request_rows, part_rows}
-use Rattle.store_contents.specs.Contents.{with_ring}
+use Rattle.store_contents.specs.Contents.{with_ring_row}
 use Rattle.store_tables.specs.Contents.{contents_of}
 use Rattle.store_tables.specs.Store.{IsStore, Becomes}
 use Rattle.store_tables.specs.Inner.Texts.{put_ring, set_ring}
@@ -34,7 +34,7 @@ ring_only old new h m is = λ j. record {
 
 pub puts_ring : (old new : State) (key : List ℕ) (value : Ring) (count : ℕ) → IsStore old.now
     → Executes put_ring (ring_params key value) old new (Ok count)
-    → Becomes new.now (with_ring (contents_of old.now.trees) key value)
+    → Becomes new.now (with_ring_row (contents_of old.now.trees) key value)
 puts_ring old new key value count is h =
     let it = puts_row store_schema ring_rows ring_facts put_ring ring_params ring_puts key value old
     new count (lives_in old.now is) h in
@@ -48,7 +48,7 @@ puts_ring old new key value count is h =
 pub sets_ring : (old new : State) (key : List ℕ) (value : Ring) (count : ℕ)
     → IsStore old.now → Executes set_ring (ring_params key value) old new (Ok count)
     → (count ≡ 0 → Becomes new.now (contents_of old.now.trees))
-    × (0 < count → Becomes new.now (with_ring (contents_of old.now.trees) key value))
+    × (0 < count → Becomes new.now (with_ring_row (contents_of old.now.trees) key value))
 sets_ring old new key value count is h =
     let it = sets_row store_schema ring_rows ring_facts set_ring ring_params ring_sets key value old
     new count (lives_in old.now is) h in (

@@ -11,7 +11,7 @@ use sqlite::{Alter, Connection};
 use std::alloc::Global;
 use std::test::Fail;
 use store_rows::{Change, grows};
-use worked_rows::Row;
+use worked_rows::WorkedRow;
 
 /// What a deed leaves of a connection.
 pub enum After<S: Alter> {
@@ -79,7 +79,7 @@ fn held_in<S: Alter + Drop>(
 
 /// Runs rows, and reads what the store holds then.
 #[derive(Clone, Copy)]
-pub struct Run<'a>(pub &'a [&'a [Row<'a>]]);
+pub struct Run<'a>(pub &'a [&'a [WorkedRow<'a>]]);
 
 impl Deed for Run<'_> {
     type Outcome = Found;

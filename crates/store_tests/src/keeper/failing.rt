@@ -9,7 +9,7 @@ use sqlite::{Alter, Connection, Files};
 use sqlite_disk::{Disk, Fuse, Memory};
 use std::alloc::Global;
 use std::test::Fail;
-use worked_rows::{AT_THE_HOUR, FIRST, Row};
+use worked_rows::{AT_THE_HOUR, FIRST, WorkedRow};
 
 type Fused = Files<Fuse<Memory>>;
 
@@ -43,7 +43,7 @@ fn repaired(alloc: Global, files: &Fused) -> Result<Fused, Fail> {
 
 /// Runs rows until the store fails, and leaves it as it is then.
 #[derive(Clone, Copy)]
-struct RunUntilFailure<'a>(&'a [&'a [Row<'a>]]);
+struct RunUntilFailure<'a>(&'a [&'a [WorkedRow<'a>]]);
 
 impl Deed for RunUntilFailure<'_> {
     type Outcome = Ended;
@@ -64,7 +64,7 @@ impl Deed for RunUntilFailure<'_> {
 }
 
 /// Runs rows over files, and gives the files as the run left them.
-fn run(alloc: Global, files: Fused, rows: &[&[Row<'_>]]) -> Result<(Ended, Fused), Fail> {
+fn run(alloc: Global, files: Fused, rows: &[&[WorkedRow<'_>]]) -> Result<(Ended, Fused), Fail> {
     if !files.may_be_used() {
         return Ok((Ended::Wrong, files));
     }
@@ -73,7 +73,7 @@ fn run(alloc: Global, files: Fused, rows: &[&[Row<'_>]]) -> Result<(Ended, Fused
 }
 
 /// How rows end over files of the same bytes that never fail.
-fn run_again(alloc: Global, files: &Fused, rows: &[&[Row<'_>]]) -> Result<Ended, Fail> {
+fn run_again(alloc: Global, files: &Fused, rows: &[&[WorkedRow<'_>]]) -> Result<Ended, Fail> {
     let (ended, _) = run(alloc, repaired(alloc, files)?, rows)?;
     Ok(ended)
 }
@@ -85,7 +85,7 @@ fn goes_on(
     bytes: &[u8],
     calls: u64,
     fails_in_log: bool,
-    rows: &[&[Row<'_>]],
+    rows: &[&[WorkedRow<'_>]],
 ) -> Result<Option<bool>, Fail> {
     let (ended, files) = run(alloc, failing(alloc, bytes, calls, fails_in_log)?, rows)?;
     match ended {
@@ -103,7 +103,7 @@ fn all_go_on(
     bytes: &[u8],
     fails_in_log: bool,
     step: u64,
-    rows: &[&[Row<'_>]],
+    rows: &[&[WorkedRow<'_>]],
 ) -> Result<bool, Fail> {
     for turn in 0..100u64 {
         let calls = turn.saturating_mul(step);

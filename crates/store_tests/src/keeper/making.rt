@@ -9,7 +9,7 @@ use sqlite::Files;
 use sqlite_disk::Memory;
 use std::alloc::Global;
 use std::test::Fail;
-use worked_rows::{FIRST, LOCKED, RENEWED, RISEN, Row};
+use worked_rows::{FIRST, LOCKED, RENEWED, RISEN, WorkedRow};
 
 /// Files whose store holds seven numbers and the hour 24, where it held nothing, and its rings.
 fn filled(alloc: Global) -> Result<(Rings, Files<Memory>), Fail> {
@@ -26,7 +26,7 @@ fn holds(
     files: Files<Memory>,
     rings: &Rings,
     hour: Hour,
-    then: &[&[Row<'_>]],
+    then: &[&[WorkedRow<'_>]],
 ) -> Result<bool, Fail> {
     let (found, files) = in_files(alloc, files, &Run(&[]))?;
     let (later, _) = in_files(alloc, files, &Run(then))?;
@@ -35,7 +35,12 @@ fn holds(
 
 /// Whether a store that is made of rings and an hour holds just these, and rows are then answered
 /// as they say.
-fn is_renewed(alloc: Global, rings: &Rings, hour: Hour, then: &[&[Row<'_>]]) -> Result<bool, Fail> {
+fn is_renewed(
+    alloc: Global,
+    rings: &Rings,
+    hour: Hour,
+    then: &[&[WorkedRow<'_>]],
+) -> Result<bool, Fail> {
     let (fault, files) = in_files(alloc, new_files(alloc), &Make(rings, hour))?;
     Ok(fault.is_none() && holds(alloc, files, rings, hour, then)?)
 }

@@ -7,7 +7,7 @@ use sqlite::{Alter, Connection, Error, Files, MemStore};
 use sqlite_disk::Memory;
 use std::alloc::Global;
 use std::test::Fail;
-use worked_rows::{AT_THE_HOUR, FIRST, LOCKED, Row};
+use worked_rows::{AT_THE_HOUR, FIRST, LOCKED, WorkedRow};
 
 /// The tables of schema 1.
 static TABLES: [&str; 7] = [
@@ -67,7 +67,7 @@ static OLD_ROWS: [&str; 8] = [
 ];
 
 /// What comes then.
-const LATER: [Row; 1] = [(
+const LATER: [WorkedRow; 1] = [(
     24,
     8,
     "'do':'rebalance','seed':7",
@@ -137,7 +137,7 @@ pub fn old_files(alloc: Global) -> Result<Files<Memory>, Fail> {
 #[test]
 fn a_store_of_schema_1_goes_on_as_one_of_schema_2(rt: HostRuntime) -> Result<(), Fail> {
     let alloc = rt.alloc();
-    let kept: [&[Row]; 3] = [&FIRST, &LOCKED, &AT_THE_HOUR];
+    let kept: [&[WorkedRow]; 3] = [&FIRST, &LOCKED, &AT_THE_HOUR];
     let (same, conn) = run_over(alloc, old_store(alloc)?, &kept)?;
     assert!(rt; same == Ended::Whole);
     // Opened a second time it is the same, and goes on.

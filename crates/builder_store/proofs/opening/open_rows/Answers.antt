@@ -9,7 +9,7 @@ use Rattle.store_tables.specs.Contents.{contents_of}
 use Rattle.store_tables.specs.Store.{IsStore}
 use Rattle.store_rows.specs.Judging.{IsFoundIn}
 use Rattle.builder_store.specs.Opening.{no_contents}
-use Rattle.builder_store.specs.Inner.Opened.{Leads, LeadsTo}
+use Rattle.builder_store.specs.Inner.Opened.{LeadsInStore, LeadsTo}
 use Rattle.builder_store.proofs.Opens.{begun_store, opens_after}
 use Rattle.builder_store.proofs.opening.open_rows.Goals as goal
 
@@ -56,8 +56,9 @@ returns-in-Ok-judge-clause-opens g c =
       tables = c.migrate.ensures.tables;
       found = λ clean. subst (λ x. IfOk c.migrate.result (LeadsTo x new.committed.trees))
           (same clean) (c.migrate.ensures.found clean (judged clean).0 (is clean));
-      survives = survives_then old mid new (λ _. ⊥) _ (Leads found) (λ clean db none. absurd none)
-          (λ clean db leads. subst (λ x. Leads x db) (same clean) (leads (judged clean).0
+      survives = survives_then old mid new (λ _. ⊥) _ (LeadsInStore found) (λ clean db none. absurd
+          none)
+          (λ clean db leads. subst (λ x. LeadsInStore x db) (same clean) (leads (judged clean).0
           (is clean)))
           reads.survives c.migrate.ensures.survives;
     }

@@ -4,9 +4,9 @@ use Rattle.sqlite.specs.Held.{state}
 use Rattle.sqlite.specs.State.{HasCleanDisk}
 use Rattle.sqlite.proofs.StateLemmas.{survives_then, survives_weaker}
 use Rattle.store_tables.specs.Contents.{contents_of}
-use Rattle.store_tables.specs.Store.{IsBegun, begun_contents}
+use Rattle.store_tables.specs.Store.{HasMadeTables, begun_contents}
 use Rattle.store_tables.proofs.Living.{store_begun}
-use Rattle.builder_store.specs.Inner.Opened.{Leads, LeadsTo}
+use Rattle.builder_store.specs.Inner.Opened.{LeadsInStore, LeadsTo}
 use Rattle.builder_store.proofs.starting.open_begun.Goals as goal
 
 pub open_rows-requires-clause-tables : goal.open_rows-requires-clause-tables
@@ -15,14 +15,14 @@ open_rows-requires-clause-tables g c = λ clean.
     let fresh = c.requires.fresh clean in
     record {
       is_open = fresh.is_open;
-      store = store_begun s.now (subst (λ n. IsBegun n s.now) c.if-made-eq-TABLE_COUNT.true
+      store = store_begun s.now (subst (λ n. HasMadeTables n s.now) c.if-made-eq-TABLE_COUNT.true
           (c.requires.begun clean));
       committed = fresh.committed;
     }
 
 pub begin-requires-clause-begun : goal.begin-requires-clause-begun
 begin-requires-clause-begun g c = λ clean. subst
-    (λ n. IsBegun n (state g.S.Store c.args.conn.now).now) c.if-made-eq0.true
+    (λ n. HasMadeTables n (state g.S.Store c.args.conn.now).now) c.if-made-eq0.true
     (c.requires.begun clean)
 
 pub returns-then-made-eq0-clause-tables : goal.returns-then-made-eq0-clause-tables
@@ -41,7 +41,7 @@ pub returns-then-made-eq0-clause-survives : goal.returns-then-made-eq0-clause-su
 returns-then-made-eq0-clause-survives g c =
     let old = state g.S.Store c.args.conn.now in
     survives_weaker old (state g.S.Store c.begin.new.conn) _ _ (λ clean db leads. inr (subst
-    (λ n. Leads (begun_contents n old.now.trees) db) (sym c.if-made-eq0.true) leads))
+    (λ n. LeadsInStore (begun_contents n old.now.trees) db) (sym c.if-made-eq0.true) leads))
     (c.begin.ensures.opens (λ _. refl)).survives
 
 pub returns-then-made-eq-TABLE_COUNT-clause-tables :
@@ -66,7 +66,8 @@ pub returns-then-made-eq-TABLE_COUNT-clause-survives :
 returns-then-made-eq-TABLE_COUNT-clause-survives g c =
     let old = state g.S.Store c.args.conn.now in
     survives_weaker old (state g.S.Store c.open_rows.new.conn) _ _ (λ clean db leads. inr (subst
-    (λ n. Leads (begun_contents n old.now.trees) db) (sym c.if-made-eq-TABLE_COUNT.true) leads))
+    (λ n. LeadsInStore (begun_contents n old.now.trees) db) (sym c.if-made-eq-TABLE_COUNT.true)
+    leads))
     c.open_rows.ensures.opens.survives
 
 pub open_rows-requires-in-Ok-clause-tables : goal.open_rows-requires-in-Ok-clause-tables
@@ -96,9 +97,10 @@ returns-in-Ok-clause-survives g c =
     let opens = c.open_rows-in-Ok.ensures.opens in
     let before : HasCleanDisk new → HasCleanDisk mid = λ clean. omega
     (arith, opens.survives.clean, clean) in
-    survives_then (state g.S.Store c.args.conn.now) mid new _ (Leads (contents_of mid.now.trees)) _
+    survives_then (state g.S.Store c.args.conn.now) mid new _ (LeadsInStore (contents_of
+    mid.now.trees)) _
     (λ clean db is. inl is)
-    (λ clean db leads. inr (subst (λ x. Leads x db)
+    (λ clean db leads. inr (subst (λ x. LeadsInStore x db)
     (c.in-Ok.ensures.commits.done (before clean)).2.contents leads))
     c.in-Ok.ensures.commits.survives opens.survives
 

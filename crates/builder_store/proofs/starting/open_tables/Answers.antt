@@ -5,9 +5,9 @@ use Rattle.sqlite.specs.Effect.{Database}
 use Rattle.sqlite.specs.Held.{state}
 use Rattle.sqlite.specs.State.{HasCleanDisk}
 use Rattle.sqlite.proofs.StateLemmas.{survives_weaker}
-use Rattle.store_tables.specs.Store.{IsBegun, begun_contents}
+use Rattle.store_tables.specs.Store.{HasMadeTables, begun_contents}
 use Rattle.builder_store.specs.Opening.{OpensAs}
-use Rattle.builder_store.specs.Inner.Opened.{Leads}
+use Rattle.builder_store.specs.Inner.Opened.{LeadsInStore}
 use Rattle.builder_store.proofs.Opens.{declared_as, survives_same}
 use Rattle.builder_store.proofs.starting.open_tables.Goals as goal
 
@@ -15,7 +15,7 @@ pub open_begun-requires-clause-begun : goal.open_begun-requires-clause-begun
 open_begun-requires-clause-begun g c = λ clean.
     let s = state g.S.Store c.args.conn.now in
     let fresh = c.requires.fresh clean in
-    subst (λ o. IfSome o (λ made. IsBegun made s.now)) c.in-Ok-Some.field-0-is
+    subst (λ o. IfSome o (λ made. HasMadeTables made s.now)) c.in-Ok-Some.field-0-is
     (c.in-Ok-Some.ensures.begun fresh.is_open fresh.ordered)
 
 pub returns-in-Ok-Some-clause-found : goal.returns-in-Ok-Some-clause-found
@@ -75,7 +75,7 @@ returns-in-Ok-Some-clause-survives g c =
       | inr leads ↦ inr (
         made,
         declared,
-        subst (λ (d : Database). Leads
+        subst (λ (d : Database). LeadsInStore
             (begun_contents made d.trees) db) fresh.committed leads,
       )
     ]) c.open_begun.ensures.survives

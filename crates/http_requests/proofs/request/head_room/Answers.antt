@@ -1,9 +1,11 @@
 use Rattle.std.proofs.Common.{arith, sym}
+use Rattle.http_requests.specs.Requests.{longest_head}
 use Rattle.std.proofs.lemmas.List.{length-take, take_all}
 use Rattle.http_requests.proofs.request.head_room.Goals as goal
 
 pub slice_bounds-result-end : goal.slice_bounds-result-end
-slice_bounds-result-end c = omega (arith, length-take 8192 c.args.buf.now)
+slice_bounds-result-end c = omega (arith, length-take longest_head c.args.buf.now)
 
 pub returns-else-buf-gt-MAX_HEAD : goal.returns-else-buf-gt-MAX_HEAD
-returns-else-buf-gt-MAX_HEAD c = sym (take_all 8192 c.args.buf.now c.if-buf-gt-MAX_HEAD.false)
+returns-else-buf-gt-MAX_HEAD c = sym (take_all longest_head c.args.buf.now
+    c.if-buf-gt-MAX_HEAD.false)

@@ -2,15 +2,15 @@ use Rattle.std.proofs.Common.{arith, subst, inl, inr, refl, ◌∙◌, length, �
 use Rattle.std.proofs.lemmas.List.{take_all}
 use Rattle.httparse.specs.Grammar.{HasNoRequest, MayBecomeRequest}
 use Rattle.httparse.specs.Spans.{RequestOverflows}
-use Rattle.http_requests.specs.Requests.{StopsShort}
+use Rattle.http_requests.specs.Requests.{StopsShort, longest_head, most_fields}
 use Rattle.http_requests.proofs.RequestLemmas.{overflow_whole, none_more}
 use Rattle.http_requests.proofs.request.look_at.Goals as goal
 
 pub returns-then-buf-lt-MAX_HEAD : goal.returns-then-buf-lt-MAX_HEAD
 returns-then-buf-lt-MAX_HEAD c =
     let buf = c.args.buf.now in
-    let short : length buf ≤ 8192 = omega arith in
-    let same = c.head_room-front.ensures ∙ take_all 8192 buf short in
+    let short : length buf ≤ longest_head = omega arith in
+    let same = c.head_room-front.ensures ∙ take_all longest_head buf short in
     let told = rw c.in-Ok-Partial.field-0-is at c.in-Ok-Partial.ensures in (
       omega arith,
       omega arith,
@@ -38,6 +38,6 @@ returns-else-buf-lt-MAX_HEAD c =
 pub returns-in-Err : goal.returns-in-Err
 returns-in-Err c = inl (
   refl,
-  inl (overflow_whole c.args.buf.now (subst (RequestOverflows 32)
+  inl (overflow_whole c.args.buf.now (subst (RequestOverflows most_fields)
       c.head_room-front.ensures c.in-Err.ensures.no_room)),
 )

@@ -1,4 +1,5 @@
 use Rattle.std.proofs.Common.{◌∙◌, ◌++◌, ◌+◌, ◌≡◌, ◌≤◌, IfErr, List, OnOk, Ok, Err, Option, Result, ap, arith, length}
+use Rattle.http_sockets.specs.Connections.{most_looped}
 use Rattle.std.proofs.Common.{length-append, ℕ}
 use Rattle.std.specs.Io.KnownBytes.{Appends}
 use Rattle.byte_streams.specs.Counted.{writer_of}
@@ -7,16 +8,16 @@ use Rattle.byte_streams.specs.declared.fault.StreamFault.{StreamFault}
 use Rattle.byte_streams.specs.declared.fault.StreamFault.TheVariants.{WriteFailed}
 use Rattle.http_sockets.proofs.looping.write_few.Goals as goal
 
-front_is_short : (text front left : List ℕ) → text ≡ front ++ left → length text ≤ 32768 →
-    length front ≤ 32768
+front_is_short : (text front left : List ℕ) → text ≡ front ++ left → length text ≤ most_looped →
+    length front ≤ most_looped
 front_is_short text front left is short =
     let whole : length text ≡ length front + length left = ap length is ∙
     length-append front left in omega (arith, whole, short)
 
 few : (before after : Option (List ℕ)) (text : List ℕ) (result : Result (Unit {0}) StreamFault) →
-    length text ≤ 32768 → OnOk result (Appends before after text) →
+    length text ≤ most_looped → OnOk result (Appends before after text) →
     IfErr result (λ fault. (fault ≡ WriteFailed) × WritesBeginning before after text) →
-    (answers : List ℕ) × (length answers ≤ 32768) × Appends before after answers
+    (answers : List ℕ) × (length answers ≤ most_looped) × Appends before after answers
 few before after text (Ok done) short ok failed = (text, short, ok)
 few before after text (Err fault) short ok (is, part) = (
   part.0,

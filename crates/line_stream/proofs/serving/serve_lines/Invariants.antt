@@ -1,4 +1,5 @@
 use Rattle.std.proofs.Common.{◌≡◌, ℕ, List, vec_len}
+use Rattle.byte_streams.specs.Pieces.{chunk_size}
 use Rattle.std.specs.Io.KnownBytes.{Consumes}
 use Rattle.line_stream.specs.Answers.{Answered}
 use Rattle.byte_streams.specs.Counted.{read_faults, reader_of, reads_left, write_faults, writer_of}
@@ -7,7 +8,7 @@ use Rattle.line_stream.proofs.serving.serve_lines.Given as goal
 
 abbrev pub invariant-loop-chunk : goal.invariant-loop-chunk
 invariant-loop-chunk g l = record {
-  room : vec_len l.chunk ≡ 65536;
+  room : vec_len l.chunk ≡ chunk_size;
   came : (bytes : List ℕ) × Consumes (g.R.Read.remaining (reader_of l.fn.reader))
       (g.R.Read.remaining (reader_of l.reader)) bytes
       × IsMidway (Answered g.H.Handler.answers g.H.Handler.loses g.H.Handler.no_memory

@@ -7,7 +7,7 @@ use Rattle.ring_model.specs.Valid.{IsValid}
 use Rattle.ring_share.specs.Crowd.{rows_of}
 use Rattle.ring_place.specs.Rebalance.{is_recent}
 use Rattle.ring_place.specs.declared.gather.Pass.TheVariants.{First, Second}
-use Rattle.ring_place.specs.Inner.Gathering.{AreRows, IsFilled, IsPass}
+use Rattle.ring_place.specs.Inner.Gathering.{AreRowsOfSeats, IsFilled, IsPass}
 use Rattle.ring_place.proofs.Gathering.GatheredRing.{is_gathered}
 use Rattle.ring_place.proofs.Rows.PartitionOrders.{order_all}
 use Rattle.ring_place.proofs.Gathering.PassSteps.{first_rows, no_second}
@@ -42,8 +42,8 @@ pub gather-requires-clause-rows : goal.gather-requires-clause-rows
 gather-requires-clause-rows c =
     let ring = c.args.ring.now in
     let rows : c.in_ok-seats.seats ≡ rows_of ring = c.in_ok-seats.ensures.rows in
-    subst (λ ds. AreRows ds c.in_ok-seats.seats) (sym c.in_ok-was.ensures.devices)
-    (subst (λ r. AreRows ring.devices r) (sym rows) (ring_rows ring c.of-2.ensures.valid))
+    subst (λ ds. AreRowsOfSeats ds c.in_ok-seats.seats) (sym c.in_ok-was.ensures.devices)
+    (subst (λ r. AreRowsOfSeats ring.devices r) (sym rows) (ring_rows ring c.of-2.ensures.valid))
 
 pub gather-requires-clause-filled : goal.gather-requires-clause-filled
 gather-requires-clause-filled c =
@@ -88,7 +88,7 @@ gather-requires-2-clause-rows c =
     let rows : c.in_ok-seats.seats ≡ rows_of ring = c.in_ok-seats.ensures.rows in
     let count : length c.in_ok-seats.seats ≡ partition_count ring = ap length rows ∙ length-rows_of
     ring in
-    subst (λ ds. AreRows ds c.gather.new.seats) (sym c.in_ok-was.ensures.devices)
+    subst (λ ds. AreRowsOfSeats ds c.gather.new.seats) (sym c.in_ok-was.ensures.devices)
     (first_rows c.args.order.now ring.devices c.in_ok-was.was' c.gather.new.kept
     c.as_slice-2.result.now c.in_ok-seats.seats c.gather.new.seats c.gather.ensures
     (λ p lt. order_all (partition_count ring) c.args.order.now c.requires p (omega (
@@ -96,7 +96,7 @@ gather-requires-2-clause-rows c =
       lt,
       count,
     )))
-    (subst (λ r. AreRows ring.devices r) (sym rows) (ring_rows ring c.of-2.ensures.valid)))
+    (subst (λ r. AreRowsOfSeats ring.devices r) (sym rows) (ring_rows ring c.of-2.ensures.valid)))
 
 pub returns-then-not-has_some_room : goal.returns-then-not-has_some_room
 returns-then-not-has_some_room c =

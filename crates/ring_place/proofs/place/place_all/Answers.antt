@@ -1,4 +1,5 @@
 use Rattle.std.proofs.Common.{◌≡◌, ◌<◌, ◌+◌, ℕ, List, Option, true, [], get_or, length, take, sym, arith}
+use Rattle.ring_words.specs.Limits.{greatest_long}
 use Rattle.std.proofs.lemmas.Grind.{common_steps}
 use Rattle.std.proofs.Common.{ap, subst, ◌∙◌, arith}
 use Rattle.std.specs.List.{list_any}
@@ -61,7 +62,7 @@ place_row-requires-clause-fits c =
     (omega arith) in
     let read = c.row_copy-count.ensures.row ∙ c.row-row.ensures in
     subst (λ (r : List (Option ℕ)). (id : ℕ) → has_device id c.loop-partition.room.devices ≡ true →
-    have_in c.loop-partition.room id + length r < 4294967295) (sym read)
+    have_in c.loop-partition.room id + length r < greatest_long) (sym read)
     (all_fit _ p c.args.room.now c.loop-partition.room c.args.old.now c.args.seats.now
     c.loop-partition.seats c.loop-partition.invariant (omega (
       arith,

@@ -1,4 +1,5 @@
 use Rattle.std.proofs.Common.{◌≡◌, ◌∙◌, ◌<◌, sym, ap, subst, None, Some, arith, get_or, set}
+use Rattle.ring_words.specs.Limits.{most_replicas}
 use Rattle.std.proofs.Common.{List, count_by, take}
 use Rattle.std.proofs.lemmas.List.{length-set, length-take-le}
 use Rattle.std.proofs.lemmas.Option.{slice_get-get_or}
@@ -91,7 +92,7 @@ loop-replica-preserved c =
           w.row-is ∙ ap (λ d. set row n (Some d)) w.id_of.ensures.number in
           let fewer = fewer_places room.devices row (take count places) n inv.are empty in
           let long = length-take-le count places (omega (arith, inv.few, inv.long)) in
-          let few : count < 5 = omega (
+          let few : count < most_replicas = omega (
             arith,
             fewer,
             long,

@@ -1,4 +1,5 @@
 use Rattle.std.proofs.Common.{◌≡◌, ◌≤◌, ◌*◌, map, sum_by, None, get_or}
+use Rattle.ring_words.specs.Limits.{most_replicas}
 use Rattle.std.specs.List.{range_with_len}
 use Rattle.ring_place.specs.Inner.Finishing.{changed_in, stamped}
 use Rattle.ring_place.specs.Inner.SeatRows.{row_at}
@@ -11,5 +12,5 @@ invariant-loop-partition l = record {
       (range_with_len 0 l.partition);
   changed : l.changed ≡ sum_by (λ partition. changed_in (row_at l.old partition)
       (row_at l.new partition)) (range_with_len 0 l.partition);
-  few : l.changed ≤ 5 * l.partition;
+  few : l.changed ≤ most_replicas * l.partition;
 }

@@ -1,4 +1,5 @@
 use Rattle.std.proofs.Common.{◌≡◌, ◌≤◌, take, length}
+use Rattle.ring_words.specs.Limits.{most_replicas}
 use Rattle.ring_place.specs.Inner.SeatRows.{devices_on}
 use Rattle.ring_place.proofs.seats.devices_on.Given as goal
 
@@ -7,5 +8,5 @@ abbrev pub invariant-loop-seat : goal.invariant-loop-seat
 invariant-loop-seat l = record {
   taken : take l.count l.ids ≡ devices_on (take l.seat-index l.row);
   few : l.count ≤ l.seat-index;
-  long : length l.ids ≡ 5;
+  long : length l.ids ≡ most_replicas;
 }

@@ -1,4 +1,5 @@
 use Rattle.std.proofs.Common.{◌≡◌, ◌==◌, ◌≤◌, List, length, count_by, map, subst, ap, sym, ◌∙◌}
+use Rattle.ring_words.specs.Limits.{most_devices}
 use Rattle.std.proofs.Common.{arith}
 use Rattle.std.specs.Prelude.{slice_get}
 use Rattle.std.specs.List.Sorted.{IsStrictlyIncreasing}
@@ -12,7 +13,7 @@ loop-seat-preserved c =
     let rise = subst (λ (devices : List Device). IsStrictlyIncreasing (map (λ device. device.id)
     devices)) (sym c.devices-devices.ensures.value) c.devices-devices.ensures.valid.devices.rise
     in
-    let count = subst (λ (devices : List Device). length devices ≤ 256)
+    let count = subst (λ (devices : List Device). length devices ≤ most_devices)
     (sym c.devices-devices.ensures.value) c.devices-devices.ensures.valid.devices.count in
     record {
       long = length-set c.loop-seat.counts c.place_in.result _ ∙ c.loop-seat.invariant.long;

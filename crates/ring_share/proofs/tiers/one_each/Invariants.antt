@@ -1,4 +1,5 @@
 use Rattle.std.proofs.Common.{◌≡◌, ◌<◌, ◌≤◌, ℕ, All, Some, length, get_or, take, true}
+use Rattle.ring_words.specs.Limits.{most_devices}
 use Rattle.std.specs.Prelude.{slice_get}
 use Rattle.std.specs.List.{list_any}
 use Rattle.ring_words.specs.declared.device.Device.{Device}
@@ -17,5 +18,5 @@ invariant-loop-place l = record {
       list_any (λ place. pass_both (shares l.tier) (slice_get l.devices place)
       (Some (get_or l.devices k d))) (take l.count l.places) ≡ true;
   few : l.count ≤ l.place;
-  long : length l.places ≡ 256;
+  long : length l.places ≡ most_devices;
 }

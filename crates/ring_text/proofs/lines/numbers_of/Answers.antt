@@ -1,4 +1,5 @@
 use Rattle.std.proofs.Common.{map, Bor, List, ℕ, arith}
+use Rattle.ring_words.specs.Limits.{greatest_short}
 use Rattle.std.proofs.lemmas.Result.{err_from_is_err_and}
 use Rattle.ring_words.specs.Spelling.{SpellsNumber}
 use Rattle.ring_text.specs.Inner.Reading.{AreNumbers}
@@ -10,6 +11,7 @@ pub returns-in_err-number : goal.returns-in_err-number
 returns-in_err-number c =
     let p = err_from_is_err_and c.from_residual-in_err-number.result
     c.from_residual-in_err-number.ensures.1 in
-    rw (p.1, p.2) (list_err (SpellsNumber _ 0 65535) (AreNumbers (map (λ (w : Bor (List ℕ)). w.now)
+    rw (p.1, p.2) (list_err (SpellsNumber _ 0 greatest_short) (AreNumbers (map (λ (w : Bor (List
+    ℕ)). w.now)
     c.args.words.now)) c.in_err-number.field-0.0 c.in_err-number.ensures.read
     (λ ns are. number_inside c.args.words.now c.loop-word.word-index _ ns (omega arith) are))

@@ -4,8 +4,9 @@ use Rattle.std.specs.declared.alloc.Global.{Global}
 use Rattle.std.proofs.lemmas.List.{length-map}
 use Rattle.ring_words.specs.declared.device.Device.{Device}
 use Rattle.std.proofs.lemmas.Result.{err_from_is_err_and}
-use Rattle.ring_text.specs.Inner.Reading.{IsHead, IsCut, AreDeviceLines, ArePartitionLines, IsMade}
-use Rattle.ring_text.specs.Inner.Reading.{AreLines}
+use Rattle.ring_text.specs.Inner.Reading.{IsHead, IsCut, AreDeviceLines, ArePartitionLines}
+use Rattle.ring_text.specs.Inner.Reading.{IsMadeOfLines}
+use Rattle.ring_text.specs.Inner.Reading.{AreRingLines}
 use Rattle.ring_words.proofs.Spelled.{reads_err, as_reads_err, reads_same}
 use Rattle.ring_text.proofs.Cutting.{Texts, Lent, seen, seen-take, seen-drop}
 use Rattle.ring_text.proofs.Whole.{head_of, device_texts, partition_texts, at_least_six}
@@ -25,7 +26,7 @@ returns-in_err-head c =
     let texts = seen c.args.lines.now in
     let first : seen c.split_at.result.0.now ≡ take 6 texts = ap seen c.split_at.ensures.front ∙
     seen-take 6 c.args.lines.now in
-    rw (p.1, p.2) (reads_err (IsHead (seen c.split_at.result.0.now)) (AreLines texts)
+    rw (p.1, p.2) (reads_err (IsHead (seen c.split_at.result.0.now)) (AreRingLines texts)
     c.in_err-head.field-0.0 c.in_err-head.ensures
     (λ s are. (
       head_of s,
@@ -48,7 +49,7 @@ returns-in_err-device_lines c =
       seen parts.0.now,
       seen parts.1.now,
     )) (IsCut head.devices c.partition_count.result
-    (seen c.split_at.result.1.now)) (AreLines (seen lines)) c.in_err-device_lines.field-0.0
+    (seen c.split_at.result.1.now)) (AreRingLines (seen lines)) c.in_err-device_lines.field-0.0
     c.in_err-device_lines.ensures
     (λ s are. (
       (device_texts s, partition_texts s),
@@ -74,7 +75,7 @@ returns-in_err-devices c =
     let cut : IsCut head.devices (2 ^ head.power) (drop 6 (seen lines)) x =
     rw (← rest, ← c.partition_count.ensures.value) c.in_ok-device_lines.ensures in
     rw (p.1, p.2) (as_reads_err (λ (v : Vec Device Global). v.items) (AreDeviceLines x.0)
-    (AreLines (seen lines)) c.in_err-devices.field-0.0 c.in_err-devices.ensures
+    (AreRingLines (seen lines)) c.in_err-devices.field-0.0 c.in_err-devices.ensures
     (λ s are. (s.devices, (parts_are (seen lines) head x s tells cut are).devices)))
 
 pub returns-in_err-seats : goal.returns-in_err-seats
@@ -95,7 +96,7 @@ returns-in_err-seats c =
     let cut : IsCut head.devices (2 ^ head.power) (drop 6 (seen lines)) x =
     rw (← rest, ← c.partition_count.ensures.value) c.in_ok-device_lines.ensures in
     rw (p.1, p.2) (as_reads_err (λ (v : Vec ℕ Global). v.items) (ArePartitionLines head.replicas
-    x.1) (AreLines (seen lines)) c.in_err-seats.field-0.0 c.in_err-seats.ensures
+    x.1) (AreRingLines (seen lines)) c.in_err-seats.field-0.0 c.in_err-seats.ensures
     (λ s are. (s.seats, (parts_are (seen lines) head x s tells cut are).seats)))
 
 pub returns : goal.returns
@@ -115,7 +116,7 @@ returns c =
     rw (← rest, ← c.partition_count.ensures.value) c.in_ok-device_lines.ensures in
     let devices = c.in_ok-devices.devices.items in
     let seats = c.in_ok-seats.seats.items in
-    reads_same (IsMade head devices seats) (AreLines (seen lines)) c.checked.result
+    reads_same (IsMadeOfLines head devices seats) (AreRingLines (seen lines)) c.checked.result
     (λ s. lines_of_parts (seen lines) head x devices seats s tells cut c.in_ok-devices.ensures
     c.in_ok-seats.ensures)
     (λ s. lines_of_made (seen lines) head x devices seats s tells cut c.in_ok-devices.ensures

@@ -1,5 +1,5 @@
 use Rattle.ring_text.specs.Spelling.{Spells}
-use Rattle.ring_text.specs.Inner.Reading.{AreLines}
+use Rattle.ring_text.specs.Inner.Reading.{AreRingLines}
 use Rattle.ring_words.proofs.Spelled.{reads_same}
 use Rattle.ring_text.proofs.Text.{text_of_lines, lines_of_text, text_is_utf8}
 use Rattle.ring_text.proofs.read.read_ring.Goals as goal
@@ -12,5 +12,6 @@ pub returns : goal.returns
 returns c =
     let bytes = c.args.bytes.now in
     let lines = rw c.in-Ok.ensures.cases.0 at c.in_ok-lines.ensures in
-    reads_same (AreLines _) (Spells bytes) c.read_lines.result (λ s. text_of_lines bytes _ s lines)
+    reads_same (AreRingLines _) (Spells bytes) c.read_lines.result (λ s. text_of_lines bytes _ s
+    lines)
     (λ s. lines_of_text bytes _ s lines) (rw c.deref.ensures.value at c.read_lines.ensures)

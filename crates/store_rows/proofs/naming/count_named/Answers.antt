@@ -7,7 +7,7 @@ use Rattle.store_rows.proofs.naming.count_named.Goals as goal
 pub returns-then-ne-clause-parted : goal.returns-then-ne-clause-parted
 returns-then-ne-clause-parted g c = record {
   front_named = c.loop-place.invariant;
-  behind_other = begins_elsewhere g.T.OfRing.ring_name c.args.name.now c.args.rows.now
+  behind_other = begins_elsewhere g.T.RowOfRing.ring_name c.args.name.now c.args.rows.now
       c.loop-place.place c.index-rows-place.result c.loop-place-test.true c.index-rows-place.is
       (λ same. let one = (bytes_eq-Decides c.ring.result.now c.args.name.now).1
       (c.ring.ensures ∙ same) in let two = not-true _ (sym c.ne.ensures ∙ c.if-ne.true) in cc);
@@ -15,7 +15,7 @@ returns-then-ne-clause-parted g c = record {
 
 pub loop-place-preserved : goal.loop-place-preserved
 loop-place-preserved g c =
-    named_more g.T.OfRing.ring_name c.args.name.now c.args.rows.now c.loop-place.place
+    named_more g.T.RowOfRing.ring_name c.args.name.now c.args.rows.now c.loop-place.place
     c.index-rows-place.result c.loop-place-test.true c.index-rows-place.is
     (sym c.ring.ensures ∙ (bytes_eq-Decides c.ring.result.now c.args.name.now).0
     (not-false _ (sym c.ne.ensures ∙ c.if-ne.false))) c.loop-place.invariant

@@ -4,4 +4,4 @@ use Rattle.store_rows.proofs.naming.count_named.Given as goal
 
 abbrev pub invariant-loop-place : goal.invariant-loop-place
 invariant-loop-place g l =
-    AllByRecursion (λ row. g.T.OfRing.ring_name row ≡ l.name) (take l.place l.rows)
+    AllByRecursion (λ row. g.T.RowOfRing.ring_name row ≡ l.name) (take l.place l.rows)

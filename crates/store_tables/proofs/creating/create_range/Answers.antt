@@ -1,6 +1,6 @@
 use Rattle.std.proofs.Common.{◌≡◌, subst, arith}
 use Rattle.sqlite.specs.Held.{state}
-use Rattle.store_tables.specs.Store.{IsBegun, begun_contents}
+use Rattle.store_tables.specs.Store.{HasMadeTables, begun_contents}
 use Rattle.store_tables.proofs.creating.create_range.Goals as goal
 
 pub returns-clause-makes : goal.returns-clause-makes
@@ -17,7 +17,7 @@ returns-clause-makes g c =
     ) in
     record {
       done = λ clean. (
-        subst (λ n. IsBegun n new.now) end (was.begun clean),
+        subst (λ n. HasMadeTables n new.now) end (was.begun clean),
         subst (λ n. begun_contents n new.now.trees ≡ begun_contents c.args.made old.now.trees) end
             (was.same clean),
       );

@@ -1,6 +1,6 @@
 use Rattle.std.proofs.Common.{◌∙◌}
 use Rattle.std.proofs.lemmas.Result.{err_from_is_err_and}
-use Rattle.http_stream.proofs.serving.Progress.refuse.Goals as goal
+use Rattle.http_stream.proofs.serving.StreamProgress.refuse.Goals as goal
 
 pub returns-in_err-push-clause-failed : goal.returns-in_err-push-clause-failed
 returns-in_err-push-clause-failed g c =

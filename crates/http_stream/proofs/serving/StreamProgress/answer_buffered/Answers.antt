@@ -4,7 +4,7 @@ use Rattle.http_requests.specs.Requests.{ask_at}
 use Rattle.http_stream.specs.Answers.{ItemAnswered}
 use Rattle.http_stream.proofs.Follows.{HasAsk-shorter}
 use Rattle.http_stream.proofs.Midstreams.{refused_last, broken_refusal}
-use Rattle.http_stream.proofs.serving.Progress.answer_buffered.Goals as goal
+use Rattle.http_stream.proofs.serving.StreamProgress.answer_buffered.Goals as goal
 
 pub returns-in_err-refuse-in-Faulty-clause-answered :
     goal.returns-in_err-refuse-in-Faulty-clause-answered

@@ -1,7 +1,7 @@
 use Rattle.std.proofs.Common.{◌≤◌, length, [], arith}
 use Rattle.std.proofs.lemmas.Result.{err_from_is_err_and}
 use Rattle.byte_streams.proofs.KnownLemmas.{Consumes-none}
-use Rattle.http_stream.proofs.serving.Progress.read_up_to.Goals as goal
+use Rattle.http_stream.proofs.serving.StreamProgress.read_up_to.Goals as goal
 
 pub returns-in_err-flush-clause-read : goal.returns-in_err-flush-clause-read
 returns-in_err-flush-clause-read g c =

@@ -1,8 +1,9 @@
 use Rattle.std.proofs.Common.{◌≡◌, ◌≤◌, ◌<◌, ℕ, List, [], ◌++◌, length}
+use Rattle.byte_streams.specs.Pieces.{chunk_size}
 use Rattle.std.specs.Io.KnownBytes.{Consumes, Appends}
 use Rattle.byte_streams.specs.Counted.{IsFlushed, read_faults, reader_of, reads_left, write_faults}
 use Rattle.byte_streams.specs.Counted.{writer_of}
-use Rattle.http_stream.proofs.serving.Progress.read_up_to.Given as goal
+use Rattle.http_stream.proofs.serving.StreamProgress.read_up_to.Given as goal
 
 abbrev pub invariant-loop-reader : goal.invariant-loop-reader
 invariant-loop-reader g l = record {
@@ -13,7 +14,7 @@ invariant-loop-reader g l = record {
   count : l.self.answered ≡ l.fn.self.answered;
   wrote : Appends (g.W.Write.contents (writer_of l.fn.writer))
       (g.W.Write.contents (writer_of l.writer)) l.fn.self.outbox;
-  room : length l.chunk ≡ 65536;
+  room : length l.chunk ≡ chunk_size;
   flushed : IsFlushed l.writer;
   reads : read_faults l.reader ≡ read_faults l.fn.reader;
   writes : write_faults l.writer ≡ write_faults l.fn.writer;

@@ -2,7 +2,7 @@ use Rattle.std.proofs.Common.{◌≡◌, ℕ, List, length, Option}
 use Rattle.byte_streams.specs.Counted.{write_faults, writer_of}
 use Rattle.http_stream.specs.Answers.{ItemAnswered}
 use Rattle.http_stream.specs.Inner.Midstream.{IsMidstream}
-use Rattle.http_stream.proofs.serving.Progress.answer_buffered.Given as goal
+use Rattle.http_stream.proofs.serving.StreamProgress.answer_buffered.Given as goal
 
 abbrev pub invariant-loop-wanted : goal.invariant-loop-wanted
 invariant-loop-wanted g l =
