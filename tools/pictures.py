@@ -26,7 +26,7 @@ LAYERS = (
     ("protocols", "line_stream http_stream http_answers http_requests"),
     ("kept in a file", "builder_store store_rows store_tables store_contents"),
     ("the machine", "builder book_front request_book ring_messages"),
-    ("rings", "ring_place ring_share ring_tables ring_text swift_ring path_lookup csv_import ring_model"),
+    ("rings", "ring_place ring_room ring_share ring_tables ring_text swift_ring path_lookup csv_import ring_model"),
     ("words and bytes", "ring_words byte_streams"),
 )
 TESTS = re.compile(r"_tests$|^test_streams$|^worked_rows$")

@@ -11,3 +11,4 @@ pub mod ValidRings
 pub mod Safe
 pub mod Proper
 pub mod Joined
+pub mod Previews

@@ -1,3 +1,4 @@
+pub mod Preview
 pub mod Step
 pub mod Safety
 pub use Rattle.ring_model.specs.Ring

@@ -12,6 +12,7 @@ use Rattle.ring_model.specs.Ring.{with_min_hours, with_weight}
 use Rattle.ring_words.specs.Rows.{has_place, same_place}
 use Rattle.ring_model.specs.Rings.{ring_at, with_ring}
 use Rattle.ring_place.specs.Rebalance.{IsRebalance, changed_seats}
+use Rattle.ring_place.specs.Seeded.{IsSeeded}
 use Rattle.ring_share.specs.Figures.{ring_balance, ring_dispersion}
 use Rattle.ring_share.specs.Want.{is_open}
 use Rattle.ring_words.specs.declared.request.Limits.{Limits}
@@ -223,11 +224,11 @@ ImportsRows rows old (done.Import added reweighted version) new =
     (added + reweighted ≡ length rows) × (version ≡ new.version)
 ImportsRows rows old other new = ⊥
 
--- Any rebalance. Told are how many seats differ, and the figures of the new ring.
-abbrev pub MovesSeats : ℕ → RingRecord → Done → RingRecord → Type 0
-MovesSeats hour old answer new =
+-- The rebalance of the seed. Told are how many seats differ, and the figures of the new ring.
+abbrev pub MovesSeats : ℕ → ℕ → RingRecord → Done → RingRecord → Type 0
+MovesSeats hour seed old answer new =
     IsRebalance old hour new × (answer ≡ done.Rebalance (ring_balance new) (changed_seats old new)
-    (ring_dispersion new) new.version)
+    (ring_dispersion new) new.version) × IsSeeded old hour seed new
 
 -- The text of the ring as it is, under its name, is published.
 abbrev pub PublishesText : List ℕ → RingRecord → Done → RingRecord → Type 0
@@ -244,8 +245,7 @@ RingEffect name hour old (act.SetHours hours) = SetsHours hours old
 RingEffect name hour old act.PretendPassed = PretendsPassed old
 RingEffect name hour old act.RaisePower = RaisesPower old
 RingEffect name hour old (act.Import rows) = ImportsRows rows old
--- whatever the seed
-RingEffect name hour old (act.Rebalance seed) = MovesSeats hour old
+RingEffect name hour old (act.Rebalance seed) = MovesSeats hour seed old
 RingEffect name hour old act.Publish = PublishesText name old
 
 -- the effect of an act where no ring has the name: only making a ring has one

@@ -1,6 +1,7 @@
 //! What follows from the definitions alone.
 ghost use Rattle.std.specs.Prelude.{◌≡◌, ◌≢◌, ◌+◌, ◌<◌, ◌≤◌, ℕ, Bool, List, length, slice_get};
 ghost use Rattle.std.specs.Prelude.{Some, true};
+ghost use Rattle.builder.specs.Preview.{rebalance_of};
 ghost use Rattle.builder.specs.Safety.{AreValid, DoNotFall, Entries, FewLeft, IsDone, IsSafeRun};
 ghost use Rattle.builder.specs.Safety.{IsWay, NeverBetween, RebalanceAt, origin};
 ghost use Rattle.builder.specs.Step.{State, Step};
@@ -89,6 +90,17 @@ pub fn moved_partitions_rest()
         → has_changed move.old move.new (origin move.old later.old partition) ≡ true
         → Leaves later.old later.new partition replica
         → move.entry.hour + hours ≤ later.entry.hour }
+{}
+
+/// A seed decides a rebalance: at the same hour and with the same seed, one ring is given one reply
+/// and becomes one ring, whatever the other rings are.
+pub fn a_seed_decides_reply_and_ring()
+    ensures { (limits : Limits) (rings others left after : State) (hour seed : ℕ) (name : List ℕ)
+        (told other : Reply)
+        → ring_at name rings ≡ ring_at name others
+        → Step limits rings hour (rebalance_of name seed) told left
+        → Step limits others hour (rebalance_of name seed) other after
+        → (told ≡ other) × (ring_at name left ≡ ring_at name after) }
 {}
 
 /// Whatever calls come, a run is safe: on its way few replicas leave in each rebalance, moved

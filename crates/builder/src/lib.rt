@@ -11,10 +11,12 @@ mod deciding;
 mod importing;
 pub mod laws;
 mod machine;
+mod previewing;
 mod rebalancing;
 
 pub use deciding::decide;
 pub use machine::RingMachine;
+pub use previewing::preview;
 pub use ring_messages::{
     MessageFault, Told, command_text, no_memory, read_command, read_delivery, read_reply,
     reply_text, status_of, told_text,

@@ -18,7 +18,7 @@ pub(crate) fn move_seats(
     hour: Hour,
     seed: u32,
 ) -> Result<Outcome, AllocError>
-    ensures { IfOk result (IsFirstOr (of_rebalance ring.now) (MovesSeats hour ring.now)) }
+    ensures { IfOk result (IsFirstOr (of_rebalance ring.now) (MovesSeats hour seed ring.now)) }
 {
     let rebalanced = match rebalance(alloc, ring, hour, seed) {
         Ok(rebalanced) => rebalanced,

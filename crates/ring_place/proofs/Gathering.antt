@@ -4,3 +4,10 @@ pub mod BothPasses
 pub mod GatheredSeats
 pub mod GatheredRows
 pub mod GatheredRing
+pub mod ByName
+pub mod BestSeats
+pub mod ApartSeats
+pub mod SeatSums
+pub mod LiftedFor
+pub mod ApartFirst
+pub mod ApartRing

@@ -5,3 +5,4 @@ pub mod AllSteps
 pub mod Placeable
 pub mod SettledSeats
 pub mod RowPlaces
+pub mod ByName

@@ -1,7 +1,7 @@
 pub mod SeatRows
 pub mod WrittenRows
+pub mod WrittenSeats
 pub mod RowFronts
-pub mod RowDevices
 pub mod OneWrite
 pub mod LiftedSeats
 pub mod PartitionOrders

@@ -21,8 +21,8 @@ use Rattle.ring_model.specs.Valid.{AreDevices, ArePublished, AreSeats, IsValid}
 use Rattle.ring_words.specs.Rows.{same_place}
 use Rattle.ring_words.specs.declared.device.Device.{Device}
 use Rattle.ring_place.specs.Rebalance.{IsAfter, IsLawfulRebalance, IsSeat, is_lost}
-use Rattle.ring_place.proofs.Placing.ChosenDevices.{pairs}
-use Rattle.ring_place.proofs.Searching.FreeOutside.{device_there}
+use Rattle.ring_room.proofs.Searching.OpenDevices.{pairs}
+use Rattle.ring_room.proofs.Searching.FreeOutside.{device_there}
 use Rattle.ring_place.proofs.Placing.Placeable.{fails, lost_cases, open_present}
 use Rattle.ring_place.proofs.Finishing.RemainingDevices.{present_remaining, remaining}
 

@@ -1,3 +1,5 @@
 pub mod Rebalance
-pub mod Load
+pub mod Apart
+pub mod Made
+pub mod Seeded
 pub mod Inner

@@ -1,24 +1,28 @@
 //! Which seats are gathered: each is lifted, which leaves it empty.
-ghost use Rattle.std.specs.Prelude.{◌≡◌, ◌<◌, ◌≤◌, ℕ, true, length, map, IfOk, IfSome, IfNone};
+ghost use Rattle.std.specs.Prelude.{◌≡◌, ◌≢◌, ◌<◌, ◌≤◌, ℕ, true, length, map, IfOk};
 ghost use Rattle.ring_words.specs.Limits.{most_replicas};
 ghost use Rattle.std.specs.List.{list_any, range_with_len};
 ghost use Rattle.std.specs.List.Sorted.{IsPermutation};
 ghost use Rattle.std.specs.Option.{ForSome};
 ghost use Rattle.ring_model.specs.Ring.{has_device, partition_count};
 ghost use Rattle.ring_share.specs.Crowd.{seats_on};
-ghost use Rattle.ring_place.specs.Load.{IsLoad, have_in, want_in};
+ghost use Rattle.ring_room.specs.Load.{IsLoad, have_in};
+ghost use Rattle.ring_place.specs.Apart.{GivesApartFirst};
 ghost use Rattle.ring_place.specs.Rebalance.{is_recent};
-ghost use Rattle.ring_place.specs.Inner.SeatRows.{is_empty, AreKnown};
-ghost use Rattle.ring_place.specs.Inner.Gathering.{is_lost_in, present_only, has_free_in};
-ghost use Rattle.ring_place.specs.Inner.Gathering.{has_less_in, is_crowded_in, Lifts, Takes};
-ghost use Rattle.ring_place.specs.Inner.Gathering.{AreUncrowded, HaveNoSurplus, Falls, IsFirst};
-ghost use Rattle.ring_place.specs.Inner.Gathering.{IsSecond, IsFilled, AreRowsOfSeats, IsGathered};
-ghost use Rattle.ring_place.specs.Inner.Gathering.{IsLifting, IsPass};
+ghost use Rattle.ring_room.specs.Rows.{AreKnown};
+ghost use Rattle.ring_room.specs.Free.{has_free_in};
+ghost use Rattle.ring_place.specs.Inner.Gathering.{present_only, Takes, Falls};
+ghost use Rattle.ring_place.specs.Made.{is_lost_in};
+ghost use Rattle.ring_place.specs.Inner.Gathering.{IsFirst, IsApart, IsSecond, IsLifting, IsPass};
+ghost use Rattle.ring_place.specs.Inner.Gathering.{IsFilled, AreRowsOfSeats, IsGathered};
+ghost use Rattle.ring_place.specs.Inner.Gathering.{gathered_in};
+ghost use Rattle.ring_place.specs.Made.{first_lifting, later_lifting, left_of, lifting};
+ghost use Rattle.ring_place.specs.Made.{lost_row, passed};
 
-use crate::rooms::Room;
-use crate::seats::{Seats, devices_on, has_empty, row_copy};
-use crate::tiers::is_less;
+use crate::seats::{Seats, has_empty, row_copy};
+use crate::surplus::lift_best;
 use ring_model::Ring;
+use ring_room::{Room, devices_on};
 use ring_share::wanted;
 use ring_words::{DeviceId, Hour};
 use std::alloc::{AllocError, Global};
@@ -57,23 +61,8 @@ fn has_free(room: &Room, row: &[Option<DeviceId>]) -> bool
     room.has_room_outside(&ids[..count])
 }
 
-/// Whether a device outside with room is less crowded than this one. The partition is without the
-/// seat on it.
-fn has_less_crowded(room: &Room, row: &[Option<DeviceId>], device: DeviceId) -> bool
-    requires row { AreKnown room.now.devices row.now }
-    requires few { length row.now ≤ most_replicas }
-    requires device { has_device device room.now.devices ≡ true }
-    ensures { result ≡ has_less_in room.now row.now row.now device }
-{
-    let (ids, count) = devices_on(row);
-    let others = &ids[..count];
-    match room.least(others, 0) {
-        None => false,
-        Some(best) => is_less(room.crowd(others, best), room.crowd(others, device)),
-    }
-}
-
 /// Lifts the lost seats of a partition.
+#[tactic(auto, using(ring_room::proofs::Steps::steps_none))]
 fn lift_lost(kept: &mut Room, row: &mut [Option<DeviceId>])
     requires load { IsLoad kept.old }
     requires row { AreKnown kept.old.devices row.old }
@@ -81,6 +70,7 @@ fn lift_lost(kept: &mut Room, row: &mut [Option<DeviceId>])
         seats_on id row.old ≤ have_in kept.old id }
     ensures row { row.new ≡ map (present_only kept.old.devices) row.old }
     ensures takes { Takes kept.old kept.new row.old row.new }
+    ensures by_name { record { load = kept.new; row = row.new } ≡ lost_row kept.old row.old }
 {
     for replica in 0..row.len() {
         if let Some(device) = row[replica] {
@@ -92,48 +82,9 @@ fn lift_lost(kept: &mut Room, row: &mut [Option<DeviceId>])
     }
 }
 
-/// Lifts a seat for which a device outside with room is less crowded, if there is one, and says
-/// what device it was on.
-fn lift_crowded(was: &Room, row: &mut [Option<DeviceId>]) -> Option<DeviceId>
-    requires row { AreKnown was.now.devices row.old }
-    requires few { length row.old ≤ most_replicas }
-    ensures some { IfSome result (λ id. (replica : ℕ) × Lifts row.old row.new replica id ×
-        (is_crowded_in was.now row.old replica id ≡ true)) }
-    ensures none { IfNone result ((row.new ≡ row.old) × AreUncrowded was.now row.old) }
-{
-    for replica in 0..row.len() {
-        if let Some(device) = row[replica] {
-            row[replica] = None;
-            if has_less_crowded(was, row, device) {
-                return Some(device);
-            }
-            row[replica] = Some(device);
-        }
-    }
-    None
-}
-
-/// Lifts a seat on a device that keeps more than it wants, if there is one, and says what device
-/// that was.
-fn lift_surplus(kept: &Room, row: &mut [Option<DeviceId>]) -> Option<DeviceId>
-    requires { AreKnown kept.now.devices row.old }
-    ensures some { IfSome result (λ id. (replica : ℕ) × Lifts row.old row.new replica id ×
-        (want_in kept.now id < have_in kept.now id)) }
-    ensures none { IfNone result ((row.new ≡ row.old) × HaveNoSurplus kept.now row.old) }
-{
-    for replica in 0..row.len() {
-        if let Some(device) = row[replica] {
-            if kept.is_over(device) {
-                row[replica] = None;
-                return Some(device);
-            }
-        }
-    }
-    None
-}
-
 /// The first pass at a partition: lifts its lost seats or, if it has none and isn't locked, one for
-/// which a device outside with room is less crowded.
+/// which a device outside with room is less crowded. Of several it is the one whose device keeps
+/// most above its want.
 fn gather_first(was: &Room, kept: &mut Room, locked: bool, row: &mut [Option<DeviceId>])
     requires load { IsLoad kept.old }
     requires same { kept.old.devices ≡ was.now.devices }
@@ -142,41 +93,72 @@ fn gather_first(was: &Room, kept: &mut Room, locked: bool, row: &mut [Option<Dev
     requires has { (id : ℕ) → has_device id kept.old.devices ≡ true →
         seats_on id row.old ≤ have_in kept.old id }
     ensures first { IsFirst was.now locked row.old row.new }
+    ensures by_name { record { load = kept.new; row = row.new } ≡ first_lifting was.now kept.old
+        locked row.old }
     ensures takes { Takes kept.old kept.new row.old row.new }
 {
     if has_lost(kept, row) {
         lift_lost(kept, row);
     } else if !locked && !was.is_calm(row) {
-        if let Some(device) = lift_crowded(was, row) {
+        if let Some(device) = lift_best(Pass::First, was, kept, row) {
             kept.take(device);
         }
     }
 }
 
-/// The second pass at a partition: if nothing was lifted from it, it isn't locked and a device
-/// outside has room, lifts one seat of a device that keeps more than it wants.
-fn gather_second(was: &Room, kept: &mut Room, locked: bool, row: &mut [Option<DeviceId>])
+/// The pass before the second at a partition: if nothing was lifted from it, it isn't locked and a
+/// device outside has room, lifts one seat of a device that keeps more than it wants, for which
+/// some device outside with room is no more crowded. Of several it is the one that finds the least
+/// crowded place and, among equals, whose device keeps most above its want.
+fn gather_apart(was: &Room, kept: &mut Room, locked: bool, row: &mut [Option<DeviceId>])
     requires load { IsLoad kept.old }
     requires same { kept.old.devices ≡ was.now.devices }
     requires row { AreKnown was.now.devices row.old }
     requires few { length row.old ≤ most_replicas }
-    ensures second { IsSecond was.now kept.new locked row.old row.new }
+    ensures apart { IsApart was.now kept.new locked row.old row.new }
+    ensures by_name { record { load = kept.new; row = row.new } ≡ later_lifting Pass.Apart was.now
+        kept.old locked row.old }
     ensures takes { Takes kept.old kept.new row.old row.new }
     ensures falls { Falls kept.old kept.new }
 {
     if locked || has_empty(row) || !has_free(was, row) {
         return;
     }
-    if let Some(device) = lift_surplus(kept, row) {
+    if let Some(device) = lift_best(Pass::Apart, was, kept, row) {
+        kept.take(device);
+    }
+}
+
+/// The second pass at a partition: if nothing was lifted from it, it isn't locked and a device
+/// outside has room, lifts one seat of a device that keeps more than it wants. Of several it is the
+/// one whose device keeps most above its want.
+fn gather_second(was: &Room, kept: &mut Room, locked: bool, row: &mut [Option<DeviceId>])
+    requires load { IsLoad kept.old }
+    requires same { kept.old.devices ≡ was.now.devices }
+    requires row { AreKnown was.now.devices row.old }
+    requires few { length row.old ≤ most_replicas }
+    ensures second { IsSecond was.now kept.new locked row.old row.new }
+    ensures by_name { record { load = kept.new; row = row.new } ≡ later_lifting Pass.Second was.now
+        kept.old locked row.old }
+    ensures takes { Takes kept.old kept.new row.old row.new }
+    ensures falls { Falls kept.old kept.new }
+{
+    if locked || has_empty(row) || !has_free(was, row) {
+        return;
+    }
+    if let Some(device) = lift_best(Pass::Second, was, kept, row) {
         kept.take(device);
     }
 }
 
 /// A pass of gathering over all partitions.
 #[derive(Clone, Copy)]
-enum Pass {
+pub(crate) enum Pass {
     /// Lifts lost seats, and seats for which a device outside with room is less crowded.
     First,
+    /// Lifts seats of devices that keep more than they want, for which some device outside with
+    /// room is no more crowded.
+    Apart,
     /// Lifts seats of devices that keep more than they want.
     Second,
 }
@@ -190,11 +172,14 @@ fn gather_row(pass: Pass, was: &Room, kept: &mut Room, locked: bool, row: &mut [
     requires has { (id : ℕ) → has_device id kept.old.devices ≡ true →
         seats_on id row.old ≤ have_in kept.old id }
     ensures lifted { IsLifting pass was.now kept.new locked row.old row.new }
+    ensures by_name { record { load = kept.new; row = row.new } ≡ lifting pass was.now kept.old
+        locked row.old }
     ensures takes { Takes kept.old kept.new row.old row.new }
-    ensures falls { pass ≡ Pass.Second → Falls kept.old kept.new }
+    ensures falls { pass ≢ Pass.First → Falls kept.old kept.new }
 {
     match pass {
         Pass::First => gather_first(was, kept, locked, row),
+        Pass::Apart => gather_apart(was, kept, locked, row),
         Pass::Second => gather_second(was, kept, locked, row),
     }
 }
@@ -212,7 +197,10 @@ fn gather(
     requires order { IsPermutation (range_with_len 0 (length seats.old)) order.now }
     requires rows { AreRowsOfSeats was.now.devices seats.old }
     requires filled { IsFilled kept.old was.now.devices was.now.wanted seats.old }
-    ensures { IsPass pass order.now was.now kept.new locked.now seats.old seats.new }
+    ensures pass { IsPass pass order.now was.now kept.new locked.now seats.old seats.new }
+    ensures by_name { record { load = kept.new; rows = seats.new } ≡ passed pass was.now locked.now
+        order.now (record { load = kept.old; rows = seats.old }) }
+    ensures falls { pass ≢ Pass.First → Falls kept.old kept.new }
 {
     for partition in order {
         let (mut copy, count) = row_copy(seats.row(*partition));
@@ -253,7 +241,11 @@ pub(crate) fn gathering(
     order: &[usize],
 ) -> Result<(Room, Seats), AllocError>
     requires { IsPermutation (range_with_len 0 (partition_count ring.now)) order.now }
-    ensures { IfOk result (λ done. IsGathered ring.now hour done.0 done.1) }
+    ensures gathered { IfOk result (λ done. IsGathered ring.now hour done.0 done.1) }
+    ensures apart { IfOk result (λ done. GivesApartFirst ring.now hour done.0.wanted
+        (gathered_in done.1)) }
+    ensures by_name { IfOk result (λ done. record { load = done.0; rows = done.1 } ≡ left_of
+        ring.now done.0.wanted hour order.now) }
 {
     let wanted = wanted(alloc, ring)?;
     let was = Room::of(alloc, ring, wanted.as_slice())?;
@@ -271,6 +263,14 @@ pub(crate) fn gathering(
     if !was.has_some_room() {
         return Ok((kept, seats));
     }
+    gather(
+        Pass::Apart,
+        &was,
+        &mut kept,
+        locked.as_slice(),
+        order,
+        &mut seats,
+    );
     gather(
         Pass::Second,
         &was,

@@ -5,6 +5,7 @@ ghost use Rattle.ring_model.specs.Valid.{IsValid};
 ghost use Rattle.ring_share.specs.Want.{AreWanted};
 ghost use Rattle.ring_place.specs.Rebalance.{IsAtRest, IsLawfulRebalance, IsRebalance, IsSeat};
 ghost use Rattle.ring_place.specs.Rebalance.{Leaves, changed_seats, is_locked};
+ghost use Rattle.ring_place.specs.Seeded.{IsSeeded};
 
 /// A rebalance moves seats of no more than a lawful gathering.
 pub fn a_rebalance_is_lawful()
@@ -37,4 +38,10 @@ pub fn unchanged_is_settled()
         IsRebalance old hour new → AreWanted new wanted
         → changed_seats old new ≡ 0 → (partition replica id : ℕ) → IsSeat new partition replica → is_locked new hour partition ≡ false
         → seat new partition replica ≡ Some id → IsAtRest new wanted partition replica id }
+{}
+
+/// A seed gives one ring: of the same ring at the same hour no rebalance gives another.
+pub fn a_seed_decides()
+    ensures { (old one other : RingRecord) (hour seed : ℕ) → IsSeeded old hour seed one →
+        IsSeeded old hour seed other → one ≡ other }
 {}

@@ -10,13 +10,11 @@ pub mod laws;
 mod order;
 mod place;
 mod rebalances;
-mod rooms;
-mod search;
 mod seats;
-mod tiers;
+mod surplus;
 
 pub use rebalances::{PlaceError, Rebalanced, rebalance};
-pub use rooms::Room;
+pub use ring_room::Room;
 
 #[cfg(test)]
 mod checker;

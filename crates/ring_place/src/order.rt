@@ -2,22 +2,26 @@
 ghost use Rattle.std.specs.Prelude.{◌≡◌, ◌<◌, IfOk};
 ghost use Rattle.std.specs.List.{range_with_len};
 ghost use Rattle.std.specs.List.Sorted.{IsPermutation};
+ghost use Rattle.ring_place.specs.Made.{draw_below, draws_of, shuffled};
 
-use rand_core::Rng;
+use rand_core::utils::NextWord;
 use rand_pcg::Pcg32;
 use std::alloc::{AllocError, Global};
 
 /// The draws of a seed.
-pub(crate) fn draws_of(seed: u32) -> Pcg32 {
+pub(crate) fn draws_of(seed: u32) -> Pcg32
+    ensures { result ≡ draws_of seed }
+{
     Pcg32::new(u64::from(seed), 0)
 }
 
 /// A number below a bound that isn't 0.
 fn draw_below(draws: &mut Pcg32, bound: usize) -> usize
     requires { 0 < bound }
-    ensures { result < bound }
+    ensures below { result < bound }
+    ensures drawn { (result, draws.new) ≡ draw_below bound draws.old }
 {
-    draws.next_u32() as usize % bound
+    draws.next_word() as usize % bound
 }
 
 /// The numbers below a count.
@@ -32,8 +36,10 @@ fn numbers(alloc: Global, count: usize) -> Result<Vec<usize>, AllocError>
 }
 
 /// Puts numbers in an order that is drawn.
+#[tactic(auto, using(ring_room::proofs::Steps::steps_none))]
 fn shuffle(numbers: &mut [usize], draws: &mut Pcg32)
-    ensures { IsPermutation numbers.old numbers.new }
+    ensures permutation { IsPermutation numbers.old numbers.new }
+    ensures by_name { (numbers.new, draws.new) ≡ shuffled numbers.old draws.old }
 {
     for place in 0..numbers.len() {
         let other = draw_below(draws, place + 1);
@@ -47,7 +53,8 @@ pub(crate) fn shuffled_order(
     count: usize,
     draws: &mut Pcg32,
 ) -> Result<Vec<usize>, AllocError>
-    ensures { IfOk result (λ order. IsPermutation (range_with_len 0 count) order.items) }
+    ensures permutation { IfOk result (λ order. IsPermutation (range_with_len 0 count) order.items) }
+    ensures by_name { IfOk result (λ order. (order.items, draws.new) ≡ shuffled (range_with_len 0 count) draws.old) }
 {
     let mut order = numbers(alloc, count)?;
     shuffle(order.as_mut_slice(), draws);

@@ -5,9 +5,12 @@ ghost use Rattle.std.specs.Prelude.{not};
 ghost use Rattle.ring_model.specs.Valid.{IsValid};
 ghost use Rattle.ring_share.specs.Crowd.{rows_of};
 ghost use Rattle.ring_share.specs.Want.{is_open as is_open_device};
-ghost use Rattle.ring_place.specs.Inner.Finishing.{AreAlike, AreWhole, changed_in, changed_over};
-ghost use Rattle.ring_place.specs.Inner.Finishing.{stamped, stamps};
+ghost use Rattle.ring_place.specs.Inner.Finishing.{AreAlike, AreWhole, changed_over};
+ghost use Rattle.ring_place.specs.Made.{changed_in};
+ghost use Rattle.ring_place.specs.Made.{stamped, stamps};
+ghost use Rattle.ring_place.specs.Apart.{IsRebalanceApart};
 ghost use Rattle.ring_place.specs.Rebalance.{IsAfter, IsRebalance, changed_seats};
+ghost use Rattle.ring_place.specs.Seeded.{IsSeeded, finished};
 
 use crate::gather::gathering;
 use crate::order::{draws_of, shuffled_order};
@@ -128,6 +131,7 @@ fn finish(
     ensures valid { IfOk result (λ done. IsValid done.ring) }
     ensures after { IfOk result (λ done. IsAfter ring.now hour done.ring) }
     ensures changed { IfOk result (λ done. done.changed ≡ changed_seats ring.now done.ring) }
+    ensures by_name { IfOk result (λ done. done.ring ≡ finished ring.now hour new.now) }
     ensures memory { IsErrOf result PlaceError.TooFewDevices → ⊥ }
 {
     let (moved, changed) = moves(alloc, ring, hour, old, new)?;
@@ -139,9 +143,9 @@ fn finish(
 
 /// Rebalances a ring at an hour. Seats that are empty or on devices that are marked to be removed
 /// are put on open devices. Of any other partition that isn't locked at most one seat moves, to
-/// where it is less crowded or off a device with more seats than it wants. TooFewDevices exactly
-/// where fewer devices are open than the ring has replicas. The seed varies which of several such
-/// rings it is.
+/// where it is less crowded or off a device with more seats than it wants; of the latter those
+/// first that find a place that is no more crowded. TooFewDevices exactly where fewer devices are
+/// open than the ring has replicas. The seed varies which of several such rings it is.
 pub fn rebalance(
     alloc: Global,
     ring: &Ring,
@@ -151,6 +155,8 @@ pub fn rebalance(
     ensures few { IsErrOf result PlaceError.TooFewDevices ↔
         (count_by is_open_device ring.now.devices < ring.now.replicas) }
     ensures rebalance { IfOk result (λ done. IsRebalance ring.now hour done.ring) }
+    ensures apart { IfOk result (λ done. IsRebalanceApart ring.now hour done.ring) }
+    ensures seeded { IfOk result (λ done. IsSeeded ring.now hour seed done.ring) }
     ensures changed { IfOk result (λ done. done.changed ≡ changed_seats ring.now done.ring) }
 {
     if open_count(ring.devices()) < usize::from(ring.replicas().get()) {

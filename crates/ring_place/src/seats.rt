@@ -1,11 +1,13 @@
 //! Seats of partitions while some of them are empty.
 ghost use Rattle.std.specs.Prelude.{◌≡◌, ◌<◌, ◌≤◌, ℕ, length, slice_get, slice_set, take, IfOk};
 ghost use Rattle.ring_words.specs.Limits.{most_replicas};
-ghost use Rattle.std.specs.Prelude.{slice_index_or, None};
+ghost use Rattle.std.specs.Prelude.{slice_index_or, count_by, IfNone, IfSome, None, Some};
 ghost use Rattle.std.specs.List.{flat_map, list_any};
 ghost use Rattle.ring_model.specs.Valid.{IsValid};
 ghost use Rattle.ring_share.specs.Crowd.{rows_of};
-ghost use Rattle.ring_place.specs.Inner.SeatRows.{row_at, devices_on, is_empty};
+ghost use Rattle.ring_place.specs.Made.{first_empty, most_empty};
+ghost use Rattle.ring_place.specs.Made.{row_at};
+ghost use Rattle.ring_room.specs.Rows.{devices_on, is_empty};
 
 use ring_model::Ring;
 use ring_words::{DeviceId, MOST_SEATS, partition_count};
@@ -33,6 +35,27 @@ pub(crate) fn has_empty(row: &[Option<DeviceId>]) -> bool
         }
     }
     false
+}
+
+/// The first empty seat of a partition by replica, if it has any.
+pub(crate) fn first_empty(row: &[Option<DeviceId>]) -> Option<usize>
+    ensures by_name { result ≡ first_empty row.now }
+    ensures empty { IfSome result (λ replica. slice_get row.now replica ≡ Some None) }
+    ensures full { IfNone result (count_by is_empty row.now ≡ 0) }
+{
+    for (replica, seat) in row.iter().enumerate() {
+        if seat.is_none() {
+            return Some(replica);
+        }
+    }
+    None
+}
+
+/// How many seats of a partition are empty.
+fn count_empty(row: &[Option<DeviceId>]) -> usize
+    ensures { result ≡ count_by is_empty row.now }
+{
+    row.iter().filter(|seat| seat.is_none()).count()
 }
 
 /// Which device is on each seat of each partition, or none. Contracts see a row for each partition,
@@ -100,6 +123,19 @@ impl Seats {
         &self.seats[first..first + self.replicas]
     }
 
+    /// How many empty seats the partition with the most of them has.
+    pub(crate) fn most_empty(&self) -> usize
+        ensures most { (partition : ℕ) → partition < length self.now →
+            count_by is_empty (row_at self.now partition) ≤ result }
+        ensures by_name { result ≡ most_empty self.now }
+    {
+        let mut most = 0;
+        for partition in 0..self.partitions {
+            most = count_empty(self.row(partition)).max(most);
+        }
+        most
+    }
+
     /// A partition gets other seats, as many as it has.
     pub(crate) fn set_row(&mut self, partition: usize, row: &[Option<DeviceId>])
         requires partition { partition < length self.old }
@@ -108,6 +144,16 @@ impl Seats {
     {
         let first = partition * self.replicas;
         self.seats[first..first + self.replicas].copy_from_slice(row);
+    }
+
+    /// A seat of a partition gets a device.
+    pub(crate) fn set_seat(&mut self, partition: usize, replica: usize, device: DeviceId)
+        requires partition { partition < length self.old }
+        requires replica { replica < length (row_at self.old partition) }
+        ensures { self.new ≡ slice_set self.old partition
+            (slice_set (row_at self.old partition) replica (Some device)) }
+    {
+        self.seats[partition * self.replicas + replica] = Some(device);
     }
 
     /// The devices of the seats, by partition and then by replica.
@@ -122,22 +168,4 @@ impl Seats {
         }
         Ok(devices)
     }
-}
-
-/// The devices of a partition's seats that aren't empty, by replica, and how many they are. What
-/// stands behind them is left over.
-pub(crate) fn devices_on(row: &[Option<DeviceId>]) -> ([DeviceId; MOST_SEATS], usize)
-    requires { length row.now ≤ most_replicas }
-    ensures devices { take result.1 result.0 ≡ devices_on row.now }
-    ensures few { result.1 ≤ most_replicas }
-{
-    let mut ids = [0; MOST_SEATS];
-    let mut count = 0;
-    for seat in row {
-        if let Some(id) = *seat {
-            ids[count] = id;
-            count += 1;
-        }
-    }
-    (ids, count)
 }

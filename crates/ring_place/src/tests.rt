@@ -426,6 +426,42 @@ fn a_ring_of_full_size_is_assigned(rt: HostRuntime) -> Result<(), Fail> {
     Ok(())
 }
 
+/// The zone of a device where zone 1 has five devices, zone 2 four and zone 3 three.
+fn uneven_zone(id: u16) -> u16 {
+    match id {
+        0..=4 => 1,
+        5..=8 => 2,
+        _ => 3,
+    }
+}
+
+/// How many partitions of a ring of three replicas have all of them in one such zone.
+fn in_one_zone(ring: &Ring) -> usize {
+    let in_zone = |row: &[u16], zone: u16| row.iter().all(|id| uneven_zone(*id) == zone);
+    ring.seats()
+        .chunks(3)
+        .filter(|row| in_zone(row, 1) || in_zone(row, 2) || in_zone(row, 3))
+        .count()
+}
+
+#[test]
+fn uneven_zones_leave_no_partition_in_one_zone(rt: HostRuntime) -> Result<(), Fail> {
+    let alloc = rt.alloc();
+    let mut ring = ring(alloc, 8, 3, 0, [].as_slice())?;
+    for number in 0..12u8 {
+        let zone = uneven_zone(u16::from(number));
+        ring = with_device(
+            alloc,
+            &ring,
+            device_at(alloc, number, 1, zone, number, 10_000)?,
+        )?;
+    }
+    let ring = ample_rebalance(alloc, &ring, 0, 7)?.ring;
+    assert_eq!(rt; ring.seats().len(), 768);
+    assert_eq!(rt; in_one_zone(&ring), 0);
+    Ok(())
+}
+
 /// For a seat with up to four others anywhere: the crowd of the device that is found is the least
 /// of a scan of all devices.
 fn least_is_scanned(

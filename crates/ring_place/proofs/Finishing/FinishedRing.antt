@@ -16,9 +16,11 @@ use Rattle.ring_model.specs.Reseat.{reseated}
 use Rattle.ring_model.specs.Valid.{IsValid}
 use Rattle.ring_words.specs.declared.device.Device.{Device}
 use Rattle.ring_share.specs.Crowd.{row_of, rows_of}
-use Rattle.ring_place.specs.Inner.Finishing.{AreAlike, AreWhole, changed_in, stamped}
+use Rattle.ring_place.specs.Inner.Finishing.{AreAlike, AreWhole}
+use Rattle.ring_place.specs.Made.{changed_in, stamped}
 use Rattle.ring_place.specs.Rebalance.{IsAfter, IsSeat, changed_seats, differs, has_changed}
-use Rattle.ring_place.specs.Inner.SeatRows.{devices_on, row_at}
+use Rattle.ring_room.specs.Rows.{devices_on}
+use Rattle.ring_place.specs.Made.{row_at}
 use Rattle.ring_place.proofs.Rows.IndexRanges.{any_counted, count_more, count_same, one_seat}
 use Rattle.ring_place.proofs.Rows.IndexRanges.{range_get, sum_same}
 use Rattle.ring_place.proofs.Finishing.RemainingDevices.{remaining}

@@ -20,14 +20,16 @@ use Rattle.ring_share.specs.Crowd.{is_less, is_on, is_outside, others, pass_both
 use Rattle.ring_share.specs.Crowd.{seats_on, tiers_of}
 use Rattle.ring_share.specs.Room.{has_open, has_room, have, place_of, want_of}
 use Rattle.ring_share.proofs.AllSeats.{have_is_rows}
-use Rattle.ring_place.specs.Inner.Gathering.{IsGathered, gathered_in, has_free_in}
-use Rattle.ring_place.specs.Load.{Load, crowd_in, has_room_in, have_in, is_free_in, want_in}
+use Rattle.ring_place.specs.Apart.{GivesApartFirst, IsRebalanceApart}
+use Rattle.ring_place.specs.Inner.Gathering.{IsGathered, gathered_in}
+use Rattle.ring_room.specs.Free.{has_free_in}
+use Rattle.ring_room.specs.Load.{Load, crowd_in, has_room_in, have_in, is_free_in, want_in}
 use Rattle.ring_place.specs.Inner.Placing.{AllPlaced, MayTakeSeat, RowSeated, draws, drawn}
 use Rattle.ring_place.specs.Inner.Placing.{drawn_in, has_left_from, have_on}
 use Rattle.ring_place.specs.Rebalance.{AreSettled, Gathered, IsAfter, IsGain, IsRebalance, IsSeat}
 use Rattle.ring_place.specs.Rebalance.{IsSeated, IsWithinRoom, MayTake, count_seats, has_free}
 use Rattle.ring_place.specs.Rebalance.{has_left, is_free, kept_count, kept_row, takes_room}
-use Rattle.ring_place.specs.Inner.SeatRows.{row_at}
+use Rattle.ring_place.specs.Made.{row_at}
 use Rattle.ring_place.proofs.Placing.Filling.{free_room, present_known, room_open, want_fills}
 use Rattle.ring_place.proofs.Placing.Placeable.{is_kept, is_up, old_get, open_present, put_there}
 use Rattle.ring_place.proofs.Placing.Placeable.{row_put, stays_on}
@@ -413,3 +415,8 @@ module _ (old next : RingRecord) (hour : ℕ) (left after : Load) (rows : List (
     gain = gain;
     after = is_after;
   }
+
+  pub is_rebalance_apart : GivesApartFirst old hour left.wanted (gathered_in rows) →
+      IsRebalanceApart old hour next
+  unfolding is_rebalance
+  is_rebalance_apart apart = record { is = is_rebalance; apart = apart }

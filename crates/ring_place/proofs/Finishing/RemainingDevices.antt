@@ -14,7 +14,7 @@ use Rattle.ring_share.specs.Crowd.{device_by_id}
 use Rattle.ring_share.specs.Room.{has_open, place_of}
 use Rattle.ring_share.specs.Want.{AreShares, AreWanted, IsBefore, is_open, open_weight, seat_count}
 use Rattle.ring_share.specs.Want.{share_rest, total_weight, whole_share}
-use Rattle.ring_place.proofs.Searching.DevicesAt.{present_at}
+use Rattle.ring_room.proofs.Searching.DevicesAt.{present_at}
 use Rattle.ring_place.proofs.Placing.Filling.{stands, stands_any}
 
 abbrev pub stays : Device → Bool

@@ -1,4 +1,4 @@
--- What both passes lift of a partition.
+-- What the first pass and those after it lift of a partition.
 use Rattle.std.proofs.Common.{◌≡◌, ℕ, zero, suc, ◌≤◌, Bool, true, false, not, ◌||◌, ◌⊎◌, inl, inr}
 use Rattle.std.proofs.Common.{List, [], ◌∷◌, length, get_or, map, set, Option, Some, None, refl}
 use Rattle.std.proofs.Common.{sym, ap, subst, ◌∙◌, ⊎_elim, arith}
@@ -10,11 +10,15 @@ use Rattle.std.proofs.lemmas.List.Folds.{list_any_at}
 use Rattle.std.proofs.lemmas.Option.{slice_get_within}
 use Rattle.ring_model.specs.Ring.{has_present}
 use Rattle.ring_words.specs.declared.device.Device.{Device}
-use Rattle.ring_place.specs.Load.{Load, have_in, want_in}
-use Rattle.ring_place.specs.Inner.SeatRows.{is_empty}
-use Rattle.ring_place.specs.Inner.Gathering.{AreUncrowded, Calm, Crowded, HaveNoSurplus, IsFirst}
-use Rattle.ring_place.specs.Inner.Gathering.{IsSecond, Lifts, LostFirst, Same, Surplus, has_free_in}
-use Rattle.ring_place.specs.Inner.Gathering.{is_crowded_in, is_lost_in, present_only}
+use Rattle.ring_room.specs.Load.{Load, have_in, want_in}
+use Rattle.ring_room.specs.Rows.{is_empty}
+use Rattle.ring_room.specs.Free.{AreUncrowded}
+use Rattle.ring_place.specs.Inner.Gathering.{Calm, Crowded, HaveNoSurplus, IsFirst}
+use Rattle.ring_place.specs.Inner.Gathering.{IsSecond, Lifts, LostFirst, Same, Surplus}
+use Rattle.ring_room.specs.Free.{has_free_in}
+use Rattle.ring_room.specs.Free.{is_crowded_in}
+use Rattle.ring_place.specs.Inner.Gathering.{present_only}
+use Rattle.ring_place.specs.Made.{is_lost_in}
 
 pub data IsBoth (was left : Load) (locked : Bool) (old lifted : List (Option ℕ)) : Type 0 where
   -- its lost seats, if it has any, and no other
@@ -53,7 +57,7 @@ none_empty devices (Some id ∷ row) none =
     none_empty devices row (or_parts (not (has_present id devices)) (list_any (is_lost_in devices)
     row) none).1
 
-lifted_empty : (old : List (Option ℕ)) (replica id : ℕ) → slice_get old replica ≡ Some (Some id) →
+pub lifted_empty : (old : List (Option ℕ)) (replica id : ℕ) → slice_get old replica ≡ Some (Some id) →
     list_any is_empty (set old replica None) ≡ true
 lifted_empty old replica id at =
     let within = slice_get_within old replica (Some id) at in

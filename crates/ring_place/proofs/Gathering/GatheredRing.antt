@@ -1,4 +1,4 @@
--- What both passes leave of a ring.
+-- What the passes leave of a ring.
 use Rattle.std.proofs.Common.{◌≡◌, ℕ, ◌<◌, Bool, true, false, List, length, get_or, map, Option}
 use Rattle.std.proofs.Common.{None, sym, ap, subst, ◌∙◌, arith}
 use Rattle.std.specs.Prelude.{slice_index_or}
@@ -10,9 +10,9 @@ use Rattle.ring_model.specs.Valid.{IsValid}
 use Rattle.ring_share.specs.Crowd.{row_of, rows_of}
 use Rattle.ring_share.specs.Room.{have}
 use Rattle.ring_share.specs.Want.{AreWanted}
-use Rattle.ring_place.specs.Load.{Load, have_in}
+use Rattle.ring_room.specs.Load.{Load, have_in}
 use Rattle.ring_place.specs.Rebalance.{AreReasons, IsWhole, is_locked, is_recent}
-use Rattle.ring_place.specs.Inner.SeatRows.{row_at}
+use Rattle.ring_place.specs.Made.{row_at}
 use Rattle.ring_place.specs.declared.gather.Pass.TheVariants.{First, Second}
 use Rattle.ring_place.specs.Inner.Gathering.{IsFilled, IsFirst, IsGathered, IsPass, gathered_in}
 use Rattle.ring_place.proofs.Gathering.BothPasses.{IsBoth, both_here}
@@ -23,7 +23,7 @@ use Rattle.ring_place.proofs.Rows.PartitionOrders.{order_all}
 use Rattle.ring_place.proofs.Rows.RingSeats.{length-rows_of, row_at-rows_of, seat_known}
 
 -- a partition's entry tells whether it is locked
-locked_at : (ring : RingRecord) (hour : ℕ) (locked : List Bool) → IsValid ring →
+pub locked_at : (ring : RingRecord) (hour : ℕ) (locked : List Bool) → IsValid ring →
     locked ≡ map (is_recent ring.min_hours hour) ring.moved → (partition : ℕ) →
     partition < partition_count ring
     → slice_index_or locked partition false ≡ is_locked ring hour partition
@@ -31,6 +31,26 @@ locked_at ring hour locked valid are partition lt =
     let count = valid.moved in
     ap (λ xs. get_or xs partition false) are ∙ get_or-map (is_recent ring.min_hours hour) ring.moved
     partition None false (omega (arith, lt, count))
+
+-- what both passes lift of each partition
+pub both_lifted : (ring : RingRecord) (hour : ℕ) (was between left : Load) (locked : List Bool)
+    (order : List ℕ) (middle rows : List (List (Option ℕ))) → IsValid ring →
+    locked ≡ map (is_recent ring.min_hours hour) ring.moved →
+    IsPermutation (range_with_len 0 (partition_count ring)) order
+    → IsPass First order was between locked (rows_of ring) middle →
+    IsPass Second order was left locked middle rows
+    → (partition : ℕ) → partition < partition_count ring →
+    IsBoth was left (is_locked ring hour partition) (row_of ring partition) (row_at rows partition)
+both_lifted ring hour was between left locked order middle rows valid locks_are each first second
+    partition lt =
+    let whole = order_all (partition_count ring) order each partition lt in
+    let one = subst (λ r. IsFirst was (slice_index_or locked partition false) r
+    (row_at middle partition)) (row_at-rows_of ring partition lt) (first.lifted partition whole)
+    in
+    subst (λ b. IsBoth was left b (row_of ring partition) (row_at rows partition))
+    (locked_at ring hour locked valid locks_are partition lt)
+    (both_here was left (slice_index_or locked partition false) (row_of ring partition)
+    (row_at middle partition) (row_at rows partition) one (second.lifted partition whole))
 
 pub is_gathered : (ring : RingRecord) (hour : ℕ) (was between left : Load) (wanted : List ℕ)
     (locked : List Bool) (order : List ℕ) (middle rows : List (List (Option ℕ)))
@@ -47,17 +67,8 @@ is_gathered ring hour was between left wanted locked order middle rows valid are
     devices (subst (λ ws. IsFilled left was.devices ws rows) wants second.filled) in
     let many : length rows ≡ partition_count ring = second.as_many ∙ first.as_many ∙ length-rows_of
     ring in
-    let both : (partition : ℕ) → partition < partition_count ring →
-    IsBoth was left (is_locked ring hour partition) (row_of ring partition)
-    (row_at rows partition) = λ partition lt.
-    let whole = order_all (partition_count ring) order each partition lt in
-    let one = subst (λ r. IsFirst was (slice_index_or locked partition false) r
-    (row_at middle partition)) (row_at-rows_of ring partition lt) (first.lifted partition whole)
-    in
-    subst (λ b. IsBoth was left b (row_of ring partition) (row_at rows partition))
-    (locked_at ring hour locked valid locks_are partition lt)
-    (both_here was left (slice_index_or locked partition false) (row_of ring partition)
-    (row_at middle partition) (row_at rows partition) one (second.lifted partition whole)) in
+    let both = both_lifted ring hour was between left locked order middle rows valid locks_are each
+    first second in
     record {
       wanted = subst (λ w. AreWanted ring w) (sym want) are;
       devices = filled.devices_are;

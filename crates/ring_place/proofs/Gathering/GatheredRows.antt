@@ -12,13 +12,16 @@ use Rattle.ring_model.specs.Ring.{RingRecord, has_device, has_present, partition
 use Rattle.ring_share.specs.Crowd.{row_of, seats_on}
 use Rattle.ring_share.specs.Room.{have, want_of}
 use Rattle.ring_share.proofs.Rows.{length-row_of, row_of_at}
-use Rattle.ring_place.specs.Load.{Load, have_in, want_in}
+use Rattle.ring_room.specs.Load.{Load, have_in, want_in}
 use Rattle.ring_place.specs.Rebalance.{AreReasons, HasReason, IsLawfulGathering, IsWhole, has_free}
 use Rattle.ring_place.specs.Rebalance.{has_less_crowded, has_lost, is_locked, is_lost, kept_count}
 use Rattle.ring_place.specs.Rebalance.{kept_row}
-use Rattle.ring_place.specs.Inner.SeatRows.{is_empty, row_at}
-use Rattle.ring_place.specs.Inner.Gathering.{IsFilled, Lifts, gathered_in, has_free_in}
-use Rattle.ring_place.specs.Inner.Gathering.{is_crowded_in, is_lost_in}
+use Rattle.ring_room.specs.Rows.{is_empty}
+use Rattle.ring_place.specs.Made.{row_at}
+use Rattle.ring_place.specs.Inner.Gathering.{IsFilled, Lifts, gathered_in}
+use Rattle.ring_room.specs.Free.{has_free_in}
+use Rattle.ring_room.specs.Free.{is_crowded_in}
+use Rattle.ring_place.specs.Made.{is_lost_in}
 use Rattle.ring_place.proofs.Gathering.BothPasses.{IsBoth, Left, Lost, Taken, both_kept}
 use Rattle.ring_place.proofs.Gathering.BothPasses.{both_length}
 use Rattle.ring_place.proofs.Gathering.GatheredSeats.{crowded_same, has_free_same, has_lost_same}

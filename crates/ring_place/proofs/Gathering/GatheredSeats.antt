@@ -12,13 +12,15 @@ use Rattle.ring_words.specs.declared.device.Device.{Device}
 use Rattle.ring_share.specs.Crowd.{crowd_for, is_less, is_outside, others, row_of}
 use Rattle.ring_share.specs.Room.{has_open, has_room, have, want_of}
 use Rattle.ring_share.proofs.Rows.{length-row_of, row_of_at}
-use Rattle.ring_place.specs.Load.{Load, crowd_in, has_room_in, have_in, is_free_in, want_in}
+use Rattle.ring_room.specs.Load.{Load, crowd_in, has_room_in, have_in, is_free_in, want_in}
 use Rattle.ring_place.specs.Rebalance.{has_free, has_less_crowded, has_lost, is_free, is_lost}
-use Rattle.ring_place.specs.Inner.SeatRows.{is_empty}
-use Rattle.ring_place.specs.Inner.Gathering.{Lifts, has_free_in, is_crowded_in, is_lost_in}
+use Rattle.ring_room.specs.Rows.{is_empty}
+use Rattle.ring_place.specs.Inner.Gathering.{Lifts}
+use Rattle.ring_place.specs.Made.{is_lost_in}
+use Rattle.ring_room.specs.Free.{has_free_in, is_crowded_in}
 use Rattle.ring_place.specs.Inner.Gathering.{present_only}
 use Rattle.ring_place.proofs.Gathering.BothPasses.{empty_lost}
-use Rattle.ring_place.proofs.Searching.LessCrowded.{list_any_agree, open_known}
+use Rattle.ring_room.proofs.Searching.LessCrowded.{list_any_agree, open_known}
 
 -- ---- the ring as a load
 
@@ -47,10 +49,10 @@ module _ (ring : RingRecord) (was : Load) (wanted : List ℕ) (devices : was.dev
       (counts id (open_known ring.devices id opens))
       ∙ ap (λ (n : ℕ). has_open id ring.devices && nat_lt (have ring id) n) (want_same id)
 
-  room_same : (id : ℕ) → has_room_in was id ≡ has_room ring wanted id
+  pub room_same : (id : ℕ) → has_room_in was id ≡ has_room ring wanted id
   room_same id = room_if id (has_open id ring.devices) refl
 
-  free_same : (partition id : ℕ) → is_free_in was (row_of ring partition) id ≡ is_free ring wanted
+  pub free_same : (partition id : ℕ) → is_free_in was (row_of ring partition) id ≡ is_free ring wanted
       partition id
   free_same partition id = ap (λ b. b && is_outside (row_of ring partition) id) (room_same id)
 

@@ -1,24 +1,27 @@
--- The two passes over all partitions.
+-- The passes over all partitions.
 use Rattle.std.proofs.Common.{◌≡◌, ◌≢◌, ◌==◌, ℕ, zero, suc, ◌+◌, ◌<◌, ◌≤◌, Bool, true, false, ◌||◌}
 use Rattle.std.proofs.Common.{List, [], ◌∷◌, length, map, set, Option, Some, None, refl, sym, ◌∙◌}
 use Rattle.std.proofs.Common.{ap, subst, ⊎_elim, sum_by, arith}
 use Rattle.std.specs.Prelude.{slice_get, slice_index_or}
+use Rattle.std.specs.List.{list_any}
 use Rattle.std.proofs.lemmas.Bool.{cases_Bool, eqb-true, eqb-false, or_cases, or_parts}
 use Rattle.std.proofs.lemmas.List.{get_or-set_other, get_or-set_same, length-map, length-set}
 use Rattle.std.proofs.lemmas.List.Sums.{sum_by-set}
 use Rattle.ring_model.specs.Ring.{has_device, has_present}
 use Rattle.ring_words.specs.declared.device.Device.{Device}
 use Rattle.ring_share.specs.Crowd.{seats_on}
-use Rattle.ring_place.specs.Load.{Load, is_free_in, want_in}
-use Rattle.ring_place.specs.Inner.SeatRows.{AreKnown, row_at}
+use Rattle.ring_room.specs.Load.{Load, is_free_in, want_in}
+use Rattle.ring_room.specs.Rows.{AreKnown, is_empty}
+use Rattle.ring_place.specs.Made.{row_at}
 use Rattle.ring_place.specs.declared.gather.Pass.{Pass}
-use Rattle.ring_place.specs.declared.gather.Pass.TheVariants.{First, Second}
-use Rattle.ring_place.specs.Inner.Gathering.{AreRowsOfSeats, Calm, Crowded, Falls, IsFilled}
-use Rattle.ring_place.specs.Inner.Gathering.{IsFirst}
-use Rattle.ring_place.specs.Inner.Gathering.{IsLifting, IsPass, IsSecond, LostFirst, Same, Surplus}
-use Rattle.ring_place.specs.Inner.Gathering.{Takes, is_among, present_only}
+use Rattle.ring_place.specs.declared.gather.Pass.TheVariants.{First, Apart, Second}
+use Rattle.ring_place.specs.Inner.Gathering.{AreRowsOfSeats, Calm, Crowded, Falls, Goes, IsApart}
+use Rattle.ring_place.specs.Inner.Gathering.{IsFilled, IsFirst, IsLifting, IsPass, IsSecond, Lifts}
+use Rattle.ring_place.specs.Inner.Gathering.{LostFirst, Rests, Same, Surplus, Takes, is_among}
+use Rattle.ring_place.specs.Inner.Gathering.{present_only}
+use Rattle.ring_place.proofs.Gathering.BothPasses.{lifted_empty}
 use Rattle.ring_place.proofs.Rows.LiftedSeats.{known_lifted}
-use Rattle.ring_place.proofs.Searching.LessCrowded.{none_free}
+use Rattle.ring_room.proofs.Searching.LessCrowded.{none_free}
 
 -- the devices' seats change as a partition's do
 pub filled_step : (before after : Load) (devices : List Device) (wanted : List ℕ)
@@ -71,14 +74,33 @@ second_there was kept after locked old row falls devices wanted known (Same is r
     let had = rest none unlocked free replica id at in
     omega (arith, want, down, had))
 
+apart_there : (was kept after : Load) (locked : Bool) (old row : List (Option ℕ)) →
+    Falls kept after → after.devices ≡ kept.devices → after.wanted ≡ kept.wanted →
+    AreKnown kept.devices old
+    → IsApart was kept locked old row → IsApart was after locked old row
+apart_there was kept after locked old row falls devices wanted known (Goes none unlocked replica id
+    lifts free goes keeps) =
+    let want : want_in after id ≡ want_in kept id = rw (devices, wanted) refl in
+    let still = falls.floor id (known replica id lifts.at) keeps in
+    Goes none unlocked replica id lifts free goes (omega (arith, want, still))
+apart_there was kept after locked old row falls devices wanted known (Rests is rest) =
+    Rests is (λ none unlocked free replica id at over.
+    let want : want_in after id ≡ want_in kept id = rw (devices, wanted) refl in
+    let down = falls.down id (known replica id at) in
+    rest none unlocked free replica id at (omega (arith, want, down, over)))
+
 -- what a pass lifted of the other partitions is still what it lifts
 lifting_there : (pass : Pass) (was kept after : Load) (locked : Bool) (old row : List (Option ℕ)) →
-    (pass ≡ Second → Falls kept after) → after.devices ≡ kept.devices → after.wanted ≡ kept.wanted
+    (pass ≢ First → Falls kept after) → after.devices ≡ kept.devices → after.wanted ≡ kept.wanted
     → AreKnown kept.devices old → IsLifting pass was kept locked old row →
     IsLifting pass was after locked old row
 lifting_there First was kept after locked old row falls devices wanted known is = is
+lifting_there Apart was kept after locked old row falls devices wanted known is =
+    apart_there was kept after locked old row (falls (λ (e : Apart ≡ First). cc e)) devices wanted
+    known is
 lifting_there Second was kept after locked old row falls devices wanted known is =
-    second_there was kept after locked old row (falls refl) devices wanted known is
+    second_there was kept after locked old row (falls (λ (e : Second ≡ First). cc e)) devices wanted
+    known is
 
 -- ---- a pass
 
@@ -111,7 +133,7 @@ pass_step : (pass : Pass) (done more : List ℕ) (n : ℕ) (was kept after : Loa
     is_among done n ≡ false → ((p : ℕ) → is_among more p ≡ (is_among done p || (n == p)))
     → next ≡ set rows n (row_at next n) → IsLifting pass was after (slice_index_or locked n false)
     (row_at rows n) (row_at next n) → Takes kept after (row_at rows n) (row_at next n)
-    → (pass ≡ Second → Falls kept after) → IsPass pass more was after locked old next
+    → (pass ≢ First → Falls kept after) → IsPass pass more was after locked old next
 pass_step pass done more n was kept after locked old rows next so_far within inside are new grows
     written here takes falls = record {
       as_many = ap length written ∙ length-set rows n (row_at next n) ∙ so_far.as_many;
@@ -145,7 +167,7 @@ pub pass_written : (pass : Pass) (done more : List ℕ) (n : ℕ) (was kept afte
     is_among done n ≡ false
     → ((p : ℕ) → is_among more p ≡ (is_among done p || (n == p))) → next ≡ set rows n row →
     IsLifting pass was after (slice_index_or locked n false) (row_at rows n) row
-    → Takes kept after (row_at rows n) row → (pass ≡ Second → Falls kept after) →
+    → Takes kept after (row_at rows n) row → (pass ≢ First → Falls kept after) →
     IsPass pass more was after locked old next
 pass_written pass done more n was kept after locked old rows next row so_far within inside are new
     grows written here takes falls =
@@ -193,21 +215,106 @@ first_length was locked old row (Crowded none unlocked replica e lifts less) =
     ap length lifts.lifted ∙ length-set old replica None
 first_length was locked old row (Calm none is calm) = ap length is
 
-pub first_rows : (done : List ℕ) (devices : List Device) (was kept : Load) (locked : List Bool)
-    (old rows : List (List (Option ℕ))) → IsPass First done was kept locked old rows
-    → ((p : ℕ) → p < length old → is_among done p ≡ true) → AreRowsOfSeats devices old →
+lifts_known : (devices : List Device) (old row : List (Option ℕ)) (replica id : ℕ) →
+    Lifts old row replica id → AreKnown devices old → AreKnown devices row
+lifts_known devices old row replica id lifts known k e at =
+    known_lifted devices old replica known k e (ap (λ r. slice_get r k) (sym lifts.lifted) ∙ at)
+
+lifting_known : (pass : Pass) (devices : List Device) (was kept : Load) (locked : Bool)
+    (old row : List (Option ℕ)) → IsLifting pass was kept locked old row → AreKnown devices old →
+    AreKnown devices row
+lifting_known First devices was kept locked old row is known =
+    first_known devices was locked old row is known
+lifting_known Apart devices was kept locked old row (Goes none unlocked replica id lifts free goes
+    keeps) known = lifts_known devices old row replica id lifts known
+lifting_known Apart devices was kept locked old row (Rests is rest) known =
+    subst (AreKnown devices) (sym is) known
+lifting_known Second devices was kept locked old row (Surplus none unlocked replica id lifts free
+    keeps) known = lifts_known devices old row replica id lifts known
+lifting_known Second devices was kept locked old row (Same is rest) known =
+    subst (AreKnown devices) (sym is) known
+
+lifting_length : (pass : Pass) (was kept : Load) (locked : Bool) (old row : List (Option ℕ)) →
+    IsLifting pass was kept locked old row → length row ≡ length old
+lifting_length First was kept locked old row is = first_length was locked old row is
+lifting_length Apart was kept locked old row (Goes none unlocked replica id lifts free goes keeps) =
+    ap length lifts.lifted ∙ length-set old replica None
+lifting_length Apart was kept locked old row (Rests is rest) = ap length is
+lifting_length Second was kept locked old row (Surplus none unlocked replica id lifts free keeps) =
+    ap length lifts.lifted ∙ length-set old replica None
+lifting_length Second was kept locked old row (Same is rest) = ap length is
+
+pub pass_rows : (pass : Pass) (done : List ℕ) (devices : List Device) (was kept : Load)
+    (locked : List Bool) (old rows : List (List (Option ℕ))) → IsPass pass done was kept locked old
+    rows → ((p : ℕ) → p < length old → is_among done p ≡ true) → AreRowsOfSeats devices old →
     AreRowsOfSeats devices rows
-first_rows done devices was kept locked old rows first whole are = record {
+pass_rows pass done devices was kept locked old rows is whole are = record {
   known = λ p lt.
-      let many = first.as_many in
+      let many = is.as_many in
       let within : p < length old = omega (arith, lt, many) in
-      first_known devices was (slice_index_or locked p false) (row_at old p) (row_at rows p)
-      (first.lifted p (whole p within)) (are.known p within);
+      lifting_known pass devices was kept (slice_index_or locked p false) (row_at old p)
+      (row_at rows p) (is.lifted p (whole p within)) (are.known p within);
   few = λ p lt.
-      let many = first.as_many in
+      let many = is.as_many in
       let within : p < length old = omega (arith, lt, many) in
-      let same = first_length was (slice_index_or locked p false) (row_at old p) (row_at rows p)
-      (first.lifted p (whole p within)) in
+      let same = lifting_length pass was kept (slice_index_or locked p false) (row_at old p)
+      (row_at rows p) (is.lifted p (whole p within)) in
       let few = are.few p within in
       omega (arith, same, few);
+}
+
+-- ---- a pass that goes before the second
+
+-- no device has more, and none fewer than it wants
+pub falls_none : (kept : Load) → Falls kept kept
+falls_none kept = record { down = λ id known. omega arith; floor = λ id known keeps. keeps }
+
+pub falls_more : (before kept after : Load) → kept.devices ≡ before.devices →
+    kept.wanted ≡ before.wanted → Falls before kept → Falls kept after → Falls before after
+falls_more before kept after devices wanted one other = record {
+  down = λ id known.
+      let a = one.down id known in
+      let b = other.down id (ap (has_device id) devices ∙ known) in
+      omega (arith, a, b);
+  floor = λ id known keeps.
+      let want : want_in kept id ≡ want_in before id = rw (devices, wanted) refl in
+      let a = one.floor id known keeps in
+      let b = other.floor id (ap (has_device id) devices ∙ known) (omega (arith, want, a)) in
+      omega (arith, want, b);
+}
+
+-- what both lift of a partition is what the second alone may lift
+second_after : (was between left : Load) (locked : Bool) (old middle row : List (Option ℕ)) →
+    Falls between left → left.devices ≡ between.devices → left.wanted ≡ between.wanted →
+    AreKnown between.devices old
+    → IsApart was between locked old middle → IsSecond was left locked middle row →
+    IsSecond was left locked old row
+second_after was between left locked old middle row falls devices wanted known (Goes none unlocked
+    replica id lifts free goes keeps) (Surplus full unlocked' replica' id' lifts' free' keeps') =
+    absurd (let some = lifted_empty old replica id lifts.at in let here =
+    ap (list_any is_empty) lifts.lifted in cc (full, some, here))
+second_after was between left locked old middle row falls devices wanted known (Goes none unlocked
+    replica id lifts free goes keeps) (Same is rest) =
+    let want : want_in left id ≡ want_in between id = rw (devices, wanted) refl in
+    let still = falls.floor id (known replica id lifts.at) keeps in
+    Surplus none unlocked replica id (record { at = lifts.at; lifted = is ∙ lifts.lifted }) free
+    (omega (arith, want, still))
+second_after was between left locked old middle row falls devices wanted known (Rests is rest) second
+    = subst (λ r. IsSecond was left locked r row) is second
+
+pub second_passed : (done : List ℕ) (was between left : Load) (locked : List Bool)
+    (old middle rows : List (List (Option ℕ))) → AreRowsOfSeats was.devices old
+    → ((p : ℕ) → is_among done p ≡ true → p < length old) → Falls between left
+    → IsPass Apart done was between locked old middle → IsPass Second done was left locked middle rows
+    → IsPass Second done was left locked old rows
+second_passed done was between left locked old middle rows are inside falls apart second = record {
+  as_many = second.as_many ∙ apart.as_many;
+  rest = λ p none. second.rest p none ∙ apart.rest p none;
+  lifted = λ p some. second_after was between left (slice_index_or locked p false) (row_at old p)
+      (row_at middle p) (row_at rows p) falls
+      (second.filled.devices_are ∙ sym apart.filled.devices_are)
+      (second.filled.wanted_are ∙ sym apart.filled.wanted_are)
+      (subst (λ ds. AreKnown ds (row_at old p)) (sym apart.filled.devices_are) (are.known p
+      (inside p some))) (apart.lifted p some) (second.lifted p some);
+  filled = second.filled;
 }

@@ -1,16 +1,16 @@
 -- Seats that are taken off devices.
 use Rattle.std.proofs.Common.{◌≡◌, ◌≢◌, ◌==◌, ℕ, ◌+◌, ◌-◌, ◌<◌, ◌≤◌, true, cond, List, set, Option}
-use Rattle.std.proofs.Common.{Some, None, refl, sym, ap, ◌∙◌, ⊎_elim, arith}
+use Rattle.std.proofs.Common.{Some, None, refl, sym, ap, subst, ◌∙◌, ⊎_elim, arith}
 use Rattle.std.specs.Prelude.{slice_get}
 use Rattle.std.proofs.lemmas.Bool.{cases_eq, eq-eqb, ne_eqb}
 use Rattle.std.proofs.lemmas.List.{get_or-set_other, get_or-set_same, length-set}
 use Rattle.ring_model.specs.Ring.{has_device}
 use Rattle.ring_share.specs.Crowd.{seats_on}
 use Rattle.ring_share.specs.Room.{place_of}
-use Rattle.ring_place.specs.Load.{Load, IsLoad, have_in, load_take}
-use Rattle.ring_place.specs.Inner.Gathering.{Takes}
-use Rattle.ring_place.proofs.Searching.SeatCounts.{place_within, places_differ}
-use Rattle.ring_place.proofs.Searching.LessCrowded.{seats_with}
+use Rattle.ring_room.specs.Load.{Load, IsLoad, have_in, load_take, want_in}
+use Rattle.ring_place.specs.Inner.Gathering.{Falls, Lifts, Takes}
+use Rattle.ring_room.proofs.Searching.SeatCounts.{place_within, places_differ}
+use Rattle.ring_room.proofs.Searching.LessCrowded.{seats_with}
 
 pub load_taken : (load : Load) (id : ℕ) → IsLoad load → IsLoad (load_take load id)
 load_taken load id is = record {
@@ -76,6 +76,36 @@ takes_seat before left old row replica id takes known some at = record {
       (ap (has_device other) takes.devices ∙ also) some in
       omega (arith, counted, lifted, less);
 }
+
+-- one seat of a partition is lifted
+pub takes_one : (before after : Load) (row new : List (Option ℕ)) (replica id : ℕ) → IsLoad before →
+    has_device id before.devices ≡ true → 0 < have_in before id → Lifts row new replica id →
+    after ≡ load_take before id → Takes before after row new
+takes_one before after row new replica id is known some lifts taken =
+    subst (λ k. Takes before k row new) (sym taken)
+    (subst (λ r. Takes before (load_take before id) row r) (sym lifts.lifted)
+    (takes_seat before before row row replica id (takes_none before row is) known some lifts.at))
+
+-- so no device has more, and the one that it was taken off still has all that it wants
+pub falls_one : (before after : Load) (id : ℕ) → IsLoad before → has_device id before.devices ≡ true
+    → want_in before id < have_in before id → after ≡ load_take before id → Falls before after
+falls_one before after id is known over taken = subst (Falls before) (sym taken) (record {
+  down = λ other also.
+      let less = take_less before is id other known also (omega (arith, over)) in
+      omega (arith, less);
+  floor = λ other also keeps.
+      let less = take_less before is id other known also (omega (arith, over)) in
+      ⊎_elim
+      (λ same.
+      let here = have_taken_same before is id known in
+      let read = ap (have_in (load_take before id)) same in
+      let wants = ap (want_in before) same in
+      omega (arith, here, read, wants, over))
+      (λ apart.
+      let there = have_taken_other before is id other known also apart in
+      omega (arith, there, keeps))
+      (cases_eq other id);
+})
 
 -- a partition has no more seats on a device than the device has
 pub has_taken : (left : Load) (row : List (Option ℕ)) (replica id other : ℕ) → IsLoad left →

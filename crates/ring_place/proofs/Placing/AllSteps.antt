@@ -1,45 +1,36 @@
--- All partitions: those that were gone through are put, and the step to the next.
+-- All partitions: a seat that is put, a turn, and the turns one after another.
 use Rattle.std.proofs.Common.{◌≡◌, ◌≢◌, ◌==◌, ℕ, zero, suc, ◌+◌, ◌-◌, ◌<◌, ◌≤◌, ◌||◌, Bool, true}
 use Rattle.ring_words.specs.Limits.{greatest_long}
 use Rattle.std.proofs.Common.{false, cond, List, [], ◌∷◌, length, Option, Some, None, refl, sym}
-use Rattle.std.proofs.Common.{◌∙◌, ap, subst, arith, ⊎_elim, sum_by, slice_get, set, get_or, take}
+use Rattle.std.proofs.Common.{◌∙◌, ap, subst, arith, sum_by, slice_get, set, get_or, take}
+use Rattle.std.proofs.Common.{count_by, ◌⊎◌, inl, inr}
 use Rattle.std.specs.List.{range_with_len}
 use Rattle.std.specs.List.Sorted.{IsPermutation}
 use Rattle.std.proofs.lemmas.Bool.{cases_eq, eq-eqb, ne_eqb}
-use Rattle.std.proofs.lemmas.List.{length-set, get_or-set_other, take_all}
-use Rattle.std.proofs.lemmas.List.Sums.{sum_by-cons, sum_by-set, sum_by-le-sum_by}
-use Rattle.std.proofs.lemmas.List.Sums.{count_by-le-length, get_or-le-sum_by}
+use Rattle.std.proofs.lemmas.List.{length-set, get_or-set_other, get_or-set_same, take_all}
+use Rattle.std.proofs.lemmas.List.Sums.{sum_by-set, sum_by-le-sum_by}
+use Rattle.std.proofs.lemmas.List.Sums.{count_by-le-length}
+use Rattle.std.proofs.lemmas.Option.{slice_get_within}
 use Rattle.ring_model.specs.Ring.{has_device}
 use Rattle.ring_words.specs.declared.device.Device.{Device}
 use Rattle.ring_share.specs.Crowd.{is_on, seats_on}
 use Rattle.ring_share.specs.Room.{has_open}
-use Rattle.ring_place.specs.Load.{Load, IsLoad, have_in, want_in}
-use Rattle.ring_place.specs.Inner.SeatRows.{row_at}
-use Rattle.ring_place.specs.Inner.Gathering.{has_free_in, is_among}
-use Rattle.ring_place.specs.Inner.Placing.{AllPlaced, Fills, OpenWant, RowPlaced, RowSeated, draws}
-use Rattle.ring_place.specs.Inner.Placing.{drawn, drawn_in, have_on}
-use Rattle.ring_place.proofs.Placing.Filling.{fills_self, fills_trans, free_shrinks, free_some}
-use Rattle.ring_place.proofs.Placing.Filling.{row_fills, some_free, want_fills}
-use Rattle.ring_place.proofs.Rows.PartitionOrders.{among_more, order_all, order_below, order_fresh}
-use Rattle.ring_place.proofs.Placing.RowSteps.{nothing_drawn, drawn_less, one_le, draws_seat}
-
-pub record AllUpTo (done : List ℕ) (before now : Load) (old lifted rows : List (List (Option ℕ))) :
-    Type 0 where
-  pub as_many : length rows ≡ length lifted
-  pub rest : (partition : ℕ) → is_among done partition ≡ false → row_at rows partition ≡ row_at
-      lifted partition
-  pub seated : (partition : ℕ) → is_among done partition ≡ true →
-      RowSeated now (row_at old partition) (row_at lifted partition) (row_at rows partition)
-  pub within_room : (id : ℕ) → has_device id before.devices ≡ true → drawn now id old lifted rows ≤
-      want_in now id - have_in before id
-  -- what is drawn has been put
-  pub put : (id : ℕ) → has_device id before.devices ≡ true → drawn now id old lifted rows + have_in
-      before id ≤ have_in now id
-  pub counts : (id : ℕ) → has_device id before.devices ≡ true → have_in now id + have_on id lifted ≡
-      have_in before id + have_on id rows
-  pub size : sum_by (λ row. length row) rows ≡ sum_by (λ row. length row) lifted
-  pub fills : Fills before now
-  pub load : IsLoad now
+use Rattle.ring_room.specs.Load.{Load, IsLoad, have_in, load_put, want_in}
+use Rattle.ring_place.specs.Made.{row_at}
+use Rattle.ring_room.specs.Free.{has_free_in}
+use Rattle.ring_room.specs.Rows.{is_empty}
+use Rattle.ring_place.specs.Inner.Gathering.{is_among}
+use Rattle.ring_place.specs.Inner.Placing.{AllPlaced, CanPlace, CanPlaceAll, Fills, IsChosen}
+use Rattle.ring_place.specs.Inner.Placing.{IsSeatPut, IsTurn, KeepsPlaced, OpenWant}
+use Rattle.ring_place.specs.Inner.Placing.{RowBegun, RowSeated, SomePlaced, drawn, drawn_in}
+use Rattle.ring_room.proofs.Searching.SeatCounts.{put_more}
+use Rattle.ring_place.proofs.Placing.Filling.{begun_fills, fills_put, fills_self, fills_trans}
+use Rattle.ring_place.proofs.Placing.Filling.{free_shrinks, free_some, some_free, want_fills}
+use Rattle.ring_place.proofs.Placing.RowPlaces.{some_empty}
+use Rattle.ring_place.proofs.Placing.RowSteps.{IsRoomTaken, begun_next, can_next, drawn_less}
+use Rattle.ring_place.proofs.Placing.RowSteps.{empty_less, nothing_drawn, seat_cases, seat_drawn}
+use Rattle.ring_place.proofs.Placing.SettledSeats.{seats_put}
+use Rattle.ring_place.proofs.Rows.PartitionOrders.{among_more, order_all}
 
 -- the same free devices or fewer
 pub has_free_shrinks : (old new : Load) → Fills old new → (row : List (Option ℕ)) →
@@ -62,22 +53,22 @@ drawn_shrinks a b fills id (before ∷ old) (up ∷ lifted) (to ∷ rows) =
     omega (arith, less, drawn_shrinks a b fills id old lifted rows)
 
 -- one partition is written
-pub drawn_written : (load : Load) (id : ℕ) (old lifted rows : List (List (Option ℕ))) (p : ℕ)
+drawn_written : (load : Load) (id : ℕ) (old lifted rows : List (List (Option ℕ))) (p : ℕ)
     (row : List (Option ℕ)) →
     length old ≡ length lifted → length rows ≡ length lifted → p < length lifted →
-    row_at rows p ≡ row_at lifted p →
-    drawn load id old lifted (set rows p row) ≡ drawn load id old lifted rows + drawn_in
-    load.devices (has_free_in load row) id (row_at old p) (row_at lifted p) row
-drawn_written load id old [] rows p row o l within at = absurd (omega arith)
-drawn_written load id [] (up ∷ lifted) rows p row o l within at = absurd (omega arith)
-drawn_written load id (before ∷ old) (up ∷ lifted) [] p row o l within at = absurd (omega arith)
-drawn_written load id (before ∷ old) (up ∷ lifted) (to ∷ rows) zero row o l within at =
-    rw at (let none = nothing_drawn load.devices (has_free_in load up) id before up in omega arith)
-drawn_written load id (before ∷ old) (up ∷ lifted) (to ∷ rows) (suc p) row o l within at =
+    drawn load id old lifted (set rows p row) + drawn_in load.devices
+    (has_free_in load (row_at rows p)) id (row_at old p) (row_at lifted p) (row_at rows p) ≡ drawn
+    load id old lifted rows + drawn_in load.devices (has_free_in load row) id (row_at old p)
+    (row_at lifted p) row
+drawn_written load id old [] rows p row o l within = absurd (omega arith)
+drawn_written load id [] (up ∷ lifted) rows p row o l within = absurd (omega arith)
+drawn_written load id (before ∷ old) (up ∷ lifted) [] p row o l within = absurd (omega arith)
+drawn_written load id (before ∷ old) (up ∷ lifted) (to ∷ rows) zero row o l within = omega arith
+drawn_written load id (before ∷ old) (up ∷ lifted) (to ∷ rows) (suc p) row o l within =
     omega (
       arith,
       drawn_written load id old lifted rows p row (omega arith) (omega arith)
-          (omega arith) at,
+          (omega arith),
     )
 
 drawn_none : (load : Load) (id : ℕ) (old lifted : List (List (Option ℕ))) →
@@ -91,237 +82,346 @@ drawn_none load id (before ∷ old) (up ∷ lifted) =
       drawn_none load id old lifted,
     )
 
-pub all_start : (load : Load) (order : List ℕ) (old lifted : List (List (Option ℕ))) → IsLoad load →
-    AllUpTo (take 0 order) load load old lifted lifted
-all_start load order old lifted is_load = record {
-  as_many = refl;
-  rest = λ p not_done. refl;
-  seated = λ p done. absurd (cc done);
-  within_room = λ id known. rw (drawn_none load id old lifted) (omega arith);
-  put = λ id known. rw (drawn_none load id old lifted) (omega arith);
-  counts = λ id known. refl;
-  size = refl;
-  fills = fills_self load;
-  load = is_load;
-}
-
-pub kept_seats : (id : ℕ) (lifted row : List (Option ℕ)) → length row ≡ length lifted →
-    ((replica e : ℕ) → slice_get lifted replica ≡ Some (Some e) →
-    slice_get row replica ≡ Some (Some e)) → seats_on id lifted ≤ seats_on id row
-kept_seats id [] row same kept = omega arith
-kept_seats id (up ∷ lifted) [] same kept = absurd (omega arith)
-kept_seats id (None ∷ lifted) (to ∷ row) same kept =
-    let l = sum_by-cons (λ s. cond (is_on (λ e. e == id) s) 1 0) None lifted in
-    let r = sum_by-cons (λ s. cond (is_on (λ e. e == id) s) 1 0) to row in
-    omega (
-      arith,
-      l,
-      r,
-      kept_seats id lifted row (omega arith) (λ replica e at. kept (suc replica) e
-          at),
-    )
-kept_seats id (Some e ∷ lifted) (to ∷ row) same kept =
-    let l = sum_by-cons (λ s. cond (is_on (λ e. e == id) s) 1 0) (Some e) lifted in
-    let r = sum_by-cons (λ s. cond (is_on (λ e. e == id) s) 1 0) to row in
-    let is : to ≡ Some e = (let k = kept zero e refl in cc) in
-    let head : ◌≡◌ {A = ℕ} (cond (is_on (λ e. e == id) to) 1 0)
-    (cond (is_on (λ e. e == id) (Some e)) 1 0) = ap (λ o. cond (is_on (λ e. e == id) o) 1 0) is
-    in
-    omega (
-      arith,
-      l,
-      r,
-      head,
-      kept_seats id lifted row (omega arith)
-          (λ replica x at. kept (suc replica) x at),
-    )
-
--- more seats are drawn at most than the partition has new on the device
-row_drawn : (devices : List Device) (free : Bool) (id : ℕ) (old lifted row : List (Option ℕ)) →
-    length row ≡ length lifted →
-    ((replica e : ℕ) → slice_get lifted replica ≡ Some (Some e) →
-    slice_get row replica ≡ Some (Some e)) →
-    drawn_in devices free id old lifted row + seats_on id lifted ≤ seats_on id row
-row_drawn devices free id [] lifted row same kept =
-    omega (arith, kept_seats id lifted row same kept)
-row_drawn devices free id (before ∷ old) [] row same kept = omega arith
-row_drawn devices free id (before ∷ old) (up ∷ lifted) [] same kept = absurd (omega arith)
-row_drawn devices free id (before ∷ old) (None ∷ lifted) (to ∷ row) same kept =
-    let l = sum_by-cons (λ s. cond (is_on (λ e. e == id) s) 1 0) None lifted in
-    let r = sum_by-cons (λ s. cond (is_on (λ e. e == id) s) 1 0) to row in
-    let rest = row_drawn devices free id old lifted row (omega arith)
-    (λ replica e at. kept (suc replica) e at) in
-    let head = one_le (draws devices free id before None to) (is_on (λ e. e == id) to) 0 0
-    (draws_seat devices free id before None to) (omega arith) in
-    omega (arith, l, r, rest, head)
-row_drawn devices free id (before ∷ old) (Some e ∷ lifted) (to ∷ row) same kept =
-    let l = sum_by-cons (λ s. cond (is_on (λ e. e == id) s) 1 0) (Some e) lifted in
-    let r = sum_by-cons (λ s. cond (is_on (λ e. e == id) s) 1 0) to row in
-    let rest = row_drawn devices free id old lifted row (omega arith)
-    (λ replica x at. kept (suc replica) x at) in
-    let is : to ≡ Some e = (let k = kept zero e refl in cc) in
-    let head : ◌≡◌ {A = ℕ} (cond (is_on (λ e. e == id) to) 1 0)
-    (cond (is_on (λ e. e == id) (Some e)) 1 0) = ap (λ o. cond (is_on (λ e. e == id) o) 1 0) is
-    in
-    omega (arith, l, r, rest, head)
-
-either : (a b : Bool) → (a || b) ≡ false → (a ≡ false) × (b ≡ false)
-either false b h = (refl, h)
-either true b h = absurd (cc h)
-
-one_of : (a b : Bool) → (a || b) ≡ true → b ≡ false → a ≡ true
-one_of true b h k = refl
-one_of false b h k = absurd (cc (h, k))
-
--- the partition p comes after those that are done, and is written
-module _ (done next_done : List ℕ) (p : ℕ) (before now after : Load) (old lifted rows next : List
-    (List (Option ℕ))) (so_far : AllUpTo done before now old lifted rows)
-    (more : (q : ℕ) → is_among next_done q ≡ (is_among done q || (p == q))) (fresh : is_among done p
-    ≡ false)
-    (as_many : length old ≡ length lifted) (within : p < length lifted) (row : List (Option ℕ))
-    (written : next ≡ set rows p row)
-    (placed : RowPlaced now after (row_at old p) (row_at rows p) row) where
-  fuller : Fills now after
-  fuller = placed.fills
-
-  at : row_at rows p ≡ row_at lifted p
-  at = so_far.rest p fresh
-
-  placed' : RowPlaced now after (row_at old p) (row_at lifted p) row
-  placed' = subst (λ r. RowPlaced now after (row_at old p) r row) at placed
-
-  row_is : row_at next p ≡ row
-  row_is = ap (λ rs. row_at rs p) written ∙ get_or-set_here rows p row [] (let same =
-      so_far.as_many in omega (arith, within, same))
-    where
-      get_or-set_here : (rs : List (List (Option ℕ))) (k : ℕ) (r d : List (Option ℕ)) →
-          k < length rs → get_or (set rs k r) k d ≡ r
-      get_or-set_here [] k r d lt = absurd (omega arith)
-      get_or-set_here (x ∷ rs) zero r d lt = refl
-      get_or-set_here (x ∷ rs) (suc k) r d lt = get_or-set_here rs k r d (omega arith)
-
-  other : (q : ℕ) → q ≢ p → row_at next q ≡ row_at rows q
-  other q ne = ap (λ rs. row_at rs q) written ∙ get_or-set_other rows p q row [] ne
-
-  drawn_next : (id : ℕ) → drawn after id old lifted next ≤ drawn now id old lifted rows + drawn_in
-      after.devices (has_free_in after row) id (row_at old p) (row_at lifted p) row
-  drawn_next id =
-      let e = drawn_written after id old lifted rows p row as_many so_far.as_many within at in
-      subst (λ rs. drawn after id old lifted rs ≤ drawn now id old lifted rows + drawn_in
-      after.devices (has_free_in after row) id (row_at old p) (row_at lifted p) row)
-      (sym written)
-      (omega (arith, e, drawn_shrinks now after fuller id old lifted rows))
-
-  same_at : (f : List (Option ℕ) → ℕ) → sum_by f next + f (row_at lifted p) ≡ sum_by f rows + f row
-  same_at f =
-      let e = sum_by-set f rows p row [] (rw so_far.as_many within) in
-      let e' = rw at at e in
-      subst (λ rs. sum_by f rs + f (row_at lifted p) ≡ sum_by f rows + f row) (sym written) e'
-
-  known_now : (id : ℕ) → has_device id before.devices ≡ true → has_device id now.devices ≡ true
-  known_now id known = subst (λ (ds : List Device). has_device id ds ≡ true)
-      (sym so_far.fills.devices) known
-
-  next_seated : (q : ℕ) → is_among next_done q ≡ true → RowSeated after (row_at old q)
-      (row_at lifted q) (row_at next q)
-  next_seated q done_now = ⊎_elim
-      (λ same. subst (λ k. RowSeated after (row_at old k) (row_at lifted k) (row_at next k))
-      (sym same)
-      (subst (λ r. RowSeated after (row_at old p) (row_at lifted p) r) (sym row_is) placed'.seated))
-      (λ differs. subst (λ r. RowSeated after (row_at old q) (row_at lifted q) r)
-      (sym (other q differs))
-      (row_fills now after fuller (row_at old q) (row_at lifted q) (row_at rows q)
-      (so_far.seated q (one_of (is_among done q) (p == q) (sym (more q) ∙ done_now)
-      (ne_eqb p q (λ e. differs (sym e)))))))
-      (cases_eq q p)
-
-  next_rest : (q : ℕ) → is_among next_done q ≡ false → row_at next q ≡ row_at lifted q
-  next_rest q not_done =
-      let both = either (is_among done q) (p == q) (sym (more q) ∙ not_done) in
-      let ne : q ≢ p = (λ e. let same = eq-eqb p q (sym e) in let no = both.1 in cc (same, no)) in
-      other q ne ∙ so_far.rest q both.0
-
-  pub all_step : AllUpTo next_done before after old lifted next
-  all_step = record {
-    as_many = ap length written ∙ length-set rows p row ∙ so_far.as_many;
-    rest = next_rest;
-    seated = next_seated;
-    within_room = λ id known.
-        let w = want_fills now after fuller id in
-        omega (
-          arith,
-          drawn_next id,
-          placed'.drawn id,
-          so_far.within_room id known,
-          so_far.put id known,
-          w,
-        );
-    put = λ id known. omega (
-      arith,
-      drawn_next id,
-      so_far.put id known,
-      placed'.counts id (known_now id known),
-      row_drawn after.devices (has_free_in after row) id (row_at old p) (row_at lifted p) row
-          placed'.seated.as_many placed'.seated.kept,
-    );
-    counts = λ id known. let c = so_far.counts id known in let k =
-        placed'.counts id (known_now id known) in omega (arith, same_at (seats_on id), c, k);
-    size = let e = same_at (λ row. length row) in let l = placed'.seated.as_many in let s =
-        so_far.size in omega (arith, e, l, s);
-    fills = fills_trans before now after so_far.fills fuller;
-    load = placed'.load;
-  }
-
--- the next of an order
-pub order_step : (count n : ℕ) (order : List ℕ) (before now after : Load) (old lifted rows next :
-    List (List (Option ℕ))) (row : List (Option ℕ)) → IsPermutation (range_with_len 0 count) order →
-    count ≡ length lifted → n < length order → AllUpTo (take n order) before now old lifted rows →
-    length old ≡ length lifted → next ≡ set rows (get_or order n 0) row →
-    RowPlaced now after (row_at old (get_or order n 0)) (row_at rows (get_or order n 0)) row →
-    AllUpTo (take (n + 1) order) before after old lifted next
-order_step count n order before now after old lifted rows next row is all lt so_far as_many written
-    placed =
-    let below = order_below count order is n lt in
-    all_step (take n order) (take (n + 1) order) (get_or order n 0) before now after old lifted rows
-    next so_far (λ q. among_more order n q lt) (order_fresh count order is n lt)
-    as_many (omega (arith, below, all)) row written placed
-
--- the seats of a ring are few
-pub all_fit : (done : List ℕ) (p : ℕ) (before now : Load) (old lifted rows : List (List (Option ℕ)))
-    → AllUpTo done before now old lifted rows → p < length rows →
-    ((id : ℕ) → has_device id before.devices ≡ true → have_in before id ≡ have_on id lifted) →
-    sum_by (λ row. length row) lifted ≤ 81920 →
-    (id : ℕ) → has_device id now.devices ≡ true → have_in now id + length (row_at rows p) <
-    greatest_long
-all_fit done p before now old lifted rows so_far within counts few id known =
-    let known' = subst (λ (ds : List Device). has_device id ds ≡ true) so_far.fills.devices known in
-    omega (
-      arith,
-      so_far.counts id known',
-      counts id known',
-      so_far.size,
-      get_or-le-sum_by (λ (row : List (Option ℕ)). length row) rows p [] within,
-      sum_by-le-sum_by (seats_on id) (λ (row : List (Option ℕ)). length row) rows
-          (λ row. count_by-le-length (is_on (λ e. e == id)) row),
-      few,
-    )
-
-pub all_end : (count n : ℕ) (order : List ℕ) (before now : Load) (old lifted rows : List
-    (List (Option ℕ))) → IsPermutation (range_with_len 0 count) order → count ≡ length lifted →
-    length order ≤ n → AllUpTo (take n order) before now old lifted rows →
-    AllPlaced before now old lifted rows
-all_end count n order before now old lifted rows is all ended so_far =
-    let whole : take n order ≡ order = take_all n order ended in
-    record {
-      as_many = so_far.as_many;
-      seated = λ p lt. so_far.seated p (ap (λ done. is_among done p) whole ∙ order_all count order
-          is p (omega (arith, lt, all)));
-      within_room = so_far.within_room;
-      counts = so_far.counts;
-      fills = so_far.fills;
-    }
-
 -- what isn't open still wants nothing
 pub open_want_fills : (a b : Load) → Fills a b → OpenWant a → OpenWant b
 open_want_fills a b fills closed id shut = want_fills a b fills id ∙ closed id
     (ap (has_open id) (sym fills.devices) ∙ shut)
+
+-- ---- a seat
+
+-- the seats of all partitions are few
+fits : (load : Load) (old rows : List (List (Option ℕ))) (id : ℕ) → CanPlaceAll load old rows →
+    has_device id load.devices ≡ true → have_in load id < greatest_long
+fits load old rows id can known =
+    let counts = can.counts id known in
+    let few = can.few in
+    let on = sum_by-le-sum_by (seats_on id) (λ (row : List (Option ℕ)). length row) rows
+    (λ row. count_by-le-length (is_on (λ e. e == id)) row) in
+    omega (arith, counts, few, on)
+
+-- an empty seat of the partition p goes to the device that is chosen for it
+module _ (now : Load) (old rows : List (List (Option ℕ))) (p n d : ℕ)
+    (can : CanPlaceAll now old rows) (lt : p < length rows)
+    (empty : slice_get (row_at rows p) n ≡ Some None)
+    (chosen : IsChosen now (row_at rows p) (get_or (row_at old p) n None) d)
+    (is_load : IsLoad (load_put now d)) where
+  here : row_at (set rows p (set (row_at rows p) n (Some d))) p ≡ set (row_at rows p) n (Some d)
+  here = get_or-set_same rows p (set (row_at rows p) n (Some d)) [] lt
+
+  there : (q : ℕ) → q ≢ p → row_at (set rows p (set (row_at rows p) n (Some d))) q ≡ row_at rows q
+  there q ne = get_or-set_other rows p q (set (row_at rows p) n (Some d)) [] ne
+
+  count_more : (x : ℕ) → has_device x now.devices ≡ true → have_in (load_put now d) x ≡
+      have_in now x + cond (d == x) 1 0
+  count_more x known = put_more now can.is_load d x chosen.known known
+      (fits now old rows d can chosen.known)
+
+  rows_can : (q : ℕ) → q < length (set rows p (set (row_at rows p) n (Some d))) →
+      CanPlace now.devices (row_at old q) (row_at (set rows p (set (row_at rows p) n (Some d))) q)
+  rows_can q below = elim (cases_eq q p) [
+    | inl same ↦ subst (λ k. CanPlace now.devices (row_at old k)
+        (row_at (set rows p (set (row_at rows p) n (Some d))) k)) (sym same)
+        (subst (λ r. CanPlace now.devices (row_at old p) r) (sym here)
+        (can_next now (row_at old p) (row_at rows p) n d (can.can p lt) empty chosen))
+    | inr other ↦ subst (λ r. CanPlace now.devices (row_at old q) r) (sym (there q other))
+        (can.can q (omega (arith, below, length-set rows p (set (row_at rows p) n (Some d)))))
+  ]
+
+  same_sum : (f : List (Option ℕ) → ℕ) → sum_by f (set rows p (set (row_at rows p) n (Some d))) +
+      f (row_at rows p) ≡ sum_by f rows + f (set (row_at rows p) n (Some d))
+  same_sum f = sum_by-set f rows p (set (row_at rows p) n (Some d)) [] lt
+
+  pub all_can : CanPlaceAll (load_put now d) old (set rows p (set (row_at rows p) n (Some d)))
+  all_can = record {
+    as_many = can.as_many ∙ sym (length-set rows p (set (row_at rows p) n (Some d)));
+    can = rows_can;
+    is_load = is_load;
+    closed = open_want_fills now (load_put now d) (fills_put now d) can.closed;
+    counts = λ x known. let was = can.counts x known in omega (
+      arith,
+      was,
+      count_more x known,
+      same_sum (seats_on x),
+      seats_put (row_at rows p) n d x empty,
+    );
+    few = let few = can.few in omega (
+      arith,
+      few,
+      same_sum (λ row. length row),
+      length-set (row_at rows p) n (Some d),
+    );
+  }
+
+  module _ (before : Load) (lifted : List (List (Option ℕ)))
+      (so_far : SomePlaced before now old lifted rows) where
+    known_now : (x : ℕ) → has_device x before.devices ≡ true → has_device x now.devices ≡ true
+    known_now x known = subst (λ (ds : List Device). has_device x ds ≡ true)
+        (sym so_far.fills.devices) known
+
+    begun : (q : ℕ) → q < length lifted → RowBegun (load_put now d) (row_at old q)
+        (row_at lifted q) (row_at (set rows p (set (row_at rows p) n (Some d))) q)
+    begun q below = elim (cases_eq q p) [
+      | inl same ↦ subst (λ k. RowBegun (load_put now d) (row_at old k) (row_at lifted k)
+          (row_at (set rows p (set (row_at rows p) n (Some d))) k)) (sym same)
+          (subst (λ r. RowBegun (load_put now d) (row_at old p) (row_at lifted p) r) (sym here)
+          (begun_next now (row_at old p) (row_at rows p) n d (can.can p lt) empty chosen
+          (row_at lifted p) (so_far.begun p (let same = so_far.as_many in omega (arith, same, lt)))
+          can.closed))
+      | inr other ↦ subst (λ r. RowBegun (load_put now d) (row_at old q) (row_at lifted q) r)
+          (sym (there q other)) (begun_fills now (load_put now d) (fills_put now d) (row_at old q)
+          (row_at lifted q) (row_at rows q) (so_far.begun q below))
+    ]
+
+    written : (x : ℕ) → drawn now x old lifted (set rows p (set (row_at rows p) n (Some d))) +
+        drawn_in now.devices (has_free_in now (row_at rows p)) x (row_at old p) (row_at lifted p)
+        (row_at rows p) ≡ drawn now x old lifted rows + drawn_in now.devices
+        (has_free_in now (set (row_at rows p) n (Some d))) x (row_at old p) (row_at lifted p)
+        (set (row_at rows p) n (Some d))
+    written x = let as_many = so_far.as_many in let olds = can.as_many in
+        drawn_written now x old lifted rows p (set (row_at rows p) n (Some d))
+        (omega (arith, as_many, olds)) as_many (omega (arith, as_many, lt))
+
+    -- no more takes room, or one more on the device, which had room
+    all_drawn : (x : ℕ) → (drawn (load_put now d) x old lifted
+        (set rows p (set (row_at rows p) n (Some d))) ≤ drawn now x old lifted rows) ⊎ IsRoomTaken
+        now d x (drawn now x old lifted rows) (drawn (load_put now d) x old lifted
+        (set rows p (set (row_at rows p) n (Some d))))
+    all_drawn x =
+        let w = written x in
+        let less = drawn_shrinks now (load_put now d) (fills_put now d) x old lifted
+        (set rows p (set (row_at rows p) n (Some d))) in
+        elim (seat_drawn now (row_at old p) (row_at rows p) n d (can.can p lt) empty chosen
+        (row_at lifted p) (so_far.begun p (let same = so_far.as_many in omega (arith, same, lt)))
+        can.closed x) [
+          | inl none ↦ inl (omega (arith, w, less, none))
+          | inr taken ↦ inr (let one = taken.one in record {
+            same = taken.same;
+            room = taken.room;
+            one = omega (arith, w, less, one);
+          })
+        ]
+
+    all_within : (x : ℕ) → has_device x before.devices ≡ true → drawn (load_put now d) x old lifted
+        (set rows p (set (row_at rows p) n (Some d))) ≤ want_in (load_put now d) x - have_in before
+        x
+    all_within x known =
+        let want = want_fills now (load_put now d) (fills_put now d) x in
+        let within = so_far.within_room x known in
+        let put = so_far.put x known in
+        elim (all_drawn x) [
+          | inl none ↦ omega (arith, want, within, none)
+          | inr taken ↦
+              let room = subst (λ y. have_in now y < want_in now y) taken.same taken.room in
+              let one = taken.one in
+              omega (arith, want, put, room, one)
+        ]
+
+    all_put : (x : ℕ) → has_device x before.devices ≡ true → drawn (load_put now d) x old lifted
+        (set rows p (set (row_at rows p) n (Some d))) + have_in before x ≤ have_in (load_put now d)
+        x
+    all_put x known =
+        let more = count_more x (known_now x known) in
+        let put = so_far.put x known in
+        elim (all_drawn x) [
+          | inl none ↦ omega (arith, more, put, none)
+          | inr taken ↦
+              let is : (d == x) ≡ true = eq-eqb d x taken.same in
+              let more' = rw is at more in
+              let one = taken.one in
+              omega (arith, more', put, one)
+        ]
+
+    all_some : SomePlaced before (load_put now d) old lifted
+        (set rows p (set (row_at rows p) n (Some d)))
+    all_some = record {
+      as_many = length-set rows p (set (row_at rows p) n (Some d)) ∙ so_far.as_many;
+      begun = begun;
+      within_room = all_within;
+      put = all_put;
+      fills = fills_trans before now (load_put now d) so_far.fills (fills_put now d);
+    }
+
+  pub all_keeps : KeepsPlaced now (load_put now d) old rows
+      (set rows p (set (row_at rows p) n (Some d)))
+  all_keeps before lifted so_far = all_some before lifted so_far
+
+  -- of the partition one seat fewer is empty, and of others as many as were
+  pub all_fewer : (q : ℕ) → count_by is_empty (row_at (set rows p (set (row_at rows p) n (Some d)))
+      q) + cond (p == q) 1 0 ≤ count_by is_empty (row_at rows q)
+  all_fewer q = elim (cases_eq p q) [
+    | inl same ↦
+        let is : (p == q) ≡ true = eq-eqb p q same in
+        rw is (subst (λ k. count_by is_empty (row_at (set rows p (set (row_at rows p) n (Some d)))
+        k) + 1 ≤ count_by is_empty (row_at rows k)) same
+        (let less = empty_less now (row_at old p) (row_at rows p) n d (can.can p lt) empty chosen in
+        let same_count = ap (count_by is_empty) here in omega (arith, less, same_count)))
+    | inr other ↦
+        let no : (p == q) ≡ false = ne_eqb p q other in
+        let same_count = ap (count_by is_empty) (there q (λ e. other (sym e))) in
+        rw no (omega (arith, same_count))
+  ]
+
+-- ---- a turn
+
+-- The partitions that were gone through have put a seat each, or had none to put.
+pub record TurnUpTo (done : List ℕ) (load now : Load) (old first rows : List (List (Option ℕ))) :
+    Type 0 where
+  pub as_many : length rows ≡ length first
+  pub can : CanPlaceAll now old rows
+  pub keeps : KeepsPlaced load now old first rows
+  pub fewer : (q : ℕ) → q < length first → count_by is_empty (row_at rows q) ≤ count_by is_empty
+      (row_at first q) - cond (is_among done q) 1 0
+
+pub turn_start : (order : List ℕ) (load : Load) (old first : List (List (Option ℕ))) →
+    CanPlaceAll load old first → TurnUpTo (take 0 order) load load old first first
+turn_start order load old first can = record {
+  as_many = refl;
+  can = can;
+  keeps = λ before lifted so_far. so_far;
+  fewer = λ q lt. omega arith;
+}
+
+one_fewer : (a b : Bool) (now next first : ℕ) → now ≤ first - cond a 1 0 → next + cond b 1 0 ≤ now →
+    next ≤ first - cond (a || b) 1 0
+one_fewer true b now next first h k = omega (arith, h, k)
+one_fewer false true now next first h k = omega (arith, h, k)
+one_fewer false false now next first h k = omega (arith, h, k)
+
+-- the next of an order has an empty seat
+pub turn_put : (n : ℕ) (order : List ℕ) (load now after : Load)
+    (old first rows next : List (List (Option ℕ))) (replica : ℕ) → n < length order →
+    get_or order n 0 < length rows →
+    TurnUpTo (take n order) load now old first rows →
+    slice_get (row_at rows (get_or order n 0)) replica ≡ Some None →
+    IsSeatPut now after old rows next (get_or order n 0) replica → IsLoad after →
+    TurnUpTo (take (n + 1) order) load after old first next
+turn_put n order load now after old first rows next replica lt below so_far empty put loads =
+    let p = get_or order n 0 in
+    let loaded : IsLoad (load_put now put.id) = subst IsLoad put.filled loads in
+    let all : TurnUpTo (take (n + 1) order) load (load_put now put.id) old first
+    (set rows p (set (row_at rows p) replica (Some put.id))) = record {
+      as_many = length-set rows p (set (row_at rows p) replica (Some put.id)) ∙ so_far.as_many;
+      can = all_can now old rows p replica put.id so_far.can below empty put.chosen loaded;
+      keeps = λ before lifted placed. all_keeps now old rows p replica put.id so_far.can below empty
+          put.chosen loaded before lifted (so_far.keeps before lifted placed);
+      fewer = λ q within. subst (λ b. count_by is_empty (row_at
+          (set rows p (set (row_at rows p) replica (Some put.id))) q) ≤ count_by is_empty
+          (row_at first q) - cond b 1 0) (sym (among_more order n q lt))
+          (one_fewer (is_among (take n order) q) (p == q) _ _ _ (so_far.fewer q within)
+          (all_fewer now old rows p replica put.id so_far.can below empty put.chosen loaded q));
+    } in
+    subst (λ rs. TurnUpTo (take (n + 1) order) load after old first rs) (sym put.written)
+    (subst (λ l. TurnUpTo (take (n + 1) order) load l old first
+    (set rows p (set (row_at rows p) replica (Some put.id)))) (sym put.filled) all)
+
+-- or it has none
+pub turn_full : (n : ℕ) (order : List ℕ) (load now : Load)
+    (old first rows : List (List (Option ℕ))) → n < length order →
+    TurnUpTo (take n order) load now old first rows →
+    count_by is_empty (row_at rows (get_or order n 0)) ≡ 0 →
+    TurnUpTo (take (n + 1) order) load now old first rows
+turn_full n order load now old first rows lt so_far full = record {
+  as_many = so_far.as_many;
+  can = so_far.can;
+  keeps = so_far.keeps;
+  fewer = λ q within. subst (λ b. count_by is_empty (row_at rows q) ≤ count_by is_empty
+      (row_at first q) - cond b 1 0) (sym (among_more order n q lt))
+      (elim (cases_eq (get_or order n 0) q) [
+        | inl same ↦ let none : count_by is_empty (row_at rows q) ≡ 0 =
+            subst (λ k. count_by is_empty (row_at rows k) ≡ 0) same full in omega (arith, none)
+        | inr other ↦ one_fewer (is_among (take n order) q) (get_or order n 0 == q) _ _ _
+            (so_far.fewer q within) (let no : (get_or order n 0 == q) ≡ false =
+            ne_eqb (get_or order n 0) q other in rw no (omega arith))
+      ]);
+}
+
+pub turn_end : (count n : ℕ) (order : List ℕ) (load now : Load)
+    (old first rows : List (List (Option ℕ))) → IsPermutation (range_with_len 0 count) order →
+    count ≡ length first → length order ≤ n →
+    TurnUpTo (take n order) load now old first rows → IsTurn load now old first rows
+turn_end count n order load now old first rows is all ended so_far =
+    let whole : take n order ≡ order = take_all n order ended in
+    record {
+      as_many = so_far.as_many;
+      can = so_far.can;
+      keeps = so_far.keeps;
+      fewer = λ q lt. subst (λ b. count_by is_empty (row_at rows q) ≤ count_by is_empty
+          (row_at first q) - cond b 1 0) (ap (λ done. is_among done q) whole ∙ order_all count order
+          is q (omega (arith, lt, all))) (so_far.fewer q lt);
+    }
+
+-- ---- all turns
+
+-- So many turns are run, of as many as a partition has empty seats at most.
+pub record AllUpTo (most turns : ℕ) (before now : Load) (old lifted rows : List (List (Option ℕ))) :
+    Type 0 where
+  pub can : CanPlaceAll now old rows
+  pub some : SomePlaced before now old lifted rows
+  pub fewer : (q : ℕ) → q < length lifted → count_by is_empty (row_at rows q) ≤ most - turns
+
+pub all_start : (most : ℕ) (load : Load) (old lifted : List (List (Option ℕ))) →
+    CanPlaceAll load old lifted →
+    ((q : ℕ) → q < length lifted → count_by is_empty (row_at lifted q) ≤ most) →
+    AllUpTo most 0 load load old lifted lifted
+all_start most load old lifted can empty = record {
+  can = can;
+  some = record {
+    as_many = refl;
+    begun = λ p lt. record {
+      as_many = refl;
+      alone = (can.can p lt).alone;
+      kept = λ replica id at. at;
+      placed = λ replica id up at. absurd (cc (up, at));
+    };
+    within_room = λ id known. rw (drawn_none load id old lifted) (omega arith);
+    put = λ id known. rw (drawn_none load id old lifted) (omega arith);
+    fills = fills_self load;
+  };
+  fewer = λ q lt. omega (arith, empty q lt);
+}
+
+pub all_step : (most turns : ℕ) (before now after : Load) (old lifted rows next : List
+    (List (Option ℕ))) → AllUpTo most turns before now old lifted rows →
+    IsTurn now after old rows next → AllUpTo most (turns + 1) before after old lifted next
+all_step most turns before now after old lifted rows next so_far turn = record {
+  can = turn.can;
+  some = turn.keeps before lifted so_far.some;
+  fewer = λ q lt.
+      let as_many = so_far.some.as_many in
+      let less = turn.fewer q (omega (arith, lt, as_many)) in
+      let was = so_far.fewer q lt in
+      omega (arith, less, was);
+}
+
+-- a partition of which no seat is empty has all lifted seats put
+row_end : (now : Load) (old lifted row : List (Option ℕ)) → RowBegun now old lifted row →
+    CanPlace now.devices old row → count_by is_empty row ≡ 0 → RowSeated now old lifted row
+row_end now old lifted row begun can full = record {
+  as_many = begun.as_many;
+  kept = begun.kept;
+  placed = λ replica up. elim (seat_cases row replica (let within =
+      slice_get_within lifted replica None up in let same = begun.as_many in
+      omega (arith, within, same))) [
+        | inl empty ↦ absurd (let some = some_empty row replica empty in omega (arith, some, full))
+        | inr seat ↦ begun.placed replica seat.0 up seat.1
+      ];
+  distinct = can.distinct;
+  known = can.known;
+}
+
+pub all_end : (most turns : ℕ) (before now : Load) (old lifted rows : List (List (Option ℕ))) →
+    CanPlaceAll before old lifted → most ≤ turns →
+    AllUpTo most turns before now old lifted rows → AllPlaced before now old lifted rows
+all_end most turns before now old lifted rows first ended so_far = record {
+  as_many = so_far.some.as_many;
+  seated = λ p lt. row_end now (row_at old p) (row_at lifted p) (row_at rows p)
+      (so_far.some.begun p lt) (so_far.can.can p (let same = so_far.some.as_many in
+      omega (arith, lt, same))) (let none = so_far.fewer p lt in omega (arith, none, ended));
+  within_room = so_far.some.within_room;
+  counts = λ id known.
+      let was = first.counts id known in
+      let is = so_far.can.counts id (subst (λ (ds : List Device). has_device id ds ≡ true)
+      (sym so_far.some.fills.devices) known) in
+      omega (arith, was, is);
+  fills = so_far.some.fills;
+}

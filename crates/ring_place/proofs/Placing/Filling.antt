@@ -13,10 +13,9 @@ use Rattle.ring_share.specs.Crowd.{crowd, device_by_id, in_region, in_zone, is_l
 use Rattle.ring_share.specs.Crowd.{on_server, others, pass_both, seats_on, tiers_of}
 use Rattle.ring_share.specs.Room.{has_open, place_of}
 use Rattle.ring_share.specs.Want.{is_open}
-use Rattle.ring_place.specs.Load.{Load, has_room_in, have_in, is_free_in, load_put, want_in}
-use Rattle.ring_place.specs.Inner.Placing.{Fills, IsPlaced, MayTakeSeat, RowSeated}
-use Rattle.ring_place.specs.Inner.Gathering.{has_free_in}
-use Rattle.ring_place.specs.Inner.SeatRows.{AreKnown}
+use Rattle.ring_room.specs.Load.{Load, has_room_in, have_in, is_free_in, load_put, want_in}
+use Rattle.ring_place.specs.Inner.Placing.{Fills, IsAlone, IsPlaced, MayTakeSeat, RowBegun}
+use Rattle.ring_room.specs.Free.{has_free_in}
 use Rattle.ring_place.proofs.Placing.SettledSeats.{AreTiers, IsSame}
 
 -- ---- tiers
@@ -256,12 +255,12 @@ placed_fills a b fills old row replica placed = record {
       ];
 }
 
-pub row_fills : (a b : Load) → Fills a b → (old lifted row : List (Option ℕ)) →
-    RowSeated a old lifted row → RowSeated b old lifted row
-row_fills a b fills old lifted row seated = record {
-  as_many = seated.as_many;
-  kept = seated.kept;
-  placed = λ replica up. placed_fills a b fills old row replica (seated.placed replica up);
-  distinct = seated.distinct;
-  known = subst (λ (ds : List Device). AreKnown ds row) (sym fills.devices) seated.known;
+pub begun_fills : (a b : Load) → Fills a b → (old lifted row : List (Option ℕ)) →
+    RowBegun a old lifted row → RowBegun b old lifted row
+begun_fills a b fills old lifted row begun = record {
+  as_many = begun.as_many;
+  alone = subst (λ (ds : List Device). IsAlone ds old lifted) (sym fills.devices) begun.alone;
+  kept = begun.kept;
+  placed = λ replica id up at. placed_fills a b fills old row replica
+      (begun.placed replica id up at);
 }

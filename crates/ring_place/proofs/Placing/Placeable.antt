@@ -21,13 +21,13 @@ use Rattle.ring_share.proofs.Balances.{few_seats}
 use Rattle.ring_share.proofs.Rows.{length-row_of, row_of_at}
 use Rattle.ring_share.proofs.Standing.{found_device, position_or_len_none}
 use Rattle.ring_place.specs.Inner.Gathering.{IsGathered, gathered_in}
-use Rattle.ring_place.specs.Load.{Load, have_in}
+use Rattle.ring_room.specs.Load.{Load, have_in}
 use Rattle.ring_place.specs.Inner.Placing.{AllPlaced, CanPlace, IsAlone, IsLifted, MayTakeSeat}
 use Rattle.ring_place.specs.Inner.Placing.{OpenWant, RowSeated, have_on}
 use Rattle.ring_place.specs.Inner.Finishing.{AreWhole}
 use Rattle.ring_place.specs.Rebalance.{IsSeat, has_lost, is_lost, kept_row}
-use Rattle.ring_place.specs.Inner.SeatRows.{row_at}
-use Rattle.ring_place.proofs.Searching.DevicesAt.{open_at, place_stands}
+use Rattle.ring_place.specs.Made.{row_at}
+use Rattle.ring_room.proofs.Searching.DevicesAt.{open_at, place_stands}
 use Rattle.ring_place.proofs.Placing.Filling.{stands}
 use Rattle.ring_place.proofs.Rows.IndexRanges.{range_get, sum_map}
 

@@ -1,30 +1,22 @@
 -- The places of the devices of a partition's seats.
-use Rattle.std.proofs.Common.{◌≡◌, ◌≢◌, ◌==◌, ℕ, zero, suc, ◌+◌, ◌<◌, ◌≤◌, Bool, true, false, not}
+use Rattle.std.proofs.Common.{◌≡◌, ◌≢◌, ◌==◌, ℕ, zero, suc, ◌+◌, ◌<◌, ◌≤◌, Bool, true}
 use Rattle.ring_words.specs.Limits.{most_replicas}
-use Rattle.std.proofs.Common.{cond, ◌&&◌, All, List, [], ◌∷◌, length, get_or, map, set, take}
+use Rattle.std.proofs.Common.{cond, ◌&&◌, List, [], ◌∷◌, length, get_or, take}
 use Rattle.std.proofs.Common.{count_by, Option, Some, None, IfSome, refl, sym, ap, subst, ◌∙◌}
 use Rattle.std.proofs.Common.{arith}
 use Rattle.std.specs.Prelude.{slice_get}
-use Rattle.std.specs.List.{list_any}
-use Rattle.std.specs.List.Sorted.{IsStrictlyIncreasing}
-use Rattle.std.proofs.lemmas.List.{length-map, map-append, take_more_set}
-use Rattle.std.proofs.lemmas.List.Elements.{All-append, All-cons, All-nil}
-use Rattle.std.proofs.lemmas.List.Sums.{sum_by-append, sum_by-cons}
-use Rattle.std.proofs.lemmas.Option.{slice_get-get_or}
+use Rattle.std.proofs.lemmas.List.Sums.{sum_by-cons}
 use Rattle.ring_model.specs.Ring.{has_present}
 use Rattle.ring_words.specs.declared.device.Device.{Device}
-use Rattle.ring_share.specs.Crowd.{is_less, is_on, is_outside, seats_on, tiers_of}
-use Rattle.ring_share.specs.Want.{is_open}
-use Rattle.ring_place.specs.Load.{Load, crowd_in, has_room_in, is_free_in, seats_of}
-use Rattle.ring_place.specs.Inner.Places.{ArePlacesOf, id_at, seats_at}
+use Rattle.ring_share.specs.Crowd.{is_less, is_on, seats_on, tiers_of}
+use Rattle.ring_room.specs.Load.{Load, crowd_in, has_room_in, is_free_in, seats_of}
+use Rattle.ring_room.specs.Places.{id_at, seats_at}
+use Rattle.ring_room.specs.Inner.Places.{ArePlacesOf}
 use Rattle.ring_place.specs.Inner.Placing.{IsChosen}
-use Rattle.ring_place.specs.Inner.SeatRows.{devices_on, is_empty}
-use Rattle.ring_place.proofs.Searching.DevicesAt.{id_at_is}
-use Rattle.ring_place.proofs.Searching.FreeOutside.{outside_at, seats_first}
-use Rattle.ring_place.proofs.Searching.RoomyPlaces.{places_within}
-use Rattle.ring_place.proofs.Placing.ChosenDevices.{open_among, outside_ids}
-use Rattle.ring_place.proofs.Placing.SettledSeats.{count_put}
-use Rattle.ring_place.proofs.Rows.RowDevices.{count_taken}
+use Rattle.ring_room.specs.Rows.{devices_on, is_empty}
+use Rattle.ring_room.proofs.Searching.FreeOutside.{seats_first}
+use Rattle.ring_room.proofs.Searching.RoomyPlaces.{places_within}
+use Rattle.ring_room.proofs.Searching.RowDevices.{count_taken}
 
 -- ---- what a partition's seats are for a device, those at the places are
 
@@ -74,7 +66,7 @@ apart_alike devices at row None alike apart = tt
 apart_alike devices at row (Some id) alike apart = λ present. alike (λ other. other == id) ∙ apart
     present
 
--- ---- the places of a partition's seats, as seats are put
+-- ---- the places of a partition's seats
 
 pub places_first : (devices : List Device) (row : List (Option ℕ)) (ids places : List ℕ)
     (count : ℕ) → ids ≡ devices_on row → length ids ≡ count → length ids ≤ most_replicas →
@@ -87,31 +79,6 @@ places_first devices row ids places count are counted few long all =
       within = places_within devices ids places few long all;
       alike = λ test. ap (count_by (is_on test)) (seats_first devices ids places few long all ∙ ap
           seats_of are) ∙ count_taken test row;
-    }
-
-one_seat : (test : ℕ → Bool) (id : ℕ) → count_by (is_on test) (Some id ∷ []) ≡ cond (test id) 1 0
-one_seat test id =
-    let one = sum_by-cons (λ (s : Option ℕ). cond (is_on test s) 1 0) (Some id) [] in
-    omega (arith, one)
-
-pub places_more : (devices : List Device) (row : List (Option ℕ)) (places : List ℕ)
-    (count n place : ℕ) → ArePlacesOf devices row (take count places) → count < length places →
-    slice_get row n ≡ Some None → place < length devices
-    → ArePlacesOf devices (set row n (Some (id_at devices place))) (take (count + 1)
-    (set places count place))
-places_more devices row places count n place are within empty there =
-    let id = id_at devices place in
-    subst (λ ps. ArePlacesOf devices (set row n (Some id)) ps)
-    (sym (take_more_set places count place within)) record {
-      within = All-append (λ p. p < length devices) (take count places) (place ∷ []) are.within
-          (All-cons (λ p. p < length devices) place [] there (All-nil (λ p. p < length devices)));
-      alike = λ test.
-          let more = ap (count_by (is_on test)) (map-append (λ p. Some (id_at devices p))
-          (take count places) (place ∷ [])) in
-          let both = sum_by-append (λ (s : Option ℕ). cond (is_on test s) 1 0)
-          (seats_at devices (take count places)) (Some id ∷ []) in
-          let put = count_put test row n id empty in
-          omega (arith, more, both, one_seat test id, are.alike test, put);
     }
 
 -- ---- how many they are
@@ -136,8 +103,8 @@ count_on (Some id ∷ row) =
     let other = sum_by-cons (λ (s : Option ℕ). cond (is_empty s) 1 0) (Some id) row in
     omega (arith, one, other, count_on row)
 
-some_empty : (row : List (Option ℕ)) (n : ℕ) → slice_get row n ≡ Some None → 0 < count_by is_empty
-    row
+pub some_empty : (row : List (Option ℕ)) (n : ℕ) → slice_get row n ≡ Some None →
+    0 < count_by is_empty row
 some_empty [] n empty = absurd (cc)
 some_empty (None ∷ row) zero empty =
     let one = sum_by-cons (λ (s : Option ℕ). cond (is_empty s) 1 0) None row in
@@ -157,35 +124,3 @@ fewer_places devices row places n are empty = omega (
   count_on row,
   some_empty row n empty,
 )
-
--- ---- an open device outside
-
-seats_ids : (devices : List Device) (places : List ℕ) → seats_of (map (id_at devices) places) ≡
-    seats_at devices places
-seats_ids devices [] = refl
-seats_ids devices (place ∷ places) = ap (λ seats. Some (id_at devices place) ∷ seats)
-    (seats_ids devices places)
-
-among_same : (devices : List Device) → IsStrictlyIncreasing (map (λ device. device.id) devices) →
-    (others : List ℕ) (k : ℕ) (x : Device) → All (λ other. other < length devices) others →
-    k < length devices → slice_get devices k ≡ Some x
-    → not (list_any (λ other. other == x.id) (map (id_at devices) others)) ≡ not
-    (list_any (λ other. other == k) others)
-among_same devices rise others k x all lt at =
-    sym (outside_ids (map (id_at devices) others) x.id)
-    ∙ ap (λ seats. is_outside seats x.id) (seats_ids devices others)
-    ∙ ap (is_outside (seats_at devices others)) (sym (id_at_is devices k x at))
-    ∙ outside_at devices rise others k all lt
-
--- where each open device is at one of some places, these are no fewer than the open devices
-pub open_places : (devices : List Device) (others : List ℕ) →
-    IsStrictlyIncreasing (map (λ device. device.id) devices) →
-    All (λ other. other < length devices) others
-    → ((k : ℕ) (x : Device) → k < length devices → (is_open (get_or devices k x) &&
-    not (list_any (λ other. other == k) others)) ≡ false) →
-    count_by is_open devices ≤ length others
-open_places devices others rise all none =
-    let few = open_among devices (map (id_at devices) others) rise (λ k x lt.
-    ap (λ b. is_open (get_or devices k x) && b) (among_same devices rise others k
-    (get_or devices k x) all lt (slice_get-get_or devices k x lt)) ∙ none k x lt) in
-    omega (arith, few, length-map others (id_at devices))

@@ -13,8 +13,8 @@ use Rattle.std.proofs.lemmas.List.Sums.{get_or-le-sum_by, sum_by-cons}
 use Rattle.std.proofs.lemmas.Option.{slice_get-get_or, same_Some}
 use Rattle.ring_words.specs.declared.device.Device.{Device}
 use Rattle.ring_share.specs.Crowd.{is_on, seats_on}
-use Rattle.ring_place.specs.Inner.Gathering.{has_free_in}
-use Rattle.ring_place.specs.Load.{Load}
+use Rattle.ring_room.specs.Free.{has_free_in}
+use Rattle.ring_room.specs.Load.{Load}
 use Rattle.ring_place.specs.Inner.Placing.{drawn, drawn_in, draws}
 
 pub range_get : {X : Type 0} (f : ℕ → X) (n k : ℕ) → k < n → slice_get (map f (range_with_len 0 n))

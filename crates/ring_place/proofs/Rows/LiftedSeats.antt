@@ -6,7 +6,7 @@ use Rattle.std.proofs.lemmas.Bool.{cases_eq}
 use Rattle.std.proofs.lemmas.Option.{same_Some, slice_get-get_or}
 use Rattle.ring_model.specs.Ring.{has_present}
 use Rattle.ring_words.specs.declared.device.Device.{Device}
-use Rattle.ring_place.specs.Inner.SeatRows.{AreKnown}
+use Rattle.ring_room.specs.Rows.{AreKnown}
 use Rattle.ring_place.specs.Inner.Gathering.{present_only}
 use Rattle.ring_place.proofs.Rows.OneWrite.{get_set_other}
 

@@ -3,6 +3,7 @@ use Rattle.std.proofs.Common.{◌≡◌, ◌==◌, ℕ, ◌+◌, ◌<◌, Bool, 
 use Rattle.std.proofs.Common.{length, get_or, take, refl, sym, ap, ◌∙◌, arith}
 use Rattle.std.specs.List.{range_with_len}
 use Rattle.std.specs.List.Sorted.{IsPermutation}
+use Rattle.std.proofs.Math.Seq.{take-length}
 use Rattle.std.proofs.lemmas.Bool.Decides.{nat_tests}
 use Rattle.std.proofs.lemmas.Bool.{eqb-true, ne_eqb}
 use Rattle.std.proofs.lemmas.Grind.{get_or_default_zero}
@@ -91,3 +92,9 @@ among_below count order is n p among =
     let is_found = found.3 in
     let below = order_below count order is found.0 lt in
     omega (arith, read, same, named, is_found, below)
+
+-- so are all of them
+pub order_is_below : (count : ℕ) (order : List ℕ) → IsPermutation (range_with_len 0 count) order →
+    (p : ℕ) → is_among order p ≡ true → p < count
+order_is_below count order is p among = among_below count order is (length order) p
+    (ap (λ done. is_among done p) (take-length order) ∙ among)

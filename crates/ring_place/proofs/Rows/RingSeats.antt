@@ -15,8 +15,9 @@ use Rattle.ring_share.specs.Crowd.{is_on, row_of, rows_of, seats_on}
 use Rattle.ring_share.specs.Room.{have}
 use Rattle.ring_share.proofs.AllSeats.{have_is_rows}
 use Rattle.ring_share.proofs.Rows.{length-row_of, row_of_at}
-use Rattle.ring_place.specs.Load.{Load, IsLoad, have_in}
-use Rattle.ring_place.specs.Inner.SeatRows.{AreKnown, row_at}
+use Rattle.ring_room.specs.Load.{Load, IsLoad, have_in}
+use Rattle.ring_room.specs.Rows.{AreKnown}
+use Rattle.ring_place.specs.Made.{row_at}
 use Rattle.ring_place.specs.Inner.Gathering.{AreRowsOfSeats, IsFilled}
 
 pub length-rows_of : (ring : RingRecord) → length (rows_of ring) ≡ partition_count ring

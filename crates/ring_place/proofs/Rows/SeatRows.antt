@@ -1,21 +1,23 @@
 -- Rows of seats that stand one after another.
 use Rattle.std.proofs.Common.{◌≡◌, ℕ, zero, suc, ◌+◌, ◌-◌, ◌*◌, ◌<◌, ◌≤◌, List, [], ◌∷◌, ◌++◌}
 use Rattle.ring_words.specs.Limits.{most_partitions}
-use Rattle.std.proofs.Common.{length, get_or, take, drop, map, Option, Some, None, refl, sym, ap}
+use Rattle.std.proofs.Common.{length, get_or, take, drop, map, Option, None, refl, sym, ap}
 use Rattle.std.proofs.Common.{◌∙◌, arith}
 use Rattle.std.specs.Prelude.{slice_get, slice_range}
 use Rattle.std.specs.List.{flat_map, range_with_len}
 use Rattle.std.proofs.Math.Nat.{mul-le-mul_right, add-mul}
 use Rattle.std.proofs.Math.Seq.{take-add}
 use Rattle.std.proofs.lemmas.List.{append-nil, append_assoc, get_or-drop, get_or-take, length-drop}
-use Rattle.std.proofs.lemmas.List.{length-take-le, take_all, take_more}
+use Rattle.std.proofs.lemmas.List.{length-take-le, take_all}
 use Rattle.std.proofs.lemmas.List.Elements.{filter_map-append}
 use Rattle.std.proofs.lemmas.List.FromFn.{fill_by_all, get_or-map-range_with_len}
 use Rattle.std.proofs.lemmas.List.FromFn.{length-map-range_with_len, map-range_with_len_more}
 use Rattle.ring_model.specs.Ring.{RingRecord, partition_count, seat}
 use Rattle.ring_share.specs.Crowd.{row_of, rows_of}
 use Rattle.ring_place.specs.Inner.Rows.{rows_in}
-use Rattle.ring_place.specs.Inner.SeatRows.{AreSeatRows, devices_on, row_at}
+use Rattle.ring_place.specs.Inner.SeatRows.{AreSeatRows}
+use Rattle.ring_place.specs.Made.{row_at}
+use Rattle.ring_room.specs.Rows.{devices_on}
 
 -- a partition's seats lie within all seats
 pub row_within : (partitions replicas partition : ℕ) → partition < partitions →
@@ -155,22 +157,3 @@ pub all_devices : (seats : List (Option ℕ)) (partitions replicas : ℕ) →
 all_devices seats partitions replicas long =
     sym (first_rows seats replicas partitions ∙ ap devices_on (take_all (partitions * replicas)
     seats (omega (arith, long))))
-
--- one more seat
-devices_more : (seats : List (Option ℕ)) (i : ℕ) (seat : Option ℕ) → i < length seats →
-    get_or seats i None ≡ seat
-    → devices_on (take (i + 1) seats) ≡ devices_on (take i seats) ++ devices_on (seat ∷ [])
-devices_more seats i seat lt is =
-    ap devices_on (take_more seats i None lt) ∙ filter_map-append (λ (s : Option ℕ). s)
-    (take i seats) (get_or seats i None ∷ []) ∙ ap (λ s. devices_on (take i seats) ++
-    devices_on (s ∷ [])) is
-
-pub devices_more_some : (seats : List (Option ℕ)) (i id : ℕ) → i < length seats →
-    get_or seats i None ≡ Some id → devices_on (take (i + 1) seats) ≡ devices_on (take i seats) ++
-    id ∷ []
-devices_more_some seats i id lt is = devices_more seats i (Some id) lt is
-
-pub devices_more_none : (seats : List (Option ℕ)) (i : ℕ) → i < length seats →
-    get_or seats i None ≡ None → devices_on (take (i + 1) seats) ≡ devices_on (take i seats)
-devices_more_none seats i lt is = devices_more seats i None lt is ∙ append-nil
-    (devices_on (take i seats))

@@ -12,7 +12,8 @@ use Rattle.std.proofs.lemmas.List.{get_or-set_same, get_or-take, get_or_append_l
 use Rattle.std.proofs.lemmas.List.{length-drop, length-set, length-take-le, with_items_is}
 use Rattle.std.proofs.lemmas.Slice.{between-put_mid}
 use Rattle.ring_place.specs.Inner.Rows.{rows_in}
-use Rattle.ring_place.specs.Inner.SeatRows.{AreSeatRows, row_at}
+use Rattle.ring_place.specs.Inner.SeatRows.{AreSeatRows}
+use Rattle.ring_place.specs.Made.{row_at}
 use Rattle.ring_place.proofs.Rows.SeatRows.{length-rows_in, length_part, part_at, row_at-rows_in}
 use Rattle.ring_place.proofs.Rows.SeatRows.{row_within}
 
@@ -47,7 +48,7 @@ module _ (first replicas : ℕ) (seats row : List (Option ℕ)) (within : first 
       ∙ ap (λ (i : ℕ). get_or seats i None) place
 
 -- rows apart have their seats apart
-rows_apart : (replicas one other : ℕ) → one < other → one * replicas + replicas ≤ other * replicas
+pub rows_apart : (replicas one other : ℕ) → one < other → one * replicas + replicas ≤ other * replicas
 rows_apart replicas one other lt =
     let le : (one + 1) * replicas ≤ other * replicas = mul-le-mul_right replicas (omega (arith, lt))
     in

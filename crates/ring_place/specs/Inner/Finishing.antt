@@ -1,27 +1,12 @@
 -- What a rebalance writes of the rows of a ring once their seats are put.
-use Rattle.std.specs.Prelude.{◌≡◌, ℕ, ◌<◌, ◌≤◌, nat_lt, if◌then◌else◌, List, length, map, count_by}
+use Rattle.std.specs.Prelude.{◌≡◌, ℕ, ◌<◌, ◌≤◌, List, length}
 use Rattle.ring_words.specs.Limits.{most_replicas}
-use Rattle.std.specs.Prelude.{sum_by, true, Option, Some, None, slice_get, slice_index_or}
+use Rattle.std.specs.Prelude.{sum_by, true, Option, Some, slice_get}
 use Rattle.std.specs.List.{range_with_len}
 use Rattle.ring_model.specs.Ring.{RingRecord, has_present, partition_count}
 use Rattle.ring_share.specs.Crowd.{seats_on}
-use Rattle.ring_place.specs.Rebalance.{IsSeat, differs}
-use Rattle.ring_place.specs.Inner.SeatRows.{row_at}
-
--- how many seats of a partition differ
-abbrev pub changed_in : List (Option ℕ) → List (Option ℕ) → ℕ
-changed_in old new = count_by (λ replica. differs (slice_index_or old replica None)
-    (slice_index_or new replica None)) (range_with_len 0 (length old))
-
--- the hour of a partition's last move: this one if seats of it differ
-abbrev pub stamped : ℕ → ℕ → Option ℕ → Option ℕ
-stamped hour count before = if nat_lt 0 count then Some hour else before
-
--- the hours of the last moves of all partitions
-abbrev pub stamps : ℕ → List (Option ℕ) → List (List (Option ℕ)) → List (List (Option ℕ)) →
-    List (Option ℕ)
-stamps hour moved old new = map (λ partition. stamped hour (changed_in (row_at old partition)
-    (row_at new partition)) (slice_index_or moved partition None)) (range_with_len 0 (length old))
+use Rattle.ring_place.specs.Rebalance.{IsSeat}
+use Rattle.ring_place.specs.Made.{changed_in, row_at}
 
 -- how many seats of all partitions differ
 abbrev pub changed_over : List (List (Option ℕ)) → List (List (Option ℕ)) → ℕ

@@ -1,7 +1,7 @@
 -- Which seats are gathered: each is lifted, which leaves it empty. Of a partition `old` are the seats
 -- before and `row` or `lifted` those after; `was` is how full the devices are with all seats, and
 -- `kept` how full they are without the lifted ones.
-use Rattle.std.specs.Prelude.{◌≡◌, ℕ, ◌+◌, ◌<◌, ◌≤◌, ◌==◌, ◌&&◌, Bool, not, true, false}
+use Rattle.std.specs.Prelude.{◌≡◌, ℕ, ◌+◌, ◌<◌, ◌≤◌, ◌==◌, Bool, true, false}
 use Rattle.ring_words.specs.Limits.{most_replicas}
 use Rattle.std.specs.Prelude.{if◌then◌else◌, List, length, map, Option, Some, None, slice_get}
 use Rattle.std.specs.Prelude.{slice_index_or, slice_set, sum_by}
@@ -11,38 +11,21 @@ use Rattle.ring_words.specs.declared.device.Device.{Device}
 use Rattle.ring_share.specs.Crowd.{is_less, others, seats_on}
 use Rattle.ring_share.specs.Want.{AreWanted}
 use Rattle.ring_place.specs.declared.gather.Pass.{Pass}
-use Rattle.ring_place.specs.declared.gather.Pass.TheVariants.{First, Second}
-use Rattle.ring_place.specs.Load.{Load, IsLoad, crowd_in, have_in, is_free_in, want_in}
+use Rattle.ring_place.specs.declared.gather.Pass.TheVariants.{First, Apart, Second}
+use Rattle.ring_place.specs.declared.surplus.Gift.{Gift}
+use Rattle.ring_room.specs.Load.{Load, IsLoad, crowd_in, have_in, is_free_in, want_in}
 use Rattle.ring_place.specs.Rebalance.{Gathered, AreReasons, IsLawfulGathering, IsWhole}
 use Rattle.ring_place.specs.Rebalance.{kept_count as kept_by, kept_row}
-use Rattle.ring_place.specs.Inner.SeatRows.{AreKnown, is_empty, row_at}
+use Rattle.ring_room.specs.Rows.{AreKnown, is_empty}
+use Rattle.ring_room.specs.Free.{AreUncrowded, has_free_in, is_crowded_in}
+use Rattle.ring_place.specs.Made.{is_lost_in, row_at}
 
 -- ---- words
-
--- whether a seat is empty, or its device is marked to be removed
-abbrev pub is_lost_in : List Device → Option ℕ → Bool
-is_lost_in devices None = true
-is_lost_in devices (Some id) = not (has_present id devices)
 
 -- the seat, empty if it is lost
 abbrev pub present_only : List Device → Option ℕ → Option ℕ
 present_only devices None = None
 present_only devices (Some id) = if has_present id devices then Some id else None
-
--- whether some device outside a partition has room
-abbrev pub has_free_in : Load → List (Option ℕ) → Bool
-has_free_in load row = list_any (λ device. is_free_in load row device.id) load.devices
-
--- whether some such device is less crowded than the device of a number, where `rest` is the
--- partition without the seat
-abbrev pub has_less_in : Load → List (Option ℕ) → List (Option ℕ) → ℕ → Bool
-has_less_in load row rest id = list_any (λ device. is_free_in load row device.id &&
-    is_less (crowd_in load rest device.id) (crowd_in load rest id)) load.devices
-
--- whether some device outside a partition with room is less crowded than the device of a number for
--- the seat of a replica
-abbrev pub is_crowded_in : Load → List (Option ℕ) → ℕ → ℕ → Bool
-is_crowded_in load row replica id = has_less_in load row (others row replica) id
 
 -- ---- one partition
 
@@ -59,15 +42,48 @@ pub record Takes (before after : Load) (old row : List (Option ℕ)) : Type 0 wh
   pub counts : (id : ℕ) → has_device id before.devices ≡ true → have_in after id + seats_on id old ≡
       have_in before id + seats_on id row
 
--- No device outside with room is less crowded for any seat.
-abbrev pub AreUncrowded : Load → List (Option ℕ) → Type 0
-AreUncrowded was row = (replica id : ℕ) → slice_get row replica ≡ Some (Some id) →
-    is_crowded_in was row replica id ≡ false
-
 -- No seat is on a device that keeps more than it wants.
 abbrev pub HaveNoSurplus : Load → List (Option ℕ) → Type 0
 HaveNoSurplus kept row = (replica id : ℕ) → slice_get row replica ≡ Some (Some id) →
     have_in kept id ≤ want_in kept id
+
+-- A seat on the device of a number can go apart, where `rest` are the other seats of its partition:
+-- some device outside them with room is no more crowded.
+pub record CanGoApart (load : Load) (rest : List (Option ℕ)) (id : ℕ) : Type 0 where
+  pub to : ℕ
+  pub free : is_free_in load rest to ≡ true
+  pub no_more : is_less (crowd_in load rest id) (crowd_in load rest to) ≡ false
+
+-- It can't: each such device is more crowded.
+abbrev pub CannotGoApart : Load → List (Option ℕ) → ℕ → Type 0
+CannotGoApart load rest id = (to : ℕ) → is_free_in load rest to ≡ true →
+    is_less (crowd_in load rest id) (crowd_in load rest to) ≡ true
+
+-- A seat may leave the device of a number in a pass: a device outside with room is less crowded; or
+-- its own keeps more than it wants, and it can go apart; or its own keeps more than it wants.
+abbrev pub MayBeLifted : Pass → Load → Load → List (Option ℕ) → ℕ → ℕ → Type 0
+MayBeLifted First was kept row replica id = is_crowded_in was row replica id ≡ true
+MayBeLifted Apart was kept row replica id = (want_in kept id < have_in kept id) × CanGoApart was
+    (others row replica) id
+MayBeLifted Second was kept row replica id = want_in kept id < have_in kept id
+
+-- It may not.
+abbrev pub MustStay : Pass → Load → Load → List (Option ℕ) → ℕ → ℕ → Type 0
+MustStay First was kept row replica id = is_crowded_in was row replica id ≡ false
+MustStay Apart was kept row replica id = want_in kept id < have_in kept id → CannotGoApart was
+    (others row replica) id
+MustStay Second was kept row replica id = have_in kept id ≤ want_in kept id
+
+-- This seat of a partition may leave its device in a pass.
+pub record IsGift (pass : Pass) (was kept : Load) (row : List (Option ℕ)) (gift : Gift) : Type 0
+  where
+    pub at : slice_get row gift.replica ≡ Some (Some gift.device)
+    pub leaves : MayBeLifted pass was kept row gift.replica gift.device
+
+-- No seat on a device that keeps more than it wants can go apart.
+abbrev pub NoneCanGoApart : Load → Load → List (Option ℕ) → Type 0
+NoneCanGoApart was kept row = (replica id : ℕ) → slice_get row replica ≡ Some (Some id) →
+    want_in kept id < have_in kept id → CannotGoApart was (others row replica) id
 
 -- No device has more seats than before, and none that had all that it wants has fewer than that.
 pub record Falls (before after : Load) : Type 0 where
@@ -87,6 +103,17 @@ pub data IsFirst (was : Load) (locked : Bool) (old row : List (Option ℕ)) : Ty
   -- or none, if it is locked or there is no such seat
   Calm : list_any (is_lost_in was.devices) old ≡ false → row ≡ old →
       (locked ≡ false → AreUncrowded was old) → IsFirst was locked old row
+
+-- What the pass before the second lifts of a partition, `kept` being how full the devices are then.
+pub data IsApart (was kept : Load) (locked : Bool) (old row : List (Option ℕ)) : Type 0 where
+  -- one seat of a device that keeps all that it wants, which can go apart, if none was lifted, it
+  -- isn't locked and a device outside has room
+  Goes : list_any is_empty old ≡ false → locked ≡ false → (replica id : ℕ) →
+      Lifts old row replica id → has_free_in was old ≡ true → CanGoApart was (others old replica) id
+      → want_in kept id ≤ have_in kept id → IsApart was kept locked old row
+  -- or none, if no seat on a device that keeps more than it wants can go apart
+  Rests : row ≡ old → (list_any is_empty old ≡ false → locked ≡ false → has_free_in was old ≡ true
+      → NoneCanGoApart was kept old) → IsApart was kept locked old row
 
 -- What the second pass lifts of a partition, `kept` being how full the devices are then.
 pub data IsSecond (was kept : Load) (locked : Bool) (old row : List (Option ℕ)) : Type 0 where
@@ -123,6 +150,7 @@ is_among done partition = list_any (λ other. other == partition) done
 -- What a pass lifts of a partition.
 abbrev pub IsLifting : Pass → Load → Load → Bool → List (Option ℕ) → List (Option ℕ) → Type 0
 IsLifting First was kept locked old row = IsFirst was locked old row
+IsLifting Apart was kept locked old row = IsApart was kept locked old row
 IsLifting Second was kept locked old row = IsSecond was kept locked old row
 
 -- A pass has gone through these partitions.
@@ -136,7 +164,7 @@ pub record IsPass (pass : Pass) (done : List ℕ) (was kept : Load) (locked : Li
       (row_at rows partition)
   pub filled : IsFilled kept was.devices was.wanted rows
 
--- ---- what both passes gather of a ring
+-- ---- what all passes gather of a ring
 
 -- whether a seat is empty in these rows
 abbrev pub gathered_in : List (List (Option ℕ)) → Gathered

@@ -3,17 +3,17 @@
 use Rattle.std.specs.Prelude.{◌≡◌, ◌≢◌, ◌==◌, ℕ, ◌+◌, ◌-◌, ◌<◌, ◌≤◌, Bool, true, false, ◌&&◌, ◌||◌}
 use Rattle.ring_words.specs.Limits.{most_replicas}
 use Rattle.std.specs.Prelude.{◌⊎◌, if◌then◌else◌, List, ◌∷◌, length, Option, Some, None, IfSome}
-use Rattle.std.specs.Prelude.{slice_get, count_by, sum_by}
+use Rattle.std.specs.Prelude.{slice_get, slice_index_or, slice_set, count_by, sum_by}
 use Rattle.ring_model.specs.Ring.{has_device, has_present}
 use Rattle.ring_words.specs.declared.device.Device.{Device}
 use Rattle.ring_share.specs.Crowd.{is_less, is_on, others, seats_on}
 use Rattle.ring_share.specs.Room.{has_open}
 use Rattle.ring_share.specs.Want.{is_open}
-use Rattle.ring_place.specs.Load.{Load, IsLoad, have_in, want_in, is_free_in, crowd_in}
+use Rattle.ring_room.specs.Load.{Load, IsLoad, have_in, want_in, is_free_in, crowd_in, load_put}
 use Rattle.ring_place.specs.Rebalance.{differs}
-use Rattle.ring_place.specs.Inner.SeatRows.{row_at}
-use Rattle.ring_place.specs.Inner.Gathering.{has_free_in}
-use Rattle.ring_place.specs.Inner.SeatRows.{AreKnown}
+use Rattle.ring_place.specs.Made.{row_at}
+use Rattle.ring_room.specs.Free.{has_free_in}
+use Rattle.ring_room.specs.Rows.{AreKnown, is_empty}
 
 -- A device that isn't open wants nothing.
 abbrev pub OpenWant : Load → Type 0
@@ -129,15 +129,14 @@ pub record RowSeated (after : Load) (old lifted row : List (Option ℕ)) : Type 
   pub distinct : (id : ℕ) → seats_on id row ≤ 1
   pub known : AreKnown after.devices row
 
--- So they are, within the room that there was before, and they are counted.
-pub record RowPlaced (before after : Load) (old lifted row : List (Option ℕ)) : Type 0 where
-  pub seated : RowSeated after old lifted row
-  pub drawn : (id : ℕ) → drawn_in after.devices (has_free_in after row) id old lifted row ≤ want_in
-      after id - have_in before id
-  pub counts : (id : ℕ) → has_device id before.devices ≡ true → have_in after id + seats_on id
-      lifted ≡ have_in before id + seats_on id row
-  pub fills : Fills before after
-  pub load : IsLoad after
+-- Some of the lifted seats of a partition are put.
+pub record RowBegun (now : Load) (old lifted row : List (Option ℕ)) : Type 0 where
+  pub as_many : length row ≡ length lifted
+  pub alone : IsAlone now.devices old lifted
+  pub kept : (replica id : ℕ) → slice_get lifted replica ≡ Some (Some id) →
+      slice_get row replica ≡ Some (Some id)
+  pub placed : (replica id : ℕ) → IsLifted lifted replica → slice_get row replica ≡ Some (Some id) →
+      IsPlaced now old row replica
 
 -- ---- all partitions
 
@@ -163,3 +162,51 @@ pub record AllPlaced (before after : Load) (old lifted rows : List (List (Option
   pub counts : (id : ℕ) → has_device id before.devices ≡ true → have_in after id + have_on id lifted
       ≡ have_in before id + have_on id rows
   pub fills : Fills before after
+
+-- Some of the lifted seats of partitions are put, within the room that there was before.
+pub record SomePlaced (before now : Load) (old lifted rows : List (List (Option ℕ))) : Type 0 where
+  pub as_many : length rows ≡ length lifted
+  pub begun : (partition : ℕ) → partition < length lifted → RowBegun now (row_at old partition)
+      (row_at lifted partition) (row_at rows partition)
+  pub within_room : (id : ℕ) → has_device id before.devices ≡ true → drawn now id old lifted rows ≤
+      want_in now id - have_in before id
+  -- what takes room has been put
+  pub put : (id : ℕ) → has_device id before.devices ≡ true → drawn now id old lifted rows + have_in
+      before id ≤ have_in now id
+  pub fills : Fills before now
+
+-- ---- turns
+
+-- The empty seats of all partitions can be put, and the devices have the seats that are on them.
+pub record CanPlaceAll (load : Load) (old rows : List (List (Option ℕ))) : Type 0 where
+  pub as_many : length old ≡ length rows
+  pub can : (partition : ℕ) → partition < length rows → CanPlace load.devices (row_at old partition)
+      (row_at rows partition)
+  pub is_load : IsLoad load
+  pub closed : OpenWant load
+  pub counts : (id : ℕ) → has_device id load.devices ≡ true → have_in load id ≡ have_on id rows
+  pub few : sum_by (λ row. length row) rows ≤ 81920
+
+-- An empty seat of a partition is put on a device that is chosen for it.
+pub record IsSeatPut (load after : Load) (old rows next : List (List (Option ℕ)))
+    (partition replica : ℕ) : Type 0 where
+  pub id : ℕ
+  pub chosen : IsChosen load (row_at rows partition) (slice_index_or (row_at old partition) replica
+      None) id
+  pub filled : after ≡ load_put load id
+  pub written : next ≡ slice_set rows partition (slice_set (row_at rows partition) replica
+      (Some id))
+
+-- What was put earlier stays as good, and within the room that there was before any was put.
+abbrev pub KeepsPlaced : Load → Load → List (List (Option ℕ)) → List (List (Option ℕ)) →
+    List (List (Option ℕ)) → Type 0
+KeepsPlaced load after old rows next = (before : Load) (lifted : List (List (Option ℕ))) →
+    SomePlaced before load old lifted rows → SomePlaced before after old lifted next
+
+-- Each partition that has an empty seat puts one, and what was put earlier stays as good.
+pub record IsTurn (load after : Load) (old rows next : List (List (Option ℕ))) : Type 0 where
+  pub as_many : length next ≡ length rows
+  pub can : CanPlaceAll after old next
+  pub keeps : KeepsPlaced load after old rows next
+  pub fewer : (partition : ℕ) → partition < length rows → count_by is_empty
+      (row_at next partition) ≤ count_by is_empty (row_at rows partition) - 1

@@ -1,12 +1,17 @@
-use Rattle.std.proofs.Common.{◌≡◌, ◌∙◌, sym, ap, subst, refl, arith, map, true}
+use Rattle.std.proofs.Common.{◌≡◌, ◌∙◌, sym, ap, refl, arith, map, true}
 use Rattle.std.specs.List.{list_any}
 use Rattle.ring_model.specs.Ring.{has_device}
-use Rattle.ring_place.specs.Load.{load_take}
-use Rattle.ring_place.specs.Inner.Gathering.{Calm, Crowded, LostFirst, Takes, is_lost_in}
+use Rattle.ring_place.specs.Inner.Gathering.{Calm, Crowded, LostFirst}
+use Rattle.ring_place.specs.Made.{is_lost_in}
 use Rattle.ring_place.specs.Inner.Gathering.{present_only}
 use Rattle.ring_place.proofs.Gathering.BothPasses.{none_empty}
-use Rattle.ring_place.proofs.Searching.LessCrowded.{one_here}
-use Rattle.ring_place.proofs.Gathering.TakenSeats.{takes_none, takes_seat}
+use Rattle.ring_room.proofs.Searching.LessCrowded.{one_here}
+use Rattle.ring_place.proofs.Gathering.TakenSeats.{takes_one}
+use Rattle.ring_place.specs.Made.{best_seat, lifted_at}
+use Rattle.ring_place.proofs.Gathering.ByName.{first_at, first_locked, first_lost, lifted_none}
+use Rattle.ring_place.proofs.Gathering.ByName.{lifted_some}
+use Rattle.ring_place.proofs.Gathering.BestSeats.{none_crowded}
+use Rattle.ring_place.specs.declared.gather.Pass.TheVariants.{First}
 use Rattle.ring_place.proofs.gather.gather_first.Goals as goal
 use
     Rattle.ring_place.proofs.gather.gather_first.Goals.{else-not-locked-via-then-not-locked+else-not-is_calm, else-not-locked-via-else-not-locked}
@@ -31,16 +36,14 @@ returns-in-Some-clause-takes c =
     let found = c.in-Some.ensures.some in
     let known : has_device c.in-Some.device before.devices ≡ true = ap (has_device c.in-Some.device)
     c.requires.same ∙ c.requires.row found.0 c.in-Some.device found.1.at in
-    subst (λ k. Takes before k row c.lift_crowded.new.row) (sym c.take.ensures)
-    (subst (λ r. Takes before (load_take before c.in-Some.device) row r) (sym found.1.lifted)
-    (takes_seat before before row row found.0 c.in-Some.device
-    (takes_none before row c.requires.load) known
+    takes_one before c.take.new.self row c.lift_best.new.row found.0 c.in-Some.device
+    c.requires.load known
     (omega (
       arith,
       one_here row found.0 c.in-Some.device found.1.at,
       c.requires.has c.in-Some.device
           known,
-    )) found.1.at))
+    )) found.1 c.take.ensures
 
 pub returns-in_default-clause-first : goal.returns-in_default-clause-first
 returns-in_default-clause-first c =
@@ -61,3 +64,30 @@ returns-else-not-locked-clause-first c =
           w.if-not-is_calm.false
       | else-not-locked-via-else-not-locked w ↦ absurd (cc (unlocked, w.if-not-locked.false))
     ])
+
+pub returns-then-has_lost-clause-by_name : goal.returns-then-has_lost-clause-by_name
+returns-then-has_lost-clause-by_name c = c.lift_lost.ensures.by_name ∙ first_lost c.args.was.now c.args.kept.now c.args.locked c.args.row.now
+    (sym c.has_lost.ensures ∙ c.if-has_lost.true)
+
+pub returns-in-Some-clause-by_name : goal.returns-in-Some-clause-by_name
+returns-in-Some-clause-by_name c = lifted_some c.args.kept.now _ c.args.row.now _
+    (best_seat First c.args.was.now c.args.kept.now c.args.row.now) c.in-Some.device (sym c.in-Some.is ∙ c.lift_best.ensures.device)
+    c.lift_best.ensures.left c.take.ensures
+    ∙ first_at c.args.was.now c.args.kept.now c.args.locked c.args.row.now (sym c.has_lost.ensures ∙ c.if-has_lost.false) c.if-not-locked.true
+
+pub returns-in_default-clause-by_name : goal.returns-in_default-clause-by_name
+returns-in_default-clause-by_name c = lifted_none c.args.kept.now c.args.row.now _
+    (best_seat First c.args.was.now c.args.kept.now c.args.row.now) (sym c.in_default.is ∙ c.lift_best.ensures.device)
+    c.lift_best.ensures.left
+    ∙ first_at c.args.was.now c.args.kept.now c.args.locked c.args.row.now (sym c.has_lost.ensures ∙ c.if-has_lost.false) c.if-not-locked.true
+
+pub returns-else-not-locked-clause-by_name : goal.returns-else-not-locked-clause-by_name
+returns-else-not-locked-clause-by_name c = elim c.else-not-locked.branch [
+  | else-not-locked-via-then-not-locked+else-not-is_calm w ↦
+      ap (lifted_at c.args.kept.now c.args.row.now)
+      (none_crowded c.args.was.now c.args.kept.now c.args.row.now
+      (λ k lt id at. w.is_calm.ensures w.if-not-is_calm.false k id at))
+      ∙ first_at c.args.was.now c.args.kept.now c.args.locked c.args.row.now (sym c.has_lost.ensures ∙ c.if-has_lost.false) w.if-not-locked.true
+  | else-not-locked-via-else-not-locked w ↦ first_locked c.args.was.now c.args.kept.now c.args.locked c.args.row.now
+      (sym c.has_lost.ensures ∙ c.if-has_lost.false) w.if-not-locked.false
+]

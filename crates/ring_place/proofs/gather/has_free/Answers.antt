@@ -1,9 +1,9 @@
 use Rattle.std.proofs.Common.{List, ℕ, ap, ◌∙◌}
-use Rattle.ring_place.specs.Inner.Gathering.{has_free_in}
-use Rattle.ring_place.specs.Load.{is_free_in, seats_of}
-use Rattle.ring_place.specs.Inner.SeatRows.{devices_on}
-use Rattle.ring_place.proofs.Searching.LessCrowded.{list_any_agree}
-use Rattle.ring_place.proofs.Rows.RowDevices.{free_taken}
+use Rattle.ring_room.specs.Free.{has_free_in}
+use Rattle.ring_room.specs.Load.{is_free_in, seats_of}
+use Rattle.ring_room.specs.Rows.{devices_on}
+use Rattle.ring_room.proofs.Searching.LessCrowded.{list_any_agree}
+use Rattle.ring_room.proofs.Searching.RowDevices.{free_taken}
 use Rattle.ring_place.proofs.gather.has_free.Goals as goal
 
 pub returns : goal.returns

@@ -1,6 +1,6 @@
 use Rattle.std.proofs.Common.{◌≡◌, false, take}
 use Rattle.std.specs.List.{list_any}
-use Rattle.ring_place.specs.Inner.Gathering.{is_lost_in}
+use Rattle.ring_place.specs.Made.{is_lost_in}
 use Rattle.ring_place.proofs.gather.has_lost.Given as goal
 
 -- none so far

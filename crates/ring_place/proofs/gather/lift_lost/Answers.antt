@@ -2,12 +2,16 @@ use Rattle.std.proofs.Common.{◌≡◌, ◌∙◌, sym, ap, subst, refl, ◌<�
 use Rattle.std.proofs.Common.{true}
 use Rattle.ring_model.specs.Ring.{has_device, has_present}
 use Rattle.ring_share.specs.Crowd.{seats_on}
-use Rattle.ring_place.specs.Load.{have_in, load_take}
+use Rattle.ring_room.specs.Load.{have_in, load_take}
 use Rattle.ring_place.specs.Inner.Gathering.{Takes, present_only}
 use Rattle.ring_place.proofs.Rows.LiftedSeats.{kept_present, lost_absent, seat_at}
-use Rattle.ring_place.proofs.Searching.LessCrowded.{one_here}
+use Rattle.ring_room.proofs.Searching.LessCrowded.{one_here}
 use Rattle.ring_place.proofs.Rows.RowFronts.{front_all, front_lift, front_old, front_skip}
 use Rattle.ring_place.proofs.Gathering.TakenSeats.{has_taken, takes_seat}
+use Rattle.std.proofs.Common.{length}
+use Rattle.ring_place.specs.Made.{lose_seat}
+use Rattle.ring_place.proofs.Gathering.ByName.{lose_gone, lose_none, lose_stays}
+use Rattle.ring_room.proofs.Steps.{steps_end, steps_more}
 use Rattle.ring_place.proofs.gather.lift_lost.Goals as goal
 use Rattle.ring_place.proofs.gather.lift_lost.Goals.{in-Some+then-not-is_present}
 use Rattle.ring_place.proofs.gather.lift_lost.Goals.{in-Some+else-not-is_present, in_default}
@@ -50,6 +54,11 @@ loop-replica-preserved c = elim c.match-row-replica.branch [
       let kept_is : c.match-row-replica.kept ≡ load_take left w.in-Some.device =
       w.kept-is ∙ w.take.ensures in
       record {
+        by_name = steps_more lose_seat c.loop-replica.replica (record { load = c.args.kept.now; row = c.args.row.now })
+            (record { load = c.loop-replica.kept; row = c.loop-replica.row }) _ inv.by_name
+            (ap (λ k. record { load = k; row = c.match-row-replica.row }) kept_is
+            ∙ ap (λ r. record { load = load_take left w.in-Some.device; row = r }) w.row-is
+            ∙ lose_gone replica w.in-Some.device (record { load = c.loop-replica.kept; row = c.loop-replica.row }) w.in-Some.is (sym w.is_present.ensures ∙ w.if-not-is_present.true));
         row = w.row-is ∙ front_lift row c.args.row.now replica (present_only before.devices)
             (Some w.in-Some.device) None inv.row at (lost_absent before.devices w.in-Some.device
             absent);
@@ -76,6 +85,11 @@ loop-replica-preserved c = elim c.match-row-replica.branch [
       ap (has_present w.in-Some.device) (sym inv.takes.devices) ∙ sym w.is_present.ensures ∙
       w.if-not-is_present.false in
       record {
+        by_name = steps_more lose_seat c.loop-replica.replica (record { load = c.args.kept.now; row = c.args.row.now })
+            (record { load = c.loop-replica.kept; row = c.loop-replica.row }) _ inv.by_name
+            (ap (λ k. record { load = k; row = c.match-row-replica.row }) w.kept-is
+            ∙ ap (λ r. record { load = c.loop-replica.kept; row = r }) w.row-is
+            ∙ lose_stays replica w.in-Some.device (record { load = c.loop-replica.kept; row = c.loop-replica.row }) w.in-Some.is (sym w.is_present.ensures ∙ w.if-not-is_present.false));
         row = w.row-is ∙ front_skip row c.args.row.now replica (present_only before.devices)
             (Some w.in-Some.device) inv.row at (kept_present before.devices w.in-Some.device
             present);
@@ -93,6 +107,11 @@ loop-replica-preserved c = elim c.match-row-replica.branch [
       let inv = c.loop-replica.invariant in
       let at = seat_at row replica None (omega arith) w.in_default.is in
       record {
+        by_name = steps_more lose_seat c.loop-replica.replica (record { load = c.args.kept.now; row = c.args.row.now })
+            (record { load = c.loop-replica.kept; row = c.loop-replica.row }) _ inv.by_name
+            (ap (λ k. record { load = k; row = c.match-row-replica.row }) w.kept-is
+            ∙ ap (λ r. record { load = c.loop-replica.kept; row = r }) w.row-is
+            ∙ lose_none replica (record { load = c.loop-replica.kept; row = c.loop-replica.row }) w.in_default.is);
         row = w.row-is ∙ front_skip row c.args.row.now replica (present_only before.devices) None
             inv.row at refl;
         takes = subst (λ k. Takes before k c.args.row.now c.match-row-replica.row) (sym w.kept-is)
@@ -107,3 +126,8 @@ loop-replica-preserved c = elim c.match-row-replica.branch [
 pub returns-clause-row : goal.returns-clause-row
 returns-clause-row c = c.loop-replica.invariant.row ∙ front_all c.loop-replica.replica
     (present_only c.args.kept.now.devices) c.args.row.now (omega arith)
+
+pub returns-clause-by_name : goal.returns-clause-by_name
+returns-clause-by_name c = steps_end lose_seat c.loop-replica.replica (length c.args.row.now)
+    (record { load = c.args.kept.now; row = c.args.row.now })
+    (record { load = c.loop-replica.kept; row = c.loop-replica.row }) c.loop-replica.invariant.by_name (omega arith)

@@ -1,4 +1,7 @@
-use Rattle.std.proofs.Common.{◌∙◌}
+use Rattle.std.proofs.Common.{◌∙◌, ap, length, arith}
+use Rattle.std.specs.List.{swap}
+use Rattle.ring_place.specs.Made.{swap_at}
+use Rattle.ring_room.proofs.Steps.{steps_end, steps_more}
 use Rattle.std.proofs.lemmas.List.Sorted.{IsPermutation-trans}
 use Rattle.ring_place.proofs.order.shuffle.Goals as goal
 
@@ -7,4 +10,14 @@ loop-place-preserved c = record {
   long = c.swap.ensures.len ∙ c.loop-place.invariant.long;
   moved = IsPermutation-trans c.args.numbers.now c.loop-place.numbers c.swap.new.self
       c.loop-place.invariant.moved c.swap.ensures.permutation;
+  by_name = steps_more swap_at c.loop-place.place (c.args.numbers.now, c.args.draws.now)
+      (c.loop-place.numbers, c.loop-place.draws) (c.swap.new.self, c.draw_below-other.new.draws)
+      c.loop-place.invariant.by_name
+      (ap (λ xs. (xs, c.draw_below-other.new.draws)) c.swap.ensures.after
+      ∙ ap (λ p. (swap c.loop-place.numbers c.loop-place.place p.0, p.1)) c.draw_below-other.ensures.drawn);
 }
+
+pub returns-clause-by_name : goal.returns-clause-by_name
+returns-clause-by_name c = steps_end swap_at c.loop-place.place (length c.args.numbers.now)
+    (c.args.numbers.now, c.args.draws.now) (c.loop-place.numbers, c.loop-place.draws)
+    c.loop-place.invariant.by_name (omega arith)

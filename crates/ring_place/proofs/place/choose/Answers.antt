@@ -2,7 +2,7 @@ use Rattle.std.proofs.Common.{◌≡◌, ℕ, false, sym, subst, ◌∙◌, List
 use Rattle.std.proofs.lemmas.Option.{same_Some}
 use Rattle.ring_model.specs.Ring.{has_present}
 use Rattle.ring_words.specs.declared.device.Device.{Device}
-use Rattle.ring_place.specs.Inner.Places.{id_at, seats_at}
+use Rattle.ring_room.specs.Places.{id_at, seats_at}
 use Rattle.ring_place.proofs.Placing.ChosenDevices.{chosen_least, chosen_open}
 use Rattle.ring_place.proofs.place.choose.Goals as goal
 use Rattle.ring_place.proofs.place.choose.Goals.{in-Some-own+else-is_present, in_default-own}

@@ -1,127 +1,63 @@
-use Rattle.std.proofs.Common.{◌≡◌, ◌<◌, ◌+◌, ℕ, List, Option, true, [], get_or, length, take, sym, arith}
-use Rattle.ring_words.specs.Limits.{greatest_long}
-use Rattle.std.proofs.lemmas.Grind.{common_steps}
-use Rattle.std.proofs.Common.{ap, subst, ◌∙◌, arith}
-use Rattle.std.specs.List.{list_any}
-use Rattle.std.proofs.lemmas.List.{set-get_or}
-use Rattle.ring_model.specs.Ring.{has_device}
-use Rattle.ring_words.specs.declared.device.Device.{Device}
-use Rattle.ring_place.specs.Load.{have_in}
-use Rattle.ring_place.specs.Inner.Placing.{CanPlace, RowPlaced}
-use Rattle.ring_place.specs.Inner.SeatRows.{is_empty, row_at}
-use Rattle.ring_place.proofs.Placing.RowSteps.{row_untouched}
-use Rattle.ring_place.proofs.Placing.AllSteps.{all_end, all_fit, all_start, open_want_fills}
-use Rattle.ring_place.proofs.Placing.AllSteps.{order_step}
-use Rattle.ring_place.proofs.Rows.PartitionOrders.{order_below, order_fresh}
+use Rattle.std.proofs.Common.{ℕ, sym, subst, arith}
+use Rattle.std.specs.List.{range_with_len}
+use Rattle.std.specs.List.Sorted.{IsPermutation}
+use Rattle.ring_place.specs.Made.{most_empty, turn_at}
+use Rattle.ring_room.proofs.Steps.{steps_end, steps_more, steps_none}
+use Rattle.ring_place.proofs.Placing.AllSteps.{all_end, all_start, all_step}
 use Rattle.ring_place.proofs.place.place_all.Goals as goal
 
-pub loop-partition-init : goal.loop-partition-init
-loop-partition-init c = all_start c.args.room.now c.args.order.now c.args.old.now c.args.seats.now
-    c.requires.load
+pub loop-turn-init : goal.loop-turn-init
+loop-turn-init c = record {
+  all = all_start (most_empty c.args.seats.now) c.args.room.now c.args.old.now c.args.seats.now
+      (record {
+        as_many = c.requires.as_many;
+        can = c.requires.rows;
+        is_load = c.requires.load;
+        closed = c.requires.closed;
+        counts = c.requires.counts;
+        few = c.requires.few;
+      }) (λ q lt. let most = c.most_empty-turns.ensures.most q lt in
+      let named = c.most_empty-turns.ensures.by_name in omega (arith, most, named));
+  by_name = steps_none (turn_at c.args.order.now c.args.old.now)
+      (record { load = c.args.room.now; rows = c.args.seats.now; draws = c.args.draws.now });
+}
 
-pub row-row-requires : goal.row-row-requires
-row-row-requires c =
-    let n = c.loop-partition.partition-index in
-    let below = order_below (length c.args.seats.now) c.args.order.now c.requires.order n
-    (omega arith) in
-    omega (arith, below, c.loop-partition.invariant.as_many)
+pub place_turn-requires-clause-order : goal.place_turn-requires-clause-order
+place_turn-requires-clause-order c =
+    subst (λ (n : ℕ). IsPermutation (range_with_len 0 n) c.args.order.now)
+    (sym c.loop-turn.invariant.all.some.as_many) c.requires.order
 
-pub row-requires : goal.row-requires
-row-requires c =
-    let n = c.loop-partition.partition-index in
-    let below = order_below (length c.args.seats.now) c.args.order.now c.requires.order n
-    (omega arith) in
-    omega (arith, below, c.requires.as_many)
+pub place_turn-requires-clause-can : goal.place_turn-requires-clause-can
+place_turn-requires-clause-can c = c.loop-turn.invariant.all.can
 
-pub place_row-requires-clause-rows : goal.place_row-requires-clause-rows
-place_row-requires-clause-rows c =
-    let n = c.loop-partition.partition-index in
-    let p = get_or c.args.order.now n 0 in
-    let below = order_below (length c.args.seats.now) c.args.order.now c.requires.order n
-    (omega arith) in
-    let fresh = order_fresh (length c.args.seats.now) c.args.order.now c.requires.order n
-    (omega arith) in
-    let read = c.row_copy-count.ensures.row ∙ c.row-row.ensures ∙ c.loop-partition.invariant.rest p
-    fresh in
-    subst (λ (ds : List Device). CanPlace ds c.row.result.now (take c.row_copy-count.result.1
-    c.row_copy-count.result.0)) (sym c.loop-partition.invariant.fills.devices)
-    (subst (λ r. CanPlace c.args.room.now.devices r (take c.row_copy-count.result.1
-    c.row_copy-count.result.0)) (sym c.row.ensures)
-    (subst (λ r. CanPlace c.args.room.now.devices (row_at c.args.old.now p) r) (sym read)
-    (c.requires.rows p below)))
+pub loop-turn-preserved : goal.loop-turn-preserved
+loop-turn-preserved c = record {
+  all = all_step (most_empty c.args.seats.now) c.loop-turn._turn c.args.room.now
+      c.loop-turn.room c.place_turn.new.room c.args.old.now c.args.seats.now c.loop-turn.seats
+      c.place_turn.new.seats
+      c.loop-turn.invariant.all c.place_turn.ensures.turn;
+  by_name = steps_more (turn_at c.args.order.now c.args.old.now) c.loop-turn._turn
+      (record { load = c.args.room.now; rows = c.args.seats.now; draws = c.args.draws.now })
+      (record { load = c.loop-turn.room; rows = c.loop-turn.seats; draws = c.loop-turn.draws }) _
+      c.loop-turn.invariant.by_name c.place_turn.ensures.by_name;
+}
 
-pub place_row-requires-clause-closed : goal.place_row-requires-clause-closed
-place_row-requires-clause-closed c = open_want_fills c.args.room.now c.loop-partition.room
-    c.loop-partition.invariant.fills c.requires.closed
+pub returns-clause-placed : goal.returns-clause-placed
+returns-clause-placed c = all_end (most_empty c.args.seats.now) c.loop-turn._turn
+    c.args.room.now c.loop-turn.room c.args.old.now c.args.seats.now c.loop-turn.seats (record {
+      as_many = c.requires.as_many;
+      can = c.requires.rows;
+      is_load = c.requires.load;
+      closed = c.requires.closed;
+      counts = c.requires.counts;
+      few = c.requires.few;
+    }) (let named = c.most_empty-turns.ensures.by_name in omega (arith, named))
+    c.loop-turn.invariant.all
 
-pub place_row-requires-clause-fits : goal.place_row-requires-clause-fits
-place_row-requires-clause-fits c =
-    let n = c.loop-partition.partition-index in
-    let p = get_or c.args.order.now n 0 in
-    let below = order_below (length c.args.seats.now) c.args.order.now c.requires.order n
-    (omega arith) in
-    let read = c.row_copy-count.ensures.row ∙ c.row-row.ensures in
-    subst (λ (r : List (Option ℕ)). (id : ℕ) → has_device id c.loop-partition.room.devices ≡ true →
-    have_in c.loop-partition.room id + length r < greatest_long) (sym read)
-    (all_fit _ p c.args.room.now c.loop-partition.room c.args.old.now c.args.seats.now
-    c.loop-partition.seats c.loop-partition.invariant (omega (
-      arith,
-      below,
-      c.loop-partition.invariant.as_many,
-    )) c.requires.counts c.requires.few)
-
-pub set_row-requires-clause-partition : goal.set_row-requires-clause-partition
-set_row-requires-clause-partition c =
-    let n = c.loop-partition.partition-index in
-    let below = order_below (length c.args.seats.now) c.args.order.now c.requires.order n
-    (omega arith) in
-    omega (arith, below, c.loop-partition.invariant.as_many)
-
-pub loop-partition-preserved-then-not-has_empty : goal.loop-partition-preserved-then-not-has_empty
-loop-partition-preserved-then-not-has_empty c =
-    let n = c.loop-partition.partition-index in
-    let p = get_or c.args.order.now n 0 in
-    let room = c.loop-partition.room in
-    let seats = c.loop-partition.seats in
-    let below = order_below (length c.args.seats.now) c.args.order.now c.requires.order n
-    (omega arith) in
-    let fresh = order_fresh (length c.args.seats.now) c.args.order.now c.requires.order n
-    (omega arith) in
-    let can : CanPlace room.devices (row_at c.args.old.now p) (row_at seats p) =
-    subst (λ (ds : List Device). CanPlace ds (row_at c.args.old.now p) (row_at seats p))
-    (sym c.loop-partition.invariant.fills.devices)
-    (subst (λ r. CanPlace c.args.room.now.devices (row_at c.args.old.now p) r)
-    (sym (c.loop-partition.invariant.rest p fresh)) (c.requires.rows p below)) in
-    let full = ap (list_any is_empty) (sym c.row-row.ensures) ∙ sym c.has_empty.ensures ∙
-    c.if-not-has_empty.true in
-    order_step (length c.args.seats.now) n c.args.order.now c.args.room.now room room c.args.old.now
-    c.args.seats.now seats seats (row_at seats p)
-    c.requires.order (let e : length c.args.seats.now ≡ length c.args.seats.now = omega arith in
-    e) (omega arith) c.loop-partition.invariant c.requires.as_many (sym (set-get_or seats p []))
-    (row_untouched room (row_at c.args.old.now p) (row_at seats p) c.loop-partition.invariant.load
-    can full)
-
-pub loop-partition-preserved : goal.loop-partition-preserved
-loop-partition-preserved c =
-    let n = c.loop-partition.partition-index in
-    let p = get_or c.args.order.now n 0 in
-    let read = c.row_copy-count.ensures.row ∙ c.row-row.ensures in
-    order_step (length c.args.seats.now) n c.args.order.now c.args.room.now c.loop-partition.room
-    c.place_row.new.room c.args.old.now c.args.seats.now c.loop-partition.seats
-    c.set_row.new.self c.place_row.new.row
-    c.requires.order (let e : length c.args.seats.now ≡ length c.args.seats.now = omega arith in
-    e) (omega arith) c.loop-partition.invariant c.requires.as_many c.set_row.ensures
-    (subst (λ r. RowPlaced c.loop-partition.room c.place_row.new.room r
-    (row_at c.loop-partition.seats p) c.place_row.new.row) c.row.ensures
-    (subst (λ r. RowPlaced c.loop-partition.room c.place_row.new.room c.row.result.now r
-    c.place_row.new.row) read c.place_row.ensures))
-
-pub returns : goal.returns
-returns c =
-    all_end (length c.args.seats.now) c.loop-partition.partition-index c.args.order.now
-    c.args.room.now c.loop-partition.room c.args.old.now c.args.seats.now c.loop-partition.seats
-    c.requires.order (let e : length c.args.seats.now ≡ length c.args.seats.now = omega arith in
-    e) (omega arith) c.loop-partition.invariant
-
-pub row_copy-count-requires : goal.row_copy-count-requires
-row_copy-count-requires c = grind (arith, common_steps)
+pub returns-clause-by_name : goal.returns-clause-by_name
+returns-clause-by_name c = steps_end (turn_at c.args.order.now c.args.old.now) c.loop-turn._turn
+    (most_empty c.args.seats.now)
+    (record { load = c.args.room.now; rows = c.args.seats.now; draws = c.args.draws.now })
+    (record { load = c.loop-turn.room; rows = c.loop-turn.seats; draws = c.loop-turn.draws })
+    c.loop-turn.invariant.by_name
+    (let named = c.most_empty-turns.ensures.by_name in omega (arith, named))

@@ -1,8 +1,15 @@
-use Rattle.std.proofs.Common.{take}
+use Rattle.std.proofs.Common.{◌≡◌}
+use Rattle.ring_place.specs.Made.{Placing, most_empty, turn_at}
+use Rattle.ring_room.specs.Steps.{after_steps}
 use Rattle.ring_place.proofs.Placing.AllSteps.{AllUpTo}
 use Rattle.ring_place.proofs.place.place_all.Given as goal
 
--- the partitions before this one are put
-abbrev pub invariant-loop-partition : goal.invariant-loop-partition
-invariant-loop-partition l = AllUpTo (take l.partition-index l.order) l.fn.room l.room l.old
-    l.fn.seats l.seats
+-- the turns before this one are run
+abbrev pub invariant-loop-turn : goal.invariant-loop-turn
+invariant-loop-turn l =
+    let now : Placing = record { load = l.room; rows = l.seats; draws = l.draws } in
+    let first : Placing = record { load = l.fn.room; rows = l.fn.seats; draws = l.fn.draws } in
+    record {
+      all : AllUpTo (most_empty l.fn.seats) l._turn l.fn.room l.room l.old l.fn.seats l.seats;
+      by_name : now ≡ after_steps (turn_at l.order l.old) l._turn first;
+    }

@@ -2,11 +2,18 @@ use Rattle.std.proofs.Common.{ℕ, List, Option, length, sum_by, sym, ap, subst,
 use Rattle.std.specs.List.{range_with_len}
 use Rattle.ring_model.specs.Valid.{IsValid}
 use Rattle.ring_share.specs.Crowd.{rows_of}
-use Rattle.ring_place.specs.Inner.Finishing.{AreAlike, changed_in}
+use Rattle.ring_place.specs.Inner.Finishing.{AreAlike}
+use Rattle.ring_place.specs.Made.{changed_in}
 use Rattle.ring_place.specs.Rebalance.{IsAfter, changed_seats}
-use Rattle.ring_place.specs.Inner.SeatRows.{row_at}
+use Rattle.ring_place.specs.Made.{row_at}
 use Rattle.ring_place.proofs.Finishing.FinishedRing.{alike, count_rows, is_made, made_after}
 use Rattle.ring_place.proofs.Finishing.FinishedRing.{made_changed, made_valid, rows_same}
+use Rattle.std.specs.Prelude.{filter, not}
+use Rattle.std.specs.List.{flat_map}
+use Rattle.ring_words.specs.declared.device.Device.{Device}
+use Rattle.ring_model.specs.Reseat.{reseated}
+use Rattle.ring_place.specs.Made.{stamps}
+use Rattle.ring_room.specs.Rows.{devices_on}
 use Rattle.ring_place.proofs.rebalances.finish.Goals as goal
 
 pub moves-requires-clause-partitions : goal.moves-requires-clause-partitions
@@ -67,3 +74,14 @@ returns-clause-changed c =
     (range_with_len 0 (length before))) c.requires.old
     ∙ made_changed c.args.ring.now c.args.hour c.args.new.now _ c.requires.valid c.requires.new made
     ∙ ap (changed_seats c.args.ring.now) (sym c.in_ok-ring.ensures)
+
+pub returns-clause-by_name : goal.returns-clause-by_name
+returns-clause-by_name c =
+    let ring = c.args.ring.now in
+    let left = λ (ds : List Device). filter (λ (device : Device). not device.removed) ds in
+    c.in_ok-ring.ensures
+    ∙ ap (λ ds. reseated ring ds c.in_ok-seats.seats.items c.in_ok-moved.moved.items)
+    (c.in_ok-devices.ensures ∙ ap left c.devices.ensures.value)
+    ∙ ap (λ ss. reseated ring (left ring.devices) ss c.in_ok-moved.moved.items) c.in_ok-seats.ensures
+    ∙ ap (λ ms. reseated ring (left ring.devices) (flat_map devices_on c.args.new.now) ms)
+    (c.in_ok-moved.ensures.moved ∙ ap (λ old. stamps c.args.hour ring.moved old c.args.new.now) c.requires.old)

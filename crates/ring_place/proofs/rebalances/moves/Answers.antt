@@ -1,6 +1,6 @@
 use Rattle.std.proofs.Common.{◌≡◌, ℕ, List, Option, None, get_or, ap, ◌∙◌, arith}
-use Rattle.ring_place.specs.Inner.Finishing.{changed_in, stamped}
-use Rattle.ring_place.specs.Inner.SeatRows.{row_at}
+use Rattle.ring_place.specs.Made.{changed_in, stamped}
+use Rattle.ring_place.specs.Made.{row_at}
 use Rattle.ring_place.proofs.Rows.IndexRanges.{map_more, sum_more}
 use Rattle.ring_place.proofs.rebalances.moves.Goals as goal
 

@@ -1,8 +1,8 @@
 use Rattle.std.proofs.Common.{◌≡◌, ◌≤◌, ◌*◌, map, sum_by, None, get_or}
 use Rattle.ring_words.specs.Limits.{most_replicas}
 use Rattle.std.specs.List.{range_with_len}
-use Rattle.ring_place.specs.Inner.Finishing.{changed_in, stamped}
-use Rattle.ring_place.specs.Inner.SeatRows.{row_at}
+use Rattle.ring_place.specs.Made.{changed_in, stamped}
+use Rattle.ring_place.specs.Made.{row_at}
 use Rattle.ring_place.proofs.rebalances.moves.Given as goal
 
 abbrev pub invariant-loop-partition : goal.invariant-loop-partition

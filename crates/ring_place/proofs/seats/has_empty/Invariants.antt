@@ -1,6 +1,6 @@
 use Rattle.std.proofs.Common.{◌≡◌, false, take}
 use Rattle.std.specs.List.{list_any}
-use Rattle.ring_place.specs.Inner.SeatRows.{is_empty}
+use Rattle.ring_room.specs.Rows.{is_empty}
 use Rattle.ring_place.proofs.seats.has_empty.Given as goal
 
 -- none so far

@@ -1,8 +1,9 @@
 use Rattle.std.proofs.Common.{◌<◌, ◌++◌, ◌∷◌, [], length, sym, ap, ◌∙◌, arith}
 use Rattle.std.specs.List.{flat_map}
 use Rattle.std.proofs.lemmas.List.{take_all}
-use Rattle.ring_place.specs.Inner.SeatRows.{devices_on}
-use Rattle.ring_place.proofs.Rows.SeatRows.{all_devices, devices_more_none, devices_more_some}
+use Rattle.ring_room.specs.Rows.{devices_on}
+use Rattle.ring_place.proofs.Rows.SeatRows.{all_devices}
+use Rattle.ring_room.proofs.Searching.RowDevices.{devices_more_none, devices_more_some}
 use Rattle.ring_place.proofs.seats.Seats.devices.Goals as goal
 use Rattle.ring_place.proofs.seats.Seats.devices.Goals.{in-Some+in_ok-push, in_default}
 

@@ -1,5 +1,5 @@
 use Rattle.std.proofs.Common.{◌≡◌, take}
-use Rattle.ring_place.specs.Inner.SeatRows.{devices_on}
+use Rattle.ring_room.specs.Rows.{devices_on}
 use Rattle.ring_place.proofs.seats.Seats.devices.Given as goal
 
 -- the devices of the seats so far

@@ -1,5 +1,5 @@
 use Rattle.std.proofs.Common.{◌<◌, length, sym, ap, ◌∙◌, arith}
-use Rattle.ring_place.specs.Inner.SeatRows.{row_at}
+use Rattle.ring_place.specs.Made.{row_at}
 use Rattle.ring_place.proofs.Rows.SeatRows.{length-rows_in, row_at-rows_in, row_fits}
 use Rattle.ring_place.proofs.seats.Seats.row.Goals as goal
 

@@ -1,0 +1,41 @@
+-- A rebalance by its seed.
+use Rattle.std.proofs.Common.{◌≡◌, ◌∙◌, ℕ, List, Option, ap, sym}
+use Rattle.std.specs.List.{range_with_len}
+use Rattle.rand_pcg.specs.Lcg.{Lcg}
+use Rattle.ring_model.specs.Ring.{RingRecord, partition_count}
+use Rattle.ring_share.specs.Crowd.{rows_of}
+use Rattle.ring_share.proofs.Determined.{same_wants}
+use Rattle.ring_room.specs.Load.{Load}
+use Rattle.ring_place.specs.Made.{Gathering, Placing, all_placed, draws_of, left_of, order_of}
+use Rattle.ring_place.specs.Made.{placed_after, rebalanced_rows, shuffled}
+use Rattle.ring_place.specs.Seeded.{IsSeeded, rebalanced}
+
+abbrev begun : Gathering → Lcg → Placing
+begun left draws = record { load = left.load; rows = left.rows; draws = draws }
+
+pub seeded_rows : (ring : RingRecord) (wanted : List ℕ) (hour seed : ℕ) (first second items : List ℕ)
+    (draws from : Lcg) (count : ℕ) (load : Load) (seats old : List (List (Option ℕ))) (new : Placing)
+    → new ≡ all_placed second old (record { load = load; rows = seats; draws = draws })
+    → old ≡ rows_of ring → second ≡ items → first ≡ items
+    → ◌≡◌ {A = List ℕ × Lcg} (items, draws) (shuffled (range_with_len 0 count) from) → from ≡ draws_of seed
+    → count ≡ partition_count ring
+    → ◌≡◌ {A = Gathering} (record { load = load; rows = seats }) (left_of ring wanted hour first)
+    → new.rows ≡ rebalanced_rows ring wanted hour seed
+seeded_rows ring wanted hour seed first second items draws from count load seats old new placed olds is also
+    drawn begins counts left =
+    let order : ◌≡◌ {A = List ℕ × Lcg} (items, draws) (order_of ring seed) =
+    drawn ∙ ap (λ d. shuffled (range_with_len 0 count) d) begins
+    ∙ ap (λ (n : ℕ). shuffled (range_with_len 0 n) (draws_of seed)) counts in
+    ap (λ (p : Placing). p.rows) (placed
+    ∙ ap (λ o. all_placed o old (record { load = load; rows = seats; draws = draws })) is
+    ∙ ap (λ o. all_placed items o (record { load = load; rows = seats; draws = draws })) olds
+    ∙ ap (λ g. all_placed items (rows_of ring) (begun g draws))
+    (left ∙ ap (left_of ring wanted hour) also)
+    ∙ ap (λ (p : List ℕ × Lcg). placed_after ring p (left_of ring wanted hour p.0)) order)
+
+-- a seed gives one ring
+pub one_seeded : (old one other : RingRecord) (hour seed : ℕ) → IsSeeded old hour seed one →
+    IsSeeded old hour seed other → one ≡ other
+one_seeded old one other hour seed a b = a.is
+    ∙ ap (λ wanted. rebalanced old wanted hour seed) (same_wants old a.wanted b.wanted a.are b.are)
+    ∙ sym b.is

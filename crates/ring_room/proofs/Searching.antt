@@ -1,0 +1,12 @@
+pub mod DevicesAt
+pub mod BestSoFar
+pub mod ByName
+pub mod FreeOutside
+pub mod TierFloors
+pub mod RoomyPlaces
+pub mod LessCrowded
+pub mod SeatCounts
+pub mod CalmPartitions
+pub mod TierCodes
+pub mod RowDevices
+pub mod OpenDevices

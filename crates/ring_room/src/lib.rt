@@ -1,0 +1,14 @@
+//! How full the devices of a ring are while seats are moved, and which of them takes the next seat
+//! of a partition.
+//!
+//! The definitions that contracts cite stand in `specs/`, and `docs/definitions.md` lists them.
+#![tactic(auto)]
+
+mod rooms;
+mod rows;
+mod search;
+mod tiers;
+
+pub use rooms::Room;
+pub use rows::devices_on;
+pub use tiers::{Crowd, is_less};
