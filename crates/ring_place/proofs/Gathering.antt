@@ -11,3 +11,5 @@ pub mod SeatSums
 pub mod LiftedFor
 pub mod ApartFirst
 pub mod ApartRing
+pub mod LaterPasses
+pub mod NoSurplus

@@ -1,3 +1,4 @@
+pub mod Dealing
 pub mod Rows
 pub mod Gathering
 pub mod Placing

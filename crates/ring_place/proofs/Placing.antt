@@ -6,3 +6,5 @@ pub mod Placeable
 pub mod SettledSeats
 pub mod RowPlaces
 pub mod ByName
+pub mod Homes
+pub mod Waiting

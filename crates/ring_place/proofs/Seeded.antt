@@ -10,26 +10,22 @@ use Rattle.ring_place.specs.Made.{Gathering, Placing, all_placed, draws_of, left
 use Rattle.ring_place.specs.Made.{placed_after, rebalanced_rows, shuffled}
 use Rattle.ring_place.specs.Seeded.{IsSeeded, rebalanced}
 
-abbrev begun : Gathering → Lcg → Placing
-begun left draws = record { load = left.load; rows = left.rows; draws = draws }
-
 pub seeded_rows : (ring : RingRecord) (wanted : List ℕ) (hour seed : ℕ) (first second items : List ℕ)
-    (draws from : Lcg) (count : ℕ) (load : Load) (seats old : List (List (Option ℕ))) (new : Placing)
-    → new ≡ all_placed second old (record { load = load; rows = seats; draws = draws })
+    (draws from : Lcg) (count : ℕ) (load : Load) (seats old new : List (List (Option ℕ)))
+    → new ≡ (all_placed second old load seats draws).rows
     → old ≡ rows_of ring → second ≡ items → first ≡ items
     → ◌≡◌ {A = List ℕ × Lcg} (items, draws) (shuffled (range_with_len 0 count) from) → from ≡ draws_of seed
     → count ≡ partition_count ring
     → ◌≡◌ {A = Gathering} (record { load = load; rows = seats }) (left_of ring wanted hour first)
-    → new.rows ≡ rebalanced_rows ring wanted hour seed
+    → new ≡ rebalanced_rows ring wanted hour seed
 seeded_rows ring wanted hour seed first second items draws from count load seats old new placed olds is also
     drawn begins counts left =
     let order : ◌≡◌ {A = List ℕ × Lcg} (items, draws) (order_of ring seed) =
     drawn ∙ ap (λ d. shuffled (range_with_len 0 count) d) begins
     ∙ ap (λ (n : ℕ). shuffled (range_with_len 0 n) (draws_of seed)) counts in
-    ap (λ (p : Placing). p.rows) (placed
-    ∙ ap (λ o. all_placed o old (record { load = load; rows = seats; draws = draws })) is
-    ∙ ap (λ o. all_placed items o (record { load = load; rows = seats; draws = draws })) olds
-    ∙ ap (λ g. all_placed items (rows_of ring) (begun g draws))
+    placed ∙ ap (λ (p : Placing). p.rows) (ap (λ o. all_placed o old load seats draws) is
+    ∙ ap (λ o. all_placed items o load seats draws) olds
+    ∙ ap (λ (g : Gathering). all_placed items (rows_of ring) g.load g.rows draws)
     (left ∙ ap (left_of ring wanted hour) also)
     ∙ ap (λ (p : List ℕ × Lcg). placed_after ring p (left_of ring wanted hour p.0)) order)
 

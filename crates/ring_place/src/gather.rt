@@ -13,14 +13,14 @@ ghost use Rattle.ring_room.specs.Rows.{AreKnown};
 ghost use Rattle.ring_room.specs.Free.{has_free_in};
 ghost use Rattle.ring_place.specs.Inner.Gathering.{present_only, Takes, Falls};
 ghost use Rattle.ring_place.specs.Made.{is_lost_in};
-ghost use Rattle.ring_place.specs.Inner.Gathering.{IsFirst, IsApart, IsSecond, IsLifting, IsPass};
-ghost use Rattle.ring_place.specs.Inner.Gathering.{IsFilled, AreRowsOfSeats, IsGathered};
+ghost use Rattle.ring_place.specs.Inner.Gathering.{IsFirst, IsLifting, IsPass};
+ghost use Rattle.ring_place.specs.Inner.Gathering.{AreLater, AreRowsOfSeats, IsFilled, IsGathered};
 ghost use Rattle.ring_place.specs.Inner.Gathering.{gathered_in};
-ghost use Rattle.ring_place.specs.Made.{first_lifting, later_lifting, left_of, lifting};
-ghost use Rattle.ring_place.specs.Made.{lost_row, passed};
+ghost use Rattle.ring_place.specs.Made.{first_lifting, has_surplus, later_lifting, left_of, lifting};
+ghost use Rattle.ring_place.specs.Made.{lost_row, over_passed, passed, surplus_passed};
 
 use crate::seats::{Seats, has_empty, row_copy};
-use crate::surplus::lift_best;
+use crate::surplus::{lift_best, may_leave};
 use ring_model::Ring;
 use ring_room::{Room, devices_on};
 use ring_share::wanted;
@@ -52,7 +52,7 @@ fn has_lost(room: &Room, row: &[Option<DeviceId>]) -> bool
 }
 
 /// Whether some device outside a partition has room.
-fn has_free(room: &Room, row: &[Option<DeviceId>]) -> bool
+pub(crate) fn has_free(room: &Room, row: &[Option<DeviceId>]) -> bool
     requires row { AreKnown room.now.devices row.now }
     requires few { length row.now ≤ most_replicas }
     ensures { result ≡ has_free_in room.now row.now }
@@ -82,9 +82,9 @@ fn lift_lost(kept: &mut Room, row: &mut [Option<DeviceId>])
     }
 }
 
-/// The first pass at a partition: lifts its lost seats or, if it has none and isn't locked, one for
-/// which a device outside with room is less crowded. Of several it is the one whose device keeps
-/// most above its want.
+/// The first pass at a partition: lifts its lost seats or, if it has none and isn't locked, one on a
+/// device that wants nothing, while some device outside has room, or else one for which such a
+/// device is less crowded. Of several it is the one whose device keeps most above its want.
 fn gather_first(was: &Room, kept: &mut Room, locked: bool, row: &mut [Option<DeviceId>])
     requires load { IsLoad kept.old }
     requires same { kept.old.devices ≡ was.now.devices }
@@ -99,24 +99,25 @@ fn gather_first(was: &Room, kept: &mut Room, locked: bool, row: &mut [Option<Dev
 {
     if has_lost(kept, row) {
         lift_lost(kept, row);
-    } else if !locked && !was.is_calm(row) {
+    } else if !locked && may_leave(was, row) {
         if let Some(device) = lift_best(Pass::First, was, kept, row) {
             kept.take(device);
         }
     }
 }
 
-/// The pass before the second at a partition: if nothing was lifted from it, it isn't locked and a
-/// device outside has room, lifts one seat of a device that keeps more than it wants, for which
-/// some device outside with room is no more crowded. Of several it is the one that finds the least
-/// crowded place and, among equals, whose device keeps most above its want.
-fn gather_apart(was: &Room, kept: &mut Room, locked: bool, row: &mut [Option<DeviceId>])
+/// A pass after the first at a partition: if nothing was lifted from it, it isn't locked and a
+/// device outside has room, lifts one seat that may leave in the pass, of a device that keeps more
+/// than it wants. Of several it is the one that finds the least crowded place, where the pass
+/// compares places, and, among equals, whose device keeps most above its want.
+fn gather_later(pass: Pass, was: &Room, kept: &mut Room, locked: bool, row: &mut [Option<DeviceId>])
+    requires later { pass ≢ Pass.First }
     requires load { IsLoad kept.old }
     requires same { kept.old.devices ≡ was.now.devices }
     requires row { AreKnown was.now.devices row.old }
     requires few { length row.old ≤ most_replicas }
-    ensures apart { IsApart was.now kept.new locked row.old row.new }
-    ensures by_name { record { load = kept.new; row = row.new } ≡ later_lifting Pass.Apart was.now
+    ensures lifted { IsLifting pass was.now kept.new locked row.old row.new }
+    ensures by_name { record { load = kept.new; row = row.new } ≡ later_lifting pass was.now
         kept.old locked row.old }
     ensures takes { Takes kept.old kept.new row.old row.new }
     ensures falls { Falls kept.old kept.new }
@@ -124,29 +125,7 @@ fn gather_apart(was: &Room, kept: &mut Room, locked: bool, row: &mut [Option<Dev
     if locked || has_empty(row) || !has_free(was, row) {
         return;
     }
-    if let Some(device) = lift_best(Pass::Apart, was, kept, row) {
-        kept.take(device);
-    }
-}
-
-/// The second pass at a partition: if nothing was lifted from it, it isn't locked and a device
-/// outside has room, lifts one seat of a device that keeps more than it wants. Of several it is the
-/// one whose device keeps most above its want.
-fn gather_second(was: &Room, kept: &mut Room, locked: bool, row: &mut [Option<DeviceId>])
-    requires load { IsLoad kept.old }
-    requires same { kept.old.devices ≡ was.now.devices }
-    requires row { AreKnown was.now.devices row.old }
-    requires few { length row.old ≤ most_replicas }
-    ensures second { IsSecond was.now kept.new locked row.old row.new }
-    ensures by_name { record { load = kept.new; row = row.new } ≡ later_lifting Pass.Second was.now
-        kept.old locked row.old }
-    ensures takes { Takes kept.old kept.new row.old row.new }
-    ensures falls { Falls kept.old kept.new }
-{
-    if locked || has_empty(row) || !has_free(was, row) {
-        return;
-    }
-    if let Some(device) = lift_best(Pass::Second, was, kept, row) {
+    if let Some(device) = lift_best(pass, was, kept, row) {
         kept.take(device);
     }
 }
@@ -154,11 +133,16 @@ fn gather_second(was: &Room, kept: &mut Room, locked: bool, row: &mut [Option<De
 /// A pass of gathering over all partitions.
 #[derive(Clone, Copy)]
 pub(crate) enum Pass {
-    /// Lifts lost seats, and seats for which a device outside with room is less crowded.
+    /// Lifts lost seats, seats on devices that want nothing, and seats for which a device outside
+    /// with room is less crowded.
     First,
     /// Lifts seats of devices that keep more than they want, for which some device outside with
     /// room is no more crowded.
     Apart,
+    /// Lifts seats of devices that keep more than they want, for which the least crowded device
+    /// outside with room has at most so many of the partition's other seats in its region and in
+    /// its zone, added.
+    Beside(u32),
     /// Lifts seats of devices that keep more than they want.
     Second,
 }
@@ -179,8 +163,7 @@ fn gather_row(pass: Pass, was: &Room, kept: &mut Room, locked: bool, row: &mut [
 {
     match pass {
         Pass::First => gather_first(was, kept, locked, row),
-        Pass::Apart => gather_apart(was, kept, locked, row),
-        Pass::Second => gather_second(was, kept, locked, row),
+        _ => gather_later(pass, was, kept, locked, row),
     }
 }
 
@@ -197,6 +180,7 @@ fn gather(
     requires order { IsPermutation (range_with_len 0 (length seats.old)) order.now }
     requires rows { AreRowsOfSeats was.now.devices seats.old }
     requires filled { IsFilled kept.old was.now.devices was.now.wanted seats.old }
+    ensures rows { AreRowsOfSeats was.now.devices seats.new }
     ensures pass { IsPass pass order.now was.now kept.new locked.now seats.old seats.new }
     ensures by_name { record { load = kept.new; rows = seats.new } ≡ passed pass was.now locked.now
         order.now (record { load = kept.old; rows = seats.old }) }
@@ -208,6 +192,65 @@ fn gather(
         gather_row(pass, was, kept, locked[*partition], row);
         seats.set_row(*partition, row);
     }
+}
+
+/// Whether a device keeps more than it wants.
+fn has_surplus(kept: &Room) -> bool
+    ensures { result ≡ has_surplus kept.now }
+{
+    for place in 0..kept.count() {
+        if kept.is_over(kept.id_of(place)) {
+            return true;
+        }
+    }
+    false
+}
+
+/// A pass after the first at all partitions, in an order. Without a device that keeps more than it
+/// wants it would lift nothing, and isn't made.
+fn gather_over(
+    pass: Pass,
+    was: &Room,
+    kept: &mut Room,
+    locked: &[bool],
+    order: &[usize],
+    seats: &mut Seats,
+)
+    requires later { pass ≢ Pass.First }
+    requires locked { length locked.now ≡ length seats.old }
+    requires order { IsPermutation (range_with_len 0 (length seats.old)) order.now }
+    requires rows { AreRowsOfSeats was.now.devices seats.old }
+    requires filled { IsFilled kept.old was.now.devices was.now.wanted seats.old }
+    ensures rows { AreRowsOfSeats was.now.devices seats.new }
+    ensures pass { IsPass pass order.now was.now kept.new locked.now seats.old seats.new }
+    ensures by_name { record { load = kept.new; rows = seats.new } ≡ over_passed pass was.now
+        locked.now order.now (record { load = kept.old; rows = seats.old }) }
+    ensures falls { Falls kept.old kept.new }
+{
+    if has_surplus(kept) {
+        gather(pass, was, kept, locked, order, seats);
+    }
+}
+
+/// The passes after the first, which lift seats of devices that keep more than they want: first
+/// those that find a place that is no more crowded, then those whose least crowded place has none of
+/// their partition's other seats in its region and zone, then those with at most one, two and three
+/// there, where one in the zone counts twice, and then any.
+fn gather_surplus(was: &Room, kept: &mut Room, locked: &[bool], order: &[usize], seats: &mut Seats)
+    requires locked { length locked.now ≡ length seats.old }
+    requires order { IsPermutation (range_with_len 0 (length seats.old)) order.now }
+    requires rows { AreRowsOfSeats was.now.devices seats.old }
+    requires filled { IsFilled kept.old was.now.devices was.now.wanted seats.old }
+    ensures later { AreLater order.now was.now kept.new locked.now seats.old seats.new }
+    ensures by_name { record { load = kept.new; rows = seats.new } ≡ surplus_passed was.now
+        locked.now order.now (record { load = kept.old; rows = seats.old }) }
+{
+    gather_over(Pass::Apart, was, kept, locked, order, seats);
+    gather_over(Pass::Beside(0), was, kept, locked, order, seats);
+    gather_over(Pass::Beside(1), was, kept, locked, order, seats);
+    gather_over(Pass::Beside(2), was, kept, locked, order, seats);
+    gather_over(Pass::Beside(3), was, kept, locked, order, seats);
+    gather_over(Pass::Second, was, kept, locked, order, seats);
 }
 
 /// Whether fewer hours passed since a move than a moved partition is kept.
@@ -263,21 +306,6 @@ pub(crate) fn gathering(
     if !was.has_some_room() {
         return Ok((kept, seats));
     }
-    gather(
-        Pass::Apart,
-        &was,
-        &mut kept,
-        locked.as_slice(),
-        order,
-        &mut seats,
-    );
-    gather(
-        Pass::Second,
-        &was,
-        &mut kept,
-        locked.as_slice(),
-        order,
-        &mut seats,
-    );
+    gather_surplus(&was, &mut kept, locked.as_slice(), order, &mut seats);
     Ok((kept, seats))
 }

@@ -5,7 +5,9 @@
 //! in `specs/`, and `docs/definitions.md` lists them.
 #![tactic(auto)]
 
+mod deck;
 mod gather;
+mod homes;
 pub mod laws;
 mod order;
 mod place;

@@ -21,7 +21,7 @@ fn draw_below(draws: &mut Pcg32, bound: usize) -> usize
     ensures below { result < bound }
     ensures drawn { (result, draws.new) ≡ draw_below bound draws.old }
 {
-    draws.next_word() as usize % bound
+    ((u128::from(draws.next_word()) * bound as u128) >> 32) as usize
 }
 
 /// The numbers below a count.
@@ -35,15 +35,15 @@ fn numbers(alloc: Global, count: usize) -> Result<Vec<usize>, AllocError>
     Ok(numbers)
 }
 
-/// Puts numbers in an order that is drawn.
+/// Puts items in an order that is drawn.
 #[tactic(auto, using(ring_room::proofs::Steps::steps_none))]
-fn shuffle(numbers: &mut [usize], draws: &mut Pcg32)
-    ensures permutation { IsPermutation numbers.old numbers.new }
-    ensures by_name { (numbers.new, draws.new) ≡ shuffled numbers.old draws.old }
+pub(crate) fn shuffle<T>(items: &mut [T], draws: &mut Pcg32)
+    ensures permutation { IsPermutation items.old items.new }
+    ensures by_name { (items.new, draws.new) ≡ shuffled items.old draws.old }
 {
-    for place in 0..numbers.len() {
+    for place in 0..items.len() {
         let other = draw_below(draws, place + 1);
-        numbers.swap(place, other);
+        items.swap(place, other);
     }
 }
 

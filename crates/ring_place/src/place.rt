@@ -1,27 +1,32 @@
 //! Where lifted seats are put.
-ghost use Rattle.std.specs.Prelude.{◌≡◌, ◌<◌, ◌≤◌, ℕ, true, All, count_by, length, sum_by};
+ghost use Rattle.std.specs.Prelude.{◌≡◌, ◌<◌, ◌≤◌, ◌==◌, ℕ, true, All, count_by, length, sum_by};
 ghost use Rattle.ring_words.specs.Limits.{most_replicas};
-ghost use Rattle.std.specs.Prelude.{slice_get, IfSome, None, Some, take};
+ghost use Rattle.std.specs.Prelude.{slice_get, slice_index_or, slice_set, IfSome, None, OnOk, Some};
+ghost use Rattle.std.specs.Prelude.{take};
 ghost use Rattle.std.specs.List.{range_with_len};
 ghost use Rattle.std.specs.List.Sorted.{IsPermutation};
 ghost use Rattle.ring_model.specs.Ring.{has_device, has_present};
-ghost use Rattle.ring_share.specs.Crowd.{seats_on};
+ghost use Rattle.ring_share.specs.Crowd.{is_on, seats_on};
 ghost use Rattle.ring_share.specs.Want.{is_open as is_open_device};
 ghost use Rattle.ring_room.specs.Rows.{AreKnown, devices_on};
 ghost use Rattle.ring_place.specs.Made.{row_at};
-ghost use Rattle.ring_room.specs.Load.{IsLeast, IsLoad, have_in, seats_of};
+ghost use Rattle.ring_room.specs.Load.{IsLeast, IsLoad, have_in, load_put, seats_of};
 ghost use Rattle.ring_place.specs.Inner.Placing.{AllPlaced, CanPlace, IsChosen, OpenWant, OwnWins};
-ghost use Rattle.ring_place.specs.Inner.Placing.{CanPlaceAll, IsSeatPut, IsTurn, have_on};
+ghost use Rattle.ring_place.specs.Inner.Placing.{AreTurns, AreWaiting, CanPlaceAll, IsSeatPut};
+ghost use Rattle.ring_place.specs.Inner.Placing.{IsTurnOf, have_on};
 ghost use Rattle.ring_room.specs.Places.{id_at, seats_at};
 ghost use Rattle.ring_room.specs.Inner.Places.{ArePlacesOf};
-ghost use Rattle.ring_place.specs.Made.{all_placed, chosen_place, put_seat, turn};
+ghost use Rattle.ring_place.specs.Made.{Cards, all_placed, chosen, put_first, put_home, taken_for};
+ghost use Rattle.ring_place.specs.Made.{most_empty, placed_in, put_seat, turn as turn_of, turns, with_card};
 ghost use Rattle.ring_room.specs.Search.{own_or_place};
 
+use crate::deck::Deck;
+use crate::homes::{asking, homes_of, waiting};
 use crate::seats::{Seats, first_empty};
-use rand_core::utils::NextWord;
 use rand_pcg::Pcg32;
-use ring_room::{Room, devices_on, is_less};
+use ring_room::{Room, Taken, is_less};
 use ring_words::{DeviceId, MOST_SEATS};
+use std::alloc::{AllocError, Global};
 
 /// The place of the seat's own device where that is as good as the best.
 fn own_or(room: &Room, others: &[usize], own: Option<DeviceId>, best: usize) -> usize
@@ -51,30 +56,53 @@ fn own_or(room: &Room, others: &[usize], own: Option<DeviceId>, best: usize) -> 
     own
 }
 
-/// Where a lifted seat goes, by its place: to a least crowded device with room that isn't among
-/// those of its partition's other seats, at `others`, its own first. Where there is none, back to
-/// its own if that isn't marked to be removed, and else to an open device outside.
-fn choose(room: &Room, others: &[usize], own: Option<DeviceId>, draw: u32) -> usize
+/// A place, with the card of what is taken if that is it.
+fn with_card(taken: Taken, place: usize) -> Taken
+    ensures value { result ≡ with_card taken place }
+    ensures place { result.place ≡ place }
+{
+    let card = if place == taken.place {
+        taken.card
+    } else {
+        None
+    };
+    Taken { place, card }
+}
+
+/// The place of a device, with no card.
+fn without_card(place: usize) -> Taken
+    ensures value { result ≡ record { place = place; card = None } }
+    ensures place { result.place ≡ place }
+{
+    Taken { place, card: None }
+}
+
+/// Where a lifted seat goes, and the card that goes with it: to a least crowded device with room
+/// that isn't among those of its partition's other seats, at `others`, its own first. Where there
+/// is none, back to its own if that isn't marked to be removed, and else to an open device outside.
+fn choose(room: &Room, others: &[usize], own: Option<DeviceId>, cards: &[u8], draw: u32) -> Taken
     requires others { All (λ other. other < length room.now.devices) others.now }
     requires few { length others.now ≤ most_replicas }
     requires own { IfSome own (λ id. has_device id room.now.devices ≡ true) }
     requires apart { IfSome own (λ id. has_present id room.now.devices ≡ true →
         seats_on id (seats_at room.now.devices others.now) ≡ 0) }
     requires enough { length others.now < count_by is_open_device room.now.devices }
-    ensures within { result < length room.now.devices }
-    ensures by_name { result ≡ chosen_place room.now (seats_at room.now.devices others.now) own draw }
+    ensures within { result.place < length room.now.devices }
+    ensures card { IfSome result.card (λ index. index < length cards.now) }
+    ensures by_name { result ≡ chosen room.now (seats_at room.now.devices others.now) own cards.now
+        draw }
     ensures chosen { IsChosen room.now (seats_at room.now.devices others.now) own
-        (id_at room.now.devices result) }
+        (id_at room.now.devices result.place) }
 {
-    if let Some(best) = room.least_at(others, draw) {
-        return own_or(room, others, own, best);
+    if let Some(taken) = room.take_card(others, cards, draw) {
+        return with_card(taken, own_or(room, others, own, taken.place));
     }
     if let Some(own) = own {
         if room.is_present(own) {
-            return room.place_of(own);
+            return without_card(room.place_of(own));
         }
     }
-    room.any_open(others)
+    without_card(room.any_open(others))
 }
 
 /// The places of the devices of a partition's seats, in any order, and how many they are. What
@@ -87,63 +115,243 @@ pub(crate) fn places_on(room: &Room, row: &[Option<DeviceId>]) -> ([usize; MOST_
     ensures places { ArePlacesOf room.now.devices row.now (take result.1 result.0) }
     ensures by_name { seats_at room.now.devices (take result.1 result.0) ≡ seats_of (devices_on row.now) }
 {
-    let (ids, count) = devices_on(row);
-    (room.places_of(&ids[..count]), count)
+    room.places_on(row)
 }
 
-/// Puts an empty seat of a partition. `old` are the seats before any was lifted.
+/// Whether a seat is on a device.
+fn is_on(seat: Option<DeviceId>, device: DeviceId) -> bool
+    ensures { result ≡ is_on (λ id. id == device) seat }
+{
+    seat == Some(device)
+}
+
+/// Where an empty seat of a partition goes by a draw, and the card that goes with it. `old` are the
+/// seats before any was lifted.
+fn find_place(
+    room: &Room,
+    old: &Seats,
+    seats: &Seats,
+    partition: usize,
+    replica: usize,
+    cards: &[u8],
+    draw: u32,
+) -> Taken
+    requires partition { partition < length seats.now }
+    requires can { CanPlaceAll room.now old.now seats.now }
+    requires empty { slice_get (row_at seats.now partition) replica ≡ Some None }
+    ensures within { result.place < length room.now.devices }
+    ensures card { IfSome result.card (λ index. index < length cards.now) }
+    ensures chosen { IsChosen room.now (row_at seats.now partition)
+        (slice_index_or (row_at old.now partition) replica None)
+        (id_at room.now.devices result.place) }
+    ensures by_name { result ≡ taken_for room.now (row_at old.now partition)
+        (row_at seats.now partition) replica cards.now draw }
+{
+    let own = old.row(partition)[replica];
+    let (others, count) = places_on(room, seats.row(partition));
+    choose(room, &others[..count], own, cards, draw)
+}
+
+/// Puts an empty seat of a partition on the device at a place.
+fn put_on(room: &mut Room, seats: &mut Seats, partition: usize, replica: usize, place: usize)
+    requires partition { partition < length seats.old }
+    requires empty { slice_get (row_at seats.old partition) replica ≡ Some None }
+    requires place { place < length room.old.devices }
+    ensures room { room.new ≡ load_put room.old (id_at room.old.devices place) }
+    ensures seats { seats.new ≡ slice_set seats.old partition
+        (slice_set (row_at seats.old partition) replica (Some (id_at room.old.devices place))) }
+    ensures load { IsLoad room.new }
+{
+    seats.set_seat(partition, replica, room.id_of(place));
+    room.put_at(place);
+}
+
+/// Puts an empty seat of a partition where it goes by the next draw.
 fn place_seat(
     room: &mut Room,
     old: &Seats,
     seats: &mut Seats,
     partition: usize,
     replica: usize,
-    draws: &mut Pcg32,
+    deck: &mut Deck,
 )
     requires partition { partition < length seats.old }
     requires can { CanPlaceAll room.old old.now seats.old }
     requires empty { slice_get (row_at seats.old partition) replica ≡ Some None }
     ensures put { IsSeatPut room.old room.new old.now seats.old seats.new partition replica }
-    ensures load { IsLoad room.new }
-    ensures by_name { record { load = room.new; rows = seats.new; draws = draws.new } ≡ put_seat
+    ensures by_name { record { load = room.new; rows = seats.new; deck = deck.new } ≡ put_seat
         old.now partition replica (record {
           load = room.old;
           rows = seats.old;
-          draws = draws.old;
+          deck = deck.old;
         }) }
 {
-    let own = old.row(partition)[replica];
-    let (others, count) = places_on(room, seats.row(partition));
-    let place = choose(room, &others[..count], own, draws.next_word());
-    seats.set_seat(partition, replica, room.id_of(place));
-    room.put_at(place);
+    let draw = deck.draw();
+    let taken = find_place(room, old, seats, partition, replica, deck.cards(), draw);
+    put_on(room, seats, partition, replica, taken.place);
+    deck.deal(taken.card);
 }
 
-/// A turn of the partitions in an order: each that has an empty seat puts one, its first by
-/// replica.
-fn place_turn(room: &mut Room, order: &[usize], old: &Seats, seats: &mut Seats, draws: &mut Pcg32)
-    requires order { IsPermutation (range_with_len 0 (length seats.old)) order.now }
+/// Puts an empty seat of a partition back where it was, if it goes there: that device is free for
+/// it and no free one is less crowded, or none is free. It goes before all that are as good, so no
+/// draw is needed.
+fn return_seat(room: &mut Room, old: &Seats, seats: &mut Seats, partition: usize, replica: usize)
+    requires partition { partition < length seats.old }
     requires can { CanPlaceAll room.old old.now seats.old }
-    ensures turn { IsTurn room.old room.new old.now seats.old seats.new }
-    ensures by_name { record { load = room.new; rows = seats.new; draws = draws.new } ≡ turn
-        order.now old.now (record { load = room.old; rows = seats.old; draws = draws.old }) }
+    requires empty { slice_get (row_at seats.old partition) replica ≡ Some None }
+    ensures put { IsTurnOf Turn.Home room.old room.new old.now seats.old seats.new partition }
+    ensures by_name { (deck : Cards) → record { load = room.new; rows = seats.new; deck = deck } ≡
+        put_home old.now partition replica (record {
+          load = room.old;
+          rows = seats.old;
+          deck = deck;
+        }) }
 {
-    for partition in order {
-        if let Some(replica) = first_empty(seats.row(*partition)) {
-            place_seat(room, old, seats, *partition, replica, draws);
-        }
+    let place = find_place(room, old, seats, partition, replica, &[], 0).place;
+    if is_on(old.row(partition)[replica], room.id_of(place)) {
+        put_on(room, seats, partition, replica, place);
     }
 }
 
-/// Puts the lifted seats of all partitions in turns, as many as the partition with the most of them
-/// has.
+/// A turn of the partitions that have an empty seat.
+#[derive(Clone, Copy)]
+pub(crate) enum Turn {
+    /// Those that keep no home put a seat.
+    Homeless,
+    /// Those that keep a home put their seat back, if it goes there.
+    Home,
+    /// Each puts a seat.
+    Rest,
+}
+
+/// The turn of a partition, which keeps its home or doesn't: its first empty seat by replica is put
+/// or waits.
+fn take_turn(
+    turn: Turn,
+    keeps_home: bool,
+    partition: usize,
+    room: &mut Room,
+    old: &Seats,
+    seats: &mut Seats,
+    deck: &mut Deck,
+)
+    requires partition { partition < length seats.old }
+    requires can { CanPlaceAll room.old old.now seats.old }
+    ensures put { IsTurnOf turn room.old room.new old.now seats.old seats.new partition }
+    ensures by_name { record { load = room.new; rows = seats.new; deck = deck.new } ≡ put_first
+        turn keeps_home old.now partition (record {
+          load = room.old;
+          rows = seats.old;
+          deck = deck.old;
+        }) }
+{
+    let Some(replica) = first_empty(seats.row(partition)) else {
+        return;
+    };
+    match turn {
+        Turn::Homeless => {
+            if !keeps_home {
+                place_seat(room, old, seats, partition, replica, deck);
+            }
+        }
+        Turn::Home => {
+            if keeps_home {
+                return_seat(room, old, seats, partition, replica);
+            }
+        }
+        Turn::Rest => place_seat(room, old, seats, partition, replica, deck),
+    }
+}
+
+/// A turn of the partitions at `waiting`. `homes` says which of all partitions keep their homes.
+fn place_turn(
+    turn: Turn,
+    homes: &[bool],
+    waiting: &[usize],
+    room: &mut Room,
+    old: &Seats,
+    seats: &mut Seats,
+    deck: &mut Deck,
+)
+    requires waiting { AreWaiting homes.now waiting.now seats.old }
+    requires can { CanPlaceAll room.old old.now seats.old }
+    ensures turn { AreTurns turn 1 room.old room.new old.now seats.old seats.new }
+    ensures by_name { record { load = room.new; rows = seats.new; deck = deck.new } ≡ turn_of
+        turn homes.now waiting.now old.now (record {
+          load = room.old;
+          rows = seats.old;
+          deck = deck.old;
+        }) }
+{
+    for partition in waiting {
+        let keeps_home = homes[*partition];
+        take_turn(turn, keeps_home, *partition, room, old, seats, deck);
+    }
+}
+
+/// So many turns of the partitions at `waiting`, one after another.
+fn place_turns(
+    turn: Turn,
+    count: usize,
+    homes: &[bool],
+    waiting: &[usize],
+    room: &mut Room,
+    old: &Seats,
+    seats: &mut Seats,
+    deck: &mut Deck,
+)
+    requires waiting { AreWaiting homes.now waiting.now seats.old }
+    requires can { CanPlaceAll room.old old.now seats.old }
+    ensures turns { AreTurns turn count room.old room.new old.now seats.old seats.new }
+    ensures by_name { record { load = room.new; rows = seats.new; deck = deck.new } ≡ turns
+        turn homes.now waiting.now old.now count (record {
+          load = room.old;
+          rows = seats.old;
+          deck = deck.old;
+        }) }
+{
+    for _turn in 0..count {
+        place_turn(turn, homes, waiting, room, old, seats, deck);
+    }
+}
+
+/// Puts the empty seats of the partitions at `waiting` in turns. Those that can't all go home go
+/// first, in as many turns as the partition with the most empty seats has. Then those go home that
+/// do so anyway, before others take their places: in two turns, since the first fills devices that
+/// were less crowded for some. Then the rest is put, in as many turns as at first.
+fn place_waiting(
+    homes: &[bool],
+    waiting: &[usize],
+    room: &mut Room,
+    old: &Seats,
+    seats: &mut Seats,
+    deck: &mut Deck,
+)
+    requires waiting { AreWaiting homes.now waiting.now seats.old }
+    requires can { CanPlaceAll room.old old.now seats.old }
+    ensures placed { AllPlaced room.old room.new old.now seats.old seats.new }
+    ensures by_name { record { load = room.new; rows = seats.new; deck = deck.new } ≡ placed_in
+        waiting.now homes.now old.now (most_empty seats.old) (record {
+          load = room.old;
+          rows = seats.old;
+          deck = deck.old;
+        }) }
+{
+    let most = seats.most_empty();
+    place_turns(Turn::Homeless, most, homes, waiting, room, old, seats, deck);
+    place_turns(Turn::Home, 2, homes, waiting, room, old, seats, deck);
+    place_turns(Turn::Rest, most, homes, waiting, room, old, seats, deck);
+}
+
+/// Puts the lifted seats of all partitions. `old` are the seats before any was lifted.
 pub(crate) fn place_all(
+    alloc: Global,
     room: &mut Room,
     order: &[usize],
     old: &Seats,
     seats: &mut Seats,
-    draws: &mut Pcg32,
-)
+    draws: Pcg32,
+) -> Result<(), AllocError>
     requires order { IsPermutation (range_with_len 0 (length seats.old)) order.now }
     requires as_many { length old.now ≡ length seats.old }
     requires rows { (partition : ℕ) → partition < length seats.old →
@@ -153,12 +361,14 @@ pub(crate) fn place_all(
     requires counts { (id : ℕ) → has_device id room.old.devices ≡ true →
         have_in room.old id ≡ have_on id seats.old }
     requires few { sum_by (λ row. length row) seats.old ≤ 81920 }
-    ensures placed { AllPlaced room.old room.new old.now seats.old seats.new }
-    ensures by_name { record { load = room.new; rows = seats.new; draws = draws.new } ≡ all_placed
-        order.now old.now (record { load = room.old; rows = seats.old; draws = draws.old }) }
+    ensures placed { OnOk result (AllPlaced room.old room.new old.now seats.old seats.new) }
+    ensures by_name { OnOk result (seats.new ≡ (all_placed order.now old.now room.old seats.old
+        draws).rows) }
 {
-    let turns = seats.most_empty();
-    for _turn in 0..turns {
-        place_turn(room, order, old, seats, draws);
-    }
+    let waiting = waiting(alloc, room, order, seats)?;
+    let asking = asking(alloc, room, &waiting, old, seats)?;
+    let (homes, left) = homes_of(alloc, room, &asking, old, seats)?;
+    let mut deck = Deck::of(alloc, &left, draws)?;
+    place_waiting(&homes, &waiting, room, old, seats, &mut deck);
+    Ok(())
 }

@@ -144,8 +144,10 @@ fn finish(
 /// Rebalances a ring at an hour. Seats that are empty or on devices that are marked to be removed
 /// are put on open devices. Of any other partition that isn't locked at most one seat moves, to
 /// where it is less crowded or off a device with more seats than it wants; of the latter those
-/// first that find a place that is no more crowded. TooFewDevices exactly where fewer devices are
-/// open than the ring has replicas. The seed varies which of several such rings it is.
+/// first that find a place that is no more crowded, then those whose least crowded place is in a
+/// zone with none of their partition's other seats, and then with one. TooFewDevices exactly where
+/// fewer devices are open than the ring has replicas. The seed varies which of several such rings it
+/// is.
 pub fn rebalance(
     alloc: Global,
     ring: &Ring,
@@ -166,6 +168,6 @@ pub fn rebalance(
     let order = shuffled_order(alloc, partition_count(ring.power()), &mut draws)?;
     let old = Seats::of(alloc, ring)?;
     let (mut room, mut seats) = gathering(alloc, ring, hour, order.as_slice())?;
-    place_all(&mut room, order.as_slice(), &old, &mut seats, &mut draws);
+    place_all(alloc, &mut room, order.as_slice(), &old, &mut seats, draws)?;
     finish(alloc, ring, hour, &old, &seats)
 }

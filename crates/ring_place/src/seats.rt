@@ -114,6 +114,13 @@ impl Seats {
         })
     }
 
+    /// How many partitions there are.
+    pub(crate) fn count(&self) -> usize
+        ensures { result ≡ length self.now }
+    {
+        self.partitions
+    }
+
     /// The seats of a partition by replica.
     pub(crate) fn row(&self, partition: usize) -> &[Option<DeviceId>]
         requires { partition < length self.now }

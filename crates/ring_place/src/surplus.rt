@@ -1,20 +1,23 @@
 //! Which seat of a partition leaves its device in a pass of gathering.
-ghost use Rattle.std.specs.Prelude.{◌≡◌, ◌<◌, ◌≤◌, ◌⊎◌, ℕ, true, All, length, take, IfSome, IfNone};
+ghost use Rattle.std.specs.Prelude.{◌≡◌, ◌<◌, ◌≤◌, ◌⊎◌, ℕ, true, false, All, length, take, IfSome, IfNone};
 ghost use Rattle.std.specs.Prelude.{Some, None, slice_get, if◌then◌else◌};
-ghost use Rattle.std.specs.Option.{option_map};
+ghost use Rattle.std.specs.List.{list_any};
+ghost use Rattle.std.specs.Option.{ForSome, option_map};
 ghost use Rattle.ring_words.specs.Limits.{most_replicas};
 ghost use Rattle.ring_model.specs.Ring.{has_device};
 ghost use Rattle.ring_share.specs.Crowd.{others};
 ghost use Rattle.ring_room.specs.Free.{is_crowded_in};
-ghost use Rattle.ring_room.specs.Load.{seats_of};
+ghost use Rattle.ring_room.specs.Load.{is_free_in, seats_of};
 ghost use Rattle.ring_room.specs.Places.{seats_at};
-ghost use Rattle.ring_room.specs.Rows.{AreKnown, devices_on};
-ghost use Rattle.ring_place.specs.Inner.Gathering.{CanGoApart, CannotGoApart, IsGift, Lifts};
-ghost use Rattle.ring_place.specs.Inner.Gathering.{MayBeLifted, MustStay};
+ghost use Rattle.ring_room.specs.Rows.{AreKnown, devices_on, is_empty};
+ghost use Rattle.ring_place.specs.Inner.Gathering.{AreCalm, CanGoApart, CannotGoApart, IsGift, Lifts};
+ghost use Rattle.ring_place.specs.Inner.Gathering.{IsWayOut, MayBeLifted, MustStay};
 ghost use Rattle.ring_place.specs.Made.{beats, best_seat, crowd_apart, device_at, gift_of};
-ghost use Rattle.ring_place.specs.Made.{is_better, way_of, without};
+ghost use Rattle.ring_place.specs.Made.{first_place, has_beside, is_better, is_drained_in};
+ghost use Rattle.ring_place.specs.Inner.Gathering.{is_idle_in};
+ghost use Rattle.ring_place.specs.Made.{way_of, way_out, without};
 
-use crate::gather::Pass;
+use crate::gather::{Pass, has_free};
 use crate::place::places_on;
 use crate::seats::row_copy;
 use ring_room::{Crowd, Room, is_less};
@@ -25,7 +28,8 @@ use ring_words::{DeviceId, MOST_SEATS};
 pub(crate) struct Gift {
     pub(crate) replica: usize,
     pub(crate) device: DeviceId,
-    /// How crowded the place is that it may go to, or (0, 0, 0) where that isn't looked at.
+    /// How crowded the place is that it may go to, or (0, 0, 0) where the pass doesn't compare
+    /// places.
     pub(crate) to: Crowd,
     /// How much its device keeps above its want.
     pub(crate) above: u32,
@@ -48,6 +52,20 @@ fn others_of(room: &Room, row: &[Option<DeviceId>], replica: usize) -> ([usize; 
     places_on(room, &rest[..count])
 }
 
+/// How crowded the least crowded device with room is that is outside a partition's other seats, of
+/// which these are the places, if there is one.
+fn find_way(room: &Room, others: &[usize]) -> Option<Crowd>
+    requires others { All (λ other. other < length room.now.devices) others.now }
+    requires few { length others.now ≤ most_replicas }
+    ensures some { IfSome result (IsWayOut room.now (seats_at room.now.devices others.now)) }
+    ensures none { IfNone result ((id : ℕ) → is_free_in room.now
+        (seats_at room.now.devices others.now) id ≡ false) }
+    ensures by_name { result ≡ way_out room.now (seats_at room.now.devices others.now) }
+{
+    let best = room.least_at(others, 0)?;
+    Some(room.crowd_at(others, best))
+}
+
 /// Whether a device outside with room is less crowded than that of a seat.
 fn has_less_crowded(room: &Room, row: &[Option<DeviceId>], replica: usize, device: DeviceId) -> bool
     requires row { AreKnown room.now.devices row.now }
@@ -57,11 +75,11 @@ fn has_less_crowded(room: &Room, row: &[Option<DeviceId>], replica: usize, devic
 {
     let (places, count) = others_of(room, row, replica);
     let others = &places[..count];
-    match room.least_at(others, 0) {
+    match find_way(room, others) {
         None => false,
-        Some(best) => {
+        Some(to) => {
             let own = room.place_of(device);
-            is_less(room.crowd_at(others, best), room.crowd_at(others, own))
+            is_less(to, room.crowd_at(others, own))
         }
     }
 }
@@ -83,8 +101,7 @@ fn find_apart(
 {
     let (places, count) = others_of(room, row, replica);
     let others = &places[..count];
-    let best = room.least_at(others, 0)?;
-    let to = room.crowd_at(others, best);
+    let to = find_way(room, others)?;
     let own = room.place_of(device);
     if is_less(room.crowd_at(others, own), to) {
         None
@@ -93,8 +110,89 @@ fn find_apart(
     }
 }
 
-/// How crowded the place is that a seat may leave its device for in a pass, if it may leave it:
-/// (0, 0, 0) where the pass doesn't look at the place.
+/// Whether the least crowded device with room that is outside a partition's other seats has at most
+/// so many of them in its region and in its zone, added.
+fn has_beside(room: &Room, row: &[Option<DeviceId>], replica: usize, most: u32) -> bool
+    requires row { AreKnown room.now.devices row.now }
+    requires few { length row.now ≤ most_replicas }
+    requires replica { replica < length row.now }
+    ensures { result ≡ has_beside room.now (others row.now replica) most }
+{
+    let (places, count) = others_of(room, row, replica);
+    match find_way(room, &places[..count]) {
+        None => false,
+        Some(to) => u64::from(to.0) + u64::from(to.1) <= u64::from(most),
+    }
+}
+
+/// Whether a seat is on a device that wants nothing.
+fn is_idle(was: &Room, seat: Option<DeviceId>) -> bool
+    requires seat { ForSome seat (λ id. has_device id was.now.devices ≡ true) }
+    ensures { result ≡ is_idle_in was.now seat }
+{
+    match seat {
+        None => false,
+        Some(device) => was.wants(device) == 0,
+    }
+}
+
+/// Whether a partition has such a seat.
+fn has_idle(was: &Room, row: &[Option<DeviceId>]) -> bool
+    requires row { AreKnown was.now.devices row.now }
+    ensures { result ≡ list_any (is_idle_in was.now) row.now }
+{
+    for seat in row {
+        if is_idle(was, *seat) {
+            return true;
+        }
+    }
+    false
+}
+
+/// Whether a device wants nothing, and some device outside a partition has room.
+fn is_drained(was: &Room, row: &[Option<DeviceId>], device: DeviceId) -> bool
+    requires row { AreKnown was.now.devices row.now }
+    requires few { length row.now ≤ most_replicas }
+    requires device { has_device device was.now.devices ≡ true }
+    ensures { result ≡ is_drained_in was.now row.now device }
+{
+    is_idle(was, Some(device)) && has_free(was, row)
+}
+
+/// Whether a partition without empty seats may have some that leave in the first pass. Mostly it
+/// shows at a glance that it has none.
+pub(crate) fn may_leave(was: &Room, row: &[Option<DeviceId>]) -> bool
+    requires row { AreKnown was.now.devices row.now }
+    requires few { length row.now ≤ most_replicas }
+    requires full { list_any is_empty row.now ≡ false }
+    ensures { result ≡ false → AreCalm was.now row.now }
+{
+    !was.is_calm(row) || has_idle(was, row)
+}
+
+/// (0, 0, 0) for a seat on a device that wants nothing, which leaves before a crowded one in the
+/// first pass, and (1, 0, 0) for that.
+fn first_place(drained: bool, crowded: bool) -> Option<Crowd>
+    ensures some { IfSome result (λ to. (drained ≡ true) ⊎ (crowded ≡ true)) }
+    ensures none { IfNone result ((drained ≡ false) × (crowded ≡ false)) }
+    ensures by_name { result ≡ first_place drained crowded }
+{
+    if drained {
+        return Some((0, 0, 0));
+    }
+    if crowded { Some((1, 0, 0)) } else { None }
+}
+
+/// (0, 0, 0) for a seat that may leave its device whatever its place.
+fn anywhere(may: bool) -> Option<Crowd>
+    ensures { result ≡ (if may then Some (0, 0, 0) else None) }
+{
+    if may { Some((0, 0, 0)) } else { None }
+}
+
+/// How crowded the place is that a seat may leave its device for in a pass, if it may leave it. The
+/// first pass has (0, 0, 0) and (1, 0, 0) for those that leave first and then, and another that
+/// doesn't compare places (0, 0, 0).
 fn way_of(
     pass: Pass,
     was: &Room,
@@ -112,13 +210,10 @@ fn way_of(
     ensures by_name { result ≡ way_of pass was.now kept.now row.now replica device }
 {
     match pass {
-        Pass::First => {
-            if has_less_crowded(was, row, replica, device) {
-                Some((0, 0, 0))
-            } else {
-                None
-            }
-        }
+        Pass::First => first_place(
+            is_drained(was, row, device),
+            has_less_crowded(was, row, replica, device),
+        ),
         Pass::Apart => {
             if kept.is_over(device) {
                 find_apart(was, row, replica, device)
@@ -126,13 +221,10 @@ fn way_of(
                 None
             }
         }
-        Pass::Second => {
-            if kept.is_over(device) {
-                Some((0, 0, 0))
-            } else {
-                None
-            }
+        Pass::Beside(most) => {
+            anywhere(kept.is_over(device) && has_beside(was, row, replica, most))
         }
+        Pass::Second => anywhere(kept.is_over(device)),
     }
 }
 

@@ -444,9 +444,8 @@ fn in_one_zone(ring: &Ring) -> usize {
         .count()
 }
 
-#[test]
-fn uneven_zones_leave_no_partition_in_one_zone(rt: HostRuntime) -> Result<(), Fail> {
-    let alloc = rt.alloc();
+/// The ring of three replicas of these devices, each on a server of its own, once it is assigned.
+fn uneven_ring(alloc: Global) -> Result<Ring, Fail> {
     let mut ring = ring(alloc, 8, 3, 0, [].as_slice())?;
     for number in 0..12u8 {
         let zone = uneven_zone(u16::from(number));
@@ -456,9 +455,54 @@ fn uneven_zones_leave_no_partition_in_one_zone(rt: HostRuntime) -> Result<(), Fa
             device_at(alloc, number, 1, zone, number, 10_000)?,
         )?;
     }
-    let ring = ample_rebalance(alloc, &ring, 0, 7)?.ring;
+    Ok(ample_rebalance(alloc, &ring, 0, 7)?.ring)
+}
+
+#[test]
+fn uneven_zones_leave_no_partition_in_one_zone(rt: HostRuntime) -> Result<(), Fail> {
+    let alloc = rt.alloc();
+    let ring = uneven_ring(alloc)?;
     assert_eq!(rt; ring.seats().len(), 768);
     assert_eq!(rt; in_one_zone(&ring), 0);
+    Ok(())
+}
+
+/// The ring with four devices more in a second region, without weight.
+fn with_second_region(alloc: Global, ring: &Ring) -> Result<Ring, Fail> {
+    let mut ring = Ring::build(alloc, ring.parts()?)?;
+    for number in 12..16u8 {
+        ring = with_device(alloc, &ring, device(alloc, number, 2, 0)?)?;
+    }
+    Ok(ring)
+}
+
+/// The ring with another weight at each device of the second region.
+fn with_weights(alloc: Global, ring: &Ring, weight: u32) -> Result<Ring, Fail> {
+    let mut ring = Ring::build(alloc, ring.parts()?)?;
+    for id in 12..16u16 {
+        ring = weighed(alloc, &ring, id, weight)?;
+    }
+    Ok(ring)
+}
+
+/// How many seats the devices of the second region have.
+fn in_second_region(ring: &Ring) -> usize {
+    ring.seats().iter().filter(|id| **id >= 12).count()
+}
+
+#[test]
+fn seats_go_home_when_a_region_comes_in_by_steps(rt: HostRuntime) -> Result<(), Fail> {
+    let alloc = rt.alloc();
+    let mut ring = with_second_region(alloc, &uneven_ring(alloc)?)?;
+    for step in 1..=8u32 {
+        let had = in_second_region(&ring);
+        ring = with_weights(alloc, &ring, step * 1_250)?;
+        let done = ample_rebalance(alloc, &ring, 0, step)?;
+        let taken = in_second_region(&done.ring).saturating_sub(had);
+        assert_eq!(rt; done.changed as usize, taken);
+        ring = done.ring;
+    }
+    assert_eq!(rt; in_second_region(&ring), 192);
     Ok(())
 }
 

@@ -1,5 +1,7 @@
 pub mod DevicesAt
 pub mod BestSoFar
+pub mod BestFound
+pub mod CardsFit
 pub mod ByName
 pub mod FreeOutside
 pub mod TierFloors

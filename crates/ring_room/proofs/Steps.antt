@@ -26,11 +26,11 @@ pub steps_end : {S : Type 0} (step : ℕ → S → S) (n count : ℕ) (first now
     now ≡ after_steps step n first → n ≡ count → now ≡ after_steps step count first
 steps_end step n count first now before same = before ∙ ap (λ k. after_steps step k first) same
 
-from_zero : (test : ℕ → Bool) (at : ℕ) → first_from test 0 at ≡ None
+pub from_zero : (test : ℕ → Bool) (at : ℕ) → first_from test 0 at ≡ None
 unfolding first_from
 from_zero test at = refl
 
-from_suc : (test : ℕ → Bool) (left at : ℕ) → first_from test (suc left) at ≡ cond (test at) (Some at)
+pub from_suc : (test : ℕ → Bool) (left at : ℕ) → first_from test (suc left) at ≡ cond (test at) (Some at)
     (first_from test left (at + 1))
 unfolding first_from
 from_suc test left at = refl

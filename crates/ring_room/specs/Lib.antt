@@ -1,3 +1,4 @@
+pub mod Cards
 pub mod Load
 pub mod Places
 pub mod Rows

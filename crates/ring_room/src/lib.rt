@@ -4,11 +4,13 @@
 //! The definitions that contracts cite stand in `specs/`, and `docs/definitions.md` lists them.
 #![tactic(auto)]
 
+mod cards;
 mod rooms;
 mod rows;
 mod search;
 mod tiers;
 
+pub use cards::Taken;
 pub use rooms::Room;
 pub use rows::devices_on;
 pub use tiers::{Crowd, is_less};

@@ -10,6 +10,7 @@ ghost use Rattle.ring_room.specs.Load.{Load, IsLoad, have_in, want_in, has_room_
 ghost use Rattle.ring_room.specs.Load.{load_take, is_free_in, crowd_in, IsLeast};
 ghost use Rattle.ring_room.specs.Places.{id_at, seats_at};
 ghost use Rattle.ring_room.specs.Inner.Lists.{AreRoomy};
+ghost use Rattle.ring_room.specs.Cards.{lacks_at};
 ghost use Rattle.ring_room.specs.Search.{open_place, roomy_places};
 ghost use Rattle.ring_share.specs.Tiers.{AreTier};
 
@@ -276,6 +277,14 @@ impl Room {
         !self.devices[self.place_of(device)].removed
     }
 
+    /// How many seats a device of the ring wants.
+    pub fn wants(&self, device: DeviceId) -> u32
+        requires { has_device device self.now.devices ≡ true }
+        ensures { result ≡ want_in self.now device }
+    {
+        self.wanted[self.place_of(device)]
+    }
+
     /// Whether a device of the ring keeps more seats than it wants.
     pub fn is_over(&self, device: DeviceId) -> bool
         requires { has_device device self.now.devices ≡ true }
@@ -292,6 +301,22 @@ impl Room {
     {
         let place = self.place_of(device);
         self.counts[place].saturating_sub(self.wanted[place])
+    }
+
+    /// How many devices there are.
+    pub fn count(&self) -> usize
+        ensures count { result ≡ length self.now.devices }
+        ensures few { result ≤ most_devices }
+    {
+        self.devices.len()
+    }
+
+    /// How many more seats the device at a place wants than it has, 0 where it wants no more.
+    pub fn lacks_at(&self, place: usize) -> u32
+        requires { place < length self.now.devices }
+        ensures { result ≡ lacks_at self.now place }
+    {
+        self.wanted[place].saturating_sub(self.counts[place])
     }
 
     /// The place of an open device that isn't among those at `others`, which are fewer than open

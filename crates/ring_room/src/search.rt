@@ -5,14 +5,14 @@ ghost use Rattle.std.specs.Prelude.{IfSome, IfNone, List, Option, if◌then◌el
 ghost use Rattle.std.specs.List.{list_any};
 ghost use Rattle.ring_model.specs.Ring.{has_device};
 ghost use Rattle.ring_room.specs.Free.{AreUncrowded, has_free_in};
-ghost use Rattle.ring_room.specs.Rows.{AreKnown, is_empty};
+ghost use Rattle.ring_room.specs.Rows.{AreKnown, devices_on as devices_on_row, is_empty};
 ghost use Rattle.ring_room.specs.Load.{IsLoad, IsLeast, crowd_in, has_room_in, is_free_in};
 ghost use Rattle.ring_room.specs.Load.{seats_of};
 ghost use Rattle.ring_room.specs.Places.{id_at, place_after};
 ghost use Rattle.ring_room.specs.Inner.Places.{IsBestSoFar, is_within};
 ghost use Rattle.ring_room.specs.Places.{seats_at};
 ghost use Rattle.ring_room.specs.Search.{best_of_all, better_of, least_place, roomy_places};
-ghost use Rattle.std.specs.Prelude.{nat_lt};
+ghost use Rattle.std.specs.Prelude.{nat_lt, take};
 ghost use Rattle.ring_room.specs.Inner.Lists.{IsFloor};
 ghost use Rattle.ring_share.specs.Crowd.{tiers_of};
 ghost use Rattle.ring_share.specs.Tiers.{AreTier};
@@ -115,6 +115,28 @@ impl Room {
         places
     }
 
+    /// The places of the devices of a partition's seats that aren't empty, by replica, and how many
+    /// they are. What stands behind them is left over.
+    pub fn places_on(&self, row: &[Option<DeviceId>]) -> ([usize; MOST_SEATS], usize)
+        requires row { AreKnown self.now.devices row.now }
+        requires few { length row.now ≤ most_replicas }
+        ensures long { length result.0 ≡ most_replicas }
+        ensures few { result.1 ≤ most_replicas }
+        ensures within { All (λ place. place < length self.now.devices) (take result.1 result.0) }
+        ensures by_name { seats_at self.now.devices (take result.1 result.0) ≡ seats_of
+            (devices_on_row row.now) }
+    {
+        let mut places = [0; MOST_SEATS];
+        let mut count = 0;
+        for seat in row {
+            if let Some(id) = *seat {
+                places[count] = self.place_of(id);
+                count += 1;
+            }
+        }
+        (places, count)
+    }
+
     /// How crowded a device of the ring is for a seat whose other seats are on these devices.
     pub fn crowd(&self, others: &[DeviceId], device: DeviceId) -> Crowd
         requires others { All (λ id. has_device id self.now.devices ≡ true) others.now }
@@ -207,7 +229,7 @@ impl Room {
             return None;
         }
         let floor = self.floor_for(others);
-        let start = draw as usize % self.count;
+        let start = (draw % self.count as u32) as usize;
         let best = self.least_of(&self.roomy[..self.count], start, others, floor)?;
         Some(best.0)
     }
@@ -227,7 +249,7 @@ impl Room {
     }
 
     /// How many of the devices at some places are in the region of the device at a place.
-    fn in_region_of(&self, others: &[usize], place: usize) -> u32
+    pub(crate) fn in_region_of(&self, others: &[usize], place: usize) -> u32
         requires others { All (λ other. other < length self.now.devices) others.now }
         requires few { length others.now ≤ most_replicas }
         requires place { place < length self.now.devices }
@@ -256,6 +278,16 @@ impl Room {
             least = self.in_region_of(others, *place).min(least);
         }
         (least, 0, 0)
+    }
+
+    /// How crowded open devices are at the least for a seat whose other seats are on the devices at
+    /// these places.
+    pub(crate) fn floor(&self, others: &[usize]) -> Crowd
+        requires others { All (λ other. other < length self.now.devices) others.now }
+        requires few { length others.now ≤ most_replicas }
+        ensures { IsFloor self.now (seats_at self.now.devices others.now) result }
+    {
+        self.floor_after(STEPS_BY_REGIONS, others, self.floor_for(others))
     }
 
     /// How crowded open devices are at the least, where it is known how crowded they are down to

@@ -1,7 +1,8 @@
 -- Seats that can go apart are gathered first.
 use Rattle.std.proofs.Common.{◌≡◌, ◌∙◌, ◌==◌, ℕ, ◌<◌, ◌≤◌, Bool, true, false, ◌&&◌, cond, List}
 use Rattle.std.proofs.Common.{length, get_or, Option, Some, None, refl, sym, ap, subst}
-use Rattle.std.proofs.Common.{arith, ◌≢◌}
+use Rattle.std.proofs.Common.{arith, ◌≢◌, [], ⊎_elim}
+use Rattle.std.proofs.lemmas.List.Sums.{sum_by-set}
 use Rattle.std.specs.Prelude.{slice_get, nat_lt}
 use Rattle.std.specs.List.{list_any}
 use Rattle.std.proofs.lemmas.Bool.{and_parts, and_right, ne_eqb}
@@ -14,12 +15,12 @@ use Rattle.ring_model.specs.Valid.{IsValid}
 use Rattle.ring_words.specs.declared.device.Device.{Device}
 use Rattle.ring_share.specs.Crowd.{crowd_for, is_less, others, row_of, rows_of, seats_on}
 use Rattle.ring_share.specs.Room.{has_open, have}
-use Rattle.ring_share.proofs.Rows.{length-row_of}
+use Rattle.ring_share.proofs.Rows.{length-row_of, row_of_at}
 use Rattle.ring_room.specs.Free.{is_crowded_in}
 use Rattle.ring_room.specs.Load.{Load, crowd_in, has_room_in, have_in, is_free_in, want_in}
 use Rattle.ring_room.specs.Rows.{is_empty}
 use Rattle.ring_room.proofs.Searching.BestSoFar.{not_less_after}
-use Rattle.ring_room.proofs.Searching.LessCrowded.{one_free, seats_with}
+use Rattle.ring_room.proofs.Searching.LessCrowded.{one_free, one_here, seats_with}
 use Rattle.ring_place.specs.Apart.{AreMoreCrowded, GivesApartFirst}
 use Rattle.ring_place.specs.Rebalance.{has_less_crowded, has_lost, is_free, is_locked}
 use Rattle.ring_place.specs.Inner.Gathering.{CanGoApart, IsFilled, Lifts, gathered_in}
@@ -28,10 +29,11 @@ use Rattle.ring_place.specs.Made.{row_at}
 use Rattle.ring_place.proofs.Gathering.BothPasses.{IsBoth, both_kept, both_length}
 use Rattle.ring_place.proofs.Gathering.GatheredSeats.{crowded_same, free_same, has_lost_same}
 use Rattle.ring_place.proofs.Gathering.GatheredSeats.{not_empty, one_lifted, seat_in_row}
-use Rattle.ring_place.proofs.Gathering.LiftedFor.{ForApart, ForCrowd, ForLost, ForNone, ForSurplus}
+use Rattle.ring_place.proofs.Gathering.LiftedFor.{ForApart, ForCrowd, ForDrained, ForLost, ForNone}
+use Rattle.ring_place.proofs.Gathering.LiftedFor.{ForSurplus}
 use Rattle.ring_place.proofs.Gathering.LiftedFor.{IsLiftedFor}
 use Rattle.ring_place.proofs.Gathering.SeatSums.{kept_fewer, lifts_less, sum_less}
-use Rattle.ring_place.proofs.Rows.LiftedSeats.{same_device}
+use Rattle.ring_place.proofs.Rows.LiftedSeats.{same_device, seat_at}
 use Rattle.ring_place.proofs.Rows.RingSeats.{have_by_rows, length-rows_of, row_at-rows_of}
 
 -- the other devices are outside a partition's other seats as they are outside the partition
@@ -75,7 +77,9 @@ module _ (ring : RingRecord) (hour : ℕ) (was between left : Load) (wanted : Li
     (row_at rows partition))
     (reasons : (partition : ℕ) → partition < partition_count ring →
     IsLiftedFor was between left (is_locked ring hour partition) (row_of ring partition)
-    (row_at rows partition)) where
+    (row_at rows partition))
+    (fewer : (id : ℕ) → has_device id ring.devices ≡ true → have_in left id ≤ have_in between id)
+    (same_wants : (id : ℕ) → want_in between id ≡ want_in was id) where
   crowd_same : (partition replica id : ℕ) → crowd_in was (others (row_of ring partition) replica) id
       ≡ crowd_for ring partition replica id
   crowd_same partition replica id = rw devices refl
@@ -130,15 +134,16 @@ module _ (ring : RingRecord) (hour : ℕ) (was between left : Load) (wanted : Li
       full_has_none was id (omega (arith, less, had, keep, want, keeps))
 
   over_by : (partition replica id : ℕ) (locked : Bool) → partition < partition_count ring →
-      replica < ring.replicas → has_lost ring partition ≡ false →
+      replica < ring.replicas → (want_in was id ≡ 0 → want_in between id < have_in between id)
+      → has_lost ring partition ≡ false →
       gathered_in rows partition replica ≡ true → seat ring partition replica ≡ Some id →
       AreMoreCrowded ring wanted partition replica id →
       IsLiftedFor was between left locked (row_of ring partition) (row_at rows partition)
       → want_in between id < have_in between id
-  over_by partition replica id locked lt mt has gone at more (ForLost some) =
+  over_by partition replica id locked lt mt idle has gone at more (ForLost some) =
       absurd (let same = has_lost_same ring was wanted devices wants counts partition in
       cc (same, some, has))
-  over_by partition replica id locked lt mt has gone at more (ForCrowd none place e lifts less) =
+  over_by partition replica id locked lt mt idle has gone at more (ForCrowd none place e lifts less) =
       let same = the_seat partition replica id place e mt none gone at lifts in
       let here : has_less_crowded ring wanted partition replica id ≡ true =
       sym (crowded_same ring was wanted devices wants counts partition replica id)
@@ -154,7 +159,11 @@ module _ (ring : RingRecord) (hour : ℕ) (was between left : Load) (wanted : Li
       (crowd_for ring partition replica id) parts.1 in
       let is = more found.1.id parts.0 in
       absurd (cc (never, is))
-  over_by partition replica id locked lt mt has gone at more (ForApart none place e lifts goes keeps)
+  over_by partition replica id locked lt mt idle has gone at more (ForDrained none place e lifts wants)
+      =
+      let same = the_seat partition replica id place e mt none gone at lifts in
+      idle (subst (λ (d : ℕ). want_in was d ≡ 0) same.1 wants)
+  over_by partition replica id locked lt mt idle has gone at more (ForApart none place e lifts goes keeps)
       =
       let same = the_seat partition replica id place e mt none gone at lifts in
       let there : Lifts (row_of ring partition) (row_at rows partition) place id =
@@ -174,10 +183,10 @@ module _ (ring : RingRecord) (hour : ℕ) (was between left : Load) (wanted : Li
       let is = more go.to free in
       let never = sym (more_same partition replica id go.to) ∙ go.no_more in
       absurd (cc (is, never))
-  over_by partition replica id locked lt mt has gone at more (ForSurplus none place e lifts over) =
+  over_by partition replica id locked lt mt idle has gone at more (ForSurplus none place e lifts over) =
       let same = the_seat partition replica id place e mt none gone at lifts in
       subst (λ (d : ℕ). want_in between d < have_in between d) same.1 over
-  over_by partition replica id locked lt mt has gone at more (ForNone none is rest) =
+  over_by partition replica id locked lt mt idle has gone at more (ForNone none is rest) =
       absurd (let stays = ap (λ r. is_empty (get_or r replica None)) is ∙ not_empty was.devices ring
       partition replica mt none in cc (stays, gone))
 
@@ -205,6 +214,8 @@ module _ (ring : RingRecord) (hour : ℕ) (was between left : Load) (wanted : Li
       cc (same, some, has))
   more_by partition replica id locked mt unlocked has stays at over (ForCrowd none place e lifts less)
       to free = absurd (taken_gone partition place e lifts stays)
+  more_by partition replica id locked mt unlocked has stays at over (ForDrained none place e lifts
+      wants) to free = absurd (taken_gone partition place e lifts stays)
   more_by partition replica id locked mt unlocked has stays at over (ForApart none place e lifts goes
       keeps) to free = absurd (taken_gone partition place e lifts stays)
   more_by partition replica id locked mt unlocked has stays at over (ForSurplus none place e lifts
@@ -218,10 +229,40 @@ module _ (ring : RingRecord) (hour : ℕ) (was between left : Load) (wanted : Li
       (one_free was (row_of ring partition) to opens) replica id here over to
       (free_others was (row_of ring partition) replica id to here opens)
 
+  -- a device that a partition that is left has a seat on keeps one, and it kept one before
+  stays_at : (partition replica id : ℕ) → partition < partition_count ring → replica < ring.replicas
+      → gathered_in rows partition replica ≡ false → seat ring partition replica ≡ Some id
+      → get_or (row_at rows partition) replica None ≡ Some id
+  stays_at partition replica id lt mt stays at = ⊎_elim
+      (λ none. absurd (let empty = ap is_empty none in cc (empty, stays)))
+      (λ same. same ∙ row_of_at ring partition replica mt ∙ at)
+      (both_kept was left (is_locked ring hour partition) (row_of ring partition)
+      (row_at rows partition) (both partition lt) replica)
+
+  keeps_one : (partition replica id : ℕ) → partition < partition_count ring →
+      replica < ring.replicas → gathered_in rows partition replica ≡ false
+      → seat ring partition replica ≡ Some id → want_in was id ≡ 0 →
+      want_in between id < have_in between id
+  keeps_one partition replica id lt mt stays at none =
+      let is_known = known partition replica id at in
+      let long = both_length was left (is_locked ring hour partition) (row_of ring partition)
+      (row_at rows partition) (both partition lt) in
+      let here = seat_at (row_at rows partition) replica (Some id)
+      (omega (arith, mt, long, length-row_of ring partition))
+      (stays_at partition replica id lt mt stays at) in
+      let one = one_here (row_at rows partition) replica id here in
+      let all = sum_by-set (seats_on id) rows partition [] [] (omega (arith, lt, many)) in
+      let counted = filled.counts id is_known in
+      let kept = fewer id is_known in
+      let want = same_wants id in
+      omega (arith, one, all, counted, kept, want, none)
+
   pub gives_apart_first : GivesApartFirst ring hour wanted (gathered_in rows)
   gives_apart_first partition replica id is has gone at more other place also left_so there =
       more_by other place id (is_locked ring hour other) also.replica_there left_so.unlocked
       left_so.none_lost left_so.none_gathered there
       (over_by partition replica id (is_locked ring hour partition) is.partition_there
-      is.replica_there has gone at more (reasons partition is.partition_there))
+      is.replica_there (keeps_one other place id also.partition_there also.replica_there
+      (left_so.none_gathered place also.replica_there) there) has gone at more
+      (reasons partition is.partition_there))
       (reasons other also.partition_there)

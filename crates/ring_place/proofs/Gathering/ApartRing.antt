@@ -104,7 +104,8 @@ module _ (ring : RingRecord) (hour : ℕ) (was start between left : Load) (wante
 
   -- what the last two passes lift is what the second alone may lift
   pub second_alone : IsPass Second order was left locked middle rows
-  second_alone = second_passed order was between left locked middle after rows known
+  second_alone = second_passed Apart order was between left locked middle after rows
+      (λ (e : Apart ≡ First). cc e) known
       (λ p among. let below = order_is_below (partition_count ring) order each p among in
       omega (arith, below, middle_many)) falls apart second
 
@@ -116,6 +117,9 @@ module _ (ring : RingRecord) (hour : ℕ) (was start between left : Load) (wante
       (second.as_many ∙ after_many) (seat_known ring valid)
       (both_lifted ring hour was start left locked order middle rows valid locks_are each first
       second_alone) reasons
+      (λ id is_known. falls.down id (ap (has_device id) (apart.filled.devices_are ∙ devices)
+      ∙ is_known))
+      (λ id. rw (apart.filled.devices_are, apart.filled.wanted_are) refl)
 
 -- where no device has room there is nothing to tell
 pub none_apart : (ring : RingRecord) (hour : ℕ) (was : Load) (wanted : List ℕ)

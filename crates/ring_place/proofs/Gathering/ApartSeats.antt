@@ -4,29 +4,25 @@ use Rattle.std.proofs.Common.{⊎_elim, subst}
 use Rattle.std.proofs.lemmas.Bool.{cases_Bool}
 use Rattle.ring_share.specs.Crowd.{is_less}
 use Rattle.ring_room.specs.Load.{IsLeast, Load, crowd_in, is_free_in, seats_of}
-use Rattle.ring_room.specs.Places.{id_at}
 use Rattle.ring_room.specs.Rows.{devices_on}
-use Rattle.ring_room.specs.Search.{least_place}
 use Rattle.ring_room.proofs.Searching.BestSoFar.{not_less_trans}
 use Rattle.ring_room.proofs.Searching.RowDevices.{crowd_taken, free_taken, least_taken}
 use Rattle.ring_place.specs.Inner.Gathering.{CanGoApart, CannotGoApart}
-use Rattle.ring_place.specs.Made.{crowd_apart, no_more_at}
+use Rattle.ring_place.specs.Made.{crowd_apart, no_more_than, way_out}
 
 module _ (load : Load) (rest seats : List (Option ℕ)) (same : seats ≡ seats_of (devices_on rest))
   where
     crowd_same : (id : ℕ) → crowd_in load seats id ≡ crowd_in load rest id
     crowd_same id = ap (λ s. crowd_in load s id) same ∙ crowd_taken load rest id
 
-    pub found_apart : (id place : ℕ) (own to : ℕ × ℕ × ℕ) (b : Bool) →
-        Some place ≡ least_place load seats 0 → to ≡ crowd_in load seats (id_at load.devices place)
-        → own ≡ crowd_in load seats id → is_less own to ≡ b
+    pub found_apart : (id : ℕ) (own to : ℕ × ℕ × ℕ) (b : Bool) → Some to ≡ way_out load seats →
+        own ≡ crowd_in load seats id → is_less own to ≡ b
         → cond b None (Some to) ≡ crowd_apart load rest id
-    found_apart id place own to b found is_to is_own less =
+    found_apart id own to b found is_own less =
         ap (λ t. cond t None (Some to)) (sym less)
-        ∙ ap (λ o. cond (is_less o to) None (Some to)) is_own
-        ∙ ap (λ t. cond (is_less (crowd_in load seats id) t) None (Some t)) is_to
-        ∙ ap (no_more_at load seats id) found
-        ∙ ap (λ s. no_more_at load s id (least_place load s 0)) same
+        ∙ ap (λ o. no_more_than o (Some to)) is_own
+        ∙ ap (no_more_than (crowd_in load seats id)) found
+        ∙ ap (λ s. no_more_than (crowd_in load s id) (way_out load s)) same
 
     pub can_go : (id best : ℕ) (own to : ℕ × ℕ × ℕ) → IsLeast load seats best →
         to ≡ crowd_in load seats best → own ≡ crowd_in load seats id → is_less own to ≡ false

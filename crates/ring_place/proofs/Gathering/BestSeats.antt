@@ -2,7 +2,6 @@
 use Rattle.std.proofs.Common.{◌≡◌, ◌∙◌, ℕ, ◌+◌, ◌<◌, Bool, true, false, cond, not, ◌&&◌, List}
 use Rattle.std.proofs.Common.{length, get_or, Option, Some, None, is_some, refl, ap, sym, subst}
 use Rattle.std.proofs.Common.{⊎_elim, arith, below_more, IfSome, IfNone}
-use Rattle.std.specs.Prelude.{slice_get}
 use Rattle.std.specs.List.{list_any, range_with_len}
 use Rattle.std.specs.Option.{option_map}
 use Rattle.std.proofs.lemmas.Bool.{and_left, and_right, cases_Bool}
@@ -18,7 +17,8 @@ use Rattle.ring_place.specs.declared.gather.Pass.{Pass}
 use Rattle.ring_place.specs.declared.gather.Pass.TheVariants.{First}
 use Rattle.ring_place.specs.declared.surplus.Gift.{Gift}
 use Rattle.ring_place.specs.Made.{beats, best_of, best_seat, gift_by, gift_of, gift_to, is_best}
-use Rattle.ring_place.specs.Made.{is_better}
+use Rattle.ring_place.specs.Made.{first_place, is_better, is_drained_in}
+use Rattle.ring_place.specs.Inner.Gathering.{AreCalm}
 use Rattle.ring_place.proofs.Rows.LiftedSeats.{seat_at}
 
 -- ---- the better of two
@@ -181,16 +181,18 @@ pub own_replica : (pass : Pass) (was kept : Load) (row : List (Option ℕ)) (rep
 own_replica pass was kept row replica gift is = own_by pass was kept row replica _ gift is
 
 calm_by : (was kept : Load) (row : List (Option ℕ)) (replica : ℕ) (seat : Option ℕ) →
-    ((id : ℕ) → seat ≡ Some id → is_crowded_in was row replica id ≡ false)
+    ((id : ℕ) → seat ≡ Some id → (is_drained_in was row id ≡ false) ×
+    (is_crowded_in was row replica id ≡ false))
     → gift_by First was kept row replica seat ≡ None
 calm_by was kept row replica None calm = refl
 calm_by was kept row replica (Some id) calm =
-    ap (λ b. gift_to kept replica id (cond b (Some (0, 0, 0)) None)) (calm id refl)
+    ap (λ b. gift_to kept replica id (first_place b (is_crowded_in was row replica id)))
+    (calm id refl).0
+    ∙ ap (λ b. gift_to kept replica id (first_place false b)) (calm id refl).1
 
 -- of a calm partition no seat is lifted
-pub none_crowded : (was kept : Load) (row : List (Option ℕ)) → ((k : ℕ) → k < length row →
-    (id : ℕ) → slice_get row k ≡ Some (Some id) → is_crowded_in was row k id ≡ false) →
+pub none_crowded : (was kept : Load) (row : List (Option ℕ)) → AreCalm was row →
     None ≡ best_seat First was kept row
 none_crowded was kept row calm = best_end (gift_of First was kept row) (length row) None
     (λ k lt. calm_by was kept row k (get_or row k None)
-    (λ id is. calm k lt id (seat_at row k (Some id) lt is)))
+    (λ id is. calm k id (seat_at row k (Some id) lt is)))

@@ -1,10 +1,11 @@
 -- What the first pass and those after it lift of a partition.
-use Rattle.std.proofs.Common.{◌≡◌, ℕ, zero, suc, ◌≤◌, Bool, true, false, not, ◌||◌, ◌⊎◌, inl, inr}
+use Rattle.std.proofs.Common.{◌≡◌, ◌==◌, ℕ, zero, suc, ◌≤◌, Bool, true, false, not, ◌||◌, ◌⊎◌, inl}
+use Rattle.std.proofs.Common.{inr}
 use Rattle.std.proofs.Common.{List, [], ◌∷◌, length, get_or, map, set, Option, Some, None, refl}
 use Rattle.std.proofs.Common.{sym, ap, subst, ◌∙◌, ⊎_elim, arith}
 use Rattle.std.specs.Prelude.{slice_get}
 use Rattle.std.specs.List.{list_any}
-use Rattle.std.proofs.lemmas.Bool.{cases_Bool, or_parts}
+use Rattle.std.proofs.lemmas.Bool.{and_parts, cases_Bool, eqb-true, or_parts}
 use Rattle.std.proofs.lemmas.List.{get_or-set_same, length-map, length-set}
 use Rattle.std.proofs.lemmas.List.Folds.{list_any_at}
 use Rattle.std.proofs.lemmas.Option.{slice_get_within}
@@ -13,7 +14,7 @@ use Rattle.ring_words.specs.declared.device.Device.{Device}
 use Rattle.ring_room.specs.Load.{Load, have_in, want_in}
 use Rattle.ring_room.specs.Rows.{is_empty}
 use Rattle.ring_room.specs.Free.{AreUncrowded}
-use Rattle.ring_place.specs.Inner.Gathering.{Calm, Crowded, HaveNoSurplus, IsFirst}
+use Rattle.ring_place.specs.Inner.Gathering.{Calm, Crowded, Drained, HaveNoSurplus, IsFirst}
 use Rattle.ring_place.specs.Inner.Gathering.{IsSecond, Lifts, LostFirst, Same, Surplus}
 use Rattle.ring_room.specs.Free.{has_free_in}
 use Rattle.ring_room.specs.Free.{is_crowded_in}
@@ -72,28 +73,45 @@ moved : (one other lifted : List (Option ℕ)) (replica id : ℕ) → one ≡ ot
 moved one other lifted replica id same lifts = subst (λ r. Lifts r lifted replica id) same lifts
 
 pub both_here : (was left : Load) (locked : Bool) (old row next : List (Option ℕ)) →
+    ((id : ℕ) → want_in left id ≡ want_in was id) →
     IsFirst was locked old row → IsSecond was left locked row next → IsBoth was left locked old next
-both_here was left locked old row next (LostFirst some is) (Surplus none unlocked replica id lifts
+both_here was left locked old row next wants (LostFirst some is) (Surplus none unlocked replica id lifts
     free keeps) =
     absurd (let same = empties_map was.devices old in let here = ap (list_any is_empty) is in
     cc (none, same, here, some))
-both_here was left locked old row next (LostFirst some is) (Same same rest) = Lost some (same ∙ is)
-both_here was left locked old row next (Crowded none unlocked replica id lifts less)
+both_here was left locked old row next wants (LostFirst some is) (Same same rest) = Lost some (same ∙ is)
+both_here was left locked old row next wants (Crowded none unlocked replica id lifts less)
     (Surplus full unlocked' replica' id' lifts' free keeps) =
     absurd (let some = lifted_empty old replica id lifts.at in let here =
     ap (list_any is_empty) lifts.lifted in cc (full, some, here))
-both_here was left locked old row next (Crowded none unlocked replica id lifts less)
+both_here was left locked old row next wants (Crowded none unlocked replica id lifts less)
     (Same same rest) = Taken none unlocked replica id (record {
       at = lifts.at;
       lifted =
           same ∙ lifts.lifted;
     }) (inl less)
-both_here was left locked old row next (Calm none is calm) (Surplus full unlocked replica id lifts
+both_here was left locked old row next wants (Calm none is calm) (Surplus full unlocked replica id lifts
     free keeps) =
     Taken none unlocked replica id (moved row old next replica id is lifts)
     (inr (ap (has_free_in was) (sym is) ∙ free, keeps))
-both_here was left locked old row next (Calm none is calm) (Same same rest) =
-    Left none (same ∙ is) calm
+both_here was left locked old row next wants (Drained none unlocked replica id lifts drained)
+    (Surplus full unlocked' replica' id' lifts' free keeps) =
+    absurd (let some = lifted_empty old replica id lifts.at in let here =
+    ap (list_any is_empty) lifts.lifted in cc (full, some, here))
+both_here was left locked old row next wants (Drained none unlocked replica id lifts drained)
+    (Same same rest) = Taken none unlocked replica id (record {
+      at = lifts.at;
+      lifted =
+          same ∙ lifts.lifted;
+    }) (inr (
+      (and_parts (want_in was id == 0) (has_free_in was old) drained).1,
+      (let none_wanted = eqb-true (want_in was id) 0 (and_parts (want_in was id == 0)
+          (has_free_in was old) drained).0 in
+          let want = wants id in
+          omega (arith, none_wanted, want)),
+    ))
+both_here was left locked old row next wants (Calm none is calm) (Same same rest) =
+    Left none (same ∙ is) (λ unlocked replica id at. (calm unlocked replica id at).1)
     (λ unlocked free replica id at. rest (ap (list_any is_empty) is ∙ none_empty was.devices old
     none) unlocked (ap (has_free_in was) is ∙ free) replica id (ap (λ r. slice_get r replica) is
     ∙ at))

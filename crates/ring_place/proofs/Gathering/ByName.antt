@@ -10,14 +10,14 @@ use Rattle.ring_share.specs.Crowd.{rows_of}
 use Rattle.ring_share.specs.Room.{have}
 use Rattle.ring_room.specs.Load.{Load, IsLoad, have_in, load_take}
 use Rattle.ring_place.specs.declared.gather.Pass.{Pass}
-use Rattle.ring_place.specs.declared.gather.Pass.TheVariants.{First, Apart, Second}
+use Rattle.ring_place.specs.declared.gather.Pass.TheVariants.{First}
 use Rattle.ring_room.specs.Free.{has_free_in}
 use Rattle.ring_place.specs.Made.{is_lost_in}
-use Rattle.ring_place.specs.Made.{Gathering, Lifting, apart_passed, best_seat, device_at}
+use Rattle.ring_place.specs.Made.{Gathering, Lifting, best_seat, device_at}
 use Rattle.ring_place.specs.Made.{first_lifting, first_passed, gather_at, gather_by}
 use Rattle.ring_place.specs.Made.{later_lifting, left_of, lifted_at, lifting, load_of}
 use Rattle.ring_place.specs.Made.{locks_of, lose_by, lose_seat, lost_row, passed, take_by}
-use Rattle.ring_place.specs.Made.{without}
+use Rattle.ring_place.specs.Made.{surplus_passed, without}
 use Rattle.ring_room.specs.Search.{roomy_places}
 use Rattle.ring_room.specs.Rows.{is_empty}
 use Rattle.ring_place.specs.Made.{row_at}
@@ -150,19 +150,9 @@ left_first ring wanted hour order was kept seats locked is same rows locks =
     ∙ ap (λ l. passed First was l order (record { load = was; rows = rows_of ring })) locks
     ∙ ap (λ w. passed First w (locks_of ring hour) order (record { load = w; rows = rows_of ring })) is
 
-pub left_apart : (ring : RingRecord) (wanted : List ℕ) (hour : ℕ) (order : List ℕ) (was : Load)
-    (locked : List Bool) (first : Gathering)
-    → was ≡ load_of ring wanted → locked ≡ locks_of ring hour
-    → first ≡ first_passed ring wanted hour order
-    → passed Apart was locked order first ≡ apart_passed ring wanted hour order
-left_apart ring wanted hour order was locked first is locks passes =
-    ap (passed Apart was locked order) passes
-    ∙ ap (λ l. passed Apart was l order (first_passed ring wanted hour order)) locks
-    ∙ ap (λ w. passed Apart w (locks_of ring hour) order (first_passed ring wanted hour order)) is
-
 abbrev left_if : RingRecord → List ℕ → ℕ → List ℕ → Bool → Gathering
-left_if ring wanted hour order some = cond some (passed Second (load_of ring wanted)
-    (locks_of ring hour) order (apart_passed ring wanted hour order))
+left_if ring wanted hour order some = cond some (surplus_passed (load_of ring wanted)
+    (locks_of ring hour) order (first_passed ring wanted hour order))
     (first_passed ring wanted hour order)
 
 pub left_once : (ring : RingRecord) (wanted : List ℕ) (hour : ℕ) (order : List ℕ) (was : Load)
@@ -172,15 +162,15 @@ left_once ring wanted hour order was is none = ap (left_if ring wanted hour orde
     (sym none ∙ ap (λ w. nat_lt 0 (length (roomy_places w))) is)
 
 pub left_whole : (ring : RingRecord) (wanted : List ℕ) (hour : ℕ) (order : List ℕ) (was : Load)
-    (locked : List Bool) (apart : Gathering)
+    (locked : List Bool) (first : Gathering)
     → was ≡ load_of ring wanted → locked ≡ locks_of ring hour
-    → apart ≡ apart_passed ring wanted hour order
+    → first ≡ first_passed ring wanted hour order
     → nat_lt 0 (length (roomy_places was)) ≡ true
-    → passed Second was locked order apart ≡ left_of ring wanted hour order
-left_whole ring wanted hour order was locked apart is locks passes some =
-    ap (passed Second was locked order) passes
-    ∙ ap (λ l. passed Second was l order (apart_passed ring wanted hour order)) locks
-    ∙ ap (λ w. passed Second w (locks_of ring hour) order (apart_passed ring wanted hour order)) is
+    → surplus_passed was locked order first ≡ left_of ring wanted hour order
+left_whole ring wanted hour order was locked first is locks passes some =
+    ap (surplus_passed was locked order) passes
+    ∙ ap (λ l. surplus_passed was l order (first_passed ring wanted hour order)) locks
+    ∙ ap (λ w. surplus_passed w (locks_of ring hour) order (first_passed ring wanted hour order)) is
     ∙ ap (left_if ring wanted hour order)
     (sym some ∙ ap (λ w. nat_lt 0 (length (roomy_places w))) is)
 

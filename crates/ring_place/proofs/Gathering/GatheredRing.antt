@@ -1,6 +1,6 @@
 -- What the passes leave of a ring.
 use Rattle.std.proofs.Common.{◌≡◌, ℕ, ◌<◌, Bool, true, false, List, length, get_or, map, Option}
-use Rattle.std.proofs.Common.{None, sym, ap, subst, ◌∙◌, arith}
+use Rattle.std.proofs.Common.{None, sym, ap, subst, ◌∙◌, arith, refl}
 use Rattle.std.specs.Prelude.{slice_index_or}
 use Rattle.std.specs.List.{range_with_len}
 use Rattle.std.specs.List.Sorted.{IsPermutation}
@@ -50,7 +50,9 @@ both_lifted ring hour was between left locked order middle rows valid locks_are 
     subst (λ b. IsBoth was left b (row_of ring partition) (row_at rows partition))
     (locked_at ring hour locked valid locks_are partition lt)
     (both_here was left (slice_index_or locked partition false) (row_of ring partition)
-    (row_at middle partition) (row_at rows partition) one (second.lifted partition whole))
+    (row_at middle partition) (row_at rows partition)
+    (λ id. rw (second.filled.devices_are, second.filled.wanted_are) refl) one
+    (second.lifted partition whole))
 
 pub is_gathered : (ring : RingRecord) (hour : ℕ) (was between left : Load) (wanted : List ℕ)
     (locked : List Bool) (order : List ℕ) (middle rows : List (List (Option ℕ)))

@@ -1,12 +1,14 @@
 -- What the passes lift of a partition, and what for.
 use Rattle.std.proofs.Common.{◌≡◌, ◌∙◌, ℕ, ◌<◌, ◌≤◌, Bool, true, false, List, Option, ap}
-use Rattle.std.proofs.Common.{subst}
+use Rattle.std.proofs.Common.{◌==◌, subst}
+use Rattle.std.proofs.lemmas.Bool.{and_parts, eqb-true}
 use Rattle.std.specs.List.{list_any}
 use Rattle.ring_share.specs.Crowd.{others}
 use Rattle.ring_room.specs.Free.{has_free_in, is_crowded_in}
 use Rattle.ring_room.specs.Load.{Load, have_in, want_in}
 use Rattle.ring_room.specs.Rows.{is_empty}
-use Rattle.ring_place.specs.Inner.Gathering.{Calm, CanGoApart, Crowded, Goes, IsApart, IsFirst}
+use Rattle.ring_place.specs.Inner.Gathering.{Calm, CanGoApart, Crowded, Drained, Goes, IsApart}
+use Rattle.ring_place.specs.Inner.Gathering.{IsFirst}
 use Rattle.ring_place.specs.Inner.Gathering.{IsSecond, Lifts, LostFirst, NoneCanGoApart, Rests, Same}
 use Rattle.ring_place.specs.Inner.Gathering.{Surplus}
 use Rattle.ring_place.specs.Made.{is_lost_in}
@@ -22,6 +24,9 @@ pub data IsLiftedFor (was between left : Load) (locked : Bool) (old row : List (
     ForCrowd : list_any (is_lost_in was.devices) old ≡ false → (replica id : ℕ) →
         Lifts old row replica id → is_crowded_in was old replica id ≡ true →
         IsLiftedFor was between left locked old row
+    -- one of a device that wants nothing
+    ForDrained : list_any (is_lost_in was.devices) old ≡ false → (replica id : ℕ) →
+        Lifts old row replica id → want_in was id ≡ 0 → IsLiftedFor was between left locked old row
     -- one that can go apart, of a device that keeps all that it wants
     ForApart : list_any (is_lost_in was.devices) old ≡ false → (replica id : ℕ) →
         Lifts old row replica id → CanGoApart was (others old replica) id →
@@ -76,6 +81,13 @@ lifted_for was between left locked old first apart row still over (Crowded none 
     let same = apart_stays was between locked first apart empty a in
     let also = second_stays was left locked apart row (ap (list_any is_empty) same ∙ empty) s in
     ForCrowd none replica id (lifts_as old first row replica id (also ∙ same) lifts) less
+lifted_for was between left locked old first apart row still over (Drained none unlocked replica id
+    lifts drained) a s =
+    let empty = empty_after old first replica id lifts in
+    let same = apart_stays was between locked first apart empty a in
+    let also = second_stays was left locked apart row (ap (list_any is_empty) same ∙ empty) s in
+    ForDrained none replica id (lifts_as old first row replica id (also ∙ same) lifts)
+    (eqb-true (want_in was id) 0 (and_parts (want_in was id == 0) (has_free_in was old) drained).0)
 lifted_for was between left locked old first apart row still over (Calm none is calm)
     (Goes full unlocked replica id lifts free goes keeps) s =
     let empty = empty_after first apart replica id lifts in

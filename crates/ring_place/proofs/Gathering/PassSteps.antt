@@ -14,12 +14,14 @@ use Rattle.ring_room.specs.Load.{Load, is_free_in, want_in}
 use Rattle.ring_room.specs.Rows.{AreKnown, is_empty}
 use Rattle.ring_place.specs.Made.{row_at}
 use Rattle.ring_place.specs.declared.gather.Pass.{Pass}
-use Rattle.ring_place.specs.declared.gather.Pass.TheVariants.{First, Apart, Second}
-use Rattle.ring_place.specs.Inner.Gathering.{AreRowsOfSeats, Calm, Crowded, Falls, Goes, IsApart}
-use Rattle.ring_place.specs.Inner.Gathering.{IsFilled, IsFirst, IsLifting, IsPass, IsSecond, Lifts}
-use Rattle.ring_place.specs.Inner.Gathering.{LostFirst, Rests, Same, Surplus, Takes, is_among}
-use Rattle.ring_place.specs.Inner.Gathering.{present_only}
+use Rattle.ring_place.specs.declared.gather.Pass.TheVariants.{First, Apart, Beside, Second}
+use Rattle.ring_place.specs.Inner.Gathering.{AreRowsOfSeats, Calm, Crowded, Drained, Falls, Gives}
+use Rattle.ring_place.specs.Inner.Gathering.{Goes}
+use Rattle.ring_place.specs.Inner.Gathering.{Holds, IsApart, IsFilled, IsFirst, IsLater, IsLifting}
+use Rattle.ring_place.specs.Inner.Gathering.{IsPass, IsSecond, Lifts, LostFirst, Rests, Same}
+use Rattle.ring_place.specs.Inner.Gathering.{Surplus, Takes, is_among, present_only}
 use Rattle.ring_place.proofs.Gathering.BothPasses.{lifted_empty}
+use Rattle.ring_place.proofs.Gathering.LaterPasses.{later_only}
 use Rattle.ring_place.proofs.Rows.LiftedSeats.{known_lifted}
 use Rattle.ring_room.proofs.Searching.LessCrowded.{none_free}
 
@@ -89,6 +91,17 @@ apart_there was kept after locked old row falls devices wanted known (Rests is r
     let down = falls.down id (known replica id at) in
     rest none unlocked free replica id at (omega (arith, want, down, over)))
 
+later_there : (was kept after : Load) (locked : Bool) (old row : List (Option ℕ)) →
+    Falls kept after → after.devices ≡ kept.devices → after.wanted ≡ kept.wanted →
+    AreKnown kept.devices old
+    → IsLater was kept locked old row → IsLater was after locked old row
+later_there was kept after locked old row falls devices wanted known (Gives none unlocked replica id
+    lifts free keeps) =
+    let want : want_in after id ≡ want_in kept id = rw (devices, wanted) refl in
+    let still = falls.floor id (known replica id lifts.at) keeps in
+    Gives none unlocked replica id lifts free (omega (arith, want, still))
+later_there was kept after locked old row falls devices wanted known (Holds is) = Holds is
+
 -- what a pass lifted of the other partitions is still what it lifts
 lifting_there : (pass : Pass) (was kept after : Load) (locked : Bool) (old row : List (Option ℕ)) →
     (pass ≢ First → Falls kept after) → after.devices ≡ kept.devices → after.wanted ≡ kept.wanted
@@ -98,6 +111,9 @@ lifting_there First was kept after locked old row falls devices wanted known is 
 lifting_there Apart was kept after locked old row falls devices wanted known is =
     apart_there was kept after locked old row (falls (λ (e : Apart ≡ First). cc e)) devices wanted
     known is
+lifting_there (Beside most) was kept after locked old row falls devices wanted known is =
+    later_there was kept after locked old row (falls (λ (e : Beside most ≡ First). cc e)) devices
+    wanted known is
 lifting_there Second was kept after locked old row falls devices wanted known is =
     second_there was kept after locked old row (falls (λ (e : Second ≡ First). cc e)) devices wanted
     known is
@@ -204,6 +220,8 @@ first_known devices was locked old row (LostFirst some is) known k id at =
     known k id (found.1 ∙ ap Some (present_kept was.devices found.0 id found.2))
 first_known devices was locked old row (Crowded none unlocked replica e lifts less) known k id at =
     known_lifted devices old replica known k id (ap (λ r. slice_get r k) (sym lifts.lifted) ∙ at)
+first_known devices was locked old row (Drained none unlocked replica e lifts drained) known k id at =
+    known_lifted devices old replica known k id (ap (λ r. slice_get r k) (sym lifts.lifted) ∙ at)
 first_known devices was locked old row (Calm none is calm) known k id at =
     known k id (ap (λ r. slice_get r k) (sym is) ∙ at)
 
@@ -213,6 +231,8 @@ first_length was locked old row (LostFirst some is) =
     ap length is ∙ length-map old (present_only was.devices)
 first_length was locked old row (Crowded none unlocked replica e lifts less) =
     ap length lifts.lifted ∙ length-set old replica None
+first_length was locked old row (Drained none unlocked replica e lifts drained) =
+    ap length lifts.lifted ∙ length-set old replica None
 first_length was locked old row (Calm none is calm) = ap length is
 
 lifts_known : (devices : List Device) (old row : List (Option ℕ)) (replica id : ℕ) →
@@ -220,29 +240,40 @@ lifts_known : (devices : List Device) (old row : List (Option ℕ)) (replica id 
 lifts_known devices old row replica id lifts known k e at =
     known_lifted devices old replica known k e (ap (λ r. slice_get r k) (sym lifts.lifted) ∙ at)
 
+later_known : (devices : List Device) (was kept : Load) (locked : Bool) (old row : List (Option ℕ)) →
+    IsLater was kept locked old row → AreKnown devices old → AreKnown devices row
+later_known devices was kept locked old row (Gives none unlocked replica id lifts free keeps) known =
+    lifts_known devices old row replica id lifts known
+later_known devices was kept locked old row (Holds is) known = subst (AreKnown devices) (sym is) known
+
+later_length : (was kept : Load) (locked : Bool) (old row : List (Option ℕ)) →
+    IsLater was kept locked old row → length row ≡ length old
+later_length was kept locked old row (Gives none unlocked replica id lifts free keeps) =
+    ap length lifts.lifted ∙ length-set old replica None
+later_length was kept locked old row (Holds is) = ap length is
+
 lifting_known : (pass : Pass) (devices : List Device) (was kept : Load) (locked : Bool)
     (old row : List (Option ℕ)) → IsLifting pass was kept locked old row → AreKnown devices old →
     AreKnown devices row
 lifting_known First devices was kept locked old row is known =
     first_known devices was locked old row is known
-lifting_known Apart devices was kept locked old row (Goes none unlocked replica id lifts free goes
-    keeps) known = lifts_known devices old row replica id lifts known
-lifting_known Apart devices was kept locked old row (Rests is rest) known =
-    subst (AreKnown devices) (sym is) known
-lifting_known Second devices was kept locked old row (Surplus none unlocked replica id lifts free
-    keeps) known = lifts_known devices old row replica id lifts known
-lifting_known Second devices was kept locked old row (Same is rest) known =
-    subst (AreKnown devices) (sym is) known
+lifting_known Apart devices was kept locked old row is known =
+    later_known devices was kept locked old row (later_only Apart was kept locked old row
+    (λ (e : Apart ≡ First). cc e) is) known
+lifting_known (Beside most) devices was kept locked old row is known =
+    later_known devices was kept locked old row is known
+lifting_known Second devices was kept locked old row is known =
+    later_known devices was kept locked old row (later_only Second was kept locked old row
+    (λ (e : Second ≡ First). cc e) is) known
 
 lifting_length : (pass : Pass) (was kept : Load) (locked : Bool) (old row : List (Option ℕ)) →
     IsLifting pass was kept locked old row → length row ≡ length old
 lifting_length First was kept locked old row is = first_length was locked old row is
-lifting_length Apart was kept locked old row (Goes none unlocked replica id lifts free goes keeps) =
-    ap length lifts.lifted ∙ length-set old replica None
-lifting_length Apart was kept locked old row (Rests is rest) = ap length is
-lifting_length Second was kept locked old row (Surplus none unlocked replica id lifts free keeps) =
-    ap length lifts.lifted ∙ length-set old replica None
-lifting_length Second was kept locked old row (Same is rest) = ap length is
+lifting_length Apart was kept locked old row is = later_length was kept locked old row
+    (later_only Apart was kept locked old row (λ (e : Apart ≡ First). cc e) is)
+lifting_length (Beside most) was kept locked old row is = later_length was kept locked old row is
+lifting_length Second was kept locked old row is = later_length was kept locked old row
+    (later_only Second was kept locked old row (λ (e : Second ≡ First). cc e) is)
 
 pub pass_rows : (pass : Pass) (done : List ℕ) (devices : List Device) (was kept : Load)
     (locked : List Bool) (old rows : List (List (Option ℕ))) → IsPass pass done was kept locked old
@@ -287,34 +318,36 @@ falls_more before kept after devices wanted one other = record {
 second_after : (was between left : Load) (locked : Bool) (old middle row : List (Option ℕ)) →
     Falls between left → left.devices ≡ between.devices → left.wanted ≡ between.wanted →
     AreKnown between.devices old
-    → IsApart was between locked old middle → IsSecond was left locked middle row →
+    → IsLater was between locked old middle → IsSecond was left locked middle row →
     IsSecond was left locked old row
-second_after was between left locked old middle row falls devices wanted known (Goes none unlocked
-    replica id lifts free goes keeps) (Surplus full unlocked' replica' id' lifts' free' keeps') =
+second_after was between left locked old middle row falls devices wanted known (Gives none unlocked
+    replica id lifts free keeps) (Surplus full unlocked' replica' id' lifts' free' keeps') =
     absurd (let some = lifted_empty old replica id lifts.at in let here =
     ap (list_any is_empty) lifts.lifted in cc (full, some, here))
-second_after was between left locked old middle row falls devices wanted known (Goes none unlocked
-    replica id lifts free goes keeps) (Same is rest) =
+second_after was between left locked old middle row falls devices wanted known (Gives none unlocked
+    replica id lifts free keeps) (Same is rest) =
     let want : want_in left id ≡ want_in between id = rw (devices, wanted) refl in
     let still = falls.floor id (known replica id lifts.at) keeps in
     Surplus none unlocked replica id (record { at = lifts.at; lifted = is ∙ lifts.lifted }) free
     (omega (arith, want, still))
-second_after was between left locked old middle row falls devices wanted known (Rests is rest) second
-    = subst (λ r. IsSecond was left locked r row) is second
+second_after was between left locked old middle row falls devices wanted known (Holds is) second =
+    subst (λ r. IsSecond was left locked r row) is second
 
-pub second_passed : (done : List ℕ) (was between left : Load) (locked : List Bool)
-    (old middle rows : List (List (Option ℕ))) → AreRowsOfSeats was.devices old
+pub second_passed : (pass : Pass) (done : List ℕ) (was between left : Load) (locked : List Bool)
+    (old middle rows : List (List (Option ℕ))) → pass ≢ First → AreRowsOfSeats was.devices old
     → ((p : ℕ) → is_among done p ≡ true → p < length old) → Falls between left
-    → IsPass Apart done was between locked old middle → IsPass Second done was left locked middle rows
+    → IsPass pass done was between locked old middle → IsPass Second done was left locked middle rows
     → IsPass Second done was left locked old rows
-second_passed done was between left locked old middle rows are inside falls apart second = record {
-  as_many = second.as_many ∙ apart.as_many;
-  rest = λ p none. second.rest p none ∙ apart.rest p none;
-  lifted = λ p some. second_after was between left (slice_index_or locked p false) (row_at old p)
-      (row_at middle p) (row_at rows p) falls
-      (second.filled.devices_are ∙ sym apart.filled.devices_are)
-      (second.filled.wanted_are ∙ sym apart.filled.wanted_are)
-      (subst (λ ds. AreKnown ds (row_at old p)) (sym apart.filled.devices_are) (are.known p
-      (inside p some))) (apart.lifted p some) (second.lifted p some);
-  filled = second.filled;
-}
+second_passed pass done was between left locked old middle rows later are inside falls before second =
+    record {
+      as_many = second.as_many ∙ before.as_many;
+      rest = λ p none. second.rest p none ∙ before.rest p none;
+      lifted = λ p some. second_after was between left (slice_index_or locked p false)
+          (row_at old p) (row_at middle p) (row_at rows p) falls
+          (second.filled.devices_are ∙ sym before.filled.devices_are)
+          (second.filled.wanted_are ∙ sym before.filled.wanted_are)
+          (subst (λ ds. AreKnown ds (row_at old p)) (sym before.filled.devices_are) (are.known p
+          (inside p some))) (later_only pass was between (slice_index_or locked p false)
+          (row_at old p) (row_at middle p) later (before.lifted p some)) (second.lifted p some);
+      filled = second.filled;
+    }

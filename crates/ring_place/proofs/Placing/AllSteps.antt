@@ -3,10 +3,8 @@ use Rattle.std.proofs.Common.{◌≡◌, ◌≢◌, ◌==◌, ℕ, zero, suc, �
 use Rattle.ring_words.specs.Limits.{greatest_long}
 use Rattle.std.proofs.Common.{false, cond, List, [], ◌∷◌, length, Option, Some, None, refl, sym}
 use Rattle.std.proofs.Common.{◌∙◌, ap, subst, arith, sum_by, slice_get, set, get_or, take}
-use Rattle.std.proofs.Common.{count_by, ◌⊎◌, inl, inr}
-use Rattle.std.specs.List.{range_with_len}
-use Rattle.std.specs.List.Sorted.{IsPermutation}
-use Rattle.std.proofs.lemmas.Bool.{cases_eq, eq-eqb, ne_eqb}
+use Rattle.std.proofs.Common.{count_by, ◌⊎◌, inl, inr, All}
+use Rattle.std.proofs.lemmas.Bool.{cases_eq, eq-eqb, eqb-true, ne_eqb}
 use Rattle.std.proofs.lemmas.List.{length-set, get_or-set_other, get_or-set_same, take_all}
 use Rattle.std.proofs.lemmas.List.Sums.{sum_by-set, sum_by-le-sum_by}
 use Rattle.std.proofs.lemmas.List.Sums.{count_by-le-length}
@@ -20,9 +18,12 @@ use Rattle.ring_place.specs.Made.{row_at}
 use Rattle.ring_room.specs.Free.{has_free_in}
 use Rattle.ring_room.specs.Rows.{is_empty}
 use Rattle.ring_place.specs.Inner.Gathering.{is_among}
-use Rattle.ring_place.specs.Inner.Placing.{AllPlaced, CanPlace, CanPlaceAll, Fills, IsChosen}
-use Rattle.ring_place.specs.Inner.Placing.{IsSeatPut, IsTurn, KeepsPlaced, OpenWant}
-use Rattle.ring_place.specs.Inner.Placing.{RowBegun, RowSeated, SomePlaced, drawn, drawn_in}
+use Rattle.ring_place.specs.declared.place.Turn.{Turn}
+use Rattle.ring_place.specs.declared.place.Turn.TheVariants.{Homeless, Home, Rest}
+use Rattle.ring_place.specs.Inner.Placing.{AllPlaced, AreTurns, AreWaiting, CanPlace, CanPlaceAll}
+use Rattle.ring_place.specs.Inner.Placing.{Fills, IsChosen, IsSeatPut, IsTurnOf, KeepsPlaced}
+use Rattle.ring_place.specs.Inner.Placing.{OpenWant, Puts, RowBegun, RowSeated, SomePlaced, Waits}
+use Rattle.ring_place.specs.Inner.Placing.{drawn, drawn_in, least_put}
 use Rattle.ring_room.proofs.Searching.SeatCounts.{put_more}
 use Rattle.ring_place.proofs.Placing.Filling.{begun_fills, fills_put, fills_self, fills_trans}
 use Rattle.ring_place.proofs.Placing.Filling.{free_shrinks, free_some, some_free, want_fills}
@@ -30,7 +31,7 @@ use Rattle.ring_place.proofs.Placing.RowPlaces.{some_empty}
 use Rattle.ring_place.proofs.Placing.RowSteps.{IsRoomTaken, begun_next, can_next, drawn_less}
 use Rattle.ring_place.proofs.Placing.RowSteps.{empty_less, nothing_drawn, seat_cases, seat_drawn}
 use Rattle.ring_place.proofs.Placing.SettledSeats.{seats_put}
-use Rattle.ring_place.proofs.Rows.PartitionOrders.{among_more, order_all}
+use Rattle.ring_place.proofs.Rows.PartitionOrders.{among_more}
 
 -- the same free devices or fewer
 pub has_free_shrinks : (old new : Load) → Fills old new → (row : List (Option ℕ)) →
@@ -263,42 +264,56 @@ module _ (now : Load) (old rows : List (List (Option ℕ))) (p n d : ℕ)
 
 -- ---- a turn
 
--- The partitions that were gone through have put a seat each, or had none to put.
-pub record TurnUpTo (done : List ℕ) (load now : Load) (old first rows : List (List (Option ℕ))) :
-    Type 0 where
+-- The partitions that were gone through had their turn.
+pub record TurnUpTo (kind : Turn) (done : List ℕ) (load now : Load)
+    (old first rows : List (List (Option ℕ))) : Type 0 where
   pub as_many : length rows ≡ length first
   pub can : CanPlaceAll now old rows
   pub keeps : KeepsPlaced load now old first rows
   pub fewer : (q : ℕ) → q < length first → count_by is_empty (row_at rows q) ≤ count_by is_empty
-      (row_at first q) - cond (is_among done q) 1 0
+      (row_at first q) - cond (is_among done q) (least_put kind 1) 0
 
-pub turn_start : (order : List ℕ) (load : Load) (old first : List (List (Option ℕ))) →
-    CanPlaceAll load old first → TurnUpTo (take 0 order) load load old first first
-turn_start order load old first can = record {
+pub turn_start : (kind : Turn) (order : List ℕ) (load : Load) (old first : List (List (Option ℕ))) →
+    CanPlaceAll load old first → TurnUpTo kind (take 0 order) load load old first first
+turn_start kind order load old first can = record {
   as_many = refl;
   can = can;
   keeps = λ before lifted so_far. so_far;
   fewer = λ q lt. omega arith;
 }
 
-one_fewer : (a b : Bool) (now next first : ℕ) → now ≤ first - cond a 1 0 → next + cond b 1 0 ≤ now →
-    next ≤ first - cond (a || b) 1 0
-one_fewer true b now next first h k = omega (arith, h, k)
-one_fewer false true now next first h k = omega (arith, h, k)
-one_fewer false false now next first h k = omega (arith, h, k)
+least_one : (kind : Turn) → least_put kind 1 ≤ 1
+least_one Homeless = omega arith
+least_one Home = omega arith
+least_one Rest = omega arith
 
--- the next of an order has an empty seat
-pub turn_put : (n : ℕ) (order : List ℕ) (load now after : Load)
+one_fewer : (a b : Bool) (least now next first : ℕ) → least ≤ 1 → now ≤ first - cond a least 0 →
+    next + cond b 1 0 ≤ now → next ≤ first - cond (a || b) least 0
+one_fewer true b least now next first one h k = omega (arith, h, k)
+one_fewer false true least now next first one h k = omega (arith, one, h, k)
+one_fewer false false least now next first one h k = omega (arith, h, k)
+
+-- a partition that waits has no empty seat in a turn of the rest
+none_fewer : (kind : Turn) (a b : Bool) (now first : ℕ) → (kind ≡ Rest → b ≡ true → now ≡ 0) →
+    now ≤ first - cond a (least_put kind 1) 0 → now ≤ first - cond (a || b) (least_put kind 1) 0
+none_fewer kind true b now first none h = h
+none_fewer kind false false now first none h = h
+none_fewer Homeless false true now first none h = h
+none_fewer Home false true now first none h = h
+none_fewer Rest false true now first none h = omega (arith, none refl refl)
+
+-- the next of an order puts an empty seat
+turn_put : (kind : Turn) (n : ℕ) (order : List ℕ) (load now after : Load)
     (old first rows next : List (List (Option ℕ))) (replica : ℕ) → n < length order →
     get_or order n 0 < length rows →
-    TurnUpTo (take n order) load now old first rows →
+    TurnUpTo kind (take n order) load now old first rows →
     slice_get (row_at rows (get_or order n 0)) replica ≡ Some None →
-    IsSeatPut now after old rows next (get_or order n 0) replica → IsLoad after →
-    TurnUpTo (take (n + 1) order) load after old first next
-turn_put n order load now after old first rows next replica lt below so_far empty put loads =
+    IsSeatPut now after old rows next (get_or order n 0) replica →
+    TurnUpTo kind (take (n + 1) order) load after old first next
+turn_put kind n order load now after old first rows next replica lt below so_far empty put =
     let p = get_or order n 0 in
-    let loaded : IsLoad (load_put now put.id) = subst IsLoad put.filled loads in
-    let all : TurnUpTo (take (n + 1) order) load (load_put now put.id) old first
+    let loaded : IsLoad (load_put now put.id) = subst IsLoad put.filled put.is_load in
+    let all : TurnUpTo kind (take (n + 1) order) load (load_put now put.id) old first
     (set rows p (set (row_at rows p) replica (Some put.id))) = record {
       as_many = length-set rows p (set (row_at rows p) replica (Some put.id)) ∙ so_far.as_many;
       can = all_can now old rows p replica put.id so_far.can below empty put.chosen loaded;
@@ -306,91 +321,129 @@ turn_put n order load now after old first rows next replica lt below so_far empt
           put.chosen loaded before lifted (so_far.keeps before lifted placed);
       fewer = λ q within. subst (λ b. count_by is_empty (row_at
           (set rows p (set (row_at rows p) replica (Some put.id))) q) ≤ count_by is_empty
-          (row_at first q) - cond b 1 0) (sym (among_more order n q lt))
-          (one_fewer (is_among (take n order) q) (p == q) _ _ _ (so_far.fewer q within)
+          (row_at first q) - cond b (least_put kind 1) 0) (sym (among_more order n q lt))
+          (one_fewer (is_among (take n order) q) (p == q) _ _ _ _ (least_one kind)
+          (so_far.fewer q within)
           (all_fewer now old rows p replica put.id so_far.can below empty put.chosen loaded q));
     } in
-    subst (λ rs. TurnUpTo (take (n + 1) order) load after old first rs) (sym put.written)
-    (subst (λ l. TurnUpTo (take (n + 1) order) load l old first
+    subst (λ rs. TurnUpTo kind (take (n + 1) order) load after old first rs) (sym put.written)
+    (subst (λ l. TurnUpTo kind (take (n + 1) order) load l old first
     (set rows p (set (row_at rows p) replica (Some put.id)))) (sym put.filled) all)
 
--- or it has none
-pub turn_full : (n : ℕ) (order : List ℕ) (load now : Load)
+-- or it waits
+turn_waits : (kind : Turn) (n : ℕ) (order : List ℕ) (load now : Load)
     (old first rows : List (List (Option ℕ))) → n < length order →
-    TurnUpTo (take n order) load now old first rows →
-    count_by is_empty (row_at rows (get_or order n 0)) ≡ 0 →
-    TurnUpTo (take (n + 1) order) load now old first rows
-turn_full n order load now old first rows lt so_far full = record {
+    TurnUpTo kind (take n order) load now old first rows →
+    (kind ≡ Rest → count_by is_empty (row_at rows (get_or order n 0)) ≡ 0) →
+    TurnUpTo kind (take (n + 1) order) load now old first rows
+turn_waits kind n order load now old first rows lt so_far full = record {
   as_many = so_far.as_many;
   can = so_far.can;
   keeps = so_far.keeps;
   fewer = λ q within. subst (λ b. count_by is_empty (row_at rows q) ≤ count_by is_empty
-      (row_at first q) - cond b 1 0) (sym (among_more order n q lt))
-      (elim (cases_eq (get_or order n 0) q) [
-        | inl same ↦ let none : count_by is_empty (row_at rows q) ≡ 0 =
-            subst (λ k. count_by is_empty (row_at rows k) ≡ 0) same full in omega (arith, none)
-        | inr other ↦ one_fewer (is_among (take n order) q) (get_or order n 0 == q) _ _ _
-            (so_far.fewer q within) (let no : (get_or order n 0 == q) ≡ false =
-            ne_eqb (get_or order n 0) q other in rw no (omega arith))
-      ]);
+      (row_at first q) - cond b (least_put kind 1) 0) (sym (among_more order n q lt))
+      (none_fewer kind (is_among (take n order) q) (get_or order n 0 == q) _ _
+      (λ rest same. subst (λ k. count_by is_empty (row_at rows k) ≡ 0)
+      (eqb-true (get_or order n 0) q same) (full rest)) (so_far.fewer q within));
 }
 
-pub turn_end : (count n : ℕ) (order : List ℕ) (load now : Load)
-    (old first rows : List (List (Option ℕ))) → IsPermutation (range_with_len 0 count) order →
-    count ≡ length first → length order ≤ n →
-    TurnUpTo (take n order) load now old first rows → IsTurn load now old first rows
-turn_end count n order load now old first rows is all ended so_far =
+pub turn_step : (kind : Turn) (n : ℕ) (order : List ℕ) (load now after : Load)
+    (old first rows next : List (List (Option ℕ))) → n < length order →
+    get_or order n 0 < length rows →
+    TurnUpTo kind (take n order) load now old first rows →
+    IsTurnOf kind now after old rows next (get_or order n 0) →
+    TurnUpTo kind (take (n + 1) order) load after old first next
+turn_step kind n order load now after old first rows next lt below so_far (Puts replica empty put) =
+    turn_put kind n order load now after old first rows next replica lt below so_far empty put
+turn_step kind n order load now after old first rows next lt below so_far
+    (Waits full same_load same_rows) =
+    subst (λ rs. TurnUpTo kind (take (n + 1) order) load after old first rs) (sym same_rows)
+    (subst (λ l. TurnUpTo kind (take (n + 1) order) load l old first rows) (sym same_load)
+    (turn_waits kind n order load now old first rows lt so_far full))
+
+pub turn_end : (kind : Turn) (n : ℕ) (homes : List Bool) (order : List ℕ) (load now : Load)
+    (old first rows : List (List (Option ℕ))) → AreWaiting homes order first → length order ≤ n →
+    TurnUpTo kind (take n order) load now old first rows →
+    AreTurns kind 1 load now old first rows
+turn_end kind n homes order load now old first rows waits ended so_far =
     let whole : take n order ≡ order = take_all n order ended in
     record {
       as_many = so_far.as_many;
       can = so_far.can;
       keeps = so_far.keeps;
-      fewer = λ q lt. subst (λ b. count_by is_empty (row_at rows q) ≤ count_by is_empty
-          (row_at first q) - cond b 1 0) (ap (λ done. is_among done q) whole ∙ order_all count order
-          is q (omega (arith, lt, all))) (so_far.fewer q lt);
+      fewer = λ q lt. at_end (is_among order q) (least_put kind 1) _ _ (waits.full q lt)
+          (subst (λ done. count_by is_empty (row_at rows q) ≤ count_by is_empty (row_at first q) -
+          cond (is_among done q) (least_put kind 1) 0) whole (so_far.fewer q lt));
     }
+  where
+    at_end : (among : Bool) (least now first : ℕ) → (among ≡ false → first ≡ 0) →
+        now ≤ first - cond among least 0 → now ≤ first - least
+    at_end true least now first none h = h
+    at_end false least now first none h = omega (arith, none refl, h)
 
 -- ---- all turns
 
--- So many turns are run, of as many as a partition has empty seats at most.
-pub record AllUpTo (most turns : ℕ) (before now : Load) (old lifted rows : List (List (Option ℕ))) :
-    Type 0 where
-  pub can : CanPlaceAll now old rows
-  pub some : SomePlaced before now old lifted rows
-  pub fewer : (q : ℕ) → q < length lifted → count_by is_empty (row_at rows q) ≤ most - turns
+none_put : (kind : Turn) → least_put kind 0 ≡ 0
+none_put Homeless = refl
+none_put Home = refl
+none_put Rest = refl
 
-pub all_start : (most : ℕ) (load : Load) (old lifted : List (List (Option ℕ))) →
-    CanPlaceAll load old lifted →
-    ((q : ℕ) → q < length lifted → count_by is_empty (row_at lifted q) ≤ most) →
-    AllUpTo most 0 load load old lifted lifted
-all_start most load old lifted can empty = record {
+more_put : (kind : Turn) (n : ℕ) → least_put kind (n + 1) ≡ least_put kind n + least_put kind 1
+more_put Homeless n = omega arith
+more_put Home n = omega arith
+more_put Rest n = omega arith
+
+pub turns_start : (kind : Turn) (load : Load) (old rows : List (List (Option ℕ))) →
+    CanPlaceAll load old rows → AreTurns kind 0 load load old rows rows
+turns_start kind load old rows can = record {
+  as_many = refl;
   can = can;
-  some = record {
-    as_many = refl;
-    begun = λ p lt. record {
-      as_many = refl;
-      alone = (can.can p lt).alone;
-      kept = λ replica id at. at;
-      placed = λ replica id up at. absurd (cc (up, at));
-    };
-    within_room = λ id known. rw (drawn_none load id old lifted) (omega arith);
-    put = λ id known. rw (drawn_none load id old lifted) (omega arith);
-    fills = fills_self load;
-  };
-  fewer = λ q lt. omega (arith, empty q lt);
+  keeps = λ before lifted so_far. so_far;
+  fewer = λ q lt. omega (arith, none_put kind);
 }
 
-pub all_step : (most turns : ℕ) (before now after : Load) (old lifted rows next : List
-    (List (Option ℕ))) → AllUpTo most turns before now old lifted rows →
-    IsTurn now after old rows next → AllUpTo most (turns + 1) before after old lifted next
-all_step most turns before now after old lifted rows next so_far turn = record {
+pub turns_more : (kind : Turn) (n : ℕ) (load now after : Load)
+    (old first rows next : List (List (Option ℕ))) → AreTurns kind n load now old first rows →
+    AreTurns kind 1 now after old rows next → AreTurns kind (n + 1) load after old first next
+turns_more kind n load now after old first rows next so_far turn = record {
+  as_many = turn.as_many ∙ so_far.as_many;
   can = turn.can;
-  some = turn.keeps before lifted so_far.some;
+  keeps = λ before lifted placed. turn.keeps before lifted (so_far.keeps before lifted placed);
   fewer = λ q lt.
-      let as_many = so_far.some.as_many in
+      let as_many = so_far.as_many in
       let less = turn.fewer q (omega (arith, lt, as_many)) in
       let was = so_far.fewer q lt in
-      omega (arith, less, was);
+      omega (arith, less, was, more_put kind n);
+}
+
+-- what has no empty seat has none later
+pub waiting_later : (kind : Turn) (n : ℕ) (load now : Load) (homes : List Bool) (order : List ℕ)
+    (old first rows : List (List (Option ℕ))) → AreTurns kind n load now old first rows →
+    AreWaiting homes order first → AreWaiting homes order rows
+waiting_later kind n load now homes order old first rows turns waits = record {
+  told = waits.told ∙ sym turns.as_many;
+  below = subst (λ (count : ℕ). All (λ p. p < count) order) (sym turns.as_many) waits.below;
+  full = λ q lt none.
+      let as_many = turns.as_many in
+      let within : q < length first = omega (arith, lt, as_many) in
+      let was = waits.full q within none in
+      let less = turns.fewer q within in
+      omega (arith, was, less);
+}
+
+none_placed : (load : Load) (old lifted : List (List (Option ℕ))) → CanPlaceAll load old lifted →
+    SomePlaced load load old lifted lifted
+none_placed load old lifted can = record {
+  as_many = refl;
+  begun = λ p lt. record {
+    as_many = refl;
+    alone = (can.can p lt).alone;
+    kept = λ replica id at. at;
+    placed = λ replica id up at. absurd (cc (up, at));
+  };
+  within_room = λ id known. rw (drawn_none load id old lifted) (omega arith);
+  put = λ id known. rw (drawn_none load id old lifted) (omega arith);
+  fills = fills_self load;
 }
 
 -- a partition of which no seat is empty has all lifted seats put
@@ -409,19 +462,28 @@ row_end now old lifted row begun can full = record {
   known = can.known;
 }
 
-pub all_end : (most turns : ℕ) (before now : Load) (old lifted rows : List (List (Option ℕ))) →
-    CanPlaceAll before old lifted → most ≤ turns →
-    AllUpTo most turns before now old lifted rows → AllPlaced before now old lifted rows
-all_end most turns before now old lifted rows first ended so_far = record {
-  as_many = so_far.some.as_many;
-  seated = λ p lt. row_end now (row_at old p) (row_at lifted p) (row_at rows p)
-      (so_far.some.begun p lt) (so_far.can.can p (let same = so_far.some.as_many in
-      omega (arith, lt, same))) (let none = so_far.fewer p lt in omega (arith, none, ended));
-  within_room = so_far.some.within_room;
-  counts = λ id known.
-      let was = first.counts id known in
-      let is = so_far.can.counts id (subst (λ (ds : List Device). has_device id ds ≡ true)
-      (sym so_far.some.fills.devices) known) in
-      omega (arith, was, is);
-  fills = so_far.some.fills;
-}
+-- turns of those that keep no home, of those that do, and of the rest put all seats
+pub all_end : (most : ℕ) (before one two after : Load)
+    (old lifted first second rows : List (List (Option ℕ))) → CanPlaceAll before old lifted →
+    ((q : ℕ) → q < length lifted → count_by is_empty (row_at lifted q) ≤ most) →
+    AreTurns Homeless most before one old lifted first → AreTurns Home 2 one two old first second →
+    AreTurns Rest most two after old second rows → AllPlaced before after old lifted rows
+all_end most before one two after old lifted first second rows can empty homeless home rest =
+    let some : SomePlaced before after old lifted rows = rest.keeps before lifted
+    (home.keeps before lifted (homeless.keeps before lifted (none_placed before old lifted can))) in
+    record {
+      as_many = some.as_many;
+      seated = λ p lt. row_end after (row_at old p) (row_at lifted p) (row_at rows p)
+          (some.begun p lt) (rest.can.can p (let same = some.as_many in omega (arith, lt, same)))
+          (let many = homeless.as_many in let more = home.as_many in
+          let a = homeless.fewer p lt in let b = home.fewer p (omega (arith, lt, many)) in
+          let c = rest.fewer p (omega (arith, lt, many, more)) in let most = empty p lt in
+          omega (arith, a, b, c, most));
+      within_room = some.within_room;
+      counts = λ id known.
+          let was = can.counts id known in
+          let is = rest.can.counts id (subst (λ (ds : List Device). has_device id ds ≡ true)
+          (sym some.fills.devices) known) in
+          omega (arith, was, is);
+      fills = some.fills;
+    }

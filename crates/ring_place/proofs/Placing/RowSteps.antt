@@ -395,7 +395,7 @@ module _ (now : Load) (old row : List (Option ℕ)) (n d : ℕ) (can : CanPlace 
             inl (omega (arith, more))
       ]
 
-if_some_at : (P : ℕ → Type 0) (o : Option ℕ) → ((d : ℕ) → o ≡ Some d → P d) → IfSome o P
+pub if_some_at : (P : ℕ → Type 0) (o : Option ℕ) → ((d : ℕ) → o ≡ Some d → P d) → IfSome o P
 if_some_at P None h = tt
 if_some_at P (Some d) h = h d refl
 

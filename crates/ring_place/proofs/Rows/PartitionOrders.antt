@@ -1,5 +1,5 @@
 -- Numbers in some order, each once.
-use Rattle.std.proofs.Common.{◌≡◌, ◌==◌, ℕ, ◌+◌, ◌<◌, Bool, true, false, ◌||◌, List, [], ◌∷◌}
+use Rattle.std.proofs.Common.{◌≡◌, ◌==◌, ℕ, ◌+◌, ◌<◌, All, Bool, true, false, ◌||◌, List, [], ◌∷◌}
 use Rattle.std.proofs.Common.{length, get_or, take, refl, sym, ap, ◌∙◌, arith}
 use Rattle.std.specs.List.{range_with_len}
 use Rattle.std.specs.List.Sorted.{IsPermutation}
@@ -24,12 +24,15 @@ pub order_length : (count : ℕ) (order : List ℕ) → IsPermutation (range_wit
 order_length count order is = length_permutation (range_with_len 0 count) order is ∙
     length-range_with_len 0 count
 
+pub all_below : (count : ℕ) (order : List ℕ) → IsPermutation (range_with_len 0 count) order →
+    All (λ q. q < count) order
+all_below count order is = All-permutation (λ q. q < count) (range_with_len 0 count) order is
+    (λ k d below. let within : k < count = omega (arith, below, length-range_with_len 0 count) in
+    let at = get_or-range_with_len 0 count k d within in omega (arith, at, within))
+
 pub order_below : (count : ℕ) (order : List ℕ) → IsPermutation (range_with_len 0 count) order →
     (n : ℕ) → n < length order → get_or order n 0 < count
-order_below count order is n lt =
-    All-permutation (λ q. q < count) (range_with_len 0 count) order is
-    (λ k d below. let within : k < count = omega (arith, below, length-range_with_len 0 count) in
-    let at = get_or-range_with_len 0 count k d within in omega (arith, at, within)) n 0 lt
+order_below count order is n lt = all_below count order is n 0 lt
 
 -- each of them comes
 pub order_all : (count : ℕ) (order : List ℕ) → IsPermutation (range_with_len 0 count) order →

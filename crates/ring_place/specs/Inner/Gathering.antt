@@ -1,7 +1,7 @@
 -- Which seats are gathered: each is lifted, which leaves it empty. Of a partition `old` are the seats
 -- before and `row` or `lifted` those after; `was` is how full the devices are with all seats, and
 -- `kept` how full they are without the lifted ones.
-use Rattle.std.specs.Prelude.{◌≡◌, ℕ, ◌+◌, ◌<◌, ◌≤◌, ◌==◌, Bool, true, false}
+use Rattle.std.specs.Prelude.{◌≡◌, ℕ, ◌+◌, ◌<◌, ◌≤◌, ◌==◌, ◌⊎◌, ⊤, Bool, true, false}
 use Rattle.ring_words.specs.Limits.{most_replicas}
 use Rattle.std.specs.Prelude.{if◌then◌else◌, List, length, map, Option, Some, None, slice_get}
 use Rattle.std.specs.Prelude.{slice_index_or, slice_set, sum_by}
@@ -11,14 +11,14 @@ use Rattle.ring_words.specs.declared.device.Device.{Device}
 use Rattle.ring_share.specs.Crowd.{is_less, others, seats_on}
 use Rattle.ring_share.specs.Want.{AreWanted}
 use Rattle.ring_place.specs.declared.gather.Pass.{Pass}
-use Rattle.ring_place.specs.declared.gather.Pass.TheVariants.{First, Apart, Second}
+use Rattle.ring_place.specs.declared.gather.Pass.TheVariants.{First, Apart, Beside, Second}
 use Rattle.ring_place.specs.declared.surplus.Gift.{Gift}
-use Rattle.ring_room.specs.Load.{Load, IsLoad, crowd_in, have_in, is_free_in, want_in}
+use Rattle.ring_room.specs.Load.{Load, IsLeast, IsLoad, crowd_in, have_in, is_free_in, want_in}
 use Rattle.ring_place.specs.Rebalance.{Gathered, AreReasons, IsLawfulGathering, IsWhole}
 use Rattle.ring_place.specs.Rebalance.{kept_count as kept_by, kept_row}
 use Rattle.ring_room.specs.Rows.{AreKnown, is_empty}
-use Rattle.ring_room.specs.Free.{AreUncrowded, has_free_in, is_crowded_in}
-use Rattle.ring_place.specs.Made.{is_lost_in, row_at}
+use Rattle.ring_room.specs.Free.{has_free_in, is_crowded_in}
+use Rattle.ring_place.specs.Made.{is_drained_in, is_lost_in, row_at}
 
 -- ---- words
 
@@ -59,19 +59,35 @@ abbrev pub CannotGoApart : Load → List (Option ℕ) → ℕ → Type 0
 CannotGoApart load rest id = (to : ℕ) → is_free_in load rest to ≡ true →
     is_less (crowd_in load rest id) (crowd_in load rest to) ≡ true
 
--- A seat may leave the device of a number in a pass: a device outside with room is less crowded; or
--- its own keeps more than it wants, and it can go apart; or its own keeps more than it wants.
+-- whether a seat is on a device that wants nothing
+abbrev pub is_idle_in : Load → Option ℕ → Bool
+is_idle_in load None = false
+is_idle_in load (Some id) = want_in load id == 0
+
+-- No seat is on a device that wants nothing while some device outside has room, and for none is
+-- such a device less crowded.
+abbrev pub AreCalm : Load → List (Option ℕ) → Type 0
+AreCalm was row = (replica id : ℕ) → slice_get row replica ≡ Some (Some id) →
+    (is_drained_in was row id ≡ false) × (is_crowded_in was row replica id ≡ false)
+
+-- A seat may leave the device of a number in a pass: some device outside has room, and its own wants
+-- nothing or such a device is less crowded; or its own keeps more than it wants, and it can go
+-- apart; or its own keeps more than it wants.
 abbrev pub MayBeLifted : Pass → Load → Load → List (Option ℕ) → ℕ → ℕ → Type 0
-MayBeLifted First was kept row replica id = is_crowded_in was row replica id ≡ true
+MayBeLifted First was kept row replica id = (is_drained_in was row id ≡ true) ⊎
+    (is_crowded_in was row replica id ≡ true)
 MayBeLifted Apart was kept row replica id = (want_in kept id < have_in kept id) × CanGoApart was
     (others row replica) id
+MayBeLifted (Beside most) was kept row replica id = want_in kept id < have_in kept id
 MayBeLifted Second was kept row replica id = want_in kept id < have_in kept id
 
--- It may not.
+-- It may not: nothing is said of those that a limit holds back.
 abbrev pub MustStay : Pass → Load → Load → List (Option ℕ) → ℕ → ℕ → Type 0
-MustStay First was kept row replica id = is_crowded_in was row replica id ≡ false
+MustStay First was kept row replica id = (is_drained_in was row id ≡ false) ×
+    (is_crowded_in was row replica id ≡ false)
 MustStay Apart was kept row replica id = want_in kept id < have_in kept id → CannotGoApart was
     (others row replica) id
+MustStay (Beside most) was kept row replica id = ⊤
 MustStay Second was kept row replica id = have_in kept id ≤ want_in kept id
 
 -- This seat of a partition may leave its device in a pass.
@@ -100,9 +116,12 @@ pub data IsFirst (was : Load) (locked : Bool) (old row : List (Option ℕ)) : Ty
   Crowded : list_any (is_lost_in was.devices) old ≡ false → locked ≡ false → (replica id : ℕ) →
       Lifts old row replica id →
       is_crowded_in was old replica id ≡ true → IsFirst was locked old row
+  -- or one on a device that wants nothing, if some device outside has room
+  Drained : list_any (is_lost_in was.devices) old ≡ false → locked ≡ false → (replica id : ℕ) →
+      Lifts old row replica id → is_drained_in was old id ≡ true → IsFirst was locked old row
   -- or none, if it is locked or there is no such seat
   Calm : list_any (is_lost_in was.devices) old ≡ false → row ≡ old →
-      (locked ≡ false → AreUncrowded was old) → IsFirst was locked old row
+      (locked ≡ false → AreCalm was old) → IsFirst was locked old row
 
 -- What the pass before the second lifts of a partition, `kept` being how full the devices are then.
 pub data IsApart (was kept : Load) (locked : Bool) (old row : List (Option ℕ)) : Type 0 where
@@ -114,6 +133,17 @@ pub data IsApart (was kept : Load) (locked : Bool) (old row : List (Option ℕ))
   -- or none, if no seat on a device that keeps more than it wants can go apart
   Rests : row ≡ old → (list_any is_empty old ≡ false → locked ≡ false → has_free_in was old ≡ true
       → NoneCanGoApart was kept old) → IsApart was kept locked old row
+
+-- What any pass after the first lifts of a partition, `kept` being how full the devices are then:
+-- nothing is said of what it leaves.
+pub data IsLater (was kept : Load) (locked : Bool) (old row : List (Option ℕ)) : Type 0 where
+  -- one seat of a device that keeps all that it wants, if none was lifted, it isn't locked and a
+  -- device outside has room
+  Gives : list_any is_empty old ≡ false → locked ≡ false → (replica id : ℕ) →
+      Lifts old row replica id → has_free_in was old ≡ true →
+      want_in kept id ≤ have_in kept id → IsLater was kept locked old row
+  -- or none
+  Holds : row ≡ old → IsLater was kept locked old row
 
 -- What the second pass lifts of a partition, `kept` being how full the devices are then.
 pub data IsSecond (was kept : Load) (locked : Bool) (old row : List (Option ℕ)) : Type 0 where
@@ -151,6 +181,7 @@ is_among done partition = list_any (λ other. other == partition) done
 abbrev pub IsLifting : Pass → Load → Load → Bool → List (Option ℕ) → List (Option ℕ) → Type 0
 IsLifting First was kept locked old row = IsFirst was locked old row
 IsLifting Apart was kept locked old row = IsApart was kept locked old row
+IsLifting (Beside most) was kept locked old row = IsLater was kept locked old row
 IsLifting Second was kept locked old row = IsSecond was kept locked old row
 
 -- A pass has gone through these partitions.
@@ -163,6 +194,23 @@ pub record IsPass (pass : Pass) (done : List ℕ) (was kept : Load) (locked : Li
       IsLifting pass was kept (slice_index_or locked partition false) (row_at old partition)
       (row_at rows partition)
   pub filled : IsFilled kept was.devices was.wanted rows
+
+-- What the passes after the first lift of all partitions: those that can go apart, and then what
+-- the second alone may lift. `middle` are the rows in between, and `between` is how full the devices
+-- are with them.
+pub record AreLater (order : List ℕ) (was left : Load) (locked : List Bool)
+    (old rows : List (List (Option ℕ))) : Type 0 where
+  pub between : Load
+  pub middle : List (List (Option ℕ))
+  pub apart : IsPass Apart order was between locked old middle
+  pub second : IsPass Second order was left locked middle rows
+  pub falls : Falls between left
+
+-- What a search finds outside these seats: how crowded the least crowded device with room is.
+pub record IsWayOut (load : Load) (row : List (Option ℕ)) (to : ℕ × ℕ × ℕ) : Type 0 where
+  pub best : ℕ
+  pub least : IsLeast load row best
+  pub is : to ≡ crowd_in load row best
 
 -- ---- what all passes gather of a ring
 

@@ -2,7 +2,7 @@
 -- `lifted` is it without its gathered seats, and `row` is it later.
 use Rattle.std.specs.Prelude.{◌≡◌, ◌≢◌, ◌==◌, ℕ, ◌+◌, ◌-◌, ◌<◌, ◌≤◌, Bool, true, false, ◌&&◌, ◌||◌}
 use Rattle.ring_words.specs.Limits.{most_replicas}
-use Rattle.std.specs.Prelude.{◌⊎◌, if◌then◌else◌, List, ◌∷◌, length, Option, Some, None, IfSome}
+use Rattle.std.specs.Prelude.{◌⊎◌, ◌++◌, if◌then◌else◌, All, List, [], ◌∷◌, length, Option, Some, None, IfSome}
 use Rattle.std.specs.Prelude.{slice_get, slice_index_or, slice_set, count_by, sum_by}
 use Rattle.ring_model.specs.Ring.{has_device, has_present}
 use Rattle.ring_words.specs.declared.device.Device.{Device}
@@ -10,8 +10,11 @@ use Rattle.ring_share.specs.Crowd.{is_less, is_on, others, seats_on}
 use Rattle.ring_share.specs.Room.{has_open}
 use Rattle.ring_share.specs.Want.{is_open}
 use Rattle.ring_room.specs.Load.{Load, IsLoad, have_in, want_in, is_free_in, crowd_in, load_put}
+use Rattle.ring_place.specs.declared.place.Turn.{Turn}
+use Rattle.ring_place.specs.declared.place.Turn.TheVariants.{Homeless, Home, Rest}
 use Rattle.ring_place.specs.Rebalance.{differs}
-use Rattle.ring_place.specs.Made.{row_at}
+use Rattle.ring_place.specs.Inner.Gathering.{is_among}
+use Rattle.ring_place.specs.Made.{is_number, row_at}
 use Rattle.ring_room.specs.Free.{has_free_in}
 use Rattle.ring_room.specs.Rows.{AreKnown, is_empty}
 
@@ -52,6 +55,14 @@ pub record IsChosen (load : Load) (row : List (Option ℕ)) (own : Option ℕ) (
   pub free : (other : ℕ) → is_free_in load row other ≡ true → is_free_in load row id ≡ true
   pub stays : IfSome own (λ from. has_present from load.devices ≡ true → id ≢ from →
       is_free_in load row id ≡ true)
+
+-- ---- numbers
+
+-- those of the partitions that have a number, by the numbers of all
+abbrev pub numbered : List ℕ → List (Option ℕ) → ℕ → List ℕ
+numbered (partition ∷ order) (other ∷ numbers) number = (if is_number number other then
+    partition ∷ [] else []) ++ numbered order numbers number
+numbered order numbers number = []
 
 -- ---- one partition
 
@@ -196,6 +207,17 @@ pub record IsSeatPut (load after : Load) (old rows next : List (List (Option ℕ
   pub filled : after ≡ load_put load id
   pub written : next ≡ slice_set rows partition (slice_set (row_at rows partition) replica
       (Some id))
+  pub is_load : IsLoad after
+
+-- A partition has its turn: it puts an empty seat or waits, and in a turn of the rest it waits only
+-- if it has none.
+pub data IsTurnOf (kind : Turn) (load after : Load) (old rows next : List (List (Option ℕ)))
+    (partition : ℕ) : Type 0 where
+  Puts : (replica : ℕ) → slice_get (row_at rows partition) replica ≡ Some None →
+      IsSeatPut load after old rows next partition replica →
+      IsTurnOf kind load after old rows next partition
+  Waits : (kind ≡ Rest → count_by is_empty (row_at rows partition) ≡ 0) → after ≡ load →
+      next ≡ rows → IsTurnOf kind load after old rows next partition
 
 -- What was put earlier stays as good, and within the room that there was before any was put.
 abbrev pub KeepsPlaced : Load → Load → List (List (Option ℕ)) → List (List (Option ℕ)) →
@@ -203,10 +225,26 @@ abbrev pub KeepsPlaced : Load → Load → List (List (Option ℕ)) → List (Li
 KeepsPlaced load after old rows next = (before : Load) (lifted : List (List (Option ℕ))) →
     SomePlaced before load old lifted rows → SomePlaced before after old lifted next
 
--- Each partition that has an empty seat puts one, and what was put earlier stays as good.
-pub record IsTurn (load after : Load) (old rows next : List (List (Option ℕ))) : Type 0 where
+-- how many of its empty seats a partition puts at the least in so many turns, if it has as many
+abbrev pub least_put : Turn → ℕ → ℕ
+least_put Homeless count = 0
+least_put Home count = 0
+least_put Rest count = count
+
+-- So many turns put empty seats, and what was put earlier stays as good.
+pub record AreTurns (kind : Turn) (count : ℕ) (load after : Load)
+    (old rows next : List (List (Option ℕ))) : Type 0 where
   pub as_many : length next ≡ length rows
   pub can : CanPlaceAll after old next
   pub keeps : KeepsPlaced load after old rows next
   pub fewer : (partition : ℕ) → partition < length rows → count_by is_empty
-      (row_at next partition) ≤ count_by is_empty (row_at rows partition) - 1
+      (row_at next partition) ≤ count_by is_empty (row_at rows partition) - least_put kind count
+
+-- These are some of the partitions, and no other has an empty seat; of each partition it is told
+-- whether it keeps its home.
+pub record AreWaiting (homes : List Bool) (order : List ℕ) (rows : List (List (Option ℕ))) : Type 0
+  where
+    pub told : length homes ≡ length rows
+    pub below : All (λ partition. partition < length rows) order
+    pub full : (partition : ℕ) → partition < length rows → is_among order partition ≡ false →
+        count_by is_empty (row_at rows partition) ≡ 0

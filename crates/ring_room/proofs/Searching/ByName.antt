@@ -98,7 +98,7 @@ pub best_more : (load : Load) (row : List (Option ℕ)) (places : List ℕ) (sta
 best_more load row places start steps = ap (best_after load row places start) (add-one steps)
     ∙ best_suc load row places start steps
 
-after_within : (count start step : ℕ) → start < count → step < count → place_after count start step < count
+pub after_within : (count start step : ℕ) → start < count → step < count → place_after count start step < count
 after_within count start step lt mt = grind (arith, nat_tests)
 
 better_stays : (load : Load) (row : List (Option ℕ)) (place : ℕ) (best : ℕ × (ℕ × ℕ × ℕ))

@@ -4,9 +4,9 @@ use Rattle.std.specs.Prelude.{slice_index_or}
 use Rattle.ring_room.specs.Rows.{AreKnown}
 use Rattle.ring_place.specs.Inner.Gathering.{IsLifting, Takes}
 use Rattle.ring_place.proofs.Rows.PartitionOrders.{among_below, among_more, order_fresh}
-use Rattle.ring_place.proofs.Rows.PartitionOrders.{order_below}
+use Rattle.ring_place.proofs.Rows.PartitionOrders.{order_all, order_below}
 use Rattle.ring_place.proofs.Gathering.PassSteps.{falls_more, falls_none, pass_start}
-use Rattle.ring_place.proofs.Gathering.PassSteps.{pass_written}
+use Rattle.ring_place.proofs.Gathering.PassSteps.{pass_rows, pass_written}
 use Rattle.ring_place.specs.Made.{gather_at}
 use Rattle.ring_place.proofs.Gathering.ByName.{gathered_step}
 use Rattle.ring_room.proofs.Steps.{steps_end, steps_more, steps_none}
@@ -97,6 +97,13 @@ gather_row-requires-clause-has c = grind (arith, common_steps)
 
 pub returns-clause-pass : goal.returns-clause-pass
 returns-clause-pass c = grind (arith, common_steps)
+
+pub returns-clause-rows : goal.returns-clause-rows
+returns-clause-rows c = pass_rows c.args.pass c.args.order.now c.args.was.now.devices c.args.was.now
+    c.loop-partition.kept c.args.locked.now c.args.seats.now c.loop-partition.seats
+    (returns-clause-pass c)
+    (λ p lt. order_all (length c.args.seats.now) c.args.order.now c.requires.order p lt)
+    c.requires.rows
 
 pub returns-clause-by_name : goal.returns-clause-by_name
 returns-clause-by_name c = steps_end (gather_at c.args.pass c.args.was.now c.args.locked.now c.args.order.now)

@@ -1,7 +1,7 @@
-use Rattle.std.proofs.Common.{◌≡◌, ◌∙◌, sym, ap, refl, arith, map, true}
+use Rattle.std.proofs.Common.{◌≡◌, ◌∙◌, sym, ap, refl, arith, map, true, false, ⊎_elim}
 use Rattle.std.specs.List.{list_any}
 use Rattle.ring_model.specs.Ring.{has_device}
-use Rattle.ring_place.specs.Inner.Gathering.{Calm, Crowded, LostFirst}
+use Rattle.ring_place.specs.Inner.Gathering.{Calm, Crowded, Drained, LostFirst}
 use Rattle.ring_place.specs.Made.{is_lost_in}
 use Rattle.ring_place.specs.Inner.Gathering.{present_only}
 use Rattle.ring_place.proofs.Gathering.BothPasses.{none_empty}
@@ -14,7 +14,7 @@ use Rattle.ring_place.proofs.Gathering.BestSeats.{none_crowded}
 use Rattle.ring_place.specs.declared.gather.Pass.TheVariants.{First}
 use Rattle.ring_place.proofs.gather.gather_first.Goals as goal
 use
-    Rattle.ring_place.proofs.gather.gather_first.Goals.{else-not-locked-via-then-not-locked+else-not-is_calm, else-not-locked-via-else-not-locked}
+    Rattle.ring_place.proofs.gather.gather_first.Goals.{else-not-locked-via-then-not-locked+else-may_leave, else-not-locked-via-else-not-locked}
 
 pub returns-then-has_lost-clause-first : goal.returns-then-has_lost-clause-first
 returns-then-has_lost-clause-first c = LostFirst
@@ -25,9 +25,13 @@ returns-then-has_lost-clause-first c = LostFirst
 pub returns-in-Some-clause-first : goal.returns-in-Some-clause-first
 returns-in-Some-clause-first c =
     let found = c.in-Some.ensures.some in
-    Crowded (ap (λ ds. list_any (is_lost_in ds) c.args.row.now) (sym c.requires.same) ∙ sym
-    c.has_lost.ensures ∙ c.if-has_lost.false) c.if-not-locked.true found.0 c.in-Some.device
-    found.1 found.2
+    let none : list_any (is_lost_in c.args.was.now.devices) c.args.row.now ≡ false =
+    ap (λ ds. list_any (is_lost_in ds) c.args.row.now) (sym c.requires.same) ∙ sym
+    c.has_lost.ensures ∙ c.if-has_lost.false in
+    ⊎_elim
+    (λ drained. Drained none c.if-not-locked.true found.0 c.in-Some.device found.1 drained)
+    (λ crowded. Crowded none c.if-not-locked.true found.0 c.in-Some.device found.1 crowded)
+    found.2
 
 pub returns-in-Some-clause-takes : goal.returns-in-Some-clause-takes
 returns-in-Some-clause-takes c =
@@ -51,8 +55,8 @@ returns-in_default-clause-first c =
     c.has_lost.ensures ∙ c.if-has_lost.false)
     c.in_default.ensures.none.0 (λ unlocked. c.in_default.ensures.none.1)
 
-pub is_calm-requires-clause-full : goal.is_calm-requires-clause-full
-is_calm-requires-clause-full c = none_empty c.args.kept.now.devices c.args.row.now
+pub may_leave-requires-clause-full : goal.may_leave-requires-clause-full
+may_leave-requires-clause-full c = none_empty c.args.kept.now.devices c.args.row.now
     (sym c.has_lost.ensures ∙ c.if-has_lost.false)
 
 pub returns-else-not-locked-clause-first : goal.returns-else-not-locked-clause-first
@@ -60,8 +64,8 @@ returns-else-not-locked-clause-first c =
     Calm (ap (λ ds. list_any (is_lost_in ds) c.args.row.now) (sym c.requires.same) ∙ sym
     c.has_lost.ensures ∙ c.if-has_lost.false)
     refl (λ unlocked. elim c.else-not-locked.branch [
-      | else-not-locked-via-then-not-locked+else-not-is_calm w ↦ w.is_calm.ensures
-          w.if-not-is_calm.false
+      | else-not-locked-via-then-not-locked+else-may_leave w ↦ w.may_leave.ensures
+          w.if-may_leave.false
       | else-not-locked-via-else-not-locked w ↦ absurd (cc (unlocked, w.if-not-locked.false))
     ])
 
@@ -83,10 +87,10 @@ returns-in_default-clause-by_name c = lifted_none c.args.kept.now c.args.row.now
 
 pub returns-else-not-locked-clause-by_name : goal.returns-else-not-locked-clause-by_name
 returns-else-not-locked-clause-by_name c = elim c.else-not-locked.branch [
-  | else-not-locked-via-then-not-locked+else-not-is_calm w ↦
+  | else-not-locked-via-then-not-locked+else-may_leave w ↦
       ap (lifted_at c.args.kept.now c.args.row.now)
       (none_crowded c.args.was.now c.args.kept.now c.args.row.now
-      (λ k lt id at. w.is_calm.ensures w.if-not-is_calm.false k id at))
+      (w.may_leave.ensures w.if-may_leave.false))
       ∙ first_at c.args.was.now c.args.kept.now c.args.locked c.args.row.now (sym c.has_lost.ensures ∙ c.if-has_lost.false) w.if-not-locked.true
   | else-not-locked-via-else-not-locked w ↦ first_locked c.args.was.now c.args.kept.now c.args.locked c.args.row.now
       (sym c.has_lost.ensures ∙ c.if-has_lost.false) w.if-not-locked.false

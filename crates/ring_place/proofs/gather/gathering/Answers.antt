@@ -2,21 +2,19 @@ use Rattle.std.proofs.Common.{◌≡◌, ◌∙◌, ℕ, Bool, List, length, map
 use Rattle.std.specs.List.{range_with_len}
 use Rattle.std.specs.List.Sorted.{IsPermutation}
 use Rattle.std.proofs.lemmas.List.{length-map}
-use Rattle.ring_model.specs.Ring.{partition_count}
 use Rattle.ring_model.specs.Valid.{IsValid}
 use Rattle.ring_share.specs.Crowd.{rows_of}
 use Rattle.ring_place.specs.Rebalance.{is_recent}
-use Rattle.ring_place.specs.declared.gather.Pass.TheVariants.{First, Apart, Second}
-use Rattle.ring_place.specs.Inner.Gathering.{AreRowsOfSeats, IsFilled, IsPass}
+use Rattle.ring_place.specs.declared.gather.Pass.TheVariants.{First}
+use Rattle.ring_place.specs.Inner.Gathering.{AreLater, AreRowsOfSeats, IsFilled, IsPass}
 use Rattle.ring_place.specs.Apart.{GivesApartFirst}
 use Rattle.ring_place.specs.Inner.Gathering.{gathered_in}
 use Rattle.ring_place.proofs.Gathering.ApartRing.{none_apart, ring_gives_apart, second_alone}
 use Rattle.ring_place.proofs.Gathering.GatheredRing.{is_gathered}
-use Rattle.ring_place.proofs.Rows.PartitionOrders.{order_all}
-use Rattle.ring_place.proofs.Gathering.PassSteps.{no_second, pass_rows}
+use Rattle.ring_place.proofs.Gathering.PassSteps.{no_second}
 use Rattle.ring_place.proofs.Rows.RingSeats.{length-rows_of, ring_filled, ring_rows}
 use Rattle.ring_place.specs.Made.{left_of, load_of, locks_of}
-use Rattle.ring_place.proofs.Gathering.ByName.{left_apart, left_first, left_once, left_whole}
+use Rattle.ring_place.proofs.Gathering.ByName.{left_first, left_once, left_whole}
 use Rattle.ring_place.proofs.Gathering.ByName.{load_is}
 use Rattle.ring_place.proofs.gather.gathering.Goals as goal
 
@@ -62,8 +60,8 @@ gather-requires-clause-filled c =
     (ring_filled ring was was.wanted c.of-2.ensures.valid
     c.in_ok-was.ensures.devices refl c.in_ok-was.ensures.load c.in_ok-was.ensures.counts)))
 
-pub gather-requires-2-clause-locked : goal.gather-requires-2-clause-locked
-gather-requires-2-clause-locked c =
+pub gather_surplus-requires-clause-locked : goal.gather_surplus-requires-clause-locked
+gather_surplus-requires-clause-locked c =
     let ring = c.args.ring.now in
     let valid : IsValid ring = c.of-2.ensures.valid in
     let rows : c.in_ok-seats.seats ≡ rows_of ring = c.in_ok-seats.ensures.rows in
@@ -81,82 +79,12 @@ gather-requires-2-clause-locked c =
       many,
     )
 
-pub gather-requires-2-clause-order : goal.gather-requires-2-clause-order
-gather-requires-2-clause-order c =
+pub gather_surplus-requires-clause-order : goal.gather_surplus-requires-clause-order
+gather_surplus-requires-clause-order c =
     let ring = c.args.ring.now in
     let rows : c.in_ok-seats.seats ≡ rows_of ring = c.in_ok-seats.ensures.rows in
     subst (λ (n : ℕ). IsPermutation (range_with_len 0 n) c.args.order.now)
     (sym (c.gather.ensures.pass.as_many ∙ ap length rows ∙ length-rows_of ring)) c.requires
-
-pub gather-requires-2-clause-rows : goal.gather-requires-2-clause-rows
-gather-requires-2-clause-rows c =
-    let ring = c.args.ring.now in
-    let rows : c.in_ok-seats.seats ≡ rows_of ring = c.in_ok-seats.ensures.rows in
-    let count : length c.in_ok-seats.seats ≡ partition_count ring = ap length rows ∙ length-rows_of
-    ring in
-    subst (λ ds. AreRowsOfSeats ds c.gather.new.seats) (sym c.in_ok-was.ensures.devices)
-    (pass_rows First c.args.order.now ring.devices c.in_ok-was.was' c.gather.new.kept
-    c.as_slice-2.result.now c.in_ok-seats.seats c.gather.new.seats c.gather.ensures.pass
-    (λ p lt. order_all (partition_count ring) c.args.order.now c.requires p (omega (
-      arith,
-      lt,
-      count,
-    )))
-    (subst (λ r. AreRowsOfSeats ring.devices r) (sym rows) (ring_rows ring c.of-2.ensures.valid)))
-
-pub gather-requires-3-clause-locked : goal.gather-requires-3-clause-locked
-gather-requires-3-clause-locked c =
-    let ring = c.args.ring.now in
-    let valid : IsValid ring = c.of-2.ensures.valid in
-    let rows : c.in_ok-seats.seats ≡ rows_of ring = c.in_ok-seats.ensures.rows in
-    let locked : c.as_slice-4.result.now ≡ map (is_recent ring.min_hours c.args.hour) ring.moved =
-    c.as_slice-4.ensures.value ∙ c.in_ok-locked.ensures in
-    let count = valid.moved in
-    let many = c.gather.ensures.pass.as_many in
-    let also = c.gather-2.ensures.pass.as_many in
-    omega (
-      arith,
-      ap length locked,
-      length-map ring.moved (is_recent ring.min_hours c.args.hour),
-      count,
-      ap length rows,
-      length-rows_of ring,
-      many,
-      also,
-    )
-
-pub gather-requires-3-clause-order : goal.gather-requires-3-clause-order
-gather-requires-3-clause-order c =
-    let ring = c.args.ring.now in
-    let rows : c.in_ok-seats.seats ≡ rows_of ring = c.in_ok-seats.ensures.rows in
-    subst (λ (n : ℕ). IsPermutation (range_with_len 0 n) c.args.order.now)
-    (sym (c.gather-2.ensures.pass.as_many ∙ c.gather.ensures.pass.as_many ∙ ap length rows
-    ∙ length-rows_of ring)) c.requires
-
-pub gather-requires-3-clause-rows : goal.gather-requires-3-clause-rows
-gather-requires-3-clause-rows c =
-    let ring = c.args.ring.now in
-    let rows : c.in_ok-seats.seats ≡ rows_of ring = c.in_ok-seats.ensures.rows in
-    let count : length c.gather.new.seats ≡ partition_count ring =
-    c.gather.ensures.pass.as_many ∙ ap length rows ∙ length-rows_of ring in
-    subst (λ ds. AreRowsOfSeats ds c.gather-2.new.seats) (sym c.in_ok-was.ensures.devices)
-    (pass_rows Apart c.args.order.now ring.devices c.in_ok-was.was' c.gather-2.new.kept
-    c.as_slice-3.result.now c.gather.new.seats c.gather-2.new.seats c.gather-2.ensures.pass
-    (λ p lt. order_all (partition_count ring) c.args.order.now c.requires p (omega (
-      arith,
-      lt,
-      count,
-    )))
-    (pass_rows First c.args.order.now ring.devices c.in_ok-was.was' c.gather.new.kept
-    c.as_slice-2.result.now c.in_ok-seats.seats c.gather.new.seats c.gather.ensures.pass
-    (λ p lt. order_all (partition_count ring) c.args.order.now c.requires p (let many =
-    c.gather.ensures.pass.as_many in omega (
-      arith,
-      lt,
-      count,
-      many,
-    )))
-    (subst (λ r. AreRowsOfSeats ring.devices r) (sym rows) (ring_rows ring c.of-2.ensures.valid))))
 
 pub returns-then-not-has_some_room-clause-gathered : goal.returns-then-not-has_some_room-clause-gathered
 returns-then-not-has_some_room-clause-gathered c =
@@ -180,78 +108,50 @@ pub returns-clause-gathered : goal.returns-clause-gathered
 returns-clause-gathered c =
     let ring = c.args.ring.now in
     let was = c.in_ok-was.was' in
-    let rows : c.in_ok-seats.seats ≡ rows_of ring = c.in_ok-seats.ensures.rows in
-    let count : length c.gather.new.seats ≡ partition_count ring =
-    c.gather.ensures.pass.as_many ∙ ap length rows ∙ length-rows_of ring in
     let locks : c.as_slice-2.result.now ≡ map (is_recent ring.min_hours c.args.hour) ring.moved =
     c.as_slice-2.ensures.value ∙ c.in_ok-locked.ensures in
     let same : c.as_slice-3.result.now ≡ c.as_slice-2.result.now = c.as_slice-3.ensures.value ∙ sym
     c.as_slice-2.ensures.value in
-    let also : c.as_slice-4.result.now ≡ c.as_slice-2.result.now = c.as_slice-4.ensures.value ∙ sym
-    c.as_slice-2.ensures.value in
     let wants : was.wanted ≡ c.in_ok-wanted.wanted.items =
     c.in_ok-was.ensures.wants ∙ c.as_slice.ensures.value in
-    let first_rows : AreRowsOfSeats was.devices c.gather.new.seats =
-    pass_rows First c.args.order.now was.devices was c.gather.new.kept
-    c.as_slice-2.result.now c.in_ok-seats.seats c.gather.new.seats c.gather.ensures.pass
-    (λ p lt. order_all (partition_count ring) c.args.order.now c.requires p (let many =
-    c.gather.ensures.pass.as_many in omega (arith, lt, count, many)))
-    (subst (λ ds. AreRowsOfSeats ds c.in_ok-seats.seats) (sym c.in_ok-was.ensures.devices)
-    (subst (λ r. AreRowsOfSeats ring.devices r) (sym rows) (ring_rows ring c.of-2.ensures.valid)))
-    in
     let first = subst (λ r. IsPass First c.args.order.now was c.gather.new.kept
     c.as_slice-2.result.now r c.gather.new.seats) c.in_ok-seats.ensures.rows c.gather.ensures.pass in
-    let apart = subst (λ (l : List Bool). IsPass Apart c.args.order.now was c.gather-2.new.kept l
-    c.gather.new.seats c.gather-2.new.seats) same c.gather-2.ensures.pass in
-    let second = subst (λ (l : List Bool). IsPass Second c.args.order.now was c.gather-3.new.kept l
-    c.gather-2.new.seats c.gather-3.new.seats) also c.gather-3.ensures.pass in
-    is_gathered ring c.args.hour was c.gather.new.kept c.gather-3.new.kept
+    let later = subst (λ (l : List Bool). AreLater c.args.order.now was c.gather_surplus.new.kept l
+    c.gather.new.seats c.gather_surplus.new.seats) same c.gather_surplus.ensures.later in
+    is_gathered ring c.args.hour was c.gather.new.kept c.gather_surplus.new.kept
     c.in_ok-wanted.wanted.items c.as_slice-2.result.now c.args.order.now c.gather.new.seats
-    c.gather-3.new.seats
+    c.gather_surplus.new.seats
     c.of-2.ensures.valid c.in_ok-wanted.ensures c.in_ok-was.ensures.devices wants
     c.in_ok-was.ensures.counts locks c.requires first
-    (second_alone ring c.args.hour was c.gather.new.kept c.gather-2.new.kept c.gather-3.new.kept
+    (second_alone ring c.args.hour was c.gather.new.kept later.between c.gather_surplus.new.kept
     c.in_ok-wanted.wanted.items c.as_slice-2.result.now c.args.order.now c.gather.new.seats
-    c.gather-2.new.seats c.gather-3.new.seats c.of-2.ensures.valid c.in_ok-was.ensures.devices wants
-    c.in_ok-was.ensures.counts locks c.requires first_rows first apart second
-    (c.gather-3.ensures.falls (λ (e : Second ≡ First). cc e)))
+    later.middle c.gather_surplus.new.seats c.of-2.ensures.valid c.in_ok-was.ensures.devices wants
+    c.in_ok-was.ensures.counts locks c.requires c.gather.ensures.rows first later.apart later.second
+    later.falls)
 
 pub returns-clause-apart : goal.returns-clause-apart
 returns-clause-apart c =
     let ring = c.args.ring.now in
     let was = c.in_ok-was.was' in
-    let rows : c.in_ok-seats.seats ≡ rows_of ring = c.in_ok-seats.ensures.rows in
-    let count : length c.gather.new.seats ≡ partition_count ring =
-    c.gather.ensures.pass.as_many ∙ ap length rows ∙ length-rows_of ring in
     let locks : c.as_slice-2.result.now ≡ map (is_recent ring.min_hours c.args.hour) ring.moved =
     c.as_slice-2.ensures.value ∙ c.in_ok-locked.ensures in
     let same : c.as_slice-3.result.now ≡ c.as_slice-2.result.now = c.as_slice-3.ensures.value ∙ sym
     c.as_slice-2.ensures.value in
-    let also : c.as_slice-4.result.now ≡ c.as_slice-2.result.now = c.as_slice-4.ensures.value ∙ sym
-    c.as_slice-2.ensures.value in
     let wants : was.wanted ≡ c.in_ok-wanted.wanted.items =
     c.in_ok-was.ensures.wants ∙ c.as_slice.ensures.value in
-    let first_rows : AreRowsOfSeats was.devices c.gather.new.seats =
-    pass_rows First c.args.order.now was.devices was c.gather.new.kept
-    c.as_slice-2.result.now c.in_ok-seats.seats c.gather.new.seats c.gather.ensures.pass
-    (λ p lt. order_all (partition_count ring) c.args.order.now c.requires p (let many =
-    c.gather.ensures.pass.as_many in omega (arith, lt, count, many)))
-    (subst (λ ds. AreRowsOfSeats ds c.in_ok-seats.seats) (sym c.in_ok-was.ensures.devices)
-    (subst (λ r. AreRowsOfSeats ring.devices r) (sym rows) (ring_rows ring c.of-2.ensures.valid)))
-    in
     let first = subst (λ r. IsPass First c.args.order.now was c.gather.new.kept
     c.as_slice-2.result.now r c.gather.new.seats) c.in_ok-seats.ensures.rows c.gather.ensures.pass in
-    let apart = subst (λ (l : List Bool). IsPass Apart c.args.order.now was c.gather-2.new.kept l
-    c.gather.new.seats c.gather-2.new.seats) same c.gather-2.ensures.pass in
-    let second = subst (λ (l : List Bool). IsPass Second c.args.order.now was c.gather-3.new.kept l
-    c.gather-2.new.seats c.gather-3.new.seats) also c.gather-3.ensures.pass in
-    let items = second.filled.wanted_are ∙ wants in
-    subst (λ w. GivesApartFirst ring c.args.hour w (gathered_in c.gather-3.new.seats)) (sym items)
-    (ring_gives_apart ring c.args.hour was c.gather.new.kept c.gather-2.new.kept c.gather-3.new.kept
+    let later = subst (λ (l : List Bool). AreLater c.args.order.now was c.gather_surplus.new.kept l
+    c.gather.new.seats c.gather_surplus.new.seats) same c.gather_surplus.ensures.later in
+    let items = later.second.filled.wanted_are ∙ wants in
+    subst (λ w. GivesApartFirst ring c.args.hour w (gathered_in c.gather_surplus.new.seats))
+    (sym items)
+    (ring_gives_apart ring c.args.hour was c.gather.new.kept later.between
+    c.gather_surplus.new.kept
     c.in_ok-wanted.wanted.items c.as_slice-2.result.now c.args.order.now c.gather.new.seats
-    c.gather-2.new.seats c.gather-3.new.seats c.of-2.ensures.valid c.in_ok-was.ensures.devices wants
-    c.in_ok-was.ensures.counts locks c.requires first_rows first apart second
-    (c.gather-3.ensures.falls (λ (e : Second ≡ First). cc e)))
+    later.middle c.gather_surplus.new.seats c.of-2.ensures.valid c.in_ok-was.ensures.devices wants
+    c.in_ok-was.ensures.counts locks c.requires c.gather.ensures.rows first later.apart later.second
+    later.falls)
 
 pub returns-then-not-has_some_room-clause-apart : goal.returns-then-not-has_some_room-clause-apart
 returns-then-not-has_some_room-clause-apart c =
@@ -290,12 +190,7 @@ returns-clause-by_name c =
     c.in_ok-seats.seats c.as_slice-2.result.now is c.in_ok-kept.ensures c.in_ok-seats.ensures.rows locks in
     let also : c.as_slice-3.result.now ≡ locks_of ring hour =
     c.as_slice-3.ensures.value ∙ c.in_ok-locked.ensures in
-    let third : c.as_slice-4.result.now ≡ locks_of ring hour =
-    c.as_slice-4.ensures.value ∙ c.in_ok-locked.ensures in
-    let apart = c.gather-2.ensures.by_name ∙ left_apart ring was.wanted hour order was
+    c.gather_surplus.ensures.by_name ∙ left_whole ring was.wanted hour order was
     c.as_slice-3.result.now (record { load = c.gather.new.kept; rows = c.gather.new.seats }) is also
-    first in
-    c.gather-3.ensures.by_name ∙ left_whole ring was.wanted hour order was c.as_slice-4.result.now
-    (record { load = c.gather-2.new.kept; rows = c.gather-2.new.seats }) is third apart
-    (sym c.has_some_room.ensures.by_name ∙ c.if-not-has_some_room.false)
-    ∙ ap (λ w. left_of ring w hour order) (sym c.gather-3.ensures.pass.filled.wanted_are)
+    first (sym c.has_some_room.ensures.by_name ∙ c.if-not-has_some_room.false)
+    ∙ ap (λ w. left_of ring w hour order) (sym c.gather_surplus.ensures.later.second.filled.wanted_are)

@@ -6,18 +6,18 @@ use Rattle.std.proofs.lemmas.List.Sorted.{IsPermutation-trans}
 use Rattle.ring_place.proofs.order.shuffle.Goals as goal
 
 pub loop-place-preserved : goal.loop-place-preserved
-loop-place-preserved c = record {
+loop-place-preserved g c = record {
   long = c.swap.ensures.len ∙ c.loop-place.invariant.long;
-  moved = IsPermutation-trans c.args.numbers.now c.loop-place.numbers c.swap.new.self
+  moved = IsPermutation-trans c.args.items.now c.loop-place.items c.swap.new.self
       c.loop-place.invariant.moved c.swap.ensures.permutation;
-  by_name = steps_more swap_at c.loop-place.place (c.args.numbers.now, c.args.draws.now)
-      (c.loop-place.numbers, c.loop-place.draws) (c.swap.new.self, c.draw_below-other.new.draws)
+  by_name = steps_more swap_at c.loop-place.place (c.args.items.now, c.args.draws.now)
+      (c.loop-place.items, c.loop-place.draws) (c.swap.new.self, c.draw_below-other.new.draws)
       c.loop-place.invariant.by_name
       (ap (λ xs. (xs, c.draw_below-other.new.draws)) c.swap.ensures.after
-      ∙ ap (λ p. (swap c.loop-place.numbers c.loop-place.place p.0, p.1)) c.draw_below-other.ensures.drawn);
+      ∙ ap (λ p. (swap c.loop-place.items c.loop-place.place p.0, p.1)) c.draw_below-other.ensures.drawn);
 }
 
 pub returns-clause-by_name : goal.returns-clause-by_name
-returns-clause-by_name c = steps_end swap_at c.loop-place.place (length c.args.numbers.now)
-    (c.args.numbers.now, c.args.draws.now) (c.loop-place.numbers, c.loop-place.draws)
+returns-clause-by_name g c = steps_end swap_at c.loop-place.place (length c.args.items.now)
+    (c.args.items.now, c.args.draws.now) (c.loop-place.items, c.loop-place.draws)
     c.loop-place.invariant.by_name (omega arith)

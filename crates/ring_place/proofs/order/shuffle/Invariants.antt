@@ -5,8 +5,8 @@ use Rattle.ring_room.specs.Steps.{after_steps}
 use Rattle.ring_place.proofs.order.shuffle.Given as goal
 
 abbrev pub invariant-loop-place : goal.invariant-loop-place
-invariant-loop-place l = record {
-  long : length l.numbers ≡ length l.fn.numbers;
-  moved : IsPermutation l.fn.numbers l.numbers;
-  by_name : (l.numbers, l.draws) ≡ after_steps swap_at l.place (l.fn.numbers, l.fn.draws);
+invariant-loop-place g l = record {
+  long : length l.items ≡ length l.fn.items;
+  moved : IsPermutation l.fn.items l.items;
+  by_name : (l.items, l.draws) ≡ after_steps swap_at l.place (l.fn.items, l.fn.draws);
 }

@@ -7,9 +7,10 @@ use Rattle.ring_place.proofs.place.place_turn.Given as goal
 -- the partitions before this one had their turn
 abbrev pub invariant-loop-partition : goal.invariant-loop-partition
 invariant-loop-partition l =
-    let now : Placing = record { load = l.room; rows = l.seats; draws = l.draws } in
-    let first : Placing = record { load = l.fn.room; rows = l.fn.seats; draws = l.fn.draws } in
+    let now : Placing = record { load = l.room; rows = l.seats; deck = l.deck } in
+    let first : Placing = record { load = l.fn.room; rows = l.fn.seats; deck = l.fn.deck } in
     record {
-      turn : TurnUpTo (take l.partition-index l.order) l.fn.room l.room l.old l.fn.seats l.seats;
-      by_name : now ≡ after_steps (put_at l.order l.old) l.partition-index first;
+      turn : TurnUpTo l.turn (take l.partition-index l.waiting) l.fn.room l.room l.old l.fn.seats
+          l.seats;
+      by_name : now ≡ after_steps (put_at l.turn l.homes l.waiting l.old) l.partition-index first;
     }

@@ -67,7 +67,7 @@ finish-requires-clause-new c =
     whole c.args.ring.now c.args.hour c.in_ok-room.room c.in_ok-room.seats c.devices.ensures.valid
     c.in_ok-room.ensures.gathered c.place_all.new.room c.place_all.new.seats
     (subst (λ old. AllPlaced c.in_ok-room.room c.place_all.new.room old c.in_ok-room.seats
-    c.place_all.new.seats) c.in_ok-old.ensures.rows c.place_all.ensures.placed)
+    c.place_all.new.seats) c.in_ok-old.ensures.rows c.in_ok-place_all.ensures.placed)
 
 if_ok_all : {T E : Type 0} (r : Result T E) (P Q R S : T → Type 0) → IfOk r P → IfOk r Q →
     IfOk r R → ((x : T) → P x → Q x → R x → S x) → IfOk r S
@@ -79,7 +79,7 @@ returns-clause-rebalance c =
     let ring = c.args.ring.now in
     let new = c.place_all.new.seats in
     let placed = subst (λ old. AllPlaced c.in_ok-room.room c.place_all.new.room old
-    c.in_ok-room.seats new) c.in_ok-old.ensures.rows c.place_all.ensures.placed in
+    c.in_ok-room.seats new) c.in_ok-old.ensures.rows c.in_ok-place_all.ensures.placed in
     if_ok_all c.finish.result (λ done. rows_of done.ring ≡ new) (λ done. IsValid done.ring)
     (λ done. IsAfter ring c.args.hour done.ring) (λ done. IsRebalance ring c.args.hour
     done.ring)
@@ -95,7 +95,7 @@ returns-clause-apart c =
     let ring = c.args.ring.now in
     let new = c.place_all.new.seats in
     let placed = subst (λ old. AllPlaced c.in_ok-room.room c.place_all.new.room old
-    c.in_ok-room.seats new) c.in_ok-old.ensures.rows c.place_all.ensures.placed in
+    c.in_ok-room.seats new) c.in_ok-old.ensures.rows c.in_ok-place_all.ensures.placed in
     if_ok_all c.finish.result (λ done. rows_of done.ring ≡ new) (λ done. IsValid done.ring)
     (λ done. IsAfter ring c.args.hour done.ring) (λ done. IsRebalanceApart ring
     c.args.hour done.ring)
@@ -121,9 +121,8 @@ returns-clause-seeded c =
     let room = c.in_ok-room.room in
     let rows = seeded_rows ring room.wanted hour seed c.as_slice.result.now c.as_slice-2.result.now
     c.in_ok-order.order.items c.shuffled_order.new.draws c.draws_of-draws.result c.partition_count.result
-    room c.in_ok-room.seats c.in_ok-old.old
-    (record { load = c.place_all.new.room; rows = c.place_all.new.seats; draws = c.place_all.new.draws })
-    c.place_all.ensures.by_name c.in_ok-old.ensures.rows c.as_slice-2.ensures.value c.as_slice.ensures.value
+    room c.in_ok-room.seats c.in_ok-old.old c.place_all.new.seats
+    c.in_ok-place_all.ensures.by_name c.in_ok-old.ensures.rows c.as_slice-2.ensures.value c.as_slice.ensures.value
     c.in_ok-order.ensures.by_name c.draws_of-draws.ensures
     (c.partition_count.ensures.value ∙ ap (λ (n : ℕ). 2 ^ n) c.power.ensures.value)
     c.in_ok-room.ensures.by_name in

@@ -1,7 +1,7 @@
 use Rattle.std.proofs.Common.{take, ◌≡◌, ◌∙◌, ℕ, ap, subst, false}
 use Rattle.ring_share.specs.Crowd.{others}
 use Rattle.ring_room.specs.Load.{IsLeast, crowd_in, is_free_in}
-use Rattle.ring_room.specs.Places.{id_at, seats_at}
+use Rattle.ring_room.specs.Places.{seats_at}
 use Rattle.ring_room.proofs.Searching.LessCrowded.{crowded_same, less_found, less_none}
 use Rattle.ring_place.proofs.surplus.has_less_crowded.Goals as goal
 
@@ -21,12 +21,11 @@ returns-in-Some c =
     let row = c.args.row.now in
     let replica = c.args.replica in
     let same = c.others_of-count.ensures.by_name in
-    let best = id_at room.devices c.in-Some.best in
-    less_found room (others row replica) c.args.device best c.is_less.result c.crowd_at.result
-    c.crowd_at-in-Some.result (subst (λ s. IsLeast room s best) same c.in-Some.ensures.found)
-    c.is_less.ensures
-    (c.crowd_at.ensures ∙ ap (λ s. crowd_in room s best) same)
-    (c.crowd_at-in-Some.ensures ∙ ap (crowd_in room (seats_at room.devices (take
+    let way = c.in-Some.ensures.some in
+    less_found room (others row replica) c.args.device way.best c.is_less.result c.in-Some.to
+    c.crowd_at.result (subst (λ s. IsLeast room s way.best) same way.least) c.is_less.ensures
+    (way.is ∙ ap (λ s. crowd_in room s way.best) same)
+    (c.crowd_at.ensures ∙ ap (crowd_in room (seats_at room.devices (take
     c.others_of-count.result.1 c.others_of-count.result.0))) c.place_of-own.ensures.number
     ∙ ap (λ s. crowd_in room s c.args.device) same)
     ∙ crowded_same room row replica c.args.device c.requires.at

@@ -1,27 +1,32 @@
-use Rattle.std.proofs.Common.{◌≡◌, ◌∙◌, sym, ap, subst, ◌≤◌, arith, true, rules}
+use Rattle.std.proofs.Common.{◌≡◌, ◌∙◌, sym, ap, subst, ◌≤◌, arith, true}
 use Rattle.ring_model.specs.Ring.{has_device}
 use Rattle.ring_room.specs.Load.{have_in, load_take, want_in}
-use Rattle.ring_place.specs.declared.gather.Pass.TheVariants.{Second}
-use Rattle.ring_place.specs.Inner.Gathering.{IsSecond, Surplus}
+use Rattle.ring_place.specs.Inner.Gathering.{IsLifting}
 use Rattle.ring_place.specs.Made.{best_seat}
 use Rattle.ring_place.proofs.Gathering.ByName.{later_at, lifted_none, lifted_some}
+use Rattle.ring_place.proofs.Gathering.LaterPasses.{keeps_more, later_lifts, later_rests}
 use Rattle.ring_place.proofs.Gathering.TakenSeats.{falls_one, have_taken_same, takes_one}
-use Rattle.ring_place.proofs.gather.gather_second.Goals as goal
+use Rattle.ring_place.proofs.gather.gather_later.Goals as goal
 
-pub returns-in-Some-clause-second : goal.returns-in-Some-clause-second
-returns-in-Some-clause-second c =
+pub returns-in-Some-clause-lifted : goal.returns-in-Some-clause-lifted
+returns-in-Some-clause-lifted c =
+    let was = c.args.was.now in
     let before = c.args.kept.now in
+    let row = c.args.row.now in
     let found = c.in-Some.ensures.some in
     let known : has_device c.in-Some.device before.devices ≡ true = ap (has_device c.in-Some.device)
     c.requires.same ∙ c.requires.row found.0 c.in-Some.device found.1.at in
     let less = have_taken_same before c.requires.load c.in-Some.device known in
-    let over = found.2 in
-    let keeps : want_in (load_take before c.in-Some.device) c.in-Some.device ≤ have_in
+    let over = keeps_more c.args.pass was before row found.0 c.in-Some.device c.requires.later
+    found.2 in
+    let still : want_in (load_take before c.in-Some.device) c.in-Some.device ≤ have_in
     (load_take before c.in-Some.device) c.in-Some.device = omega (arith, less, over) in
-    subst (λ k. IsSecond c.args.was.now k c.args.locked c.args.row.now c.lift_best.new.row)
+    subst (λ k. IsLifting c.args.pass was k c.args.locked row c.lift_best.new.row)
     (sym c.take.ensures)
-    (Surplus (sym c.has_empty.ensures ∙ c.if-has_empty.false) c.if-locked.false found.0
-    c.in-Some.device found.1 (sym c.has_free.ensures ∙ c.if-not-has_free.false) keeps)
+    (later_lifts c.args.pass was before (load_take before c.in-Some.device) c.args.locked row
+    c.lift_best.new.row found.0 c.in-Some.device c.requires.later
+    (sym c.has_empty.ensures ∙ c.if-has_empty.false) c.if-locked.false
+    (sym c.has_free.ensures ∙ c.if-not-has_free.false) found.1 found.2 still)
 
 pub returns-in-Some-clause-takes : goal.returns-in-Some-clause-takes
 returns-in-Some-clause-takes c =
@@ -29,7 +34,8 @@ returns-in-Some-clause-takes c =
     let found = c.in-Some.ensures.some in
     let known : has_device c.in-Some.device before.devices ≡ true = ap (has_device c.in-Some.device)
     c.requires.same ∙ c.requires.row found.0 c.in-Some.device found.1.at in
-    let over = found.2 in
+    let over = keeps_more c.args.pass c.args.was.now before c.args.row.now found.0 c.in-Some.device
+    c.requires.later found.2 in
     takes_one before c.take.new.self c.args.row.now c.lift_best.new.row found.0 c.in-Some.device
     c.requires.load known (omega (arith, over)) found.1 c.take.ensures
 
@@ -39,25 +45,29 @@ returns-in-Some-clause-falls c =
     let found = c.in-Some.ensures.some in
     let known : has_device c.in-Some.device before.devices ≡ true = ap (has_device c.in-Some.device)
     c.requires.same ∙ c.requires.row found.0 c.in-Some.device found.1.at in
-    falls_one before c.take.new.self c.in-Some.device c.requires.load known found.2 c.take.ensures
+    falls_one before c.take.new.self c.in-Some.device c.requires.load known
+    (keeps_more c.args.pass c.args.was.now before c.args.row.now found.0 c.in-Some.device
+    c.requires.later found.2) c.take.ensures
 
-pub returns-in_default-clause-second : goal.returns-in_default-clause-second
-returns-in_default-clause-second c = search rules
+pub returns-in_default-clause-lifted : goal.returns-in_default-clause-lifted
+returns-in_default-clause-lifted c = later_rests c.args.pass c.args.was.now c.args.kept.now
+    c.args.locked c.args.row.now c.lift_best.new.row c.requires.later c.in_default.ensures.none.0
+    (λ full unlocked free. c.in_default.ensures.none.1)
 
 pub returns-in-Some-clause-by_name : goal.returns-in-Some-clause-by_name
 returns-in-Some-clause-by_name c =
     lifted_some c.args.kept.now _ c.args.row.now _
-    (best_seat Second c.args.was.now c.args.kept.now c.args.row.now) c.in-Some.device
+    (best_seat c.args.pass c.args.was.now c.args.kept.now c.args.row.now) c.in-Some.device
     (sym c.in-Some.is ∙ c.lift_best.ensures.device) c.lift_best.ensures.left c.take.ensures
-    ∙ later_at Second c.args.was.now c.args.kept.now c.args.locked c.args.row.now c.if-locked.false
-    (sym c.has_empty.ensures ∙ c.if-has_empty.false)
+    ∙ later_at c.args.pass c.args.was.now c.args.kept.now c.args.locked c.args.row.now
+    c.if-locked.false (sym c.has_empty.ensures ∙ c.if-has_empty.false)
     (sym c.has_free.ensures ∙ c.if-not-has_free.false)
 
 pub returns-in_default-clause-by_name : goal.returns-in_default-clause-by_name
 returns-in_default-clause-by_name c =
     lifted_none c.args.kept.now c.args.row.now _
-    (best_seat Second c.args.was.now c.args.kept.now c.args.row.now)
+    (best_seat c.args.pass c.args.was.now c.args.kept.now c.args.row.now)
     (sym c.in_default.is ∙ c.lift_best.ensures.device) c.lift_best.ensures.left
-    ∙ later_at Second c.args.was.now c.args.kept.now c.args.locked c.args.row.now c.if-locked.false
-    (sym c.has_empty.ensures ∙ c.if-has_empty.false)
+    ∙ later_at c.args.pass c.args.was.now c.args.kept.now c.args.locked c.args.row.now
+    c.if-locked.false (sym c.has_empty.ensures ∙ c.if-has_empty.false)
     (sym c.has_free.ensures ∙ c.if-not-has_free.false)
