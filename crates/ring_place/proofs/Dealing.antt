@@ -1,12 +1,13 @@
 -- Cards that are made and dealt.
-use Rattle.std.proofs.Common.{◌≡◌, ◌∙◌, ℕ, ◌+◌, ◌++◌, ◌∷◌, [], List, Some, ap, arith, drop, get_or, map, refl}
-use Rattle.std.proofs.Common.{replicate, set, sym}
+use Rattle.std.proofs.Common.{◌≡◌, ◌∙◌, ℕ, ◌+◌, ◌<◌, ◌++◌, ◌∷◌, [], All, Bool, List, ap, arith, cond, filter}
+use Rattle.std.proofs.Common.{get_or, length, map, refl, subst, sym}
 use Rattle.std.specs.List.{flat_map, range_with_len}
-use Rattle.std.proofs.lemmas.List.{drop-drop, drop-set-add, flat_map_more, get_or-drop}
+use Rattle.std.proofs.lemmas.List.{append-nil, flat_map_more}
+use Rattle.std.proofs.lemmas.List.Elements.{All-filter, filter-append}
+use Rattle.std.proofs.lemmas.List.FromFn.{get_or-range_with_len, length-range_with_len}
 use Rattle.std.proofs.lemmas.List.FromFn.{map-range_with_len_more}
-use Rattle.ring_room.specs.Cards.{lacks_at}
 use Rattle.ring_room.specs.Load.{Load}
-use Rattle.ring_place.specs.Made.{dealt}
+use Rattle.ring_place.specs.Made.{is_first, zone_places}
 
 map_same : (xs : List ℕ) → map (λ n. n) xs ≡ xs
 map_same [] = refl
@@ -17,24 +18,40 @@ pub range_more : (n : ℕ) → range_with_len 0 (n + 1) ≡ range_with_len 0 n +
 range_more n = sym (map_same (range_with_len 0 (n + 1))) ∙ map-range_with_len_more (λ k. k) 0 n n
     (omega arith) ∙ ap (λ ys. ys ++ n ∷ []) (map_same (range_with_len 0 n))
 
--- the cards of one more device
-pub cards_more : (load : Load) (place lacks : ℕ) (cards next : List ℕ) → lacks ≡ lacks_at load place
-    → cards ≡ flat_map (λ p. replicate (lacks_at load p) p) (range_with_len 0 place)
-    → next ≡ cards ++ replicate lacks place
-    → next ≡ flat_map (λ p. replicate (lacks_at load p) p) (range_with_len 0 (place + 1))
-cards_more load place lacks cards next few before is =
-    let f = λ (p : ℕ). replicate (lacks_at load p) p in
-    is ∙ ap (λ n. cards ++ replicate n place) few ∙ ap (λ cs. cs ++ f place) before
+-- the numbers that pass a test, and one more that does or doesn't
+pub passing_more : (f : ℕ → Bool) (place : ℕ) (places next : List ℕ) (b : Bool)
+    → places ≡ filter f (range_with_len 0 place) → b ≡ f place
+    → next ≡ places ++ cond b (place ∷ []) [] → next ≡ filter f (range_with_len 0 (place + 1))
+passing_more f place places next b before told is =
+    is ∙ ap (λ b. places ++ cond b (place ∷ []) []) told
+    ∙ ap (λ ps. ps ++ cond (f place) (place ∷ []) []) before
+    ∙ sym (filter-append f (range_with_len 0 place) (place ∷ []))
+    ∙ ap (filter f) (sym (range_more place))
+
+-- what all numbers below one give, and what it gives
+pub flat_more : (f : ℕ → List ℕ) (place : ℕ) (cards here next : List ℕ)
+    → cards ≡ flat_map f (range_with_len 0 place) → here ≡ f place → next ≡ cards ++ here
+    → next ≡ flat_map f (range_with_len 0 (place + 1))
+flat_more f place cards here next before this is =
+    is ∙ ap (λ cs. cards ++ cs) this ∙ ap (λ cs. cs ++ f place) before
     ∙ flat_map_more f [] (range_with_len 0 place) place
     ∙ ap (flat_map f) (sym (range_more place))
 
--- the cards that are left once one more is dealt
-pub dealt_more : (cards : List ℕ) (gone index : ℕ) → drop (gone + 1)
-    (set cards (gone + index) (get_or cards gone 0)) ≡ dealt (drop gone cards) (Some index)
-dealt_more cards gone index =
-    let first : get_or (drop gone cards) 0 0 ≡ get_or cards gone 0 =
-    get_or-drop gone cards 0 0 ∙ (let here : gone + 0 ≡ gone = omega arith in
-    ap (λ (k : ℕ). get_or cards k 0) here) in
-    sym (drop-drop 1 gone (set cards (gone + index) (get_or cards gone 0)))
-    ∙ ap (drop 1) (drop-set-add gone cards index (get_or cards gone 0))
-    ∙ ap (λ v. drop 1 (set (drop gone cards) index v)) (sym first)
+-- what all numbers below one give, and it gives nothing
+pub flat_none : (f : ℕ → List ℕ) (place : ℕ) (cards next : List ℕ)
+    → cards ≡ flat_map f (range_with_len 0 place) → [] ≡ f place → next ≡ cards
+    → next ≡ flat_map f (range_with_len 0 (place + 1))
+flat_none f place cards next before none is =
+    flat_more f place cards [] next before none (is ∙ sym (append-nil cards))
+
+-- the places of zones are places of devices
+pub zone_within : (load : Load) (places : List ℕ) (n : ℕ) → places ≡ zone_places load
+    → n < length places → get_or places n 0 < length load.devices
+zone_within load places n same lt =
+    let all = range_with_len 0 (length load.devices) in
+    let long = length-range_with_len 0 (length load.devices) in
+    let each : All (λ place. place < length load.devices) all = λ k d below.
+    (let at = get_or-range_with_len 0 (length load.devices) k d (omega (arith, below, long)) in
+    omega (arith, at, below, long)) in
+    subst (λ ps. All (λ place. place < length load.devices) ps) (sym same)
+    (All-filter (is_first load) (λ place. place < length load.devices) all each) n 0 lt

@@ -1,12 +1,13 @@
 -- The one ring that a rebalance makes, by name: each choice is a function of how full the devices are,
 -- of the seats of a partition and of a draw.
 use Rattle.ring_room.specs.Steps.{after_steps, first_below}
-use Rattle.ring_room.specs.Cards.{lacks_at, taken}
+use Rattle.ring_room.specs.Cards.{lacks_at, shares_zone, taken, without_card}
+use Rattle.ring_room.specs.declared.cards.Card.{Card}
 use Rattle.ring_room.specs.Search.{least_place, open_place, own_or_place, roomy_places}
 use Rattle.ring_room.specs.declared.cards.Taken.{Taken}
 use Rattle.std.specs.Prelude.{ℕ, ◌+◌, ◌-◌, ◌*◌, ◌/◌, ◌==◌, ◌&&◌, ◌||◌, Bool, true, false, not, if◌then◌else◌}
 use Rattle.std.specs.Prelude.{count_by, filter, is_some, max, replicate}
-use Rattle.std.specs.Prelude.{List, [], drop, length, slice_index, Option, Some, None}
+use Rattle.std.specs.Prelude.{List, [], ◌∷◌, ◌++◌, length, slice_index, Option, Some, None}
 use Rattle.std.specs.Prelude.{slice_index_or, slice_set, map, nat_le, nat_lt}
 use Rattle.std.specs.Option.{option_map}
 use Rattle.std.specs.List.{flat_map, list_any, range_with_len, swap}
@@ -50,7 +51,7 @@ first_empty row = first_below (λ replica. is_empty (slice_index_or row replica 
 
 -- ---- the choice
 
--- the place where no device has room: the seat's own, if its device remains, else the first open one
+-- the place where no device has room: the seat's own, if its device remains, else the best open one
 abbrev pub stay_or_open : Load → List (Option ℕ) → Option ℕ → ℕ
 stay_or_open load row None = open_place load row
 stay_or_open load row (Some own) = if has_present own load.devices then place_of own load.devices else
@@ -69,8 +70,8 @@ chosen_of load row own None = record { place = stay_or_open load row own; card =
 chosen_of load row own (Some taken) = with_card taken (own_or_place load row own taken.place)
 
 -- where a lifted seat goes, and the card that goes with it
-abbrev pub chosen : Load → List (Option ℕ) → Option ℕ → List ℕ → ℕ → Taken
-chosen load row own cards draw = chosen_of load row own (taken load row cards draw)
+abbrev pub chosen : Load → List (Option ℕ) → Option ℕ → List (List ℕ) → ℕ → Taken
+chosen load row own piles draw = chosen_of load row own (taken load row piles draw)
 
 -- ---- the draws
 
@@ -92,28 +93,63 @@ shuffled items draws = after_steps swap_at (length items) (items, draws)
 
 -- ---- cards
 
--- the cards that are left, by the places of devices, and the draws that are to come
+-- the piles of cards, one for each zone that lacks seats, and the draws that are to come
 pub record Cards : Type 0 where
-  pub cards : List ℕ
+  pub piles : List (List ℕ)
   pub draws : Lcg
 
--- a card for each seat that a device lacks
-abbrev pub cards_of : Load → List ℕ
-cards_of load = flat_map (λ place. replicate (lacks_at load place) place)
-    (range_with_len 0 (length load.devices))
+-- whether no device before the one at a place shares its zone
+abbrev pub is_first : Load → ℕ → Bool
+is_first load place = not (list_any (shares_zone load place) (range_with_len 0 place))
 
--- cards that are shuffled, with the draws after it
-abbrev pub deck_with : List ℕ × Lcg → Cards
-deck_with shuffled = record { cards = shuffled.0; draws = shuffled.1 }
+-- the place of the first device of each zone
+abbrev pub zone_places : Load → List ℕ
+zone_places load = filter (is_first load) (range_with_len 0 (length load.devices))
 
--- the cards of a load, in an order that is drawn
+-- a card for each seat that the device at a place lacks, if it is in the zone of another
+abbrev pub cards_at : Load → ℕ → ℕ → List ℕ
+cards_at load zone place = if shares_zone load zone place then replicate (lacks_at load place) place
+    else []
+
+-- a card for each seat that a device in the zone of another lacks
+abbrev pub zone_cards : Load → ℕ → List ℕ
+zone_cards load zone = flat_map (cards_at load zone) (range_with_len 0 (length load.devices))
+
+-- with a pile of these cards, which are shuffled, and the draws after that
+abbrev pub with_pile : Cards → List ℕ × Lcg → Cards
+with_pile now shuffled = record { piles = now.piles ++ shuffled.0 ∷ []; draws = shuffled.1 }
+
+-- with a pile of the cards of a zone, in an order that is drawn, if it has any
+abbrev pub pile_more : Load → ℕ → Cards → Cards
+pile_more load zone now = if nat_lt 0 (length (zone_cards load zone)) then with_pile now
+    (shuffled (zone_cards load zone) now.draws) else now
+
+-- so with one of the zone at a place of a list
+abbrev pub pile_at : Load → List ℕ → ℕ → Cards → Cards
+pile_at load zones n now = pile_more load (slice_index zones n) now
+
+-- piles that are shuffled, with the draws after it
+abbrev pub deck_with : List (List ℕ) × Lcg → Cards
+deck_with shuffled = record { piles = shuffled.0; draws = shuffled.1 }
+
+-- these, themselves in an order that is drawn
+abbrev pub mixed : Cards → Cards
+mixed now = deck_with (shuffled now.piles now.draws)
+
+-- a pile for each zone
+abbrev pub piles_of : Load → Lcg → Cards
+piles_of load draws = after_steps (pile_at load (zone_places load)) (length (zone_places load))
+    (record { piles = []; draws = draws })
+
+-- these, in an order that is drawn
 abbrev pub deck_of : Load → Lcg → Cards
-deck_of load draws = deck_with (shuffled (cards_of load) draws)
+deck_of load draws = mixed (piles_of load draws)
 
--- the cards without one that is dealt: the first comes to its place
-abbrev pub dealt : List ℕ → Option ℕ → List ℕ
-dealt cards None = cards
-dealt cards (Some index) = drop 1 (slice_set cards index (slice_index cards 0))
+-- the piles without a card that is dealt, if one is
+abbrev pub dealt : List (List ℕ) → Option Card → List (List ℕ)
+dealt piles None = piles
+dealt piles (Some card) = slice_set piles card.pile (without_card (slice_index_or piles card.pile [])
+    card.index)
 
 -- ---- a seat
 
@@ -133,14 +169,14 @@ put_on partition replica now place deck = record {
 }
 
 -- where an empty seat of a partition goes
-abbrev pub taken_for : Load → List (Option ℕ) → List (Option ℕ) → ℕ → List ℕ → ℕ → Taken
-taken_for load old row replica cards draw = chosen load (seats_of (devices_on row))
-    (slice_index_or old replica None) cards draw
+abbrev pub taken_for : Load → List (Option ℕ) → List (Option ℕ) → ℕ → List (List ℕ) → ℕ → Taken
+taken_for load old row replica piles draw = chosen load (seats_of (devices_on row))
+    (slice_index_or old replica None) piles draw
 
 -- the cards once one is dealt, if one is, after a draw
-abbrev pub after_deal : Cards → Option ℕ → Cards
+abbrev pub after_deal : Cards → Option Card → Cards
 after_deal deck card = record {
-  cards = dealt deck.cards card;
+  piles = dealt deck.piles card;
   draws = (pcg32 deck.draws).1;
 }
 
@@ -152,7 +188,7 @@ put_taken partition replica now taken = put_on partition replica now taken.place
 -- a seat of a partition is put where it goes by the next draw
 abbrev pub put_seat : List (List (Option ℕ)) → ℕ → ℕ → Placing → Placing
 put_seat old partition replica now = put_taken partition replica now (taken_for now.load
-    (row_at old partition) (row_at now.rows partition) replica now.deck.cards
+    (row_at old partition) (row_at now.rows partition) replica now.deck.piles
     (pcg32 now.deck.draws).0)
 
 -- a seat of a partition is put on the device at a place, if it was on that

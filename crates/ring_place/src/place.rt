@@ -14,6 +14,7 @@ ghost use Rattle.ring_room.specs.Load.{IsLeast, IsLoad, have_in, load_put, seats
 ghost use Rattle.ring_place.specs.Inner.Placing.{AllPlaced, CanPlace, IsChosen, OpenWant, OwnWins};
 ghost use Rattle.ring_place.specs.Inner.Placing.{AreTurns, AreWaiting, CanPlaceAll, IsSeatPut};
 ghost use Rattle.ring_place.specs.Inner.Placing.{IsTurnOf, have_on};
+ghost use Rattle.ring_room.specs.Cards.{IsCard};
 ghost use Rattle.ring_room.specs.Places.{id_at, seats_at};
 ghost use Rattle.ring_room.specs.Inner.Places.{ArePlacesOf};
 ghost use Rattle.ring_place.specs.Made.{Cards, all_placed, chosen, put_first, put_home, taken_for};
@@ -24,7 +25,7 @@ use crate::deck::Deck;
 use crate::homes::{asking, homes_of, waiting};
 use crate::seats::{Seats, first_empty};
 use rand_pcg::Pcg32;
-use ring_room::{Room, Taken, is_less};
+use ring_room::{Pile, Room, Taken, is_less};
 use ring_words::{DeviceId, MOST_SEATS};
 use std::alloc::{AllocError, Global};
 
@@ -79,8 +80,8 @@ fn without_card(place: usize) -> Taken
 
 /// Where a lifted seat goes, and the card that goes with it: to a least crowded device with room
 /// that isn't among those of its partition's other seats, at `others`, its own first. Where there
-/// is none, back to its own if that isn't marked to be removed, and else to an open device outside.
-fn choose(room: &Room, others: &[usize], own: Option<DeviceId>, cards: &[u8], draw: u32) -> Taken
+/// is none, back to its own if that isn't marked to be removed, and else to a least crowded open device outside.
+fn choose(room: &Room, others: &[usize], own: Option<DeviceId>, piles: &[Pile], draw: u32) -> Taken
     requires others { All (λ other. other < length room.now.devices) others.now }
     requires few { length others.now ≤ most_replicas }
     requires own { IfSome own (λ id. has_device id room.now.devices ≡ true) }
@@ -88,13 +89,13 @@ fn choose(room: &Room, others: &[usize], own: Option<DeviceId>, cards: &[u8], dr
         seats_on id (seats_at room.now.devices others.now) ≡ 0) }
     requires enough { length others.now < count_by is_open_device room.now.devices }
     ensures within { result.place < length room.now.devices }
-    ensures card { IfSome result.card (λ index. index < length cards.now) }
-    ensures by_name { result ≡ chosen room.now (seats_at room.now.devices others.now) own cards.now
+    ensures card { IfSome result.card (IsCard piles.now) }
+    ensures by_name { result ≡ chosen room.now (seats_at room.now.devices others.now) own piles.now
         draw }
     ensures chosen { IsChosen room.now (seats_at room.now.devices others.now) own
         (id_at room.now.devices result.place) }
 {
-    if let Some(taken) = room.take_card(others, cards, draw) {
+    if let Some(taken) = room.take_card(others, piles, draw) {
         return with_card(taken, own_or(room, others, own, taken.place));
     }
     if let Some(own) = own {
@@ -102,7 +103,7 @@ fn choose(room: &Room, others: &[usize], own: Option<DeviceId>, cards: &[u8], dr
             return without_card(room.place_of(own));
         }
     }
-    without_card(room.any_open(others))
+    without_card(room.least_open(others))
 }
 
 /// The places of the devices of a partition's seats, in any order, and how many they are. What
@@ -133,23 +134,23 @@ fn find_place(
     seats: &Seats,
     partition: usize,
     replica: usize,
-    cards: &[u8],
+    piles: &[Pile],
     draw: u32,
 ) -> Taken
     requires partition { partition < length seats.now }
     requires can { CanPlaceAll room.now old.now seats.now }
     requires empty { slice_get (row_at seats.now partition) replica ≡ Some None }
     ensures within { result.place < length room.now.devices }
-    ensures card { IfSome result.card (λ index. index < length cards.now) }
+    ensures card { IfSome result.card (IsCard piles.now) }
     ensures chosen { IsChosen room.now (row_at seats.now partition)
         (slice_index_or (row_at old.now partition) replica None)
         (id_at room.now.devices result.place) }
     ensures by_name { result ≡ taken_for room.now (row_at old.now partition)
-        (row_at seats.now partition) replica cards.now draw }
+        (row_at seats.now partition) replica piles.now draw }
 {
     let own = old.row(partition)[replica];
     let (others, count) = places_on(room, seats.row(partition));
-    choose(room, &others[..count], own, cards, draw)
+    choose(room, &others[..count], own, piles, draw)
 }
 
 /// Puts an empty seat of a partition on the device at a place.
@@ -187,7 +188,7 @@ fn place_seat(
         }) }
 {
     let draw = deck.draw();
-    let taken = find_place(room, old, seats, partition, replica, deck.cards(), draw);
+    let taken = find_place(room, old, seats, partition, replica, deck.piles(), draw);
     put_on(room, seats, partition, replica, taken.place);
     deck.deal(taken.card);
 }

@@ -467,6 +467,87 @@ fn uneven_zones_leave_no_partition_in_one_zone(rt: HostRuntime) -> Result<(), Fa
     Ok(())
 }
 
+/// A zone and a weight in hundredths.
+type Spot = (u16, u32);
+
+/// The ring of 256 partitions and three replicas of a device at each spot, on a server of its own,
+/// once it is assigned.
+fn zoned_ring(alloc: Global, spots: &[Spot], seed: u32) -> Result<Ring, Fail> {
+    let mut ring = ring(alloc, 8, 3, 0, [].as_slice())?;
+    let mut number = 0u8;
+    for spot in spots {
+        let device = device_at(alloc, number, 1, spot.0, number, spot.1)?;
+        ring = with_device(alloc, &ring, device)?;
+        number = number.saturating_add(1);
+    }
+    Ok(ample_rebalance(alloc, &ring, 0, seed)?.ring)
+}
+
+/// Whether three seats are in three zones.
+fn is_apart(row: &[u16], spots: &[Spot]) -> bool {
+    let zone = |id: u16| spots.get(usize::from(id)).map(|spot| spot.0);
+    match row {
+        [one, two, three] => {
+            let zones = (zone(*one), zone(*two), zone(*three));
+            zones.0 != zones.1 && zones.0 != zones.2 && zones.1 != zones.2
+        }
+        _ => false,
+    }
+}
+
+/// How many partitions have two of their three replicas in one zone.
+fn not_apart(ring: &Ring, spots: &[Spot]) -> usize {
+    let rows = ring.seats().chunks(3);
+    rows.filter(|row| !is_apart(row, spots)).count()
+}
+
+/// A zone that wants one seat of each partition, and four that want half of that.
+const ONE_DOUBLE: [Spot; 10] = [
+    (1, 20_000),
+    (1, 20_000),
+    (2, 10_000),
+    (2, 10_000),
+    (3, 10_000),
+    (3, 10_000),
+    (4, 10_000),
+    (4, 10_000),
+    (5, 10_000),
+    (5, 10_000),
+];
+
+#[test]
+fn zones_run_out_of_room_together(rt: HostRuntime) -> Result<(), Fail> {
+    let alloc = rt.alloc();
+    for seed in 1..=3u32 {
+        let ring = zoned_ring(alloc, ONE_DOUBLE.as_slice(), seed)?;
+        assert_eq!(rt; not_apart(&ring, ONE_DOUBLE.as_slice()), 0);
+    }
+    Ok(())
+}
+
+/// A device that wants more than one seat of each partition, and two zones.
+const ONE_HEAVY: [Spot; 9] = [
+    (1, 60_000),
+    (2, 10_000),
+    (2, 10_000),
+    (2, 10_000),
+    (2, 10_000),
+    (3, 10_000),
+    (3, 10_000),
+    (3, 10_000),
+    (3, 10_000),
+];
+
+#[test]
+fn what_a_device_cannot_take_is_spread(rt: HostRuntime) -> Result<(), Fail> {
+    let alloc = rt.alloc();
+    let ring = zoned_ring(alloc, ONE_HEAVY.as_slice(), 7)?;
+    assert_eq!(rt; have(&ring, 0), 256);
+    assert_eq!(rt; not_apart(&ring, ONE_HEAVY.as_slice()), 0);
+    assert!(rt; (1..9u16).all(|id| 60 <= have(&ring, id) && have(&ring, id) <= 68));
+    Ok(())
+}
+
 /// The ring with four devices more in a second region, without weight.
 fn with_second_region(alloc: Global, ring: &Ring) -> Result<Ring, Fail> {
     let mut ring = Ring::build(alloc, ring.parts()?)?;

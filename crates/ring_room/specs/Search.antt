@@ -1,6 +1,6 @@
 -- What a search takes, by name: a function of how full the devices are, of a partition's other seats
 -- and of a draw.
-use Rattle.std.specs.Prelude.{ℕ, zero, suc, ◌%◌, ◌&&◌, Bool, if◌then◌else◌}
+use Rattle.std.specs.Prelude.{ℕ, zero, suc, ◌-◌, ◌%◌, ◌&&◌, ◌||◌, Bool, true, nat_lt, not, if◌then◌else◌}
 use Rattle.std.specs.Prelude.{List, [], ◌∷◌, ◌++◌, length, slice_index, Option, Some, None}
 use Rattle.std.specs.Option.{option_map}
 use Rattle.ring_share.specs.Crowd.{is_less, is_outside}
@@ -8,7 +8,7 @@ use Rattle.ring_share.specs.Room.{has_open, place_of}
 use Rattle.ring_words.specs.declared.device.Device.{Device}
 use Rattle.ring_room.specs.Load.{Load, crowd_in, has_room_in, is_free_in}
 use Rattle.ring_room.specs.Places.{id_at, place_after}
-use Rattle.ring_room.specs.Steps.{first_below, or_zero}
+use Rattle.ring_room.specs.Steps.{after_steps, or_zero}
 
 -- ---- the devices with room
 
@@ -68,6 +68,28 @@ abbrev pub is_open_outside : List Device → List (Option ℕ) → ℕ → Bool
 is_open_outside devices row place = has_open (id_at devices place) devices &&
     is_outside row (id_at devices place)
 
--- the first such place, 0 where there is none
+-- how many more seats the device at a place has than it wants
+abbrev pub surplus_at : Load → ℕ → ℕ
+surplus_at load place = slice_index load.counts place - slice_index load.wanted place
+
+-- whether the device at one place is better for a seat than that at another where none has room: it
+-- is less crowded or, among equals, has fewer seats above its want
+abbrev pub is_better_place : Load → List (Option ℕ) → ℕ → ℕ → Bool
+is_better_place load row one other =
+    is_less (crowd_in load row (id_at load.devices one)) (crowd_in load row (id_at load.devices other)) ||
+    (not (is_less (crowd_in load row (id_at load.devices other)) (crowd_in load row
+    (id_at load.devices one))) && nat_lt (surplus_at load one) (surplus_at load other))
+
+-- so is any than none
+abbrev pub wins : Load → List (Option ℕ) → ℕ → Option ℕ → Bool
+wins load row one None = true
+wins load row one (Some other) = is_better_place load row one other
+
+-- the best so far, or the device at a place if it is open, outside and better
+abbrev pub better_open : Load → List (Option ℕ) → ℕ → Option ℕ → Option ℕ
+better_open load row place best = if is_open_outside load.devices row place && wins load row place best
+    then Some place else best
+
+-- the place of the best open device outside, the first of equals, 0 where there is none
 abbrev pub open_place : Load → List (Option ℕ) → ℕ
-open_place load row = or_zero (first_below (is_open_outside load.devices row) (length load.devices))
+open_place load row = or_zero (after_steps (better_open load row) (length load.devices) None)

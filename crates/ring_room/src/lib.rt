@@ -5,12 +5,15 @@
 #![tactic(auto)]
 
 mod cards;
+mod full;
+mod piles;
 mod rooms;
 mod rows;
 mod search;
 mod tiers;
 
-pub use cards::Taken;
+pub use cards::{Card, Taken};
+pub use piles::Pile;
 pub use rooms::Room;
 pub use rows::devices_on;
 pub use tiers::{Crowd, is_less};

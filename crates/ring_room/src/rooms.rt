@@ -11,7 +11,7 @@ ghost use Rattle.ring_room.specs.Load.{load_take, is_free_in, crowd_in, IsLeast}
 ghost use Rattle.ring_room.specs.Places.{id_at, seats_at};
 ghost use Rattle.ring_room.specs.Inner.Lists.{AreRoomy};
 ghost use Rattle.ring_room.specs.Cards.{lacks_at};
-ghost use Rattle.ring_room.specs.Search.{open_place, roomy_places};
+ghost use Rattle.ring_room.specs.Search.{roomy_places};
 ghost use Rattle.ring_share.specs.Tiers.{AreTier};
 
 use ring_model::Ring;
@@ -25,8 +25,8 @@ use std::marker::Model;
 #[derive(Drop)]
 pub struct Room {
     pub(crate) devices: Vec<Device>,
-    wanted: Vec<u32>,
-    counts: Vec<u32>,
+    pub(crate) wanted: Vec<u32>,
+    pub(crate) counts: Vec<u32>,
     /// As many places as there are devices; those that have room, and no others, stand at the
     /// first.
     pub(crate) roomy: Vec<usize>,
@@ -317,25 +317,5 @@ impl Room {
         ensures { result ≡ lacks_at self.now place }
     {
         self.wanted[place].saturating_sub(self.counts[place])
-    }
-
-    /// The place of an open device that isn't among those at `others`, which are fewer than open
-    /// devices.
-    pub fn any_open(&self, others: &[usize]) -> usize
-        requires others { All (λ other. other < length self.now.devices) others.now }
-        requires fewer { length others.now < count_by is_open_device self.now.devices }
-        ensures within { result < length self.now.devices }
-        ensures takes_seats { has_open (id_at self.now.devices result) self.now.devices ≡ true }
-        ensures outside { is_outside (seats_at self.now.devices others.now)
-            (id_at self.now.devices result) ≡ true }
-        ensures by_name { result ≡ open_place self.now (seats_at self.now.devices others.now) }
-    {
-        for place in 0..self.devices.len() {
-            if is_open(&self.devices[place]) && !others.contains(&place) {
-                return place;
-            }
-        }
-        prove!(false);
-        0
     }
 }

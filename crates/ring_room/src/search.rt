@@ -8,6 +8,7 @@ ghost use Rattle.ring_room.specs.Free.{AreUncrowded, has_free_in};
 ghost use Rattle.ring_room.specs.Rows.{AreKnown, devices_on as devices_on_row, is_empty};
 ghost use Rattle.ring_room.specs.Load.{IsLoad, IsLeast, crowd_in, has_room_in, is_free_in};
 ghost use Rattle.ring_room.specs.Load.{seats_of};
+ghost use Rattle.ring_room.specs.Cards.{shares_zone};
 ghost use Rattle.ring_room.specs.Places.{id_at, place_after};
 ghost use Rattle.ring_room.specs.Inner.Places.{IsBestSoFar, is_within};
 ghost use Rattle.ring_room.specs.Places.{seats_at};
@@ -28,7 +29,7 @@ use ring_words::{DeviceId, MOST_SEATS};
 const STEPS_BY_REGIONS: usize = 3;
 
 /// The place so many steps after another, where the first place comes after the last.
-fn place_after(count: usize, start: usize, step: usize) -> usize
+pub(crate) fn place_after(count: usize, start: usize, step: usize) -> usize
     requires start { start < count }
     requires step { step < count }
     ensures value { result ≡ place_after count start step }
@@ -80,6 +81,15 @@ impl Room {
             u32::from(self.in_zone[place] == self.in_zone[other]),
             u32::from(self.in_server[place] == self.in_server[other]),
         )
+    }
+
+    /// Whether the devices at two places share a zone.
+    pub fn shares_zone(&self, place: usize, other: usize) -> bool
+        requires place { place < length self.now.devices }
+        requires other { other < length self.now.devices }
+        ensures { result ≡ shares_zone self.now place other }
+    {
+        self.shares_at(place, other).1 == 1
     }
 
     /// How crowded the device at a place is for a seat whose other seats are on the devices at
@@ -248,21 +258,6 @@ impl Room {
         self.region_floor(&self.regions, others)
     }
 
-    /// How many of the devices at some places are in the region of the device at a place.
-    pub(crate) fn in_region_of(&self, others: &[usize], place: usize) -> u32
-        requires others { All (λ other. other < length self.now.devices) others.now }
-        requires few { length others.now ≤ most_replicas }
-        requires place { place < length self.now.devices }
-        ensures { result ≡ (crowd_in self.now (seats_at self.now.devices others.now)
-            (id_at self.now.devices place)).0 }
-    {
-        let mut count = 0;
-        for other in others {
-            count += self.shares_at(place, *other).0;
-        }
-        count
-    }
-
     /// How crowded open devices are at the least, by their regions alone, for a seat whose other
     /// seats are on the devices at some places. `places` has one in each region.
     fn region_floor(&self, places: &[usize], others: &[usize]) -> Crowd
@@ -275,7 +270,7 @@ impl Room {
         // more than any has: a partition has at most five other seats
         let mut least = 6;
         for place in places {
-            least = self.in_region_of(others, *place).min(least);
+            least = self.crowd_at(others, *place).0.min(least);
         }
         (least, 0, 0)
     }

@@ -4,7 +4,6 @@ use Rattle.std.proofs.Common.{get_or, set, Option, Some, None, ap, sym, arith, r
 use Rattle.std.specs.Prelude.{nat_lt, slice_get, slice_index, slice_index_or}
 use Rattle.std.specs.List.{list_any}
 use Rattle.std.proofs.lemmas.List.{length-map}
-use Rattle.std.proofs.lemmas.Option.{get_or_from_slice_get}
 use Rattle.ring_model.specs.Ring.{RingRecord, has_device, has_present}
 use Rattle.ring_share.specs.Crowd.{rows_of}
 use Rattle.ring_share.specs.Room.{have}
@@ -31,11 +30,6 @@ use Rattle.ring_room.proofs.Searching.DevicesAt.{place_is}
 use Rattle.ring_room.proofs.Searching.FreeOutside.{device_there}
 
 -- ---- one partition
-
-pub device_found : (row : List (Option ℕ)) (replica id : ℕ) (first : Option ℕ)
-    → slice_get row replica ≡ Some (Some id) → Some replica ≡ first → Some id ≡ device_at row first
-device_found row replica id first at is = sym (get_or_from_slice_get row replica (Some id) None at)
-    ∙ ap (device_at row) is
 
 pub lose_gone : (replica id : ℕ) (now : Lifting) → get_or now.row replica None ≡ Some id
     → has_present id now.load.devices ≡ false
@@ -100,22 +94,6 @@ if_full pass was kept row empty = cond empty (same_lifting kept row) (if_free pa
 abbrev if_locked : Pass → Load → Load → List (Option ℕ) → Bool → Lifting
 if_locked pass was kept row locked = cond locked (same_lifting kept row) (if_full pass was kept row
     (list_any is_empty row))
-
-pub later_locked : (pass : Pass) (was kept : Load) (locked : Bool) (row : List (Option ℕ)) →
-    locked ≡ true → same_lifting kept row ≡ later_lifting pass was kept locked row
-later_locked pass was kept locked row is = ap (if_locked pass was kept row) (sym is)
-
-pub later_empty : (pass : Pass) (was kept : Load) (locked : Bool) (row : List (Option ℕ)) →
-    locked ≡ false → list_any is_empty row ≡ true → same_lifting kept row ≡ later_lifting pass was
-    kept locked row
-later_empty pass was kept locked row is empty = ap (if_full pass was kept row) (sym empty)
-    ∙ ap (if_locked pass was kept row) (sym is)
-
-pub later_full : (pass : Pass) (was kept : Load) (locked : Bool) (row : List (Option ℕ)) →
-    locked ≡ false → list_any is_empty row ≡ false → has_free_in was row ≡ false
-    → same_lifting kept row ≡ later_lifting pass was kept locked row
-later_full pass was kept locked row is empty free = ap (if_free pass was kept row) (sym free)
-    ∙ ap (if_full pass was kept row) (sym empty) ∙ ap (if_locked pass was kept row) (sym is)
 
 pub later_at : (pass : Pass) (was kept : Load) (locked : Bool) (row : List (Option ℕ)) →
     locked ≡ false → list_any is_empty row ≡ false → has_free_in was row ≡ true

@@ -18,10 +18,10 @@ pub seat_put : (old : List (List (Option ℕ))) (p n : ℕ) (now : Placing) (loa
     (rows : List (List (Option ℕ))) (deck drawn : Cards) (draw : ℕ) (taken : Taken)
     → draw ≡ (pcg32 now.deck.draws).0
     → drawn ≡ record now.deck { draws = (pcg32 now.deck.draws).1 }
-    → taken ≡ taken_for now.load (row_at old p) (row_at now.rows p) n drawn.cards draw
+    → taken ≡ taken_for now.load (row_at old p) (row_at now.rows p) n drawn.piles draw
     → load ≡ load_put now.load (id_at now.load.devices taken.place)
     → rows ≡ set now.rows p (set (row_at now.rows p) n (Some (id_at now.load.devices taken.place)))
-    → deck ≡ record drawn { cards = dealt drawn.cards taken.card }
+    → deck ≡ record drawn { piles = dealt drawn.piles taken.card }
     → ◌≡◌ {A = Placing} (record { load = load; rows = rows; deck = deck }) (put_seat old p n now)
 seat_put old p n now load rows deck drawn draw taken told left chosen puts sets deals =
     ap (λ l. record { load = l; rows = rows; deck = deck }) puts
@@ -31,10 +31,10 @@ seat_put old p n now load rows deck drawn draw taken told left chosen puts sets 
       deck = deck;
     }) sets
     ∙ ap (λ d. put_on p n now taken.place d) (deals
-    ∙ ap (λ (d : Cards). record d { cards = dealt d.cards taken.card }) left)
+    ∙ ap (λ (d : Cards). record d { piles = dealt d.piles taken.card }) left)
     ∙ ap (put_taken p n now) (chosen
-    ∙ ap (λ (d : Cards). taken_for now.load (row_at old p) (row_at now.rows p) n d.cards draw) left
-    ∙ ap (taken_for now.load (row_at old p) (row_at now.rows p) n now.deck.cards) told)
+    ∙ ap (λ (d : Cards). taken_for now.load (row_at old p) (row_at now.rows p) n d.piles draw) left
+    ∙ ap (taken_for now.load (row_at old p) (row_at now.rows p) n now.deck.piles) told)
 
 -- ---- a turn
 

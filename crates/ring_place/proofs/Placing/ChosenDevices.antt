@@ -1,16 +1,16 @@
 -- Where a lifted seat goes.
 use Rattle.std.proofs.Common.{◌≡◌, ◌≢◌, ℕ, true, false}
 use Rattle.std.proofs.Common.{List, Option, Some}
-use Rattle.std.proofs.Common.{None, IfSome, refl, sym, ap, ◌∙◌, inl, inr}
+use Rattle.std.proofs.Common.{None, IfSome, refl, sym, ap, ◌∙◌, inl}
 use Rattle.std.proofs.lemmas.Bool.{eqb-true}
 use Rattle.std.proofs.lemmas.Option.{same_Some}
 use Rattle.ring_model.specs.Ring.{has_device, has_present}
-use Rattle.ring_share.specs.Crowd.{is_less, is_outside, seats_on}
+use Rattle.ring_share.specs.Crowd.{is_less, is_outside}
 use Rattle.ring_share.specs.Room.{has_open}
 use Rattle.ring_room.specs.Load.{Load, IsLeast, crowd_in, is_free_in}
 use Rattle.ring_place.specs.Inner.Placing.{IsChosen, OwnWins}
 use Rattle.ring_room.proofs.Searching.BestSoFar.{not_less_trans}
-use Rattle.ring_place.proofs.Placing.Filling.{free_outside, free_room, present_known, room_open}
+use Rattle.ring_place.proofs.Placing.Filling.{free_outside, free_room, room_open}
 use Rattle.ring_room.proofs.Searching.LessCrowded.{open_known}
 
 -- ---- the own device
@@ -64,22 +64,6 @@ chosen_least load row own id is wins = record {
 none_free : (load : Load) (row : List (Option ℕ)) →
     ((id : ℕ) → is_free_in load row id ≡ false) → (id : ℕ) → is_free_in load row id ≡ true → ⊥
 none_free load row none id free = let shut = none id in cc (shut, free)
-
--- none is free: back to its own
-pub chosen_back : (load : Load) (row : List (Option ℕ)) (own : Option ℕ) (id : ℕ) →
-    ((x : ℕ) → is_free_in load row x ≡ false) → own ≡ Some id
-    → has_present id load.devices ≡ true → seats_on id row ≡ 0 → IsChosen load row own id
-chosen_back load row own id none is present outside = record {
-  known = present_known load.devices id present;
-  outside = outside;
-  may_take = inr (ap Some is, present);
-  least = λ other free. absurd (none_free load row none other free);
-  own_wins = λ from at free ne. absurd (none_free load row none from free);
-  free = λ other free. absurd (none_free load row none other free);
-  stays = always (λ from. has_present from load.devices ≡ true → id ≢ from →
-      is_free_in load row id ≡ true) own (λ x at there ne. absurd
-      (ne (same_Some id x (sym is ∙ at))));
-}
 
 -- and its own is gone: to an open device
 pub chosen_open : (load : Load) (row : List (Option ℕ)) (own : Option ℕ) (id : ℕ) →

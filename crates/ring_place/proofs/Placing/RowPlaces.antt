@@ -1,7 +1,6 @@
 -- The places of the devices of a partition's seats.
-use Rattle.std.proofs.Common.{◌≡◌, ◌≢◌, ◌==◌, ℕ, zero, suc, ◌+◌, ◌<◌, ◌≤◌, Bool, true}
-use Rattle.ring_words.specs.Limits.{most_replicas}
-use Rattle.std.proofs.Common.{cond, ◌&&◌, List, [], ◌∷◌, length, get_or, take}
+use Rattle.std.proofs.Common.{◌≡◌, ◌≢◌, ◌==◌, ℕ, zero, suc, ◌+◌, ◌<◌, Bool, true}
+use Rattle.std.proofs.Common.{cond, ◌&&◌, List, [], ◌∷◌, length}
 use Rattle.std.proofs.Common.{count_by, Option, Some, None, IfSome, refl, sym, ap, subst, ◌∙◌}
 use Rattle.std.proofs.Common.{arith}
 use Rattle.std.specs.Prelude.{slice_get}
@@ -9,14 +8,11 @@ use Rattle.std.proofs.lemmas.List.Sums.{sum_by-cons}
 use Rattle.ring_model.specs.Ring.{has_present}
 use Rattle.ring_words.specs.declared.device.Device.{Device}
 use Rattle.ring_share.specs.Crowd.{is_less, is_on, seats_on, tiers_of}
-use Rattle.ring_room.specs.Load.{Load, crowd_in, has_room_in, is_free_in, seats_of}
+use Rattle.ring_room.specs.Load.{Load, crowd_in, has_room_in, is_free_in}
 use Rattle.ring_room.specs.Places.{id_at, seats_at}
 use Rattle.ring_room.specs.Inner.Places.{ArePlacesOf}
 use Rattle.ring_place.specs.Inner.Placing.{IsChosen}
-use Rattle.ring_room.specs.Rows.{devices_on, is_empty}
-use Rattle.ring_room.proofs.Searching.FreeOutside.{seats_first}
-use Rattle.ring_room.proofs.Searching.RoomyPlaces.{places_within}
-use Rattle.ring_room.proofs.Searching.RowDevices.{count_taken}
+use Rattle.ring_room.specs.Rows.{is_empty}
 
 -- ---- what a partition's seats are for a device, those at the places are
 
@@ -67,19 +63,6 @@ apart_alike devices at row (Some id) alike apart = λ present. alike (λ other. 
     present
 
 -- ---- the places of a partition's seats
-
-pub places_first : (devices : List Device) (row : List (Option ℕ)) (ids places : List ℕ)
-    (count : ℕ) → ids ≡ devices_on row → length ids ≡ count → length ids ≤ most_replicas →
-    length places ≡ most_replicas
-    → ((k : ℕ) → k < length ids → (get_or places k 0 < length devices) ×
-    (id_at devices (get_or places k 0) ≡ get_or ids k 0)) →
-    ArePlacesOf devices row (take count places)
-places_first devices row ids places count are counted few long all =
-    subst (λ n. ArePlacesOf devices row (take n places)) counted record {
-      within = places_within devices ids places few long all;
-      alike = λ test. ap (count_by (is_on test)) (seats_first devices ids places few long all ∙ ap
-          seats_of are) ∙ count_taken test row;
-    }
 
 -- ---- how many they are
 

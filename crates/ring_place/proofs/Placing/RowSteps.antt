@@ -93,12 +93,6 @@ first_true : (a b : Bool) → (a && b) ≡ true → a ≡ true
 first_true true b h = refl
 first_true false b h = h
 
-pub draws_seat : (devices : List Device) (free : Bool) (x : ℕ) (before up to : Option ℕ) →
-    draws devices free x before up to ≡ true → is_on (λ e. e == x) to ≡ true
-draws_seat devices free x before None to h = first_true (is_on (λ e. e == x) to)
-    (has_left_from devices before to || free) h
-draws_seat devices free x before (Some e) to h = absurd (cc h)
-
 at_most_one : (b : Bool) → cond b 1 0 ≤ 1
 at_most_one true = omega arith
 at_most_one false = omega arith

@@ -11,18 +11,12 @@ use Rattle.std.proofs.lemmas.List.{take_more, length-take, length-take-le, get_o
 use Rattle.std.proofs.lemmas.List.{get_or_default}
 use Rattle.std.proofs.lemmas.List.Folds.{Any-from_list_any, list_any-append, list_any_none}
 use Rattle.std.proofs.lemmas.List.FromFn.{length-range_with_len, get_or-range_with_len}
-use Rattle.std.proofs.lemmas.List.Sorted.{All-permutation, length_permutation}
+use Rattle.std.proofs.lemmas.List.Sorted.{All-permutation}
 use Rattle.std.proofs.lemmas.List.Sorted.{list_any-IsPermutation}
 use Rattle.std.proofs.lemmas.Map.Keys.{IsDistinct-IsPermutation, IsDistinct-from_apart}
 use Rattle.std.proofs.lemmas.Map.Keys.{apart_from_distinct}
 use Rattle.ring_share.proofs.Rows.{some_below}
 use Rattle.ring_place.specs.Inner.Gathering.{is_among}
-
--- the numbers are those below the count
-pub order_length : (count : ℕ) (order : List ℕ) → IsPermutation (range_with_len 0 count) order →
-    length order ≡ count
-order_length count order is = length_permutation (range_with_len 0 count) order is ∙
-    length-range_with_len 0 count
 
 pub all_below : (count : ℕ) (order : List ℕ) → IsPermutation (range_with_len 0 count) order →
     All (λ q. q < count) order

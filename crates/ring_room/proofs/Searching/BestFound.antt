@@ -3,14 +3,13 @@ use Rattle.std.proofs.Common.{◌≡◌, ◌∙◌, ℕ, zero, suc, ◌+◌, ◌
 use Rattle.std.proofs.Common.{List, length, get_or, Option, Some, None, ap, sym, subst, arith}
 use Rattle.std.proofs.Math.Numerals.{add-one}
 use Rattle.std.proofs.lemmas.Nat.{mod_below}
-use Rattle.std.proofs.lemmas.Bool.Decides.{nat_tests}
 use Rattle.std.specs.Option.{option_map}
 use Rattle.ring_share.specs.Crowd.{is_less, is_outside}
 use Rattle.ring_room.specs.Inner.Lists.{AreRoomy}
 use Rattle.ring_room.specs.Inner.Places.{IsBestSoFar}
 use Rattle.ring_room.specs.Load.{Load, IsLeast, crowd_in, has_room_in, is_free_in}
 use Rattle.ring_room.specs.Places.{id_at, place_after}
-use Rattle.ring_room.specs.Search.{best_after, best_of_all, better_of, least_place, lesser_of, roomy_places}
+use Rattle.ring_room.specs.Search.{best_after, best_of_all, least_place, lesser_of, roomy_places}
 use Rattle.ring_room.proofs.Searching.BestSoFar.{best_first, best_keep, best_skip, best_take}
 use Rattle.ring_room.proofs.Searching.ByName.{after_within, best_more, best_none}
 use Rattle.ring_room.proofs.Searching.FreeOutside.{least_at_end, none_at_end, none_roomy}

@@ -8,9 +8,6 @@ use Rattle.ring_room.specs.Load.{Load, is_free_in, crowd_in}
 use Rattle.ring_room.specs.Places.{id_at, place_after}
 use Rattle.ring_room.specs.Inner.Places.{id_after, IsBestOf, IsBestSoFar}
 
-pub less_trans : (a b c : ℕ × ℕ × ℕ) → is_less a b ≡ true → is_less b c ≡ true → is_less a c ≡ true
-less_trans a b c h k = grind (arith, nat_tests)
-
 pub not_less_trans : (a b c : ℕ × ℕ × ℕ) → is_less a b ≡ false → is_less b c ≡ false →
     is_less a c ≡ false
 not_less_trans a b c h k = grind (arith, nat_tests)
@@ -116,7 +113,3 @@ best_keep load row places start step place best at so_far fails = record {
       step so_far.least (λ passes. subst (λ p. is_less (crowd_in load row (id_at load.devices p))
       (crowd_in load row (id_at load.devices best)) ≡ false) at fails);
 }
-
--- nothing is less crowded than no seat near
-pub none_less_empty : (a : ℕ × ℕ × ℕ) → is_less a (0, 0, 0) ≡ false
-none_less_empty a = grind (arith, nat_tests)

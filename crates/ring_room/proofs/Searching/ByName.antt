@@ -3,7 +3,7 @@ use Rattle.std.proofs.Common.{◌≡◌, ℕ, zero, suc, ◌+◌, ◌-◌, ◌<�
 use Rattle.std.proofs.Common.{◌∷◌, ◌++◌, length, get_or, set, take, Option, Some, None, refl, sym, ap, ◌∙◌, arith}
 use Rattle.std.specs.Prelude.{slice_index}
 use Rattle.std.proofs.Math.Numerals.{add-one}
-use Rattle.std.proofs.Common.{◌≢◌, subst, ⊎_elim}
+use Rattle.std.proofs.Common.{◌≢◌, below_more, subst, ⊎_elim}
 use Rattle.std.proofs.lemmas.Bool.{cases_eq}
 use Rattle.std.proofs.lemmas.Bool.Decides.{nat_tests}
 use Rattle.std.proofs.lemmas.List.{append-nil, take_more_set, get_or-set_other, get_or-set_same}
@@ -17,7 +17,7 @@ use Rattle.ring_room.specs.Search.{own_or_place, roomy_at, roomy_below, roomy_pl
 use Rattle.ring_room.specs.Places.{id_at, place_after}
 use Rattle.ring_room.specs.Inner.Places.{is_within}
 use Rattle.std.proofs.Common.{All, ◌==◌, map}
-use Rattle.std.specs.Prelude.{slice_get}
+use Rattle.std.specs.Prelude.{slice_get, IfNone}
 use Rattle.std.specs.List.{list_any}
 use Rattle.std.specs.List.Sorted.{IsStrictlyIncreasing}
 use Rattle.ring_words.specs.declared.device.Device.{Device}
@@ -35,9 +35,9 @@ below_suc : (load : Load) (place : ℕ) → roomy_below load (suc place) ≡ roo
 unfolding roomy_below
 below_suc load place = refl
 
-pub below_more : (load : Load) (place : ℕ) → roomy_below load (place + 1) ≡ roomy_below load place ++
+pub roomy_more : (load : Load) (place : ℕ) → roomy_below load (place + 1) ≡ roomy_below load place ++
     roomy_at load place
-below_more load place = ap (roomy_below load) (add-one place) ∙ below_suc load place
+roomy_more load place = ap (roomy_below load) (add-one place) ∙ below_suc load place
 
 -- one more place is listed
 pub listed_more : (load : Load) (places : List ℕ) (count place : ℕ) → count < length places →
@@ -46,7 +46,7 @@ pub listed_more : (load : Load) (places : List ℕ) (count place : ℕ) → coun
 listed_more load places count place lt so_far room =
     take_more_set places count place lt ∙ ap (λ xs. xs ++ place ∷ []) so_far
     ∙ ap (λ b. roomy_below load place ++ cond b (place ∷ []) []) (sym room)
-    ∙ sym (below_more load place)
+    ∙ sym (roomy_more load place)
 
 -- or it has no room
 pub listed_same : (load : Load) (places : List ℕ) (count place : ℕ) →
@@ -55,7 +55,7 @@ pub listed_same : (load : Load) (places : List ℕ) (count place : ℕ) →
 listed_same load places count place so_far room =
     so_far ∙ sym (append-nil (roomy_below load place))
     ∙ ap (λ b. roomy_below load place ++ cond b (place ∷ []) []) (sym room)
-    ∙ sym (below_more load place)
+    ∙ sym (roomy_more load place)
 
 none_below : (load : Load) → roomy_below load 0 ≡ []
 unfolding roomy_below
@@ -263,3 +263,12 @@ open_outside_at devices rise others all place x lt at =
     ap (λ id. has_open id devices) (id_at_is devices place x at) ∙ open_at devices rise place x at in
     ap (λ b. b && is_outside (seats_at devices others) (id_at devices place)) one
     ∙ ap (λ b. is_open x && b) (outside_at devices rise others place all lt)
+
+-- where there is none, it is none of one more
+pub none_more : (test : ℕ → Bool) (best result : Option ℕ) (place : ℕ)
+    → IfNone best ((k : ℕ) → k < place → test k ≡ false)
+    → IfNone result ((best ≡ None) × (test place ≡ false))
+    → IfNone result ((k : ℕ) → k < place + 1 → test k ≡ false)
+none_more test best (Some found) place before here = here
+none_more test best None place before here =
+    below_more _ _ (subst (λ b. IfNone b ((k : ℕ) → k < place → test k ≡ false)) here.0 before) here.1

@@ -1,35 +1,34 @@
 -- Cards that fit, and what a seat takes.
-use Rattle.std.proofs.Common.{◌≡◌, ◌∙◌, ℕ, zero, suc, ◌+◌, ◌<◌, ◌≤◌, ◌&&◌, All, Bool, true, false, cond, not, refl}
-use Rattle.std.proofs.Common.{List, length, get_or, take, drop, min, Option, Some, None, ap, sym, subst, arith}
-use Rattle.std.specs.Prelude.{nat_lt}
+use Rattle.std.proofs.Common.{◌≡◌, ◌∙◌, ℕ, zero, suc, ◌+◌, ◌-◌, ◌%◌, [], ◌∷◌, ◌<◌, ◌≤◌, ◌&&◌, Bool, true, false, cond, not, refl}
+use Rattle.std.proofs.Common.{List, length, get_or, min, Option, Some, None, ap, sym, subst, arith}
+use Rattle.std.specs.Prelude.{nat_lt, slice_get}
 use Rattle.std.proofs.Math.Nat.{min-le_left, min-le_right}
 use Rattle.std.proofs.lemmas.Bool.Decides.{nat_tests}
-use Rattle.std.proofs.lemmas.List.{get_or-drop, get_or-take, length-drop, length-take}
+use Rattle.std.proofs.lemmas.List.{get_or-take, length-take}
 use Rattle.ring_share.specs.Crowd.{is_less}
 use Rattle.ring_share.specs.Room.{has_open}
-use Rattle.ring_room.specs.Cards.{cards_from, fits, first_fit, or_drawn, taken, taken_by, taken_from}
-use Rattle.ring_room.specs.Cards.{window}
+use Rattle.ring_room.specs.Cards.{best_pile, card_for, card_in, card_of, crowd_on, few_piles, fits, in_front}
+use Rattle.ring_room.specs.Cards.{lower_of, or_card, pile_crowd, pile_rank, rank_of}
+use Rattle.ring_room.specs.Cards.{place_on, taken, taken_by, taken_from, window}
+use Rattle.ring_room.specs.declared.cards.Card.{Card}
 use Rattle.ring_room.specs.Inner.Lists.{AreRoomy, IsFloor}
 use Rattle.ring_room.specs.Load.{Load, IsLeast, crowd_in, has_room_in, is_free_in}
 use Rattle.ring_room.specs.Places.{id_at}
-use Rattle.ring_room.specs.Search.{least_place, roomy_places}
+use Rattle.ring_room.specs.Search.{roomy_places}
 use Rattle.ring_room.specs.Steps.{first_from}
 use Rattle.ring_room.proofs.Searching.BestFound.{least_found}
 use Rattle.ring_room.proofs.Searching.BestSoFar.{not_less_trans}
 use Rattle.ring_room.proofs.Searching.ByName.{room_opens}
-use Rattle.ring_room.proofs.Steps.{from_suc, from_zero}
+use Rattle.ring_room.proofs.Steps.{first_none, from_suc, from_zero}
 
--- a card of a window
-pub window_at : (cards : List ℕ) (start k d : ℕ) → k < length (cards_from cards start)
-    → (start + k < length cards) × (get_or (cards_from cards start) k d ≡ get_or cards (start + k) d)
-window_at cards start k d lt =
-    let long = length-take window (drop start cards) in
-    let rest = length-drop start cards in
-    let first = min-le_left window (length (drop start cards)) in
-    let second = min-le_right window (length (drop start cards)) in
-    let few : k < window = omega (arith, lt, long, first) in
-    let within : start + k < length cards = omega (arith, lt, long, second, rest) in
-    (within, get_or-take window (drop start cards) k d few ∙ get_or-drop start cards k d)
+-- a card in front
+pub front_at : (cards : List ℕ) (k d : ℕ) → k < length (in_front cards)
+    → (k < length cards) × (get_or (in_front cards) k d ≡ get_or cards k d)
+front_at cards k d lt =
+    let long = length-take window cards in
+    let first = min-le_left window (length cards) in
+    let second = min-le_right window (length cards) in
+    (omega (arith, lt, long, second), get_or-take window cards k d (omega (arith, lt, long, first)))
 
 both_left : (a b : Bool) → (a && b) ≡ true → a ≡ true
 both_left true b h = refl
@@ -42,15 +41,6 @@ both_right false b h = absurd (cc h)
 not_true : (b : Bool) → not b ≡ true → b ≡ false
 not_true true h = absurd (cc h)
 not_true false h = refl
-
--- what fits is free, and no more crowded
-pub fits_within : (load : Load) (row : List (Option ℕ)) (crowd : ℕ × ℕ × ℕ) (place : ℕ)
-    → fits load row crowd place ≡ true → place < length load.devices
-fits_within load row crowd place is =
-    let lt : nat_lt place (length load.devices) ≡ true = both_left
-    (nat_lt place (length load.devices)) (is_free_in load row (id_at load.devices place) &&
-    not (is_less crowd (crowd_in load row (id_at load.devices place)))) is in
-    grind (arith, nat_tests)
 
 fits_both : (load : Load) (row : List (Option ℕ)) (crowd : ℕ × ℕ × ℕ) (place : ℕ)
     → fits load row crowd place ≡ true → (is_free_in load row (id_at load.devices place) &&
@@ -128,25 +118,15 @@ fits_alike load row floor best place other is fit least =
         → is_less there crowd ≡ false → is_less floor crowd ≡ false
     below floor there crowd h k = not_less_trans floor there crowd h k
 
-pub window_fits : (load : Load) (row : List (Option ℕ)) (crowd : ℕ × ℕ × ℕ) (cards : List ℕ)
-    (start index : ℕ) (seen : List ℕ) → seen ≡ cards_from cards start → index < length seen
-    → fits load row crowd (get_or seen index 0) ≡ true
-    → (start + index < length cards) × (fits load row crowd (get_or cards (start + index) 0) ≡ true)
-window_fits load row crowd cards start index seen same lt fit =
-    let long = ap length same in
-    let at = window_at cards start index 0 (omega (arith, lt, long)) in
-    let here : get_or seen index 0 ≡ get_or cards (start + index) 0 =
-    ap (λ xs. get_or xs index 0) same ∙ at.1 in
-    (at.0, subst (λ place. fits load row crowd place ≡ true) here fit)
-
 pub front_fits : (load : Load) (row : List (Option ℕ)) (crowd : ℕ × ℕ × ℕ) (cards : List ℕ)
-    (index : ℕ) (seen : List ℕ) → seen ≡ cards_from cards 0 → index < length seen
+    (index : ℕ) (seen : List ℕ) → seen ≡ in_front cards → index < length seen
     → fits load row crowd (get_or seen index 0) ≡ true
     → (index < length cards) × (fits load row crowd (get_or cards index 0) ≡ true)
 front_fits load row crowd cards index seen same lt fit =
-    let at = window_fits load row crowd cards 0 index seen same lt fit in
-    let here : 0 + index ≡ index = omega arith in
-    subst (λ k. (k < length cards) × (fits load row crowd (get_or cards k 0) ≡ true)) here at
+    let long = ap length same in
+    let at = front_at cards index 0 (omega (arith, lt, long)) in
+    let here : get_or seen index 0 ≡ get_or cards index 0 = ap (λ xs. get_or xs index 0) same ∙ at.1 in
+    (at.0, subst (λ place. fits load row crowd place ≡ true) here fit)
 
 -- the first that passes one of two tests that say the same
 first_alike : (one other : ℕ → Bool) → ((k : ℕ) → one k ≡ other k) → (left at : ℕ)
@@ -158,39 +138,79 @@ first_alike one other same (suc left) at =
     ∙ ap (cond (other at) (Some at)) (first_alike one other same left (at + 1))
     ∙ sym (from_suc other left at)
 
--- a card in front that fits by a floor is the one that a seat takes
-pub front_taken : (load : Load) (row : List (Option ℕ)) (floor : ℕ × ℕ × ℕ) (cards : List ℕ)
-    (draw index : ℕ) (seen : List ℕ) → AreRoomy load (roomy_places load) → IsFloor load row floor
-    → seen ≡ cards_from cards 0 → Some index ≡ first_fit load row floor seen → index < length seen
-    → fits load row floor (get_or seen index 0) ≡ true
-    → Some (record { place = get_or cards index 0; card = Some index }) ≡ taken load row cards draw
-front_taken load row floor cards draw index seen are is same first lt fit =
-    let place = get_or seen index 0 in
-    let found = least_found load row draw (id_at load.devices place) are
-    (fits_free load row floor place fit) in
-    let crowd = crowd_in load row (id_at load.devices found.0) in
-    let alike : first_fit load row floor seen ≡ first_fit load row crowd seen = first_alike
-    (λ k. fits load row floor (get_or seen k 0)) (λ k. fits load row crowd (get_or seen k 0))
-    (λ k. fits_alike load row floor found.0 place (get_or seen k 0) is fit found.2)
-    (length seen) 0 in
-    let card : Some index ≡ first_fit load row crowd (cards_from cards 0) =
-    first ∙ alike ∙ ap (first_fit load row crowd) same in
-    ap (λ c. Some (taken_by cards found.0 (or_drawn load row crowd cards draw c))) card
-    ∙ ap (taken_from load row cards draw) (sym found.1)
+-- without piles there is no card
+pub no_piles : (load : Load) (row : List (Option ℕ)) (crowd : ℕ × ℕ × ℕ) (piles : List (List ℕ))
+    (draw : ℕ) → length piles ≡ 0 → None ≡ card_for load row crowd piles draw
+no_piles load row crowd [] draw is =
+    ap (λ found. or_card (card_of (best_pile load row [] (draw % 0) 0) found)
+    (card_of (best_pile load row [] (draw % 0) 0) found))
+    (first_none (λ index. fits load row crowd (get_or {A = ℕ} [] index 0)) 0
+    (λ k lt. absurd (omega (arith, lt))))
+no_piles load row crowd (pile ∷ piles) draw is = absurd (omega (arith, is))
 
--- a device that is no more crowded fits if it is free
-pub does_fit : (load : Load) (row : List (Option ℕ)) (crowd : ℕ × ℕ × ℕ) (place : ℕ) (free : Bool)
-    → place < length load.devices → free ≡ is_free_in load row (id_at load.devices place)
-    → is_less crowd (crowd_in load row (id_at load.devices place)) ≡ false
-    → free ≡ fits load row crowd place
-does_fit load row crowd place free lt is low =
+-- the rank of a pile by the device on its first card
+pub ranked : (load : Load) (row : List (Option ℕ)) (cards : List ℕ) (place count rank : ℕ)
+    (crowd : ℕ × ℕ × ℕ) → Some place ≡ slice_get cards 0 → place < length load.devices
+    → crowd ≡ crowd_in load row (id_at load.devices place) → count ≡ length cards
+    → rank ≡ rank_of count (Some crowd) → rank ≡ pile_rank load row cards
+ranked load row cards place count rank crowd first lt is long told =
     let within : nat_lt place (length load.devices) ≡ true = grind (arith, nat_tests) in
-    let last = and_true (is_free_in load row (id_at load.devices place)) in
-    is ∙ last
-    ∙ ap (λ b. is_free_in load row (id_at load.devices place) && not b) (sym low)
-    ∙ ap (λ b. b && (is_free_in load row (id_at load.devices place) &&
-    not (is_less crowd (crowd_in load row (id_at load.devices place))))) (sym within)
-  where
-    and_true : (b : Bool) → b ≡ (b && true)
-    and_true true = refl
-    and_true false = refl
+    let there = crowd_in load row (id_at load.devices place) in
+    told ∙ ap (λ n. rank_of n (Some crowd)) long ∙ ap (λ c. rank_of (length cards) (Some c)) is
+    ∙ ap (λ b. rank_of (length cards) (cond b (Some there) None)) (sym within)
+    ∙ ap (λ card. rank_of (length cards) (crowd_on load row card)) first
+
+-- where the same devices fit, the same card is found
+card_alike : (load : Load) (row : List (Option ℕ)) (floor crowd : ℕ × ℕ × ℕ) (piles : List (List ℕ))
+    → ((place : ℕ) → fits load row floor place ≡ fits load row crowd place) → (pile : ℕ)
+    → card_in load row floor piles pile ≡ card_in load row crowd piles pile
+card_alike load row floor crowd piles same pile =
+    let cards = in_front (get_or piles pile []) in
+    ap (card_of pile) (first_alike (λ k. fits load row floor (get_or cards k 0))
+    (λ k. fits load row crowd (get_or cards k 0)) (λ k. same (get_or cards k 0)) (length cards) 0)
+
+-- a card that fits by a floor is the one that a seat takes
+pub floor_taken : (load : Load) (row : List (Option ℕ)) (floor : ℕ × ℕ × ℕ) (piles : List (List ℕ))
+    (draw : ℕ) (card : Card) → AreRoomy load (roomy_places load) → IsFloor load row floor
+    → Some card ≡ card_for load row floor piles draw → fits load row floor (place_on piles card) ≡ true
+    → Some (record { place = place_on piles card; card = Some card }) ≡ taken load row piles draw
+floor_taken load row floor piles draw card are is found fit =
+    let place = place_on piles card in
+    let best = least_found load row draw (id_at load.devices place) are
+    (fits_free load row floor place fit) in
+    let crowd = crowd_in load row (id_at load.devices best.0) in
+    let same = card_alike load row floor crowd piles
+    (λ other. fits_alike load row floor best.0 place other is fit best.2) in
+    let start = draw % length piles in
+    let few = best_pile load row piles start (min (length piles) few_piles) in
+    let all = best_pile load row piles start (length piles) in
+    let alike : Some card ≡ card_for load row crowd piles draw = found
+    ∙ ap (λ one. or_card one (card_in load row floor piles all)) (same few)
+    ∙ ap (or_card (card_in load row crowd piles few)) (same all) in
+    ap (λ c. Some (taken_by piles best.0 c)) alike
+    ∙ ap (taken_from load row piles draw) (sym best.1)
+
+-- a free device fits if it is no more crowded
+pub does_fit : (load : Load) (row : List (Option ℕ)) (crowd : ℕ × ℕ × ℕ) (place : ℕ) (less : Bool)
+    → place < length load.devices → is_free_in load row (id_at load.devices place) ≡ true
+    → less ≡ is_less crowd (crowd_in load row (id_at load.devices place))
+    → not less ≡ fits load row crowd place
+does_fit load row crowd place less lt free told =
+    let within : nat_lt place (length load.devices) ≡ true = grind (arith, nat_tests) in
+    let low = not (is_less crowd (crowd_in load row (id_at load.devices place))) in
+    ap not told ∙ ap (λ b. b && low) (sym free)
+    ∙ ap (λ b. b && (is_free_in load row (id_at load.devices place) && low)) (sym within)
+
+-- no rank is lower than that of as many cards in a zone with none of the others
+rank_above : (cards : ℕ) (crowd : Option (ℕ × ℕ × ℕ)) → 4294967295 - cards ≤ rank_of cards crowd
+rank_above cards None = omega arith
+rank_above cards (Some crowd) = omega arith
+
+-- so a pile with too few cards isn't better
+pub too_few : (load : Load) (row : List (Option ℕ)) (cards : List ℕ) (best : ℕ × ℕ) (pile least : ℕ)
+    → least ≡ 4294967295 - length cards → best.1 ≤ least
+    → best ≡ lower_of best pile (pile_rank load row cards)
+too_few load row cards best pile least is le =
+    let above = rank_above (length cards) (pile_crowd load row cards) in
+    let not_lower : nat_lt (pile_rank load row cards) best.1 ≡ false = grind (arith, nat_tests) in
+    ap (λ b. cond b (pile, pile_rank load row cards) best) (sym not_lower)

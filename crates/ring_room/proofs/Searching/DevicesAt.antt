@@ -116,20 +116,6 @@ read_in load now same place x lt is = read_at now.devices place x lt
 pub is_load : (load now : Load) → load ≡ now → IsLoad load → IsLoad now
 is_load load now same is = subst (λ l. IsLoad l) same is
 
--- the device at a place has room where it is open and its count is below its want
-pub room_of : (load now : Load) → load ≡ now → IsLoad load → (place count want : ℕ) (x : Device) →
-    place < length now.devices → x ≡ get_or load.devices place x
-    → count ≡ get_or load.counts place count → want ≡ get_or load.wanted place want →
-    (is_open x && nat_lt count want) ≡ has_room_in now (id_at now.devices place)
-room_of load now same is place count want x lt read counts wants =
-    let there = is_load load now same is in
-    let at = read_in load now same place x lt read in
-    let has = index_is now.counts place count (let n = there.counted in omega (arith, n, lt))
-    (counts ∙ ap (λ (l : Load). get_or l.counts place count) same) in
-    let wanted = index_is now.wanted place want (let n = there.wants in omega (arith, n, lt))
-    (wants ∙ ap (λ (l : Load). get_or l.wanted place want) same) in
-    sym (room_at now there place x at ∙ rw (has, wanted) refl)
-
 pub present_in : (load now : Load) → load ≡ now → IsLoad load → (place id : ℕ) (x : Device) →
     place < length now.devices → x ≡ get_or load.devices place x → id_at now.devices place ≡ id
     → not x.removed ≡ has_present id now.devices

@@ -1,10 +1,9 @@
 -- Devices outside a partition with room, and how crowded they are for a seat.
 use Rattle.std.proofs.Common.{◌≡◌, ◌==◌, ℕ, ◌+◌, ◌<◌, Bool, true, false, cond, ◌&&◌, ◌||◌, List, []}
-use Rattle.std.proofs.Common.{◌∷◌, get_or, Option, Some, None, is_some, refl, sym, ap, ◌∙◌, ⊎_elim}
+use Rattle.std.proofs.Common.{◌∷◌, get_or, Option, Some, None, refl, sym, ap, ◌∙◌, ⊎_elim}
 use Rattle.std.proofs.Common.{arith}
 use Rattle.std.specs.Prelude.{slice_get}
 use Rattle.std.specs.List.{list_any}
-use Rattle.std.specs.Option.{IfSome, IfNone}
 use Rattle.std.proofs.lemmas.Bool.{and_left, and_parts, and_right, cases_eq, eq-eqb, eqb-true}
 use Rattle.std.proofs.lemmas.Bool.{ne_eqb}
 use Rattle.std.proofs.lemmas.List.Folds.{Any-from_list_any, list_any_at, list_any_none}
@@ -59,16 +58,6 @@ pub one_free : (load : Load) (row : List (Option ℕ)) (id : ℕ) → is_free_in
     has_free_in load row ≡ true
 one_free load row id free = found_open load.devices (is_free_in load row) id
     (free_open load row id free) free
-
--- a least crowded device tells whether some device is free
-pub free_found : (load : Load) (row : List (Option ℕ)) (o : Option ℕ) →
-    IfSome o (λ id. IsLeast load (seats_of (devices_on row)) id) →
-    IfNone o ((id : ℕ) → is_free_in load (seats_of (devices_on row)) id ≡ false)
-    → is_some o ≡ has_free_in load row
-free_found load row None found none =
-    sym (none_free load row (λ id. sym (free_taken load row id) ∙ none id))
-free_found load row (Some id) found none =
-    sym (one_free load row id (sym (free_taken load row id) ∙ found.free))
 
 -- and whether some free device is less crowded than a device
 pub less_none : (load : Load) (row : List (Option ℕ)) (id : ℕ) →

@@ -5,6 +5,7 @@ use Rattle.ring_words.specs.declared.device.Device.{Device}
 use Rattle.ring_share.specs.Crowd.{is_less, is_on}
 use Rattle.ring_room.specs.Load.{Load, is_free_in, crowd_in}
 use Rattle.ring_room.specs.Places.{id_at, place_after, seats_at}
+use Rattle.ring_room.specs.Search.{is_open_outside}
 
 -- These are the places of the devices of a partition's seats, in any order: as many are of devices
 -- that pass a test as seats are on such.
@@ -46,3 +47,8 @@ IsBestSoFar places start steps load row (Some best) = IsBestOf places start step
 abbrev pub is_within : Option (ℕ × (ℕ × ℕ × ℕ)) → ℕ × ℕ × ℕ → Bool
 is_within None floor = false
 is_within (Some best) floor = not (is_less floor best.1)
+
+-- The device at this place is open and outside a partition.
+pub record IsOpenPlace (devices : List Device) (row : List (Option ℕ)) (place : ℕ) : Type 0 where
+  pub within : place < length devices
+  pub here : is_open_outside devices row place ≡ true

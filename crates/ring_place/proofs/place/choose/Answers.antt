@@ -31,10 +31,10 @@ pub returns-clause-chosen : goal.returns-clause-chosen
 returns-clause-chosen c =
     let now = c.args.room.now in
     let row = seats_at now.devices c.args.others.now in
-    let chosen = chosen_open now row c.args.own (id_at now.devices c.any_open.result)
+    let chosen = chosen_open now row c.args.own (id_at now.devices c.least_open.result)
     c.in_default.ensures.none in
-    let opens = c.any_open.ensures.takes_seats in
-    let outside = c.any_open.ensures.outside in
+    let opens = c.least_open.ensures.takes_seats in
+    let outside = c.least_open.ensures.outside in
     subst (λ place. IsChosen now row c.args.own (id_at now.devices place))
     (sym c.without_card-2.ensures.place) (elim c.match-own.branch [
       | in-Some-own+else-is_present w ↦ chosen (λ o at. none_stays now.devices c.args.own

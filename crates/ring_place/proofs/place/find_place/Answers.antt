@@ -65,10 +65,10 @@ pub returns-clause-by_name : goal.returns-clause-by_name
 returns-clause-by_name c =
     let room = c.args.room.now in
     let n = c.args.replica in
-    let cards = c.args.cards.now in
+    let piles = c.args.piles.now in
     let draw = c.args.draw in
     c.choose.ensures.by_name
-    ∙ ap (λ at. chosen room at (get_or c.row.result.now n None) cards draw)
+    ∙ ap (λ at. chosen room at (get_or c.row.result.now n None) piles draw)
     (c.places_on-count.ensures.by_name ∙ ap (λ row. seats_of (devices_on row)) c.row-2.ensures)
-    ∙ ap (λ before. taken_for room before (row_at c.args.seats.now c.args.partition) n cards draw)
+    ∙ ap (λ before. taken_for room before (row_at c.args.seats.now c.args.partition) n piles draw)
     c.row.ensures

@@ -18,7 +18,7 @@ returns-clause-by_name c = seat_put c.args.old.now c.args.partition c.args.repli
     (record { load = c.args.room.now; rows = c.args.seats.now; deck = c.args.deck.now })
     c.put_on.new.room c.put_on.new.seats c.deal.new.self c.draw-draw.new.self c.draw-draw.result
     c.find_place-taken.result c.draw-draw.ensures.draw c.draw-draw.ensures.left
-    (c.find_place-taken.ensures.by_name ∙ ap (λ cards. taken_for c.args.room.now
+    (c.find_place-taken.ensures.by_name ∙ ap (λ piles. taken_for c.args.room.now
     (row_at c.args.old.now c.args.partition) (row_at c.args.seats.now c.args.partition)
-    c.args.replica cards c.draw-draw.result) c.cards.ensures)
+    c.args.replica piles c.draw-draw.result) c.piles.ensures)
     c.put_on.ensures.room c.put_on.ensures.seats c.deal.ensures

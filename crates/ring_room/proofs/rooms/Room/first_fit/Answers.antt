@@ -1,4 +1,4 @@
-use Rattle.std.proofs.Common.{◌≡◌, ◌∙◌, ℕ, ◌<◌, sym, subst, true, false, get_or, length, below_more, arith, ap}
+use Rattle.std.proofs.Common.{◌∙◌, ℕ, sym, get_or, length, below_more, arith, ap}
 use Rattle.ring_room.specs.Cards.{fits}
 use Rattle.ring_room.specs.Places.{seats_at}
 use Rattle.ring_room.proofs.Steps.{first_is, first_none}

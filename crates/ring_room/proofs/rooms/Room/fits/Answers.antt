@@ -1,17 +1,14 @@
-use Rattle.std.proofs.Common.{◌<◌, ◌∙◌, arith, length, not, sym}
-use Rattle.ring_room.specs.Places.{id_at, seats_at}
+use Rattle.std.proofs.Common.{◌<◌, ◌∙◌, ap, arith, length, sym}
+use Rattle.ring_share.specs.Crowd.{is_less}
+use Rattle.ring_room.specs.Places.{seats_at}
 use Rattle.ring_room.proofs.Searching.CardsFit.{does_fit}
-use Rattle.ring_room.proofs.Searching.FreeOutside.{free_at}
 use Rattle.ring_room.proofs.rooms.Room.fits.Goals as goal
 
-pub returns : goal.returns
-returns c =
+pub returns-then-is_free_at : goal.returns-then-is_free_at
+returns-then-is_free_at c =
     let now = c.args.self.now in
     let count = c.count.ensures.count in
     let within : c.args.place < length now.devices = omega (arith, count, c.if-place-count.false) in
     does_fit now (seats_at now.devices c.args.others.now) c.args.crowd c.args.place
-    (not c.contains.result) within
-    (free_at now c.has_room_at.ensures.load c.args.others.now c.args.place c.contains.result
-    c.requires.others within (sym c.has_room_at.ensures.value ∙ c.if-not-has_room_at.false)
-    c.contains.ensures.value)
-    (sym c.is_more.ensures ∙ c.if-is_more.false)
+    c.is_less.result within (sym c.is_free_at.ensures ∙ c.if-is_free_at.true)
+    (c.is_less.ensures ∙ ap (is_less c.args.crowd) c.crowd_at.ensures)

@@ -1,4 +1,4 @@
-use Rattle.std.proofs.Common.{◌≡◌, ◌≤◌, get_or, subst, ⊎_elim, arith}
+use Rattle.std.proofs.Common.{◌≡◌, ◌≤◌, ap, get_or, subst, ℕ, ⊎_elim, arith}
 use Rattle.std.proofs.lemmas.Bool.{cases_lt}
 use Rattle.ring_share.specs.declared.tiers.Tier.TheVariants.{Region}
 use Rattle.ring_room.specs.Load.{crowd_in}
@@ -17,7 +17,8 @@ loop-place-preserved c k lt =
     (λ before. let held = c.loop-place.invariant k before in omega (arith, held, c.min-least.ensures))
     (λ here. let same : i ≡ k = omega (arith, here, lt) in
     let own : c.min-least.result ≤ (crowd_in now row (id_at now.devices (get_or places i 0))).0 =
-    omega (arith, c.min-least.ensures, c.in_region_of.ensures) in
+    (let crowd = ap (λ (x : ℕ × ℕ × ℕ). x.0) c.crowd_at.ensures in
+    omega (arith, c.min-least.ensures, crowd)) in
     subst (λ j. c.min-least.result ≤ (crowd_in now row (id_at now.devices (get_or places j 0))).0)
     same own)
     (cases_lt k i)
