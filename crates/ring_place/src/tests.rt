@@ -525,6 +525,39 @@ fn zones_run_out_of_room_together(rt: HostRuntime) -> Result<(), Fail> {
     Ok(())
 }
 
+/// Whether it shows at a glance that no device is less crowded for three seats.
+fn is_calm_row(room: &Room, ring: &Ring, row: &[u16]) -> bool
+    requires { room.now.devices ≡ ring.now.devices }
+{
+    let [one, two, three] = row else {
+        return false;
+    };
+    if !ring.has_device(*one) || !ring.has_device(*two) || !ring.has_device(*three) {
+        return false;
+    }
+    room.is_calm(&[Some(*one), Some(*two), Some(*three)])
+}
+
+/// How many partitions are calm where one device of the ring wants more.
+fn calm_rows(alloc: Global, ring: &Ring) -> Result<usize, Fail> {
+    let ring = weighed(alloc, ring, 0, 30_000)?;
+    let wants = wanted(alloc, &ring)?;
+    let room = Room::of(alloc, &ring, &wants)?;
+    let mut count = 0;
+    for row in ring.seats().chunks(3) {
+        count += usize::from(room.has_some_room() && is_calm_row(&room, &ring, row));
+    }
+    Ok(count)
+}
+
+#[test]
+fn partitions_that_stand_apart_are_calm(rt: HostRuntime) -> Result<(), Fail> {
+    let alloc = rt.alloc();
+    let ring = zoned_ring(alloc, ONE_DOUBLE.as_slice(), 7)?;
+    assert_eq!(rt; calm_rows(alloc, &ring)?, 256);
+    Ok(())
+}
+
 /// A device that wants more than one seat of each partition, and two zones.
 const ONE_HEAVY: [Spot; 9] = [
     (1, 60_000),
@@ -610,9 +643,19 @@ fn least_is_scanned(
     {
         return Ok(false);
     }
-    let others = &others[..below(draws, 5) as usize];
+    let places = [
+        room.place_of(others[0]),
+        room.place_of(others[1]),
+        room.place_of(others[2]),
+        room.place_of(others[3]),
+    ];
+    let count = below(draws, 5) as usize;
+    let others = &others[..count];
     let is_free = |id: u16| has_room(ring, wanted, id) && !others.contains(&id);
-    let least = room.least(others, draws.next_u32());
+    let least = match room.least_at(&places[..count], draws.next_u32()) {
+        Some(place) => Some(room.id_of(place)),
+        None => None,
+    };
     let scanned = ring
         .devices()
         .iter()
@@ -650,11 +693,11 @@ fn has_room_for_two(alloc: Global, ring: &Ring) -> Result<bool, Fail> {
         return Ok(false);
     }
     let mut room = Room::of(alloc, ring, &wants)?;
-    let empty = room.least(&[], 7);
+    let empty = room.least_at(&[], 7);
     room.put(0);
     let half = room.has_room(0);
     room.put(0);
-    let full = room.least(&[], 7);
+    let full = room.least_at(&[], 7);
     let is_full = !room.has_room(0) && full.is_none();
     room.take(0);
     Ok(empty == Some(0) && half && is_full && room.has_room(0))

@@ -109,22 +109,6 @@ impl Room {
         crowd
     }
 
-    /// The places of at most five devices of the ring.
-    pub fn places_of(&self, ids: &[DeviceId]) -> [usize; MOST_SEATS]
-        requires known { All (λ id. has_device id self.now.devices ≡ true) ids.now }
-        requires few { length ids.now ≤ most_replicas }
-        ensures long { length result ≡ most_replicas }
-        ensures stand { (index : ℕ) → index < length ids.now →
-            (slice_index result index < length self.now.devices) ×
-            (id_at self.now.devices (slice_index result index) ≡ slice_index ids.now index) }
-    {
-        let mut places = [0; MOST_SEATS];
-        for (index, id) in ids.iter().enumerate() {
-            places[index] = self.place_of(*id);
-        }
-        places
-    }
-
     /// The places of the devices of a partition's seats that aren't empty, by replica, and how many
     /// they are. What stands behind them is left over.
     pub fn places_on(&self, row: &[Option<DeviceId>]) -> ([usize; MOST_SEATS], usize)
@@ -145,17 +129,6 @@ impl Room {
             }
         }
         (places, count)
-    }
-
-    /// How crowded a device of the ring is for a seat whose other seats are on these devices.
-    pub fn crowd(&self, others: &[DeviceId], device: DeviceId) -> Crowd
-        requires others { All (λ id. has_device id self.now.devices ≡ true) others.now }
-        requires few { length others.now ≤ most_replicas }
-        requires device { has_device device self.now.devices ≡ true }
-        ensures { result ≡ crowd_in self.now (seats_of others.now) device }
-    {
-        let places = self.places_of(others);
-        self.crowd_at(&places[..others.len()], self.place_of(device))
     }
 
     /// Whether it shows at a glance that no device outside a partition with room is less crowded
@@ -202,23 +175,6 @@ impl Room {
             }
         }
         false
-    }
-
-    /// A device with room that isn't among `others`, at most five distinct devices of the ring, and
-    /// than which no other such device is less crowded for a seat whose other seats are on
-    /// `others`. `None` exactly where no device outside has room. Of several such devices the draw
-    /// takes one.
-    pub fn least(&self, others: &[DeviceId], draw: u32) -> Option<DeviceId>
-        requires others { All (λ id. has_device id self.now.devices ≡ true) others.now }
-        requires few { length others.now ≤ most_replicas }
-        ensures found { IfSome result (λ id. IsLeast self.now (seats_of others.now) id) }
-        ensures none { IfNone result ((id : ℕ) → is_free_in self.now (seats_of others.now) id ≡
-            false) }
-    {
-        let places = self.places_of(others);
-        let others = &places[..others.len()];
-        let best = self.least_at(others, draw)?;
-        Some(self.id_of(best))
     }
 
     /// The place of a device with room that isn't among those at `others`, at most five, and than

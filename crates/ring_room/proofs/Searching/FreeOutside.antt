@@ -1,7 +1,6 @@
 -- Devices outside a partition, by their places.
 use Rattle.std.proofs.Common.{◌≡◌, ◌==◌, ℕ, zero, suc, ◌+◌, ◌-◌, ◌<◌, ◌≤◌, Bool, true, false, not}
-use Rattle.ring_words.specs.Limits.{most_replicas}
-use Rattle.std.proofs.Common.{cond, ◌&&◌, ◌||◌, All, List, [], ◌∷◌, length, get_or, take, map}
+use Rattle.std.proofs.Common.{cond, ◌&&◌, ◌||◌, All, List, [], ◌∷◌, length, get_or, map}
 use Rattle.std.proofs.Common.{Option, Some, None, refl, sym, ap, subst, ◌∙◌, ⊎_elim, arith}
 use Rattle.std.specs.Prelude.{slice_get}
 use Rattle.std.specs.List.{list_any}
@@ -10,7 +9,6 @@ use Rattle.std.proofs.lemmas.Option.{slice_get-get_or}
 use Rattle.std.specs.List.Sorted.{IsStrictlyIncreasing}
 use Rattle.std.proofs.lemmas.Bool.{cases_eq, cases_lt, eq-eqb, ne_eqb, eqb-true}
 use Rattle.std.proofs.lemmas.Bool.Decides.{nat_tests}
-use Rattle.std.proofs.lemmas.List.{length-take-le, get_or-take}
 use Rattle.std.proofs.lemmas.List.Sums.{sum_by-cons}
 use Rattle.ring_words.specs.declared.device.Device.{Device}
 use Rattle.ring_share.specs.Crowd.{is_less, is_on, seats_on, is_outside}
@@ -18,7 +16,6 @@ use Rattle.ring_share.specs.Room.{has_open}
 use Rattle.ring_share.specs.Want.{is_open}
 use Rattle.ring_share.proofs.Counting.{apart}
 use Rattle.ring_room.specs.Load.{Load, IsLeast, IsLoad, crowd_in, has_room_in, is_free_in}
-use Rattle.ring_room.specs.Load.{seats_of}
 use Rattle.ring_room.specs.Inner.Lists.{AreRoomy}
 use Rattle.ring_room.specs.Places.{id_at, seats_at}
 use Rattle.ring_room.specs.Inner.Places.{id_after, IsBestOf, IsBestSoFar}
@@ -74,20 +71,6 @@ pub free_at : (now : Load) → IsLoad now → (others : List ℕ) (place : ℕ) 
     others → not among ≡ is_free_in now (seats_at now.devices others) (id_at now.devices place)
 free_at now is others place among all lt room found =
     ap not found ∙ sym (outside_at now.devices is.rise others place all lt) ∙ sym (rw room refl)
-
--- seats on devices at places are seats on the devices of their numbers
-pub seats_same : (devices : List Device) (ids places : List ℕ) → length places ≡ length ids →
-    ((k : ℕ) → k < length ids → id_at devices (get_or places k 0) ≡ get_or ids k 0)
-    → seats_at devices places ≡ seats_of ids
-seats_same devices [] [] n all = refl
-seats_same devices [] (place ∷ places) n all = absurd (omega (arith, n))
-seats_same devices (id ∷ ids) [] n all = absurd (omega (arith, n))
-seats_same devices (id ∷ ids) (place ∷ places) n all =
-    let head : id_at devices place ≡ id = all 0 (omega arith) in
-    let tail : seats_at devices places ≡ seats_of ids =
-    seats_same devices ids places (omega (arith, n)) (λ k lt. all (suc k) (omega (arith, lt)))
-    in
-    rw (head, tail) refl
 
 -- a device that is open stands at some place
 pub place_of_open : (devices : List Device) (id : ℕ) → has_open id devices ≡ true → (place : ℕ) ×
@@ -183,13 +166,3 @@ pub none_roomy : (load : Load) (row : List (Option ℕ)) (places : List ℕ) →
     length places ≡ 0 → (id : ℕ) → is_free_in load row id ≡ false
 none_roomy load row places are none = none_listed load row places are
     (λ k lt. absurd (omega (arith, lt, none)))
-
--- so it is where the places are the first of an array
-pub seats_first : (devices : List Device) (ids places : List ℕ) → length ids ≤ most_replicas →
-    length places ≡ most_replicas
-    → ((k : ℕ) → k < length ids → (get_or places k 0 < length devices) ×
-    (id_at devices (get_or places k 0) ≡ get_or ids k 0)) →
-    seats_at devices (take (length ids) places) ≡ seats_of ids
-seats_first devices ids places few long all = seats_same devices ids (take (length ids) places)
-    (length-take-le (length ids) places (omega (arith, few, long)))
-    (λ k lt. ap (id_at devices) (get_or-take (length ids) places k 0 lt) ∙ (all k lt).1)
