@@ -1,23 +1,29 @@
 #!/usr/bin/env python3
 """Measures what the gate costs: for each crate the processor seconds of its proof, its tests' proof and its wrong bodies.
 
-Usage: bench/gate.py [--edits] [CRATE ..]      (all crates where none is named; --edits times the wrong bodies alone)
+Usage: bench/gate.py [--edits | --write] [CRATE ..]      (all crates where none is named; --edits times the wrong bodies alone)
 
 The crates have to be checked before (`rt all check`): a wrong body is then tried over what that check kept, as `rt ci` tries
 it over the work of those before it. A proof from nothing is timed in a copy. One line a crate, and one for each wrong body
-that takes over 20 seconds; the last lines are the table of docs/gate.md.
+that takes over 20 seconds; the last lines are the table of docs/gate.md. --write writes that table to the page, between its
+two marks, and takes all crates.
 """
 import importlib.machinery
 import importlib.util
 import os
 import resource
 import shutil
+import statistics
 import subprocess
 import sys
 import tempfile
 import time
 
+from program import machine
+
 ROOT = os.path.dirname(os.path.dirname(os.path.abspath(__file__)))
+PAGE = os.path.join(ROOT, "docs", "gate.md")
+MARKS = "<!-- measured -->", "<!-- end -->"
 DEAR = 20
 
 
@@ -67,33 +73,58 @@ def edits(rt, crate):
     return rows
 
 
+def table_of(rows):
+    """The table, the dearest crates first, with what it was measured on."""
+    lines = [f"{machine()}.", "",
+             "| crate | proof | tests | wrong bodies | median | dearest |", "|---|---|---|---|---|---|"]
+    for name, proved, tested, spent in sorted(rows, key=lambda row: -(row[1] + row[2])):
+        told = [f"{it:.0f}" if it else "" for it in (proved, tested)]
+        edited = [str(len(spent)), f"{statistics.median(spent):.0f}", f"{max(spent):.0f}"] if spent else ["", "", ""]
+        lines.append(f"| {' | '.join([f'`{name}`', *told, *edited])} |")
+    return "\n".join(lines)
+
+
+def write(table):
+    """Puts the table between the marks of the page."""
+    with open(PAGE, encoding="utf-8") as page:
+        text = page.read()
+    before, _, rest = text.partition(MARKS[0])
+    _, mark, after = rest.partition(MARKS[1])
+    if not mark:
+        sys.exit(f"{PAGE} has not both marks")
+    with open(PAGE, "w", encoding="utf-8") as page:
+        page.write(f"{before}{MARKS[0]}\n{table}\n{mark}{after}")
+
+
 def main(words):
-    only_edits = "--edits" in words
+    only_edits, writes = "--edits" in words, "--write" in words
     names = [it for it in words if not it.startswith("--")]
+    if writes and (names or only_edits):
+        sys.exit("bench/gate.py: --write takes all crates, with their proofs")
     rt = tool()
     os.chdir(ROOT)
-    table = []
+    table, failed = [], []
     for crate in rt.rtlib.crates_below(ROOT):
         if names and crate.name not in names:
             continue
-        cost = {}
+        proved = tested = 0
         if not only_edits:
             with tempfile.TemporaryDirectory(prefix="gate-") as room:
                 shutil.copytree(ROOT, room, dirs_exist_ok=True, symlinks=True)
-                cost["proof"] = proof(crate, room)
-                cost["tests"] = proof(crate, room, "--test") if crate.has_tests() else 0
+                proved = proof(crate, room)
+                tested = proof(crate, room, "--test") if crate.has_tests() else 0
         rows = edits(rt, crate)
-        spent = [it[2] for it in rows]
-        mean = f"{sum(spent) / len(spent):.0f}" if spent else ""
-        told = [f"{cost[it]:.0f}" if cost.get(it) else "" for it in ("proof", "tests")]
-        table.append(f"| `{crate.name}` | {told[0]} | {told[1]} | {len(rows)} | {mean} | {sum(spent):.0f} |")
-        print(table[-1], flush=True)
+        failed += [crate.name] if None in (proved, tested) else []
+        table.append((crate.name, proved or 0, tested or 0, [it[2] for it in rows]))
+        print(table_of(table[-1:]).splitlines()[-1], flush=True)
         left = [it[0] for it in rows if not it[1]]
         if left:
             print(f"  not refused: {' '.join(left)}", flush=True)
-    print(f"\n{os.cpu_count()} processors, {time.strftime('%Y-%m-%d')}, processor seconds")
-    print("| crate | proof | tests | wrong bodies | each | all |\n|---|---|---|---|---|---|")
-    print("\n".join(table))
+    print("\n" + table_of(table))
+    if failed:
+        sys.exit(f"not proved: {' '.join(failed)}")
+    if writes:
+        write(table_of(table))
 
 
 if __name__ == "__main__":

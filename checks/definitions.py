@@ -6,7 +6,8 @@ know what is proved has to read these words, and no others. This script finds th
 its crate's lib.rt lets others name it, or name the type or trait that it belongs to. The script compares the words with
 docs/definitions.md and fails where that page isn't up to date, where a word has no sentence before it, where two words or
 two types have one name, and where a word stands among those of the other kind: one that no public contract rests on has its
-place in specs/Inner, and no other word stands there. --write writes the page anew, and --inner lists the words that no
+place in specs/Inner, and no other word stands there. The page begins with the words that the headline rests on, each before
+those that it rests on itself; the rest follows by crate. --write writes the page anew, and --inner lists the words that no
 public contract rests on.
 """
 import re
@@ -16,7 +17,12 @@ from pathlib import Path
 
 TOP = Path(__file__).resolve().parent.parent
 PAGE = TOP / "docs" / "definitions.md"
-TESTS = {"ring_tests", "request_tests", "http_tests", "http_socket_tests", "store_tests", "program_tests", "test_streams", "worked_rows"}
+TESTS = {"ring_tests", "request_tests", "http_tests", "http_socket_tests", "store_tests", "program_tests", "test_fixtures"}
+# The word that the headline is, and those below it or beside it whose own words make a part of the page.
+TOP_WORD = ("builder", "Safety", "IsSafeRun")
+PARTS = {TOP_WORD: "what operators are promised of a run", ("request_book", "Run", "Run"): "what a list of calls may come to",
+         ("ring_place", "Rebalance", "IsRebalance"): "what one rebalance may do",
+         ("ring_place", "Seeded", "IsSeeded"): "which ring a seed gives", None: "What several of these rest on"}
 # What an impl gives for these is the proof of a law that its trait states.
 LAWS = {"laws", "settled"}
 WORD = re.compile(r"[A-Za-z_][A-Za-z0-9_]*(?:['-][A-Za-z0-9_]+)*")
@@ -31,6 +37,14 @@ Rings, partitions, replicas, devices, weights, hours between moves and the hash 
 Rings'). MD5 is RFC 1321's. JSON is RFC 8259's as `serde_json` reads it, CSV is RFC 4180's as `csv` reads it, statuses are
 RFC 9110's. All else is this project's own.
 """
+HEADLINE_HEAD = """
+## The headline
+
+What operators are promised rests on these words of the repository and on no others, beside the types of requests and
+replies. A word stands before those that it rests on, so read from the top down. `IsSafeRun` is the clause `safe` of what
+serves lines and requests. `Run` is what a book does with its calls. `IsRebalance` is one rebalance, and `IsSeeded` says
+which of the lawful rings it gives. The words of the other contracts follow by crate.
+"""
 
 
 def crates():
@@ -42,7 +56,7 @@ class Word:
     def __init__(self, crate, file, name, told):
         self.crate, self.file, self.name, self.told = crate, file, name, told
         self.body = []
-        self.rests_on = set()
+        self.rests_on = []
 
 
 def imports(text, crate):
@@ -69,9 +83,13 @@ def read_specs(names):
             module = ".".join(path.relative_to(TOP / "crates" / crate / "specs").with_suffix("").parts)
             if module == "Lib" or path.with_suffix("").is_dir():
                 continue
-            told, word = [], None
+            told, word, before = [], None, ""
             for line in path.read_text().splitlines():
+                # A comment behind an empty line begins anew, so the heading of a part is no sentence of its first word.
+                before, blank = line.strip(), not before
                 if line.strip().startswith("--"):
+                    if blank:
+                        told = []
                     told.append(line.strip().lstrip("- ").strip())
                     continue
                 match = DEFINED.match(line)
@@ -152,19 +170,19 @@ def exported(crate):
 
 
 def cited(text, crate, names, words, module=None):
-    """The words of the repository that a text cites, by what its file brings in and by what stands beside it."""
-    found = set()
+    """The words of the repository that a text cites, in their order, by what its file brings in and what stands beside it."""
+    found = {}
     for token in re.findall(r"(?:\w+\.)?[A-Za-z_][\w]*(?:['-]\w+)*", text):
         head, dot, tail = token.partition(".")
         if dot and head + "." in names:
             owner, where, _ = names[head + "."]
-            found.add((owner, where, tail))
+            found[owner, where, tail] = True
         for part in ([head, tail] if dot else [token]):
             if part in names and names[part][2]:
-                found.add(names[part])
+                found[names[part]] = True
             elif module and (crate, module, part) in words:
-                found.add((crate, module, part))
-    return {key for key in found if key in words}
+                found[crate, module, part] = True
+    return [key for key in found if key in words]
 
 
 def of_one_name(words):
@@ -188,7 +206,8 @@ def gather():
     for key, word in words.items():
         path = TOP / "crates" / word.crate / "specs" / (word.file.replace(".", "/") + ".antt")
         brought = imports(path.read_text(), word.crate)
-        word.rests_on = cited("\n".join(word.body), word.crate, brought, words, word.file) - {key}
+        found = cited("\n".join(word.body), word.crate, brought, words, word.file)
+        word.rests_on = [other for other in found if other != key]
     users = defaultdict(list)
     for crate in names:
         public = exported(crate)
@@ -212,8 +231,53 @@ def gather():
     return names, words, users, reached
 
 
+def downwards(words, tops):
+    """These words and all that they rest on, each before those that it rests on itself."""
+    seen, done = set(), []
+    for top in reversed(tops):
+        left = [(top, False)]
+        while left:
+            key, is_left = left.pop()
+            if is_left:
+                done.append(key)
+            elif key not in seen:
+                seen.add(key)
+                left.append((key, True))
+                left.extend((other, False) for other in words[key].rests_on)
+    return done[::-1]
+
+
+def headline(words):
+    """The words of each part of the headline. What more than one part beside the first rests on stands in the last."""
+    below = {top: set(downwards(words, [top])) for top in PARTS if top not in (TOP_WORD, None)}
+    parts = {top: [] for top in PARTS}
+    for key in downwards(words, [top for top in PARTS if top]):
+        using = [top for top, keys in below.items() if key in keys]
+        parts[TOP_WORD if not using else using[0] if len(using) == 1 else None].append(key)
+    return parts
+
+
+def row_of(word, file, citing):
+    """The row of a word: its sentence, where it stands if that is to be told, and the public calls that cite it."""
+    calls = ", ".join(f"`{function}`" for function in citing[:6])
+    more = len(citing) - 6
+    calls += f" and {more} more" if more > 0 else ""
+    told = (word.told[:1].upper() + word.told[1:]).replace("|", "\\|")
+    return f"| `{word.name}` | {told} |{file} {calls} |\n"
+
+
 def page(names, words, users, reached):
-    out = [HEAD]
+    citing = {key: list(dict.fromkeys(function for _, function in users.get(key, []))) for key in words}
+    out = [HEAD, HEADLINE_HEAD]
+    listed = set()
+    for top, keys in headline(words).items():
+        title = f"`{top[2]}`: {PARTS[top]}" if top else PARTS[top]
+        out.append(f"\n### {title}\n\n| Word | What it says | Where it stands | In the contracts of |\n|---|---|---|---|\n")
+        for key in keys:
+            file = f" `{words[key].crate}/specs/{words[key].file.replace('.', '/')}.antt` |"
+            out.append(row_of(words[key], file, citing[key]))
+        listed.update(keys)
+    reached = reached - listed
     for crate in names:
         files = sorted({key[1] for key in reached if key[0] == crate}, key=lambda f: f)
         if not files:
@@ -223,12 +287,7 @@ def page(names, words, users, reached):
             out.append(f"\n### `specs/{file.replace('.', '/')}.antt`\n\n| Word | What it says | In the contracts of |\n|---|---|---|\n")
             for key, word in words.items():
                 if key in reached and key[:2] == (crate, file):
-                    citing = list(dict.fromkeys(function for _, function in users.get(key, [])))
-                    calls = ", ".join(f"`{function}`" for function in citing[:6])
-                    more = len(citing) - 6
-                    calls += f" and {more} more" if more > 0 else ""
-                    told = word.told[:1].upper() + word.told[1:] if word.told else ""
-                    out.append(f"| `{word.name}` | {told.replace('|', chr(92) + '|')} | {calls} |\n")
+                    out.append(row_of(word, "", citing[key]))
     return "".join(out)
 
 

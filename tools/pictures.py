@@ -6,7 +6,6 @@ that the built program publishes of a ring before and after a rebalance (RINGD n
 --check says whether the first two are as the script draws them, and writes nothing.
 """
 import json
-import re
 import subprocess
 import sys
 import tempfile
@@ -18,18 +17,13 @@ sys.path.append(str(TOP / "checks"))
 from common import program  # noqa: E402
 
 DOCS = TOP / "docs"
-# The layers, highest first: each stands on those below it. The tests stand beside, and are not drawn.
-LAYERS = (
-    ("the program", "ringd programs file_stores keeper_programs program_words"),
-    ("sockets", "http_sockets timed_streams"),
-    ("what a line or a route asks", "line_api http_api http_routes node_text"),
-    ("protocols", "line_stream http_stream http_answers http_requests"),
-    ("kept in a file", "builder_store store_rows store_tables store_contents"),
-    ("the machine", "builder book_front request_book ring_messages"),
-    ("rings", "ring_place ring_room ring_share ring_tables ring_text swift_ring path_lookup csv_import ring_model"),
-    ("words and bytes", "ring_words byte_streams"),
-)
-TESTS = re.compile(r"_tests$|^test_streams$|^worked_rows$")
+# Where each crate stands from left to right, in halves of a box, so that no line goes behind the box of another crate.
+SLOTS = {name: int(slot) for name, slot in (word.split(":") for word in """
+    ring_room:0 path_lookup:0 ring_place:1 ring_share:2 ring_model:4 byte_streams:4 ring_text:5 swift_ring:5 ring_reads:5
+    ring_words:6 csv_import:6 request_book:8 ring_messages:10 builder:10 ring_book:10
+    store_tables:12 builder_store:12 store_model:13 store_rows:13 http_messages:17 http_routes:17 http_stream:18 http_api:18
+    timed_streams:19 http_sockets:19 line_stream:20 line_api:20 command_line:22 programs:22 file_stores:22 ringd:22
+    """.split())}
 COLOURS = ("#4e79a7", "#f28e2b", "#59a14f", "#e15759", "#b07aa1", "#76b7b2", "#9c755f", "#edc948", "#bab0ac")
 FONT = 'font-family="DejaVu Sans, Verdana, sans-serif"'
 
@@ -56,34 +50,88 @@ class Picture:
 
 
 def crates():
-    """The crates of crates.txt that are no tests."""
-    lines = (line.partition("#")[0] for line in (TOP / "crates.txt").read_text().splitlines())
-    return [name for name in (line.partition(":")[0].strip() for line in lines) if name and not TESTS.search(name)]
+    """The crates of crates.txt that are no tests, each with its heading and the crates that it names."""
+    heading, there = "", {}
+    for line in (TOP / "crates.txt").read_text().splitlines():
+        name, colon, named = line.partition("#")[0].partition(":")
+        if line.startswith("# "):
+            heading = line[2:].strip()
+        elif colon and heading != "Tests":
+            there[name.strip()] = heading, named.split()
+    return there
+
+
+def depths(there):
+    """How many crates stand below one another below each crate: a crate's row, counted from the lowest."""
+    found = {}
+
+    def depth(name):
+        if name not in found:
+            found[name] = 1 + max((depth(other) for other in there[name][1] if other in there), default=-1)
+        return found[name]
+
+    for name in there:
+        depth(name)
+    return found
+
+
+def arrows(there):
+    """Which crate stands on which, without what follows from others."""
+    below = {}
+
+    def all_below(name):
+        if name not in below:
+            named = [other for other in there[name][1] if other in there]
+            below[name] = set(named).union(*map(all_below, named))
+        return below[name]
+
+    for name, (_, named) in there.items():
+        for other in named:
+            if other in there and not any(other in all_below(between) for between in named if between in there):
+                yield name, other
+
+
+def is_behind(place, line):
+    """Whether a line goes behind the box at a place."""
+    (x, y), (from_x, from_y, to_x, to_y) = place, line
+    if y + 28 <= from_y or y >= to_y:
+        return False
+    ends = [from_x + (to_x - from_x) * min(1, max(0, (at - from_y) / (to_y - from_y))) for at in (y, y + 28)]
+    return max(ends) > x and min(ends) < x + 112
 
 
 def layers():
-    """Which crates stand on which."""
+    """Which crates stand on which: each is one row above the highest of those that it names."""
     there = crates()
-    placed = [(title, [name for name in names.split() if name in there]) for title, names in LAYERS]
-    lost = set(there) - {name for _, names in placed for name in names}
-    if lost:
-        sys.exit(f"LAYERS has no place for {', '.join(sorted(lost))}")
-    width = 216 + 122 * max(len(names) for _, names in placed)
-    drawn = Picture(width, 30 + 46 * len(placed))
-    for row, (title, names) in enumerate(placed):
-        y = 14 + 46 * row
-        drawn.box(8, y, width - 16, 40, "#f3f5f8" if row % 2 else "#e8ecf2")
-        drawn.text(18, y + 25, title, 13, "#555")
-        for column, name in enumerate(names):
-            drawn.box(200 + 122 * column, y + 6, 114, 28, "white", COLOURS[row % len(COLOURS)], 1.5)
-            drawn.text(257 + 122 * column, y + 25, name, 12, anchor="middle")
-    drawn.text(18, 24 + 46 * len(placed), "Each crate uses those below it, and nothing of them but their contracts.", 11, "#777")
+    if there.keys() != SLOTS.keys():
+        sys.exit(f"SLOTS has other crates than crates.txt: {', '.join(sorted(there.keys() ^ SLOTS.keys()))}")
+    rows = depths(there)
+    top = max(rows.values())
+    places = {name: (20 + 62 * slot, 20 + 56 * (top - rows[name])) for name, slot in SLOTS.items()}
+    drawn = Picture(140 + 62 * max(SLOTS.values()), 80 + 56 * (top + 1))
+    for row in range(top + 1):
+        drawn.box(8, 9 + 56 * row, 124 + 62 * max(SLOTS.values()), 50, "#f3f5f8" if row % 2 else "#e8ecf2")
+    for name, other in arrows(there):
+        line = places[name][0] + 56, places[name][1] + 28, places[other][0] + 56, places[other][1]
+        drawn.line(*line)
+        hidden = [lost for lost, place in places.items() if lost not in (name, other) and is_behind(place, line)]
+        if hidden:
+            sys.exit(f"SLOTS: the line from {name} to {other} goes behind {', '.join(hidden)}")
+    kinds = list(dict.fromkeys(heading for heading, _ in there.values()))
+    for name, (x, y) in places.items():
+        drawn.box(x, y, 112, 28, "white", COLOURS[kinds.index(there[name][0])], 1.5)
+        drawn.text(x + 56, y + 19, name, 12, anchor="middle")
+    y = 42 + 56 * (top + 1)
+    for at, kind in enumerate(kinds):
+        drawn.box(18 + 190 * at, y - 11, 14, 14, "white", COLOURS[at], 2)
+        drawn.text(38 + 190 * at, y, kind, 12, "#555")
+    drawn.text(18, y + 24, "Each line goes down: a crate uses those below it, and nothing of them but their contracts.", 11, "#777")
     return drawn.whole()
 
 
 def request():
-    """The way of a request through the functions, as docs/house.md has it."""
-    table = (DOCS / "house.md").read_text().partition("## The way of a request")[2].partition("\n## ")[0]
+    """The way of a line through the functions, as docs/house.md has it."""
+    table = (DOCS / "house.md").read_text().partition("## The way of a line")[2].partition("\n## ")[0]
     rows = [[cell.strip().replace("`", "") for cell in line.strip("|").split("|")] for line in table.splitlines()
             if line.startswith("| ")][1:]
     drawn = Picture(860, 30 + 54 * len(rows))

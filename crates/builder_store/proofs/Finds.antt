@@ -8,9 +8,9 @@ use Rattle.std.specs.Ordering.{int_cmp}
 use Rattle.sqlite_trees.specs.Objects.{catalog_tree}
 use Rattle.sqlite_trees.specs.Tree.{Trees}
 use Rattle.sqlite_catalog.proofs.ReadLemmas.{lists_once}
-use Rattle.store_contents.specs.Contents.{Contents}
+use Rattle.store_model.specs.Contents.{Contents}
 use Rattle.store_tables.specs.Contents.{contents_of}
-use Rattle.store_contents.specs.Entries.{Meta}
+use Rattle.store_model.specs.Entries.{Meta}
 use Rattle.store_tables.specs.Store.{begun_contents}
 use Rattle.store_tables.specs.Tables.{schema_of_first}
 use Rattle.store_rows.specs.Stands.{RingContent, meta_value}

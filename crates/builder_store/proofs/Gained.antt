@@ -6,16 +6,16 @@ use Rattle.std.specs.FinMap.{from_entries}
 use Rattle.std.specs.Ordering.{int_cmp}
 use Rattle.request_book.specs.Content.{entry_of}
 use Rattle.sqlite_trees.specs.Tree.{Trees}
-use Rattle.store_contents.specs.declared.change.RowChange.{RowChange}
-use Rattle.store_contents.specs.declared.change.RowChange.TheVariants.{DropDevice, PutRing}
-use Rattle.store_contents.specs.declared.change.RowChange.TheVariants.{AddDevice, PutPart}
-use Rattle.store_contents.specs.declared.change.RowChange.TheVariants.{PutPublished}
-use Rattle.store_contents.specs.declared.rows.MetaRow.{MetaRow}
-use Rattle.store_contents.specs.declared.rows.RequestRow.{RequestRow}
-use Rattle.store_contents.specs.Changes.{changed_all, with_decided, with_kept}
-use Rattle.store_contents.specs.Contents.{Contents, device_key, device_of, part_of, published_of}
-use Rattle.store_contents.specs.Contents.{ring_of, with_device_row, with_part, with_published_row}
-use Rattle.store_contents.specs.Contents.{with_ring_row, without_device}
+use Rattle.store_model.specs.declared.change.RowChange.{RowChange}
+use Rattle.store_model.specs.declared.change.RowChange.TheVariants.{DropDevice, PutRing}
+use Rattle.store_model.specs.declared.change.RowChange.TheVariants.{AddDevice, PutPart}
+use Rattle.store_model.specs.declared.change.RowChange.TheVariants.{PutPublished}
+use Rattle.store_model.specs.declared.rows.MetaRow.{MetaRow}
+use Rattle.store_model.specs.declared.rows.RequestRow.{RequestRow}
+use Rattle.store_model.specs.Changes.{changed_all, with_decided, with_kept}
+use Rattle.store_model.specs.Contents.{Contents, device_key, device_of, part_of, published_of}
+use Rattle.store_model.specs.Contents.{ring_of, with_device_row, with_part, with_published_row}
+use Rattle.store_model.specs.Contents.{with_ring_row, without_device}
 use Rattle.store_tables.specs.Contents.{contents_of}
 use Rattle.store_rows.specs.Differences.{with_state}
 use Rattle.store_rows.specs.RingRows.{NamedRings}

@@ -4,18 +4,18 @@ use Rattle.std.specs.Prelude.{pos}
 use Rattle.std.specs.FinMap.{FinMap, empty, from_entries, insert}
 use Rattle.std.specs.Ordering.{int_cmp}
 use Rattle.sqlite_trees.specs.Tree.{Trees}
-use Rattle.store_contents.specs.Changes.{with_change, changed_all, prepared}
-use Rattle.store_contents.specs.Contents.{Contents}
+use Rattle.store_model.specs.Changes.{with_change, changed_all, prepared}
+use Rattle.store_model.specs.Contents.{Contents}
 use Rattle.store_tables.specs.Contents.{contents_of}
-use Rattle.store_contents.specs.Entries.{Meta}
-use Rattle.store_contents.specs.declared.change.RowChange.{RowChange}
-use Rattle.store_contents.specs.declared.change.RowChange.TheVariants.{AddDevice, DropDevice}
-use Rattle.store_contents.specs.declared.change.RowChange.TheVariants.{PutPart, PutPublished}
-use Rattle.store_contents.specs.declared.change.RowChange.TheVariants.{PutRing}
+use Rattle.store_model.specs.Entries.{Meta}
+use Rattle.store_model.specs.declared.change.RowChange.{RowChange}
+use Rattle.store_model.specs.declared.change.RowChange.TheVariants.{AddDevice, DropDevice}
+use Rattle.store_model.specs.declared.change.RowChange.TheVariants.{PutPart, PutPublished}
+use Rattle.store_model.specs.declared.change.RowChange.TheVariants.{PutRing}
 use Rattle.store_rows.specs.Differences.{IsChange}
 use Rattle.store_rows.specs.Judging.{meta_now}
 use Rattle.store_rows.specs.RingRows.{NamedRings}
-use Rattle.store_contents.specs.declared.rows.MetaRow.{MetaRow}
+use Rattle.store_model.specs.declared.rows.MetaRow.{MetaRow}
 use Rattle.store_tables.specs.Store.{begun_contents}
 use Rattle.store_rows.specs.Stands.{IsHoldable, contents_for, meta_value}
 use Rattle.builder_store.specs.Making.{rings_alone}

@@ -9,10 +9,10 @@ use Rattle.sqlite_catalog.specs.Listing.{Lists}
 use Rattle.sqlite_catalog.proofs.ReadLemmas.{lists_once}
 use Rattle.sqlite.specs.State.{State}
 use Rattle.sqlite.specs.Steps.{IsEmpty}
-use Rattle.store_contents.specs.Contents.{Contents}
+use Rattle.store_model.specs.Contents.{Contents}
 use Rattle.store_tables.specs.Store.{begun_contents}
 use Rattle.store_tables.specs.Tables.{schema_of_first}
-use Rattle.store_contents.specs.Entries.{Meta}
+use Rattle.store_model.specs.Entries.{Meta}
 use Rattle.store_rows.specs.Stands.{RingContent}
 use Rattle.builder_store.proofs.Declared.{made_once}
 use Rattle.builder_store.specs.Opening.{IsOpenedAs, OpensAs, no_contents, nothing}

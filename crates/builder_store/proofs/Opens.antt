@@ -8,10 +8,10 @@ use Rattle.sqlite.specs.State.{HasCleanDisk, State, Survives}
 use Rattle.sqlite.proofs.StateLemmas.{survives_then}
 use Rattle.std.specs.declared.alloc.Global.{Global}
 use Rattle.std.specs.declared.vec.Vec.{Vec}
-use Rattle.store_contents.specs.declared.change.RowChange.{RowChange}
-use Rattle.store_contents.specs.declared.rows.MetaRow.{MetaRow}
-use Rattle.store_contents.specs.Changes.{prepared}
-use Rattle.store_contents.specs.Contents.{Contents}
+use Rattle.store_model.specs.declared.change.RowChange.{RowChange}
+use Rattle.store_model.specs.declared.rows.MetaRow.{MetaRow}
+use Rattle.store_model.specs.Changes.{prepared}
+use Rattle.store_model.specs.Contents.{Contents}
 use Rattle.store_tables.specs.Contents.{contents_of}
 use Rattle.store_tables.specs.Store.{AreOrdered, HasMadeTables, IsStore}
 use Rattle.store_tables.specs.Tables.{schema_of_first}

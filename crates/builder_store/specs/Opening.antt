@@ -5,7 +5,7 @@ use Rattle.sqlite_trees.specs.Tree.{Trees}
 use Rattle.sqlite_wal.specs.Recovery.{Image}
 use Rattle.sqlite.specs.Effect.{IsDatabase}
 use Rattle.sqlite.specs.Files.{AreFoundIn, HoldsDatabase}
-use Rattle.store_contents.specs.Contents.{Contents}
+use Rattle.store_model.specs.Contents.{Contents}
 use Rattle.store_tables.specs.Contents.{contents_of}
 use Rattle.store_tables.specs.Store.{begun_contents}
 use Rattle.store_tables.specs.Tables.{schema_of_first}

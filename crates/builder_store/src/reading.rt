@@ -2,8 +2,8 @@
 ghost use Rattle.std.specs.Prelude.{◌≡◌, ◌↔◌, false, IsTrue, map};
 ghost use Rattle.std.specs.FinMap.{entries};
 ghost use Rattle.sqlite.specs.Held.{state};
-ghost use Rattle.store_contents.specs.Contents.{Contents, device_of, meta_of, moved_of, part_of};
-ghost use Rattle.store_contents.specs.Contents.{published_of, request_of, ring_of, seat_of};
+ghost use Rattle.store_model.specs.Contents.{Contents, device_of, meta_of, moved_of, part_of};
+ghost use Rattle.store_model.specs.Contents.{published_of, request_of, ring_of, seat_of};
 ghost use Rattle.store_tables.specs.Store.{ReadsTables, SeesStore};
 ghost use Rattle.store_rows.specs.Judging.{AreRowsOf};
 ghost use Rattle.builder_store.specs.Opening.{no_contents};
@@ -12,7 +12,7 @@ use ring_model::Rings;
 use ring_words::Hour;
 use sqlite::{Alter, Connection, Error};
 use std::alloc::Global;
-use store_contents::{
+use store_model::{
     DeviceRow, MetaRow, MovedRow, PartRow, PublishedRow, RequestRow, RingRow, SeatRow,
 };
 use store_rows::StoreRows;

@@ -2,7 +2,7 @@
 use Rattle.builder_store.specs.declared.fault.FileFault.{FileFault}
 use Rattle.builder_store.specs.declared.fault.FileFault.TheVariants as file
 use Rattle.builder_store.specs.declared.fault.OpenFault.TheVariants as opening
-use Rattle.keeper_programs.specs.Begun.{IsStoreFault}
+use Rattle.programs.specs.Begun.{IsStoreFault}
 use Rattle.file_stores.specs.Inner.Unopened.{open_fault}
 
 -- why a store isn't opened is told as a fault of the store

@@ -4,9 +4,9 @@ use Rattle.ring_words.specs.Limits.{most_numbers}
 use Rattle.std.specs.Prelude.{OnOk}
 use Rattle.request_book.specs.Keeper.{LeavesOnly}
 use Rattle.store_rows.specs.Stands.{RingContent}
-use Rattle.keeper_programs.specs.Begun.{Keeping}
 use Rattle.file_stores.specs.Inner.Left.{IsLeftToClose}
 use Rattle.file_stores.specs.Opened.{IsMade}
+use Rattle.ring_book.specs.Book.{Keeping}
 
 -- a store was made whose keeper has this content
 pub is_made : {K A E : Type 0} (g : Keeping K) (content : RingContent) (result : Result A E)

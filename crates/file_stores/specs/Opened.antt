@@ -3,9 +3,9 @@ use Rattle.std.specs.Prelude.{◌≡◌}
 use Rattle.ring_words.specs.Limits.{most_numbers}
 use Rattle.sqlite_wal.specs.Recovery.{Image}
 use Rattle.builder_store.specs.Opening.{IsOpenedFrom}
-use Rattle.keeper_programs.specs.Begun.{Keeping}
 use Rattle.request_book.specs.Keeper.{LeavesOnly}
 use Rattle.store_rows.specs.Stands.{RingContent}
+use Rattle.ring_book.specs.Book.{Keeping}
 
 -- A keeper over files begins with the content for which the files stood as they were opened, if
 -- their disk returned what was written, and keeps 100,000 requests. Its store has not failed.

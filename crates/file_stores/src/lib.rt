@@ -2,6 +2,9 @@
 //!
 //! `perform_over_files` is what `main` calls. How the keeper of such a store begins, where it is
 //! opened and where it is made, stands in `specs/Opened.antt`.
+//!
+//! Faults of `builder_store` are told by functions and no `From`, so that `?` can't turn them: both
+//! they and `ProgramFault` are of other crates.
 #![tactic(auto)]
 
 mod making;

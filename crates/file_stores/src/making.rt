@@ -1,14 +1,14 @@
 //! Making the store in a file.
 ghost use Rattle.std.specs.Prelude.{◌≡◌, IfErr, OnOk};
 ghost use Rattle.builder_store.specs.Making.{rings_alone};
-ghost use Rattle.keeper_programs.specs.Begun.{IsStoreFault};
+ghost use Rattle.programs.specs.Begun.{IsStoreFault};
 ghost use Rattle.file_stores.specs.Opened.{IsMade};
 ghost use Rattle.file_stores.specs.Inner.Left.{IsLeftToClose};
 
 use crate::opening::{FileKeeper, close_store, open_fault};
 use builder::RingMachine;
 use builder_store::{MakeFault, make_at};
-use keeper_programs::ProgramFault;
+use programs::ProgramFault;
 use request_book::Keeper;
 use ring_model::Rings;
 use ring_words::{Hour, Limits};

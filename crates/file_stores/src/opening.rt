@@ -1,14 +1,14 @@
 //! Opening and closing the store in a file.
 ghost use Rattle.std.specs.Prelude.{◌≡◌, IfErr, IfOk};
 ghost use Rattle.sqlite_wal.specs.Files.{image_at};
-ghost use Rattle.keeper_programs.specs.Begun.{IsStoreFault};
+ghost use Rattle.programs.specs.Begun.{IsStoreFault};
 ghost use Rattle.file_stores.specs.Opened.{IsKept};
 ghost use Rattle.file_stores.specs.Inner.Unopened.{open_fault};
-ghost use Rattle.keeper_programs.specs.declared.faults.ProgramFault.TheVariants.{StoreFault};
+ghost use Rattle.programs.specs.declared.faults.ProgramFault.TheVariants.{StoreFault};
 
 use builder::RingMachine;
 use builder_store::{FileFault, OpenFault, SqlKeeper, open_from};
-use keeper_programs::ProgramFault;
+use programs::ProgramFault;
 use request_book::Keeper;
 use ring_words::Limits;
 use sqlite::{FileFrom, FileStore, Start};

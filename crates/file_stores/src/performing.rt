@@ -1,6 +1,6 @@
 //! What the program does over the stores in files.
 ghost use Rattle.std.specs.Prelude.{◌≡◌, ◌≤◌, map, string_bytes};
-ghost use Rattle.program_words.specs.Tasks.{AskForNothing};
+ghost use Rattle.command_line.specs.Tasks.{AskForNothing};
 ghost use Rattle.sqlite_wal.specs.Files.{image_at};
 ghost use Rattle.builder_store.specs.Making.{rings_alone};
 ghost use Rattle.programs.specs.Performed.{DoesAsked, FailsAsked};
@@ -11,8 +11,7 @@ use crate::opening::FileKeeper;
 use crate::stores::StoreFiles;
 use builder::RingMachine;
 use byte_streams::{CountedReader, CountedWriter};
-use keeper_programs::MemoryKeeper;
-use programs::perform;
+use programs::{MemoryKeeper, perform};
 use request_book::Keeper;
 use sqlite::Start;
 use std::io::{Read, Write};

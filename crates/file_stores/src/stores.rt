@@ -6,7 +6,7 @@ ghost use Rattle.file_stores.specs.Opened.{IsKept, IsMade};
 use crate::making::{NewFiles, make_store};
 use crate::opening::{FileKeeper, close_store, open_store};
 use builder::RingMachine;
-use keeper_programs::{ProgramFault, Stores};
+use programs::{ProgramFault, Stores};
 use request_book::Keeper;
 use ring_model::Rings;
 use ring_words::Hour;

@@ -10,42 +10,37 @@ use Rattle.byte_streams.proofs.ServedLemmas.{served_as, stopped_as}
 use Rattle.ring_words.specs.declared.command.Command.{Command}
 use Rattle.ring_words.specs.declared.command.Reply.{Reply}
 use Rattle.request_book.specs.Call.{Call}
-use Rattle.request_book.specs.Content.{Content}
-use Rattle.book_front.specs.Front.{CallsMade, Turn, is_closed}
-use Rattle.book_front.proofs.Fronts.{in_turn_serves, none_made, starts}
+use Rattle.request_book.specs.Front.{CallsMade, Turn, is_closed}
+use Rattle.request_book.proofs.Fronts.{in_turn_serves, none_made, starts}
 use Rattle.builder.proofs.Safe.{safe_run}
 use Rattle.builder.specs.Safety.{IsSafeRun}
-use Rattle.builder.specs.Step.{State}
 use Rattle.http_stream.specs.Answers.{ItemAnswered, joined}
 use Rattle.http_stream.specs.Serving.{RequestsServed, RequestsStopped}
 use Rattle.http_stream.specs.Streams.{AreRequests, BeginWith, Calls, Item, Refuses}
-use Rattle.line_api.specs.Lines.{Asked}
-use Rattle.line_api.specs.Inner.Answering.{Made}
-use Rattle.line_api.specs.Served.{Found, RingBook, steps_of}
+use Rattle.ring_book.specs.Book.{Asked, Found, Keeping, Made, RingBook, steps_of}
 use Rattle.http_api.specs.Http.{GetsHttp}
 use Rattle.http_api.specs.Inner.Answering.{HttpAnswers, HttpLoses}
 use Rattle.http_api.specs.Served.{HttpFront, ServesHttp}
 
-module _ {K C : Type 0} (content : K → Content State Command Reply) (sound : K → Type 0)
-    (limit : K → ℕ) (faults : K → ℕ)
+module _ {K C : Type 0} (kept : Keeping K)
     (tells : C → ℕ → C → Type 0) (prefix suffix : List ℕ) where
   abbrev Front : Type 0
-  Front = HttpFront {C = C} content sound limit faults tells prefix suffix
+  Front = HttpFront {C = C} kept tells prefix suffix
 
   -- what the service gives
   abbrev Gives : Front → Item → List ℕ → Front → Type 0
   Gives old item text new =
-      ItemAnswered (HttpAnswers content sound limit faults tells prefix suffix)
-      (HttpLoses content sound limit faults tells prefix suffix) old item text new
+      ItemAnswered (HttpAnswers kept tells prefix suffix)
+      (HttpLoses kept tells prefix suffix) old item text new
 
   abbrev Gets : Front → Item → Asked → List ℕ → Front → Type 0
   Gets before item asks answer after =
-      GetsHttp tells prefix suffix (Found content sound limit faults before.1 after.1) before.0 item
+      GetsHttp tells prefix suffix (Found kept before.1 after.1) before.0 item
       asks answer after.0
 
   abbrev IsTurn : Front → Item → Asked → List ℕ → Front → Type 0
   IsTurn old item asked text new =
-      Turn steps_of content sound limit faults (λ (front : Front). front.1)
+      Turn steps_of kept.content kept.sound kept.limit kept.fault_count (λ (front : Front). front.1)
       (λ before item asks answer after. Gets before item asks answer after) old item asked text
       new
 
@@ -64,56 +59,60 @@ module _ {K C : Type 0} (content : K → Content State Command Reply) (sound : K
     None,
     record {
       gets = (refl, text_is, ap (λ (front : Front). front.0) same);
-      made = subst (λ (front : Front). Made content sound limit faults old.1 front.1 None)
-          (sym same) (none_made steps_of content sound limit faults old.1);
+      made = subst (λ (front : Front). Made kept old.1 front.1 None)
+          (sym same) (none_made steps_of kept.content kept.sound kept.limit kept.fault_count old.1);
     },
   )
 
   serves : (old : Front) (items : List Item) (texts : List (List ℕ)) (new : Front) →
       InTurn Gives old items texts new
-      → ServesHttp content sound limit faults tells prefix suffix old items texts new
+      → ServesHttp kept tells prefix suffix old items texts new
   serves old items texts new turn =
-      in_turn_serves steps_of content sound limit faults (λ (front : Front). front.1)
+      in_turn_serves steps_of kept.content kept.sound kept.limit kept.fault_count
+      (λ (front : Front). front.1)
       (λ before item asks answer after. Gets before item asks answer after) Gives turns old
       items texts new turn
 
   -- what the server of requests tells of its service holds of the run
   pub served_run : (known before after : Option (List ℕ)) (old new : Front) (count : ℕ) →
       RequestsServed (InTurn Gives) known before after old new count
-      → RequestsServed (ServesHttp content sound limit faults tells prefix suffix) known before
+      → RequestsServed (ServesHttp kept tells prefix suffix) known before
       after old new count
-  served_run = served_as AreRequests AreRequests joined (InTurn Gives) (ServesHttp content sound
-      limit faults tells prefix suffix) serves
+  served_run = served_as AreRequests AreRequests joined (InTurn Gives)
+      (ServesHttp kept tells prefix suffix) serves
 
   pub stopped_run : (known left before after : Option (List ℕ)) (old new : Front)
       (untouched : Type 0) (fault : StreamFault)
       → RequestsStopped (InTurn Gives) known left before after old new untouched fault
-      → RequestsStopped (ServesHttp content sound limit faults tells prefix suffix) known left
+      → RequestsStopped (ServesHttp kept tells prefix suffix) known left
       before after old new untouched fault
-  stopped_run = stopped_as BeginWith AreRequests joined (InTurn Gives) (ServesHttp content sound
-      limit faults tells prefix suffix) serves
+  stopped_run = stopped_as BeginWith AreRequests joined (InTurn Gives)
+      (ServesHttp kept tells prefix suffix) serves
 
   -- calls that are one run are a safe run
-  safe_calls : (old new : RingBook content sound limit faults) (calls : List (Call Command Reply)) →
-      CallsMade steps_of content sound limit faults old new calls → sound new.keeper
-      → IsSafeRun old.machine.limits (content old.keeper) (content new.keeper)
+  safe_calls : (old new : RingBook kept) (calls : List (Call Command Reply)) →
+      CallsMade steps_of kept.content kept.sound kept.limit kept.fault_count old new calls
+      → kept.sound new.keeper
+      → IsSafeRun old.machine.limits (kept.content old.keeper) (kept.content new.keeper)
   safe_calls old new calls made s =
-      safe_run old.machine.limits (limit old.keeper) (is_closed steps_of content sound limit faults
-      old) (content old.keeper) (content new.keeper) calls (made.run s)
+      safe_run old.machine.limits (kept.limit old.keeper)
+      (is_closed steps_of kept.content kept.sound kept.limit kept.fault_count
+      old) (kept.content old.keeper) (kept.content new.keeper) calls (made.run s)
 
   -- a book that stays as it was is a safe run
-  pub unmoved : (old new : RingBook content sound limit faults) → new ≡ old → sound new.keeper →
-      IsSafeRun old.machine.limits (content old.keeper) (content new.keeper)
-  unmoved old new same = subst (λ (book : RingBook content sound limit faults). sound book.keeper →
-      IsSafeRun old.machine.limits (content old.keeper) (content book.keeper)) (sym same)
-      (λ s. safe_calls old old [] (starts steps_of content sound limit faults old) s)
+  pub unmoved : (old new : RingBook kept) → new ≡ old → kept.sound new.keeper →
+      IsSafeRun old.machine.limits (kept.content old.keeper) (kept.content new.keeper)
+  unmoved old new same = subst (λ (book : RingBook kept). kept.sound book.keeper →
+      IsSafeRun old.machine.limits (kept.content old.keeper) (kept.content book.keeper)) (sym same)
+      (λ s. safe_calls old old [] (starts steps_of kept.content kept.sound kept.limit
+      kept.fault_count old) s)
 
   stopped_safe : (known left before after : Option (List ℕ)) (old new : Front)
       (readers writers clocks : Type 0) (fault : StreamFault)
-      → RequestsStopped (ServesHttp content sound limit faults tells prefix suffix) known left
+      → RequestsStopped (ServesHttp kept tells prefix suffix) known left
       before after old new (readers × writers × clocks × (new.1 ≡ old.1)) fault
-      → sound new.1.keeper → IsSafeRun old.1.machine.limits (content old.1.keeper)
-      (content new.1.keeper)
+      → kept.sound new.1.keeper → IsSafeRun old.1.machine.limits (kept.content old.1.keeper)
+      (kept.content new.1.keeper)
   stopped_safe known left before after old new readers writers clocks ReadFailed stopped s =
       safe_calls old.1 new.1 stopped.get.calls stopped.get.made s
   stopped_safe known left before after old new readers writers clocks WriteFailed stopped s =
@@ -124,12 +123,12 @@ module _ {K C : Type 0} (content : K → Content State Command Reply) (sound : K
   -- whatever requests came, what the book was led to is a safe run
   pub served_safe : (known left before after : Option (List ℕ)) (old new : Front)
       (readers writers clocks : Type 0) (result : Result ℕ StreamFault)
-      → IfOk result (RequestsServed (ServesHttp content sound limit faults tells prefix suffix)
+      → IfOk result (RequestsServed (ServesHttp kept tells prefix suffix)
       known before after old new)
-      → IfErr result (RequestsStopped (ServesHttp content sound limit faults tells prefix suffix)
+      → IfErr result (RequestsStopped (ServesHttp kept tells prefix suffix)
       known left before after old new (readers × writers × clocks × (new.1 ≡ old.1)))
-      → sound new.1.keeper → IsSafeRun old.1.machine.limits (content old.1.keeper)
-      (content new.1.keeper)
+      → kept.sound new.1.keeper → IsSafeRun old.1.machine.limits (kept.content old.1.keeper)
+      (kept.content new.1.keeper)
   served_safe known left before after old new readers writers clocks (Ok count) served stopped s =
       safe_calls old.1 new.1 served.get.calls served.get.made s
   served_safe known left before after old new readers writers clocks (Err fault) served stopped s =

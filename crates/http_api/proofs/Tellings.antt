@@ -1,41 +1,36 @@
 -- What a body leads to is an answer.
 use Rattle.std.proofs.Common.{◌≡◌, ◌∙◌, ℕ, List, ap, subst, sym, inl, inr, Some, None, Result, Ok}
-use Rattle.std.proofs.Common.{Err}
+use Rattle.std.proofs.Common.{Err, refl}
 use Rattle.std.specs.Prelude.{IfOk, MatchResult, Vec}
 use Rattle.std.specs.declared.alloc.AllocError.{AllocError}
 use Rattle.std.specs.declared.alloc.Global.{Global}
-use Rattle.builder.specs.Step.{State}
-use Rattle.http_requests.specs.Requests.{Ask}
+use Rattle.http_messages.specs.Requests.{Ask}
 use Rattle.http_routes.specs.Targets.{TargetAsks}
 use Rattle.http_routes.specs.declared.target.TargetAsk.TheVariants as target
-use Rattle.line_api.specs.Lines.{Asked}
-use Rattle.line_api.specs.Inner.Answering.{Made}
-use Rattle.line_api.specs.Served.{RingBook}
+use Rattle.ring_book.specs.Book.{Asked, Found, Keeping, Made, RingBook}
+use Rattle.ring_reads.specs.declared.reads.Read.{Read}
+use Rattle.request_book.specs.declared.book.Fault.{Fault}
 use Rattle.request_book.specs.Call.{Deliver, Load}
-use Rattle.request_book.specs.Content.{Content}
 use Rattle.ring_messages.specs.declared.told.Told.{Told}
-use Rattle.ring_words.specs.declared.command.Command.{Command}
-use Rattle.ring_words.specs.declared.command.Reply.{Reply}
 use Rattle.ring_words.specs.declared.request.Key.{Key}
-use Rattle.http_api.specs.Http.{told_answer}
+use Rattle.http_api.specs.Http.{IsReadAnswer, told_answer}
 use Rattle.http_api.specs.Inner.Telling.{IsImportTold, IsMessageTold}
 use Rattle.http_api.specs.Inner.Answering.{HttpAnswers, HttpLoses}
 
-module _ {K C : Type 0} (content : K → Content State Command Reply) (sound : K → Type 0)
-    (limit : K → ℕ) (faults : K → ℕ)
+module _ {K C : Type 0} (kept : Keeping K)
     (tells : C → ℕ → C → Type 0) (prefix suffix : List ℕ) (ask : Ask) (early late : C)
-    (old new : RingBook content sound limit faults) (t : Told) where
+    (old new : RingBook kept) (t : Told) where
   abbrev Tells : Result (Vec ℕ Global) AllocError → Type 0
   Tells result = IfOk result (λ text. text.items ≡ told_answer ask.is_last t)
 
   abbrev Answered : Result (Vec ℕ Global) AllocError → Type 0
   Answered result = MatchResult result
-      (λ text. HttpAnswers content sound limit faults tells prefix suffix (early, old) ask
+      (λ text. HttpAnswers kept tells prefix suffix (early, old) ask
       text.items (late, new))
-      (λ _. HttpLoses content sound limit faults tells prefix suffix (early, old) ask (late, new))
+      (λ _. HttpLoses kept tells prefix suffix (early, old) ask (late, new))
 
   pub message_answered : (asked : Asked) → TargetAsks ask.target ask.method target.Deliver →
-      Made content sound limit faults old new asked
+      Made kept old new asked
       → IsMessageTold tells early late ask.body asked (Ok t) →
       (result : Result (Vec ℕ Global) AllocError) → Tells result → Answered result
   message_answered None asks made told (Ok text) is = (
@@ -65,7 +60,7 @@ module _ {K C : Type 0} (content : K → Content State Command Reply) (sound : K
   message_answered (Some (Load answer)) asks made told result is = absurd told
 
   pub import_answered : (asked : Asked) (ring : List ℕ) (key : Key) →
-      TargetAsks ask.target ask.method (target.Import ring key) → Made content sound limit faults
+      TargetAsks ask.target ask.method (target.Import ring key) → Made kept
       old new asked
       → IsImportTold tells early late ring key ask.body asked (Ok t) →
       (result : Result (Vec ℕ Global) AllocError) → Tells result → Answered result
@@ -105,3 +100,29 @@ module _ {K C : Type 0} (content : K → Content State Command Reply) (sound : K
         made,
       )
   import_answered (Some (Load answer)) ring key asks made told result is = absurd told
+
+module _ {K C : Type 0} (kept : Keeping K)
+    (tells : C → ℕ → C → Type 0) (prefix suffix : List ℕ) (ask : Ask) (clock : C)
+    (old new : RingBook kept) where
+  -- what a read shows or is told is an answer
+  pub read_answered : (ring : List ℕ) (what : Read) →
+      TargetAsks ask.target ask.method (target.Read ring what) →
+      (answer : Result (Unit {0}) Fault) → Made kept old new
+      (Some (Load answer)) →
+      (result : Result (Vec ℕ Global) AllocError) →
+      IfOk result (λ text. IsReadAnswer (Found kept old new) ask.is_last
+      prefix suffix (record { ring = ring; read = what }) answer text.items) →
+      MatchResult result
+      (λ text. HttpAnswers kept tells prefix suffix (clock, old) ask
+      text.items (clock, new))
+      (λ _. HttpLoses kept tells prefix suffix (clock, old) ask (clock, new))
+  read_answered ring what asks answer made (Ok text) is = (
+    Some (Load answer),
+    (record { ring = ring; read = what }, asks, is, refl),
+    made,
+  )
+  read_answered ring what asks answer made (Err refused) is = (
+    Some (Load answer),
+    ((record { ring = ring; read = what }, asks), refl),
+    made,
+  )

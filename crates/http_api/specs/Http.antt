@@ -1,14 +1,11 @@
 -- What requests are answered over HTTP.
-use Rattle.std.specs.Prelude.{◌≡◌, ◌≢◌, ◌⊎◌, ℕ, List, Bool, false, MatchOption, Some, None, Result}
-use Rattle.std.specs.Prelude.{Ok, Err}
-use Rattle.http_answers.specs.Answers.{http_answer, no_memory_answer, refusal_answer}
-use Rattle.http_answers.specs.Answers.{route_fault_answer}
-use Rattle.http_answers.specs.declared.answer.BodyKind.{BodyKind}
-use Rattle.http_answers.specs.declared.answer.BodyKind.TheVariants as kind
-use Rattle.http_requests.specs.Requests.{Ask}
+use Rattle.std.specs.Prelude.{◌≡◌, ◌≢◌, ◌⊎◌, ℕ, List, Bool, Some, None, Result}
+use Rattle.http_messages.specs.Answers.{http_answer, no_memory_answer, refusal_answer}
+use Rattle.http_messages.specs.Answers.{route_fault_answer}
+use Rattle.http_messages.specs.declared.answer.BodyKind.{BodyKind}
+use Rattle.http_messages.specs.declared.answer.BodyKind.TheVariants as kind
+use Rattle.http_messages.specs.Requests.{Ask}
 use Rattle.http_routes.specs.Targets.{TargetAsks, TargetFails}
-use Rattle.http_routes.specs.declared.target.RingRead.{RingRead}
-use Rattle.http_routes.specs.declared.target.RingRead.TheVariants as read
 use Rattle.http_routes.specs.declared.target.TargetAsk.TheVariants as target
 use Rattle.http_routes.specs.declared.target.TargetFault.{TargetFault}
 use Rattle.http_routes.specs.declared.target.TargetFault.TheVariants as why
@@ -19,23 +16,18 @@ use Rattle.builder.specs.Step.{State}
 use Rattle.csv_import.specs.Rows.{AreRows, IsWrong, records_of}
 use Rattle.csv_import.specs.declared.fault.CsvFault.{CsvFault}
 use Rattle.csv_import.specs.declared.fault.CsvFault.TheVariants as csv
-use Rattle.line_api.specs.Lines.{Asked, told_fault, told_of}
-use Rattle.node_text.specs.Nodes.{nodes_json}
-use Rattle.path_lookup.specs.Names.{PathNames}
-use Rattle.path_lookup.specs.Nodes.{AreNodes, partition_of, path_hash}
+use Rattle.ring_book.specs.Book.{Asked}
+use Rattle.ring_book.specs.Reads.{ReadShows, ReadTells}
+use Rattle.ring_book.specs.Told.{told_of}
+use Rattle.ring_reads.specs.declared.reads.Question.{Question}
+use Rattle.ring_reads.specs.declared.reads.Read.{Read}
+use Rattle.ring_reads.specs.declared.reads.Read.TheVariants as read
 use Rattle.request_book.specs.Call.{Deliver, Load}
 use Rattle.request_book.specs.declared.book.Fault.{Fault}
 use Rattle.ring_messages.specs.declared.told.Told.{Told}
 use Rattle.ring_messages.specs.declared.told.Told.TheVariants as told
-use Rattle.ring_model.specs.Ring.{RingRecord, is_assigned, published_at}
-use Rattle.ring_model.specs.Rings.{ring_at}
-use Rattle.ring_share.specs.Want.{AreWanted}
-use Rattle.ring_tables.specs.Tables as tables
 use Rattle.ring_words.specs.declared.command.Act.TheVariants as act
 use Rattle.ring_words.specs.declared.command.Command.{Command}
-use Rattle.ring_words.specs.declared.command.Refusal.{Refusal}
-use Rattle.ring_words.specs.declared.command.Refusal.TheVariants as refusal
-use Rattle.ring_words.specs.declared.command.Reply.TheVariants as reply
 use Rattle.ring_words.specs.declared.device.Row.{Row}
 use Rattle.ring_words.specs.declared.request.Delivery.{Delivery}
 
@@ -52,10 +44,6 @@ told_answer is_last t =
           is_last;
     }) (answer_text t)
 
--- what is told of a refusal by rule
-abbrev pub refused_answer : Bool → Refusal → List ℕ
-refused_answer is_last why = told_answer is_last (told.Reply (reply.Refused why))
-
 -- a body that was asked for
 abbrev pub shown_answer : Bool → BodyKind → List ℕ → List ℕ
 shown_answer is_last kind body =
@@ -71,43 +59,21 @@ told_csv csv.NoMemory = told.NoMemory
 
 -- READS
 
--- The answer shows the nodes of a path in a ring, or that no seat of the ring is taken. The path's
--- text stands between a prefix and a suffix where it is hashed.
-abbrev pub ShowsNodes : Bool → List ℕ → List ℕ → RingRecord → PathNames → List ℕ → Type 0
-ShowsNodes is_last prefix suffix ring names text =
-    ((is_assigned ring ≡ false) × (text ≡ refused_answer is_last refusal.NotAssigned))
-    ⊎ ((ids : List ℕ) × AreNodes ring prefix names suffix ids
-    × (text ≡ shown_answer is_last kind.Json
-    (nodes_json ring (partition_of (path_hash prefix names suffix) ring.power) ids)))
-
--- The answer shows of a ring what is read.
-abbrev pub ShowsRing : Bool → List ℕ → List ℕ → RingRead → RingRecord → List ℕ → Type 0
-ShowsRing is_last prefix suffix read.Devices ring text =
-    text ≡ shown_answer is_last kind.Text (tables.device_table ring)
-ShowsRing is_last prefix suffix read.Balance ring text =
-    (wants : List ℕ) × AreWanted ring wants ×
-    (text ≡ shown_answer is_last kind.Text (tables.balance_table ring wants))
-ShowsRing is_last prefix suffix (read.Nodes names) ring text = ShowsNodes is_last prefix suffix ring
-    names text
-ShowsRing is_last prefix suffix (read.Text version) ring text =
-    MatchOption (published_at ring version) (text ≡ told_answer is_last told.NoVersion)
-    (λ body. text ≡ shown_answer is_last kind.Text body)
-
--- What a read is answered where these are the rings: what the ring of its name shows, or that there
--- is none.
-abbrev pub ShowsRings : Bool → List ℕ → List ℕ → List ℕ → RingRead → State → List ℕ → Type 0
-ShowsRings is_last prefix suffix name what rings text =
-    MatchOption (ring_at name rings) (text ≡ refused_answer is_last refusal.NoRing)
-    (λ ring. ShowsRing is_last prefix suffix what ring text)
+-- what kind of text a read shows
+abbrev pub shown_kind : Read → BodyKind
+shown_kind (read.Plain plain) = kind.Text
+shown_kind read.Tables = kind.Text
+shown_kind (read.Nodes path) = kind.Json
+shown_kind (read.Published version format) = kind.Text
 
 -- What a read is answered where this is the answer of the call that makes the rings ready to be
--- read: what the rings that are found show, or why none can be read.
-abbrev pub IsReadAnswer : (State → Type 0) → Bool → List ℕ → List ℕ → List ℕ → RingRead →
+-- read: what the rings that are found show, or why they show nothing or none can be read.
+abbrev pub IsReadAnswer : (State → ℕ → Type 0) → Bool → List ℕ → List ℕ → Question →
     Result (Unit {0}) Fault → List ℕ → Type 0
-IsReadAnswer Finds is_last prefix suffix name what (Ok ready) text =
-    (rings : State) × Finds rings × ShowsRings is_last prefix suffix name what rings text
-IsReadAnswer Finds is_last prefix suffix name what (Err fault) text =
-    text ≡ told_answer is_last (told_fault fault)
+IsReadAnswer Finds is_last prefix suffix question answer text =
+    ((bytes : List ℕ) × ReadShows Finds prefix suffix question answer bytes
+    × (text ≡ shown_answer is_last (shown_kind question.read) bytes))
+    ⊎ ((t : Told) × ReadTells Finds question answer t × (text ≡ told_answer is_last t))
 
 -- DELIVERIES
 
@@ -152,14 +118,15 @@ module _ {C : Type 0} (tells : C → ℕ → C → Type 0) (prefix suffix : List
   -- A request gets this text where this is the call that it leads to, if any: a delivery's answer,
   -- at the hour that the clock tells; what a read is told of the rings that are found; or why it
   -- leads to no call.
-  abbrev pub IsHttpAnswer : (State → Type 0) → C → Ask → Asked → List ℕ → C → Type 0
+  abbrev pub IsHttpAnswer : (State → ℕ → Type 0) → C → Ask → Asked → List ℕ → C → Type 0
   IsHttpAnswer Finds old ask None text new = IsUncalled ask text × (new ≡ old)
   IsHttpAnswer Finds old ask (Some (Deliver delivery answer)) text new =
       AsksDelivered ask delivery × tells old delivery.hour new ×
       (text ≡ told_answer ask.is_last (told_of answer))
   IsHttpAnswer Finds old ask (Some (Load answer)) text new =
-      (name : List ℕ) × (what : RingRead) × TargetAsks ask.target ask.method (target.Read name what)
-      × IsReadAnswer Finds ask.is_last prefix suffix name what answer text × (new ≡ old)
+      (question : Question) × TargetAsks ask.target ask.method
+      (target.Read question.ring question.read)
+      × IsReadAnswer Finds ask.is_last prefix suffix question answer text × (new ≡ old)
 
   -- A request whose answer found no memory: it led to no call, or to that of its delivery or its
   -- read.
@@ -168,13 +135,13 @@ module _ {C : Type 0} (tells : C → ℕ → C → Type 0) (prefix suffix : List
   IsHttpLost old ask (Some (Deliver delivery answer)) new = AsksDelivered ask delivery ×
       tells old delivery.hour new
   IsHttpLost old ask (Some (Load answer)) new =
-      ((name : List ℕ) × (what : RingRead) × TargetAsks ask.target ask.method
-      (target.Read name what)) × (new ≡ old)
+      ((question : Question) × TargetAsks ask.target ask.method
+      (target.Read question.ring question.read)) × (new ≡ old)
 
   -- What an item of a stream is given where this is the call that it leads to, if any: a request
   -- its answer, or what stands for an answer that found no memory; a request that is refused by its
   -- head its refusal, and no call.
-  abbrev pub GetsHttp : (State → Type 0) → C → Item → Asked → List ℕ → C → Type 0
+  abbrev pub GetsHttp : (State → ℕ → Type 0) → C → Item → Asked → List ℕ → C → Type 0
   GetsHttp Finds old (Calls ask) asked text new =
       IsHttpAnswer Finds old ask asked text new
       ⊎ (IsHttpLost old ask asked new × (text ≡ no_memory_answer ask.is_last))

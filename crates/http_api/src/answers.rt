@@ -1,13 +1,12 @@
 //! Answers of the builder as bytes of HTTP.
 ghost use Rattle.std.specs.Prelude.{◌≡◌, IfOk};
 ghost use Rattle.builder.specs.Replies.{answer_status};
-ghost use Rattle.http_api.specs.Http.{refused_answer, shown_answer, told_answer, told_csv};
+ghost use Rattle.http_api.specs.Http.{shown_answer, told_answer, told_csv};
 
 use builder::{Told, status_of, told_text};
 use csv_import::CsvFault;
 use http::StatusCode;
-use http_answers::{AnswerHead, BodyKind, answer_bytes};
-use ring_words::{Refusal, Reply};
+use http_messages::{AnswerHead, BodyKind, answer_bytes};
 use std::alloc::{AllocError, Global};
 
 /// What a table that can't be read is told as.
@@ -46,18 +45,11 @@ pub fn told_answer(alloc: Global, told: &Told, is_last: bool) -> Result<Vec<u8>,
     answer_bytes(alloc, head, body.as_bytes())
 }
 
-/// The answer that tells this refusal by rule.
-pub fn refused_answer(alloc: Global, why: Refusal, is_last: bool) -> Result<Vec<u8>, AllocError>
-    ensures { IfOk result (λ text. text.items ≡ refused_answer is_last why) }
-{
-    told_answer(alloc, &Told::Reply(Reply::Refused(why)), is_last)
-}
-
 /// The answer with a body that was asked for.
 pub fn shown_answer(
     alloc: Global,
     kind: BodyKind,
-    body: &str,
+    body: &[u8],
     is_last: bool,
 ) -> Result<Vec<u8>, AllocError>
     ensures { IfOk result (λ text. text.items ≡ shown_answer is_last kind body.now) }
@@ -68,5 +60,5 @@ pub fn shown_answer(
         allow: None,
         is_last,
     };
-    answer_bytes(alloc, head, body.as_bytes())
+    answer_bytes(alloc, head, body)
 }

@@ -1,30 +1,27 @@
 //! The service.
-ghost use Rattle.std.specs.Prelude.{◌≡◌, IfErr, IfOk, Result, Some};
+ghost use Rattle.std.specs.Prelude.{◌≡◌, IfErr, IfOk};
 ghost use Rattle.builder.specs.Safety.{IsSafeRun};
 ghost use Rattle.byte_streams.specs.Counted.{FailsWithCause, LeavesFlushed, reader_of, writer_of};
-ghost use Rattle.http_api.specs.Http.{IsFaultAnswer, IsReadAnswer};
+ghost use Rattle.http_api.specs.Http.{IsFaultAnswer};
 ghost use Rattle.http_api.specs.Inner.Telling.{DeliversAt, IsImportTold, IsMessageTold};
 ghost use Rattle.http_api.specs.Served.{ServesHttp};
 ghost use Rattle.http_api.specs.Inner.Answering.{HttpAnswers, HttpLoses};
 ghost use Rattle.http_stream.specs.Serving.{RequestsServed, RequestsStopped};
-ghost use Rattle.line_api.specs.Lines.{Asked};
-ghost use Rattle.line_api.specs.Inner.Answering.{Made};
-ghost use Rattle.line_api.specs.Served.{Found};
-ghost use Rattle.request_book.specs.Call.{Load};
-ghost use Rattle.request_book.specs.declared.book.Fault.{Fault};
+ghost use Rattle.ring_book.specs.Book.{Asked, Made};
 
 use crate::answers::{told_answer, told_csv};
 use crate::clock::Clock;
-use crate::reads::{ReadWay, show_rings};
+use crate::reads::{ReadWay, answer_read};
 use builder::{MessageFault, RingMachine, Told, read_delivery};
 use byte_streams::{CountedReader, CountedWriter, StreamFault};
 use csv_import::{CsvFault, read_rows};
-use http_answers::route_fault_text;
-use http_requests::Method;
-use http_routes::{RingRead, Routes, TargetAsk, TargetFault, read_target};
+use http_messages::{Method, route_fault_text};
+use http_routes::{Routes, TargetAsk, TargetFault, read_target};
 use http_stream::{Service, serve_requests};
-use line_api::{told_fault, told_of};
+use path_lookup::HashNames;
 use request_book::{Book, Keeper};
+use ring_book::deliver;
+use ring_reads::Question;
 use ring_words::{Act, Command, Key, RingName, Rows};
 use std::alloc::{AllocError, Global};
 use std::io::{Read, Write};
@@ -35,22 +32,21 @@ use std::marker::PhantomData;
 struct RingService<'a, K, C> {
     alloc: Global,
     routes: Routes,
-    prefix: &'a [u8],
-    suffix: &'a [u8],
+    names: HashNames<'a>,
     kinds: PhantomData<(K, C)>,
 }
 
 /// Delivers a command at the hour that the clock tells.
-fn deliver<K: Keeper<RingMachine>, C: Clock>(
+fn deliver_now<K: Keeper<RingMachine>, C: Clock>(
     clock: &mut C,
     book: &mut Book<RingMachine, K>,
     key: Key,
     command: Command,
 ) -> Told
-    ensures { DeliversAt K.content K.sound K.limit K.fault_count C.tells clock.old clock.new
+    ensures { DeliversAt K.Keeper C.tells clock.old clock.new
         book.old book.new key command result }
 {
-    told_of(book.deliver(clock.hour(), key, command))
+    deliver(book, clock.hour(), key, command)
 }
 
 /// Answers a message.
@@ -60,11 +56,11 @@ fn answer_message<K: Keeper<RingMachine>, C: Clock>(
     book: &mut Book<RingMachine, K>,
     body: &[u8],
 ) -> Result<Told, AllocError>
-    ensures { (asked : Asked) × Made K.content K.sound K.limit K.fault_count book.old book.new asked
+    ensures { (asked : Asked) × Made K.Keeper book.old book.new asked
         × IsMessageTold C.tells clock.old clock.new body.now asked result }
 {
     match read_delivery(alloc, body) {
-        Ok((key, command)) => Ok(deliver(clock, book, key, command)),
+        Ok((key, command)) => Ok(deliver_now(clock, book, key, command)),
         Err(MessageFault::Bad) => Ok(Told::Unreadable),
         Err(MessageFault::NoMemory) => Err(AllocError),
     }
@@ -79,35 +75,16 @@ fn answer_import<K: Keeper<RingMachine>, C: Clock>(
     key: Key,
     body: &[u8],
 ) -> Result<Told, AllocError>
-    ensures { (asked : Asked) × Made K.content K.sound K.limit K.fault_count book.old book.new asked
+    ensures { (asked : Asked) × Made K.Keeper book.old book.new asked
         × IsImportTold C.tells clock.old clock.new ring key body.now asked result }
 {
     match read_rows(alloc, &mut CountedReader::new(body)) {
         Ok(rows) => {
             let act = Act::Import(Rows::new(rows));
-            Ok(deliver(clock, book, key, Command { ring, act }))
+            Ok(deliver_now(clock, book, key, Command { ring, act }))
         }
         Err(CsvFault::NoMemory | CsvFault::ReadFailed) => Err(AllocError),
         Err(fault) => Ok(told_csv(fault)),
-    }
-}
-
-/// Answers a read from the rings that the book holds.
-fn answer_read<K: Keeper<RingMachine>>(
-    alloc: Global,
-    way: ReadWay<'_>,
-    book: &mut Book<RingMachine, K>,
-    name: &RingName,
-    read: &RingRead,
-) -> Result<Vec<u8>, AllocError>
-    ensures { (answer : Result (Unit {0}) Fault)
-        × Made K.content K.sound K.limit K.fault_count book.old book.new (Some (Load answer))
-        × IfOk result (λ text. IsReadAnswer (Found K.content K.sound K.limit K.fault_count book.old book.new)
-        way.entry.is_last way.entry.prefix.now way.entry.suffix.now name.now read.now answer text.items) }
-{
-    match book.load() {
-        Ok(()) => show_rings(alloc, way, name, read, book.state()),
-        Err(fault) => told_answer(alloc, &told_fault(fault), way.is_last),
     }
 }
 
@@ -130,11 +107,11 @@ impl<'a, K: Keeper<RingMachine>, C: Clock> Service for RingService<'a, K, C> {
 
     type State = Book<RingMachine, K>;
 
-    ghost answers = { λ service. HttpAnswers K.content K.sound K.limit K.fault_count C.tells
-        service.prefix.now service.suffix.now };
+    ghost answers = { λ service. HttpAnswers K.Keeper C.tells
+        service.names.prefix.now service.names.suffix.now };
 
-    ghost loses = { λ service. HttpLoses K.content K.sound K.limit K.fault_count C.tells
-        service.prefix.now service.suffix.now };
+    ghost loses = { λ service. HttpLoses K.Keeper C.tells
+        service.names.prefix.now service.names.suffix.now };
 
     fn answer(
         &self,
@@ -147,8 +124,7 @@ impl<'a, K: Keeper<RingMachine>, C: Clock> Service for RingService<'a, K, C> {
     ) -> Result<Vec<u8>, AllocError> {
         let alloc = self.alloc;
         let way = ReadWay {
-            prefix: self.prefix,
-            suffix: self.suffix,
+            names: self.names,
             is_last,
         };
         match read_target(alloc, &self.routes, method, target) {
@@ -160,7 +136,10 @@ impl<'a, K: Keeper<RingMachine>, C: Clock> Service for RingService<'a, K, C> {
                 let told = answer_import(alloc, clock, book, ring, key, body)?;
                 told_answer(alloc, &told, is_last)
             }
-            Ok(TargetAsk::Read(name, read)) => answer_read(alloc, way, book, &name, &read),
+            Ok(TargetAsk::Read(ring, read)) => {
+                let question = Question { ring, read };
+                answer_read(alloc, way, book, &question)
+            }
             Err(fault) => answer_fault(alloc, fault, is_last),
         }
     }
@@ -172,7 +151,7 @@ impl<'a, K: Keeper<RingMachine>, C: Clock> Service for RingService<'a, K, C> {
 /// `POST /v1/requests` delivers the message in the body; `POST /v1/import/RING?caller=C&number=N`
 /// the rows of the CSV table in the body, as one numbered import. `GET /v1/rings/RING/` with
 /// `devices`, `balance`, `nodes?account=A` (perhaps with `&container=C&object=O`) or `text/VERSION`
-/// reads a ring. Paths are hashed between `prefix` and `suffix`.
+/// reads a ring. Paths are hashed between names.
 ///
 /// The deliveries are one run of the book, each at the hour that the clock tells then: each number
 /// is decided once, in the order of the requests, and every repeat gets its kept reply. A read is
@@ -189,19 +168,20 @@ pub fn serve_stream<R: Read, W: Write, C: Clock, K: Keeper<RingMachine>>(
     writer: &mut CountedWriter<W>,
     clock: &mut C,
     book: &mut Book<RingMachine, K>,
-    prefix: &[u8],
-    suffix: &[u8],
+    names: HashNames<'_>,
 ) -> Result<u32, StreamFault>
     ensures served { IfOk result (RequestsServed
-        (ServesHttp K.content K.sound K.limit K.fault_count C.tells prefix.now suffix.now)
-        (R.remaining (reader_of reader.old)) (W.contents (writer_of writer.old)) (W.contents (writer_of writer.new))
+        (ServesHttp K.Keeper C.tells names.entry.prefix.now names.entry.suffix.now)
+        (R.remaining (reader_of reader.old)) (W.contents (writer_of writer.old))
+        (W.contents (writer_of writer.new))
         (clock.old, book.old) (clock.new, book.new)) }
     ensures stopped { IfErr result (RequestsStopped
-        (ServesHttp K.content K.sound K.limit K.fault_count C.tells prefix.now suffix.now)
+        (ServesHttp K.Keeper C.tells names.entry.prefix.now names.entry.suffix.now)
         (R.remaining (reader_of reader.old)) (R.remaining (reader_of reader.new))
         (W.contents (writer_of writer.old)) (W.contents (writer_of writer.new))
         (clock.old, book.old) (clock.new, book.new)
-        ((reader.new ≡ reader.old) × (writer.new ≡ writer.old) × (clock.new ≡ clock.old) × (book.new ≡ book.old))) }
+        ((reader.new ≡ reader.old) × (writer.new ≡ writer.old) × (clock.new ≡ clock.old)
+        × (book.new ≡ book.old))) }
     ensures cause { FailsWithCause reader.old reader.new writer.old writer.new result }
     ensures flushed { LeavesFlushed writer.new result }
 
@@ -214,8 +194,7 @@ pub fn serve_stream<R: Read, W: Write, C: Clock, K: Keeper<RingMachine>>(
     let service = RingService {
         alloc,
         routes,
-        prefix,
-        suffix,
+        names,
         kinds: PhantomData::<(K, C)>,
     };
     serve_requests(alloc, reader, writer, &service, clock, book)

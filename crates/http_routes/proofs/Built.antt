@@ -6,29 +6,23 @@ use Rattle.matchit.specs.Route.{parse_route}
 use Rattle.matchit.specs.Router.{RouteOf}
 use Rattle.matchit.specs.Rows.{RowsOf}
 use Rattle.http_routes.specs.Inner.Table.{IsAdded, IsNewRoute, all_routes, import_row, requests_row}
-use Rattle.http_routes.specs.Inner.Table.{ring_row}
-use Rattle.http_routes.specs.declared.routes.Endpoint.{Endpoint}
-use Rattle.http_routes.specs.declared.routes.Endpoint.TheVariants.{Requests, Import, Devices}
-use Rattle.http_routes.specs.declared.routes.Endpoint.TheVariants.{Balance, Nodes, Text}
+use Rattle.http_routes.specs.Inner.Table.{ring_row, text_row}
+use Rattle.http_routes.specs.declared.table.TableRow.{TableRow}
+use Rattle.http_routes.specs.declared.table.TableRow.TheVariants.{Requests, Import, Nodes, Text}
+use Rattle.http_routes.specs.declared.table.TableRow.TheVariants.{Word}
 
 abbrev Rows : Type 0
-Rows = RowsOf (RouteOf Endpoint)
+Rows = RowsOf (RouteOf TableRow)
 
-abbrev pub devices_row : List ℕ × RouteOf Endpoint
-devices_row = ring_row (codes "/devices") Devices
-
-abbrev pub balance_row : List ℕ × RouteOf Endpoint
-balance_row = ring_row (codes "/balance") Balance
-
-abbrev pub nodes_row : List ℕ × RouteOf Endpoint
+abbrev pub nodes_row : List ℕ × RouteOf TableRow
 nodes_row = ring_row (codes "/nodes") Nodes
 
 pub none-before : (rows : Rows) → rows ≡ [] → IsNewRoute (parse_route (codes "/v1/requests")) rows
 unfolding matchit_on_literals
 none-before rows is = rw is refl
 
-pub one : (old rows : Rows) → old ≡ [] → IsAdded (parse_route (codes "/v1/requests")) Requests old
-    rows
+pub one : (old rows : Rows) → old ≡ []
+    → IsAdded (parse_route (codes "/v1/requests")) Requests old rows
     → rows ≡ requests_row ∷ []
 unfolding matchit_on_literals
 one old rows is added = rw (added, is) refl
@@ -45,56 +39,42 @@ unfolding matchit_on_literals
 two old rows is added = rw (added, is) refl
 
 pub after-two : (rows : Rows) → rows ≡ import_row ∷ requests_row ∷ []
-    → IsNewRoute (parse_route (codes "/v1/rings/{ring}/devices")) rows
+    → IsNewRoute (parse_route (codes "/v1/rings/{ring}/nodes")) rows
 unfolding matchit_on_literals
 after-two rows is = rw is refl
 
 pub three : (old rows : Rows) → old ≡ import_row ∷ requests_row ∷ []
-    → IsAdded (parse_route (codes "/v1/rings/{ring}/devices")) Devices old rows
-    → rows ≡ import_row ∷ requests_row ∷ devices_row ∷ []
+    → IsAdded (parse_route (codes "/v1/rings/{ring}/nodes")) Nodes old rows
+    → rows ≡ import_row ∷ requests_row ∷ nodes_row ∷ []
 unfolding matchit_on_literals
 three old rows is added = rw (added, is) refl
 
-pub after-three : (rows : Rows) → rows ≡ import_row ∷ requests_row ∷ devices_row ∷ []
-    → IsNewRoute (parse_route (codes "/v1/rings/{ring}/balance")) rows
+pub after-three : (rows : Rows) → rows ≡ import_row ∷ requests_row ∷ nodes_row ∷ []
+    → IsNewRoute (parse_route (codes "/v1/rings/{ring}/text/{version}")) rows
 unfolding matchit_on_literals
 after-three rows is = rw is refl
 
-pub four : (old rows : Rows) → old ≡ import_row ∷ requests_row ∷ devices_row ∷ []
-    → IsAdded (parse_route (codes "/v1/rings/{ring}/balance")) Balance old rows
-    → rows ≡ import_row ∷ requests_row ∷ balance_row ∷ devices_row ∷ []
+pub four : (old rows : Rows) → old ≡ import_row ∷ requests_row ∷ nodes_row ∷ []
+    → IsAdded (parse_route (codes "/v1/rings/{ring}/text/{version}")) Text old rows
+    → rows ≡ import_row ∷ requests_row ∷ nodes_row ∷ text_row ∷ []
 unfolding matchit_on_literals
 four old rows is added = rw (added, is) refl
 
-pub after-four : (rows : Rows) → rows ≡ import_row ∷ requests_row ∷ balance_row ∷ devices_row ∷ []
-    → IsNewRoute (parse_route (codes "/v1/rings/{ring}/nodes")) rows
+pub after-four : (rows : Rows) → rows ≡ import_row ∷ requests_row ∷ nodes_row ∷ text_row ∷ []
+    → IsNewRoute (parse_route (codes "/v1/rings/{ring}/{word}")) rows
 unfolding matchit_on_literals
 after-four rows is = rw is refl
 
-pub five : (old rows : Rows) → old ≡ import_row ∷ requests_row ∷ balance_row ∷ devices_row ∷ []
-    → IsAdded (parse_route (codes "/v1/rings/{ring}/nodes")) Nodes old rows
-    → rows ≡ import_row ∷ requests_row ∷ balance_row ∷ devices_row ∷ nodes_row ∷ []
+five : (old rows : Rows) → old ≡ import_row ∷ requests_row ∷ nodes_row ∷ text_row ∷ []
+    → IsAdded (parse_route (codes "/v1/rings/{ring}/{word}")) Word old rows
+    → rows ≡ all_routes
 unfolding matchit_on_literals
 five old rows is added = rw (added, is) refl
 
-pub after-five : (rows : Rows) → rows ≡ import_row ∷ requests_row ∷ balance_row ∷ devices_row ∷
-    nodes_row ∷ []
-    → IsNewRoute (parse_route (codes "/v1/rings/{ring}/text/{version}")) rows
-unfolding matchit_on_literals
-after-five rows is = rw is refl
-
-six : (old rows : Rows) → old ≡ import_row ∷ requests_row ∷ balance_row ∷ devices_row ∷ nodes_row ∷
-    []
-    → IsAdded (parse_route (codes "/v1/rings/{ring}/text/{version}")) Text old rows → rows
-    ≡ all_routes
-unfolding matchit_on_literals
-six old rows is added = rw (added, is) refl
-
 -- the last route may find no memory
 pub all-added : {A E : Type 0} (result : Result A E) (old rows : Rows)
-    → old ≡ import_row ∷ requests_row ∷ balance_row ∷ devices_row ∷ nodes_row ∷ []
-    → IfOk result (λ _. IsAdded (parse_route (codes "/v1/rings/{ring}/text/{version}")) Text old
-    rows)
+    → old ≡ import_row ∷ requests_row ∷ nodes_row ∷ text_row ∷ []
+    → IfOk result (λ _. IsAdded (parse_route (codes "/v1/rings/{ring}/{word}")) Word old rows)
     → IfOk result (λ _. rows ≡ all_routes)
-all-added (Ok done) old rows is added = six old rows is added
+all-added (Ok done) old rows is added = five old rows is added
 all-added (Err why) old rows is added = tt

@@ -19,14 +19,20 @@ use Rattle.http_routes.proofs.Parts.{part-before, part-last}
 use Rattle.http_routes.proofs.Texts.{is_plain, begins-with, piece-of, plain-text, plain-utf8}
 use Rattle.http_routes.proofs.Texts.{segment-of, takes-piece, text-before}
 use Rattle.http_routes.proofs.Texts.{text-behind, utf8-behind, utf8-cut}
-use Rattle.http_routes.specs.Inner.Table.{all_routes, import_row, requests_row, ring_row, text_row}
+use Rattle.http_routes.specs.Inner.Table.{HasRow, RowLeadsTo, all_routes, import_row, requests_row}
+use Rattle.http_routes.specs.Inner.Table.{ring_row, text_row, word_row}
 use Rattle.http_routes.specs.Routes.{HasRoute, IsPathSegment}
 use Rattle.http_routes.specs.declared.routes.Endpoint.{Endpoint}
-use Rattle.http_routes.specs.declared.routes.Endpoint.TheVariants.{Requests, Import, Devices}
-use Rattle.http_routes.specs.declared.routes.Endpoint.TheVariants.{Balance, Nodes, Text}
+use Rattle.ring_reads.specs.declared.plain.Plain.TheVariants.{Devices, Balance}
+use Rattle.http_routes.specs.declared.routes.Endpoint.TheVariants as endpoint
+use Rattle.http_routes.specs.declared.table.TableRow.{TableRow}
+use Rattle.http_routes.specs.declared.table.TableRow.TheVariants.{Requests, Import, Nodes, Text}
+use Rattle.http_routes.specs.declared.table.TableRow.TheVariants.{Word}
+use Rattle.ring_reads.specs.Reads.{plain_word}
+use Rattle.ring_reads.specs.declared.plain.Plain.{Plain}
 
 abbrev pub Row : Type 0
-Row = RouteOf Endpoint
+Row = RouteOf TableRow
 
 -- what a found route's parameters say
 abbrev pub parts : List ℕ → Row → List (List ℕ × List ℕ)
@@ -38,8 +44,9 @@ part_named name pairs = unwrap_or (named name pairs) []
 -- A found route is one that the path has, with what its parameters say.
 pub record IsRouted (path : List ℕ) (row : Row) : Type 0 where
   pub texts : AllText (parts path row)
-  pub has : HasRoute path row.value (part_named (codes "ring") (parts path row))
+  pub has : HasRow path row.value (part_named (codes "ring") (parts path row))
       (part_named (codes "version") (parts path row))
+      (part_named (codes "word") (parts path row))
 
 import_parts : (ring : List ℕ) → parts (codes "/v1/import/" ++ ring) import_row.1
     ≡ (codes "ring", ring) ∷ []
@@ -66,8 +73,9 @@ on-import path text utf8 f =
         → IsRouted (codes "/v1/import/" ++ ring) import_row.1
     made ring is utf8 = record {
       texts = subst AllText (sym (import_parts ring)) (plain-utf8 (codes "ring") refl, utf8, tt);
-      has = subst (λ (pairs : List (List ℕ × List ℕ)). HasRoute (codes "/v1/import/" ++ ring) Import
-          (part_named (codes "ring") pairs) (part_named (codes "version") pairs))
+      has = subst (λ (pairs : List (List ℕ × List ℕ)). HasRow (codes "/v1/import/" ++ ring) Import
+          (part_named (codes "ring") pairs) (part_named (codes "version") pairs)
+          (part_named (codes "word") pairs))
           (sym (import_parts ring))
           (refl, segment-of ring is utf8, refl);
     }
@@ -121,11 +129,11 @@ ring_parts t text ring free name =
     (omega arith) (omega arith)
     refl (ring_front ring (47 ∷ t)) ∙ ap (λ (l : List ℕ). (l, ring) ∷ []) name
 
-on-ring : (t : List ℕ) (endpoint : Endpoint) (path : List ℕ) → is_plain t ≡ true → IsText path
+on-ring : (t : List ℕ) (endpoint : TableRow) (path : List ℕ) → is_plain t ≡ true → IsText path
     → IsUtf8 path
     → part_of (ring_row (47 ∷ t) endpoint).1.text 11 15 ≡ codes "ring"
     → ((ring : List ℕ) → IsPathSegment ring
-    → HasRoute ((codes "/v1/rings/" ++ ring) ++ 47 ∷ t) endpoint ring [])
+    → HasRow ((codes "/v1/rings/" ++ ring) ++ 47 ∷ t) endpoint ring [] [])
     → Follows (ring_row (47 ∷ t) endpoint).0 path → IsRouted path (ring_row (47 ∷ t) endpoint).1
 on-ring t endpoint path plain text utf8 name routed f =
     let cut = ring-cut t path text utf8 f in
@@ -137,18 +145,19 @@ on-ring t endpoint path plain text utf8 name routed f =
     subst (λ (p : List ℕ). IsRouted p (ring_row (47 ∷ t) endpoint).1) (sym is)
     (made t endpoint name routed cut.0 cut.3 cut.4)
   where
-    made : (t : List ℕ) (endpoint : Endpoint) → part_of (ring_row (47 ∷ t) endpoint).1.text 11 15
+    made : (t : List ℕ) (endpoint : TableRow) → part_of (ring_row (47 ∷ t) endpoint).1.text 11 15
         ≡ codes "ring"
         → ((ring : List ℕ) → IsPathSegment ring
-        → HasRoute ((codes "/v1/rings/" ++ ring) ++ 47 ∷ t) endpoint ring [])
+        → HasRow ((codes "/v1/rings/" ++ ring) ++ 47 ∷ t) endpoint ring [] [])
         → (ring : List ℕ) → IsPiece ring → IsUtf8 ring
         → IsRouted ((codes "/v1/rings/" ++ ring) ++ 47 ∷ t) (ring_row (47 ∷ t) endpoint).1
     made t endpoint name routed ring is utf8 = record {
       texts = subst AllText (sym (ring_parts t (ring_row (47 ∷ t) endpoint).1.text ring is.1 name))
           (plain-utf8 (codes "ring") refl, utf8, tt);
       has = subst (λ (pairs : List (List ℕ × List ℕ)).
-          HasRoute ((codes "/v1/rings/" ++ ring) ++ 47 ∷ t) endpoint
-          (part_named (codes "ring") pairs) (part_named (codes "version") pairs))
+          HasRow ((codes "/v1/rings/" ++ ring) ++ 47 ∷ t) endpoint
+          (part_named (codes "ring") pairs) (part_named (codes "version") pairs)
+          (part_named (codes "word") pairs))
           (sym (ring_parts t (ring_row (47 ∷ t) endpoint).1.text ring is.1 name))
           (routed ring (segment-of ring is utf8));
     }
@@ -201,10 +210,56 @@ on-text path text utf8 f =
       texts = subst AllText (sym (text_parts ring version is.1))
           (plain-utf8 (codes "ring") refl, utf8, (plain-utf8 (codes "version") refl, valid, tt));
       has = subst (λ (pairs : List (List ℕ × List ℕ)).
-          HasRoute ((codes "/v1/rings/" ++ ring) ++ codes "/text/" ++ version) Text
-          (part_named (codes "ring") pairs) (part_named (codes "version") pairs))
+          HasRow ((codes "/v1/rings/" ++ ring) ++ codes "/text/" ++ version) Text
+          (part_named (codes "ring") pairs) (part_named (codes "version") pairs)
+          (part_named (codes "word") pairs))
           (sym (text_parts ring version is.1))
           (refl, segment-of ring is utf8, segment-of version also valid);
+    }
+
+word_parts : (ring word : List ℕ) → IsFree ring
+    → parts ((codes "/v1/rings/" ++ ring) ++ 47 ∷ word) word_row.1
+    ≡ (codes "ring", ring) ∷ (codes "word", word) ∷ []
+word_parts ring word free =
+    let path : List ℕ = (codes "/v1/rings/" ++ ring) ++ 47 ∷ word in
+    let long : length path ≡ length (codes "/v1/rings/" ++ ring) + length (47 ∷ word) =
+    length-append (codes "/v1/rings/" ++ ring) (47 ∷ word) in
+    let fore : length (codes "/v1/rings/" ++ ring) ≡ 0 + 10 + length ring = omega arith in
+    part-before word_row.0 word_row.1.text path (11, 15) ((18, 22) ∷ []) 0 0 (codes "/v1/rings/")
+    (47 ∷ 256 ∷ []) ring word
+    (plain-text (codes "/v1/rings/") refl) free refl
+    (omega arith) (omega arith) refl (ring_front ring (47 ∷ word))
+    ∙ ap (λ (l : List (List ℕ × List ℕ)). (codes "ring", ring) ∷ l)
+    (part-last word_row.0 word_row.1.text path (18, 22) 11 (0 + 10 + length ring) (47 ∷ [])
+    word
+    (plain-text (47 ∷ []) refl) (omega arith) (omega (arith, long, fore)) refl
+    (drop_at (codes "/v1/rings/" ++ ring) (47 ∷ word) (0 + 10 + length ring) fore))
+
+on-word : (path : List ℕ) → IsText path → IsUtf8 path → Follows word_row.0 path
+    → IsRouted path word_row.1
+on-word path text utf8 f =
+    let cut = ring-cut (256 ∷ []) path text utf8 f in
+    let piece = takes-piece [] cut.1 cut.6 cut.7 in
+    let rest : cut.1 ≡ piece.0 = piece.2
+    ∙ ap (λ (l : List ℕ). piece.0 ++ l) piece.4 ∙ append-nil piece.0 in
+    let is : path ≡ (codes "/v1/rings/" ++ cut.0) ++ 47 ∷ piece.0 =
+    cut.2 ∙ ap (λ (l : List ℕ). (codes "/v1/rings/" ++ cut.0) ++ 47 ∷ l) rest in
+    let word : IsUtf8 piece.0 = utf8-behind (47 ∷ []) piece.0
+    (subst IsUtf8 (ap (λ (l : List ℕ). 47 ∷ l) rest) cut.5) (plain-utf8 (47 ∷ []) refl) in
+    subst (λ (p : List ℕ). IsRouted p word_row.1) (sym is)
+    (made cut.0 piece.0 cut.3 cut.4 word)
+  where
+    made : (ring word : List ℕ) → IsPiece ring → IsUtf8 ring → IsUtf8 word
+        → IsRouted ((codes "/v1/rings/" ++ ring) ++ 47 ∷ word) word_row.1
+    made ring word is utf8 valid = record {
+      texts = subst AllText (sym (word_parts ring word is.1))
+          (plain-utf8 (codes "ring") refl, utf8, (plain-utf8 (codes "word") refl, valid, tt));
+      has = subst (λ (pairs : List (List ℕ × List ℕ)).
+          HasRow ((codes "/v1/rings/" ++ ring) ++ 47 ∷ word) Word
+          (part_named (codes "ring") pairs) (part_named (codes "version") pairs)
+          (part_named (codes "word") pairs))
+          (sym (word_parts ring word is.1))
+          (refl, segment-of ring is utf8, refl);
     }
 
 by_row : (path : List ℕ) (row found : Row) → row ≡ found → IsRouted path row → IsRouted path found
@@ -218,92 +273,125 @@ found-routed path row text utf8 found = by (seek-found 0 all_routes path row fou
     by : IsFound row all_routes path → IsRouted path row
     by (inl f) = by_row path _ row f.0 (on-import path text utf8 f.1)
     by (inr (inl f)) = by_row path _ row f.0 (on-requests path f.1)
-    by (inr (inr (inl f))) = by_row path _ row f.0 (on-ring (codes "balance") Balance path refl text
-        utf8 refl
-        (λ ring is. (refl, is, refl)) f.1)
-    by (inr (inr (inr (inl f)))) = by_row path _ row f.0
-        (on-ring (codes "devices") Devices path refl text utf8 refl
-        (λ ring is. (refl, is, refl)) f.1)
-    by (inr (inr (inr (inr (inl f))))) = by_row path _ row f.0
+    by (inr (inr (inl f))) = by_row path _ row f.0
         (on-ring (codes "nodes") Nodes path refl text utf8 refl
         (λ ring is. (refl, is, refl)) f.1)
-    by (inr (inr (inr (inr (inr (inl f)))))) = by_row path _ row f.0 (on-text path text utf8 f.1)
-    by (inr (inr (inr (inr (inr (inr f)))))) = absurd f
+    by (inr (inr (inr (inl f)))) = by_row path _ row f.0 (on-text path text utf8 f.1)
+    by (inr (inr (inr (inr (inl f))))) = by_row path _ row f.0 (on-word path text utf8 f.1)
+    by (inr (inr (inr (inr (inr f))))) = absurd f
+
+-- a path with this row has the route to the endpoint that the row leads to
+pub leads-to : (path : List ℕ) (row : TableRow) (at : Endpoint) (ring version word : List ℕ) →
+    RowLeadsTo row word at → HasRow path row ring version word → HasRoute path at ring version
+leads-to path Requests endpoint.Requests ring version word leads h = h
+leads-to path Import endpoint.Import ring version word leads h = h
+leads-to path Nodes endpoint.Nodes ring version word leads h = h
+leads-to path Text endpoint.Text ring version word leads h = h
+leads-to path Word (endpoint.Word plain) ring version word leads h =
+    (h.0 ∙ ap (λ (w : List ℕ). (codes "/v1/rings/" ++ ring) ++ 47 ∷ w) leads, h.1, h.2)
+leads-to path _ _ ring version word leads h = absurd leads
 
 abbrev pub HasNone : List ℕ → Type 0
 HasNone path = (endpoint : Endpoint) (ring version : List ℕ) → HasRoute path endpoint ring version
     → ⊥
 
-abbrev IsThere : List ℕ → Type 0
-IsThere path = (row : Row) × (first all_routes path ≡ Some row)
+-- the router finds a row of the path that leads to this endpoint
+abbrev IsThere : List ℕ → Endpoint → Type 0
+IsThere path at = (row : Row) × (first all_routes path ≡ Some row)
+    × RowLeadsTo row.value (part_named (codes "word") (parts path row)) at
 
 -- the rows of a ring, behind its name
 abbrev ring_rows : RowsOf Row
-ring_rows = (codes "/balance", (ring_row (codes "/balance") Balance).1) ∷
-    (codes "/devices", (ring_row (codes "/devices") Devices).1) ∷
-    (codes "/nodes", (ring_row (codes "/nodes") Nodes).1) ∷
-    (codes "/text/" ++ 256 ∷ [], text_row.1) ∷ []
+ring_rows = (codes "/nodes", (ring_row (codes "/nodes") Nodes).1) ∷
+    (codes "/text/" ++ 256 ∷ [], text_row.1) ∷ (47 ∷ 256 ∷ [], word_row.1) ∷ []
 
-there_in_ring : (path ring rest : List ℕ) (row : Row) → IsText path → path
+found_in_ring : (path ring rest : List ℕ) (row : Row) → IsText path → path
     ≡ (codes "/v1/rings/" ++ ring) ++ 47 ∷ rest
-    → IsPathSegment ring → first ring_rows (47 ∷ rest) ≡ Some row → IsThere path
-there_in_ring path ring rest row text is named found =
+    → IsPathSegment ring → first ring_rows (47 ∷ rest) ≡ Some row
+    → first all_routes path ≡ Some row
+found_in_ring path ring rest row text is named found =
     let whole : path ≡ codes "/v1/rings/" ++ (ring ++ 47 ∷ rest) = is
     ∙ ring_front ring (47 ∷ rest) in
     let bytes : IsText ring = text-before ring (47 ∷ rest)
-    (text-behind (codes "/v1/rings/") (ring ++ 47 ∷ rest) (subst IsText whole text)) in (
-      row,
-      ap (λ (l : List ℕ). first all_routes l) whole
-          ∙ bytes-first (codes "/v1/rings/") all_routes (ring ++ 47 ∷ rest) row
-          (between-first (codes "/balance") (ring_row (codes "/balance") Balance).1 _ ring rest row
-          (piece-of ring named) bytes
-          (refl, (refl, (refl, (refl, tt)))) found),
-    )
+    (text-behind (codes "/v1/rings/") (ring ++ 47 ∷ rest) (subst IsText whole text)) in
+    ap (λ (l : List ℕ). first all_routes l) whole
+    ∙ bytes-first (codes "/v1/rings/") all_routes (ring ++ 47 ∷ rest) row
+    (between-first (codes "/nodes") (ring_row (codes "/nodes") Nodes).1 _ ring rest row
+    (piece-of ring named) bytes (refl, (refl, (refl, tt))) found)
 
 row-ends : (row : Row) → first (([], row) ∷ []) [] ≡ Some row
 unfolding matchit_on_literals
 row-ends row = refl
 
+-- a plain read's word has the row of words
+word-first : (plain : Plain) → first ring_rows (47 ∷ plain_word plain) ≡ Some word_row.1
+unfolding matchit_on_literals
+word-first Devices = refl
+word-first Balance = refl
+
+-- what the row of words takes for the word
+word-part : (path ring word : List ℕ) → path ≡ (codes "/v1/rings/" ++ ring) ++ 47 ∷ word
+    → IsPathSegment ring → part_named (codes "word") (parts path word_row.1) ≡ word
+word-part path ring word is named =
+    ap (λ (p : List ℕ). part_named (codes "word") (parts p word_row.1)) is
+    ∙ ap (part_named (codes "word")) (word_parts ring word (piece-of ring named).1)
+
 -- a path that has a route is found
-there : (path : List ℕ) (endpoint : Endpoint) (ring version : List ℕ) → IsText path
-    → HasRoute path endpoint ring version
-    → IsThere path
-there path Requests ring version text h = (
+there : (path : List ℕ) (at : Endpoint) (ring version : List ℕ) → IsText path
+    → HasRoute path at ring version → IsThere path at
+there path endpoint.Requests ring version text h = (
   requests_row.1,
   ap (λ (l : List ℕ). first all_routes l) h.0
       ∙ bytes-first (codes "/v1/requests") all_routes [] requests_row.1 (row-ends requests_row.1),
+  tt,
 )
-there path Import ring version text h =
+there path endpoint.Import ring version text h =
     let bytes : IsText ring = text-behind (codes "/v1/import/") ring (subst IsText h.0 text) in (
       import_row.1,
       ap (λ (l : List ℕ). first all_routes l) h.0
           ∙ bytes-first (codes "/v1/import/") all_routes ring import_row.1
           (last-first import_row.1 ring (piece-of ring h.1) bytes),
+      tt,
     )
-there path Devices ring version text h = there_in_ring path ring (codes "devices")
-    (ring_row (codes "/devices") Devices).1 text h.0 h.1
-    (bytes-first (codes "/devices") ring_rows [] (ring_row (codes "/devices") Devices).1
-    (row-ends (ring_row (codes "/devices") Devices).1))
-there path Balance ring version text h = there_in_ring path ring (codes "balance")
-    (ring_row (codes "/balance") Balance).1 text h.0 h.1
-    (bytes-first (codes "/balance") ring_rows [] (ring_row (codes "/balance") Balance).1
-    (row-ends (ring_row (codes "/balance") Balance).1))
-there path Nodes ring version text h = there_in_ring path ring (codes "nodes")
-    (ring_row (codes "/nodes") Nodes).1 text h.0 h.1
-    (bytes-first (codes "/nodes") ring_rows [] (ring_row (codes "/nodes") Nodes).1
-    (row-ends (ring_row (codes "/nodes") Nodes).1))
-there path Text ring version text h =
+there path (endpoint.Word plain) ring version text h = (
+  word_row.1,
+  found_in_ring path ring (plain_word plain) word_row.1 text h.0 h.1 (word-first plain),
+  word-part path ring (plain_word plain) h.0 h.1,
+)
+there path endpoint.Nodes ring version text h = (
+  (ring_row (codes "/nodes") Nodes).1,
+  found_in_ring path ring (codes "nodes") (ring_row (codes "/nodes") Nodes).1 text h.0 h.1
+      (bytes-first (codes "/nodes") ring_rows [] (ring_row (codes "/nodes") Nodes).1
+      (row-ends (ring_row (codes "/nodes") Nodes).1)),
+  tt,
+)
+there path endpoint.Text ring version text h =
     let is : path ≡ (codes "/v1/rings/" ++ ring) ++ (codes "/text/" ++ version) =
     h.0 ∙ append_assoc (codes "/v1/rings/" ++ ring) (codes "/text/") version in
     let bytes : IsText version = text-behind (codes "/text/") version
-    (text-behind (codes "/v1/rings/" ++ ring) (codes "/text/" ++ version) (subst IsText is text)) in
-    there_in_ring path ring (codes "text/" ++ version) text_row.1 text is h.1
-    (bytes-first (codes "/text/") ring_rows version text_row.1
-    (last-first text_row.1 version (piece-of version h.2) bytes))
+    (text-behind (codes "/v1/rings/" ++ ring) (codes "/text/" ++ version) (subst IsText is text)) in (
+      text_row.1,
+      found_in_ring path ring (codes "text/" ++ version) text_row.1 text is h.1
+          (bytes-first (codes "/text/") ring_rows version text_row.1
+          (last-first text_row.1 version (piece-of version h.2) bytes)),
+      tt,
+    )
 
 pub none-found : (path : List ℕ) → IsText path → first all_routes path ≡ None → HasNone path
-none-found path text none endpoint ring version h =
-    let some = there path endpoint ring version text h in cc (none, some.1)
+none-found path text none at ring version h =
+    let some = there path at ring version text h in cc (none, some.1)
+
+same_row : (a b : Row) → Some a ≡ Some b → a ≡ b
+same_row a b e = cc
+
+-- where the row that is found leads nowhere, the path has no route
+pub none-leads : (path : List ℕ) (row : Row) → IsText path → first all_routes path ≡ Some row
+    → ((at : Endpoint) → RowLeadsTo row.value (part_named (codes "word") (parts path row)) at → ⊥)
+    → HasNone path
+none-leads path row text found none at ring version h =
+    let some = there path at ring version text h in
+    none at (subst (λ (r : Row). RowLeadsTo r.value (part_named (codes "word") (parts path r)) at)
+    (same_row some.0 row (sym some.1 ∙ found)) some.2)
 
 in-ring : (ring tail : List ℕ) → IsPathSegment ring → IsUtf8 tail
     → IsUtf8 ((codes "/v1/rings/" ++ ring) ++ tail)
@@ -313,18 +401,18 @@ in-ring ring tail named utf8 = IsUtf8-append (codes "/v1/rings/" ++ ring) tail
 -- a path that has a route is text
 pub routed-utf8 : (path : List ℕ) (endpoint : Endpoint) (ring version : List ℕ)
     → HasRoute path endpoint ring version → IsUtf8 path
-routed-utf8 path Requests ring version h = subst IsUtf8 (sym h.0)
+routed-utf8 path endpoint.Requests ring version h = subst IsUtf8 (sym h.0)
     (plain-utf8 (codes "/v1/requests") refl)
-routed-utf8 path Import ring version h =
+routed-utf8 path endpoint.Import ring version h =
     subst IsUtf8 (sym h.0) (IsUtf8-append (codes "/v1/import/") ring
     (plain-utf8 (codes "/v1/import/") refl) h.1.2)
-routed-utf8 path Devices ring version h = subst IsUtf8 (sym h.0)
+routed-utf8 path (endpoint.Word Devices) ring version h = subst IsUtf8 (sym h.0)
     (in-ring ring (codes "/devices") h.1 (plain-utf8 (codes "/devices") refl))
-routed-utf8 path Balance ring version h = subst IsUtf8 (sym h.0)
+routed-utf8 path (endpoint.Word Balance) ring version h = subst IsUtf8 (sym h.0)
     (in-ring ring (codes "/balance") h.1 (plain-utf8 (codes "/balance") refl))
-routed-utf8 path Nodes ring version h = subst IsUtf8 (sym h.0)
+routed-utf8 path endpoint.Nodes ring version h = subst IsUtf8 (sym h.0)
     (in-ring ring (codes "/nodes") h.1 (plain-utf8 (codes "/nodes") refl))
-routed-utf8 path Text ring version h = subst IsUtf8 (sym h.0)
+routed-utf8 path endpoint.Text ring version h = subst IsUtf8 (sym h.0)
     (IsUtf8-append ((codes "/v1/rings/" ++ ring) ++ codes "/text/") version
     (in-ring ring (codes "/text/") h.1 (plain-utf8 (codes "/text/") refl)) h.2.2)
 

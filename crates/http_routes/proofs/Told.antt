@@ -1,10 +1,11 @@
 -- What a route asks for is what its target asks for.
 use Rattle.std.proofs.Common.{◌≡◌, ℕ, List, [], refl, sym, ap, subst, ◌∙◌, Result, Ok, Err}
 use Rattle.std.specs.Prelude.{MatchResult}
-use Rattle.http_requests.specs.declared.request.Method.{Method}
+use Rattle.http_messages.specs.declared.request.Method.{Method}
 use Rattle.http_routes.specs.declared.routes.Endpoint.{Endpoint}
 use Rattle.http_routes.specs.declared.routes.Endpoint.TheVariants as endpoint
-use Rattle.http_routes.specs.declared.target.RingRead.TheVariants.{Devices, Balance, Nodes, Text}
+use Rattle.ring_reads.specs.declared.reads.Format.TheVariants as format
+use Rattle.ring_reads.specs.declared.reads.Read.TheVariants.{Plain, Tables, Nodes, Published}
 use Rattle.http_routes.specs.declared.target.TargetAsk.{TargetAsk}
 use Rattle.http_routes.specs.declared.target.TargetAsk.TheVariants.{Deliver, Import, Read}
 use Rattle.http_routes.specs.declared.target.TargetFault.{TargetFault}
@@ -40,17 +41,11 @@ module _ (target : List ℕ) (by : Method) (at : Endpoint) (ring version : List 
         rw named label,
         query,
       )
-  told (Ok (Read name Devices)) (is, named, label) =
-      let h = here endpoint.Devices is in (
-        by_this endpoint.Devices is,
+  told (Ok (Read name (Plain plain))) (is, named, label) =
+      let h = here (endpoint.Word plain) is in (
+        by_this (endpoint.Word plain) is,
         rw named label,
-        subst (λ (n : List ℕ). HasRoute Path endpoint.Devices n []) (sym named) (h.0, h.1, refl),
-      )
-  told (Ok (Read name Balance)) (is, named, label) =
-      let h = here endpoint.Balance is in (
-        by_this endpoint.Balance is,
-        rw named label,
-        subst (λ (n : List ℕ). HasRoute Path endpoint.Balance n []) (sym named) (h.0, h.1, refl),
+        subst (λ (n : List ℕ). HasRoute Path (endpoint.Word plain) n []) (sym named) (h.0, h.1, refl),
       )
   told (Ok (Read name (Nodes names))) (is, named, label, query, good) =
       let h = here endpoint.Nodes is in (
@@ -62,7 +57,9 @@ module _ (target : List ℕ) (by : Method) (at : Endpoint) (ring version : List 
           good,
         ),
       )
-  told (Ok (Read name (Text number))) (is, named, label, spelled) =
+  told (Ok (Read name Tables)) asks = absurd asks
+  told (Ok (Read name (Published number format.Swift))) asks = absurd asks
+  told (Ok (Read name (Published number format.Text))) (is, named, label, spelled) =
       let h = here endpoint.Text is in (
         by_this endpoint.Text is,
         rw named label,

@@ -1,17 +1,17 @@
 -- Which paths are routes.
-use Rattle.std.specs.Prelude.{◌≡◌, ◌≢◌, ◌<◌, ℕ, List, [], ◌++◌, All, IsUtf8, codes, length}
-use Rattle.http_requests.specs.declared.request.Method.{Method}
-use Rattle.http_requests.specs.declared.request.Method.TheVariants.{Get, Post}
+use Rattle.std.specs.Prelude.{◌≡◌, ◌≢◌, ◌<◌, ℕ, List, [], ◌∷◌, ◌++◌, All, IsUtf8, codes, length}
+use Rattle.http_messages.specs.declared.request.Method.{Method}
+use Rattle.http_messages.specs.declared.request.Method.TheVariants.{Get, Post}
 use Rattle.http_routes.specs.declared.routes.Endpoint.{Endpoint}
-use Rattle.http_routes.specs.declared.routes.Endpoint.TheVariants.{Requests, Import, Devices}
-use Rattle.http_routes.specs.declared.routes.Endpoint.TheVariants.{Balance, Nodes, Text}
+use Rattle.ring_reads.specs.Reads.{plain_word}
+use Rattle.http_routes.specs.declared.routes.Endpoint.TheVariants.{Requests, Import, Word, Nodes}
+use Rattle.http_routes.specs.declared.routes.Endpoint.TheVariants.{Text}
 
 -- the method that an endpoint has
 abbrev pub endpoint_method : Endpoint → Method
 endpoint_method Requests = Post
 endpoint_method Import = Post
-endpoint_method Devices = Get
-endpoint_method Balance = Get
+endpoint_method (Word plain) = Get
 endpoint_method Nodes = Get
 endpoint_method Text = Get
 
@@ -29,9 +29,7 @@ abbrev pub HasRoute : List ℕ → Endpoint → List ℕ → List ℕ → Type 0
 HasRoute path Requests ring version = (path ≡ codes "/v1/requests") × (ring ≡ []) × (version ≡ [])
 HasRoute path Import ring version = (path ≡ codes "/v1/import/" ++ ring) × IsPathSegment ring ×
     (version ≡ [])
-HasRoute path Devices ring version = (path ≡ ring_path ring ++ codes "/devices") ×
-    IsPathSegment ring × (version ≡ [])
-HasRoute path Balance ring version = (path ≡ ring_path ring ++ codes "/balance") ×
+HasRoute path (Word plain) ring version = (path ≡ ring_path ring ++ 47 ∷ plain_word plain) ×
     IsPathSegment ring × (version ≡ [])
 HasRoute path Nodes ring version = (path ≡ ring_path ring ++ codes "/nodes") × IsPathSegment ring ×
     (version ≡ [])

@@ -2,9 +2,10 @@
 use Rattle.std.specs.Prelude.{◌≡◌, ◌≢◌, ◌⊎◌, ◌==◌, ◌+◌, ℕ, List, [], ⊤, IsTrue, true, drop, length}
 use Rattle.ring_words.specs.Limits.{greatest_long}
 use Rattle.std.specs.Prelude.{position, take, unwrap_or}
-use Rattle.http_answers.specs.declared.faults.RouteFault.TheVariants.{NoRoute, WrongMethod}
-use Rattle.http_requests.specs.declared.request.Method.{Method}
-use Rattle.http_requests.specs.declared.request.Method.TheVariants as method
+use Rattle.http_messages.specs.declared.faults.RouteFault.TheVariants.{NoRoute, WrongMethod}
+use Rattle.http_messages.specs.declared.request.Method.{Method}
+use Rattle.http_messages.specs.declared.request.Method.TheVariants as method
+use Rattle.ring_reads.specs.declared.reads.Read.{Read as RingRead}
 use Rattle.path_lookup.specs.Names.{PathNames, is_path}
 use Rattle.ring_words.specs.Spelling.{SpellsNumber}
 use Rattle.ring_words.specs.Texts.{is_label}
@@ -13,8 +14,8 @@ use Rattle.http_routes.specs.declared.routes.Endpoint.{Endpoint}
 use Rattle.http_routes.specs.declared.routes.Endpoint.TheVariants as endpoint
 use Rattle.http_routes.specs.declared.target.TargetAsk.{TargetAsk}
 use Rattle.http_routes.specs.declared.target.TargetAsk.TheVariants.{Deliver, Import, Read}
-use Rattle.http_routes.specs.declared.target.RingRead.{RingRead}
-use Rattle.http_routes.specs.declared.target.RingRead.TheVariants.{Devices, Balance, Nodes, Text}
+use Rattle.ring_reads.specs.declared.reads.Format.TheVariants as format
+use Rattle.ring_reads.specs.declared.reads.Read.TheVariants.{Plain, Tables, Nodes, Published}
 use Rattle.http_routes.specs.declared.target.TargetFault.{TargetFault}
 use Rattle.http_routes.specs.declared.target.TargetFault.TheVariants as fault
 use Rattle.http_routes.specs.Queries.{pairs_of, IsImportQuery, IsPathQuery}
@@ -34,12 +35,13 @@ target_query target = drop (path_end target + 1) target
 
 -- The path and the query ask that this is read of the ring of this name.
 abbrev pub ReadsRing : List ℕ → List ℕ → List ℕ → RingRead → Type 0
-ReadsRing path query ring Devices = HasRoute path endpoint.Devices ring []
-ReadsRing path query ring Balance = HasRoute path endpoint.Balance ring []
+ReadsRing path query ring (Plain plain) = HasRoute path (endpoint.Word plain) ring []
+ReadsRing path query ring Tables = ⊥
 ReadsRing path query ring (Nodes names) =
     HasRoute path endpoint.Nodes ring [] × IsPathQuery (pairs_of query) names ×
     (is_path names ≡ true)
-ReadsRing path query ring (Text version) =
+ReadsRing path query ring (Published version format.Swift) = ⊥
+ReadsRing path query ring (Published version format.Text) =
     (segment : List ℕ) × HasRoute path endpoint.Text ring segment ×
     SpellsNumber segment 0 greatest_long version
 

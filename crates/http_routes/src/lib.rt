@@ -12,4 +12,4 @@ mod target;
 
 pub use routes::{Endpoint, FoundRoute};
 pub use table::Routes;
-pub use target::{RingRead, TargetAsk, TargetFault, read_target};
+pub use target::{TargetAsk, TargetFault, read_target};

@@ -2,19 +2,18 @@
 ghost use Rattle.std.specs.Prelude.{◌≡◌};
 ghost use Rattle.http_routes.specs.Routes.{endpoint_method};
 
-use http_requests::Method;
+use http_messages::Method;
+use ring_reads::Plain;
 
 /// What a route leads to.
-#[derive(Clone, Copy, Debug, PartialEq, Eq)]
+#[derive(Clone, Copy, Debug)]
 pub enum Endpoint {
     /// A message is delivered.
     Requests,
     /// A table of devices is imported into a ring.
     Import,
-    /// The device table of a ring.
-    Devices,
-    /// The balance table of a ring.
-    Balance,
+    /// What a word alone asks of a ring.
+    Word(Plain),
     /// The nodes of a path in a ring.
     Nodes,
     /// A published text of a ring.
@@ -28,7 +27,7 @@ impl Endpoint {
     {
         match self {
             Endpoint::Requests | Endpoint::Import => Method::Post,
-            Endpoint::Devices | Endpoint::Balance | Endpoint::Nodes | Endpoint::Text => Method::Get,
+            Endpoint::Word(_) | Endpoint::Nodes | Endpoint::Text => Method::Get,
         }
     }
 }

@@ -1,27 +1,43 @@
 //! The table of the routes.
 ghost use Rattle.std.specs.Prelude.{◌≡◌, [], ℕ, List, IfOk, MatchOption};
 ghost use Rattle.matchit.specs.Route.{parse_route};
-ghost use Rattle.http_routes.specs.Inner.Table.{IsAdded, IsNewRoute, all_routes};
+ghost use Rattle.http_routes.specs.Inner.Table.{IsAdded, IsNewRoute, RowLeadsTo, all_routes};
 ghost use Rattle.http_routes.specs.Routes.{HasRoute};
 
 use crate::routes::{Endpoint, FoundRoute};
 use matchit::{InsertError, Router};
+use ring_reads::Plain;
 use std::alloc::{AllocError, Global};
 use std::str;
+
+/// A row of the table.
+#[derive(Clone, Copy, Debug)]
+enum TableRow {
+    /// A message is delivered.
+    Requests,
+    /// A table of devices is imported into a ring.
+    Import,
+    /// The nodes of a path in a ring.
+    Nodes,
+    /// A published text of a ring.
+    Text,
+    /// What a word alone asks of a ring.
+    Word,
+}
 
 /// The routes over HTTP, as a router holds them.
 #[derive(Drop)]
 pub struct Routes {
-    router: Router<Endpoint>,
+    router: Router<TableRow>,
     ghost held: { router ≡ all_routes },
 }
 
 /// Takes one more route. It conflicts with none that is there.
-fn add(router: &mut Router<Endpoint>, route: &str, endpoint: Endpoint) -> Result<(), AllocError>
+fn add(router: &mut Router<TableRow>, route: &str, row: TableRow) -> Result<(), AllocError>
     requires { IsNewRoute (parse_route route.now) router.old }
-    ensures { IfOk result (λ _. IsAdded (parse_route route.now) endpoint router.old router.new) }
+    ensures { IfOk result (λ _. IsAdded (parse_route route.now) row router.old router.new) }
 {
-    match router.insert(route, endpoint) {
+    match router.insert(route, row) {
         Ok(()) => Ok(()),
         Err(InsertError::OutOfMemory) => Err(AllocError),
         Err(_) => unreachable!(),
@@ -29,16 +45,33 @@ fn add(router: &mut Router<Endpoint>, route: &str, endpoint: Endpoint) -> Result
 }
 
 /// Takes all routes.
-fn add_all(router: &mut Router<Endpoint>) -> Result<(), AllocError>
+fn add_all(router: &mut Router<TableRow>) -> Result<(), AllocError>
     requires { router.old ≡ [] }
     ensures { IfOk result (λ _. router.new ≡ all_routes) }
 {
-    add(router, "/v1/requests", Endpoint::Requests)?;
-    add(router, "/v1/import/{ring}", Endpoint::Import)?;
-    add(router, "/v1/rings/{ring}/devices", Endpoint::Devices)?;
-    add(router, "/v1/rings/{ring}/balance", Endpoint::Balance)?;
-    add(router, "/v1/rings/{ring}/nodes", Endpoint::Nodes)?;
-    add(router, "/v1/rings/{ring}/text/{version}", Endpoint::Text)
+    add(router, "/v1/requests", TableRow::Requests)?;
+    add(router, "/v1/import/{ring}", TableRow::Import)?;
+    add(router, "/v1/rings/{ring}/nodes", TableRow::Nodes)?;
+    add(router, "/v1/rings/{ring}/text/{version}", TableRow::Text)?;
+    add(router, "/v1/rings/{ring}/{word}", TableRow::Word)
+}
+
+/// Where a row leads whose segment for a word is this one. `None` exactly where no plain read has
+/// this word.
+fn endpoint_of(row: TableRow, word: &str) -> Option<Endpoint>
+    ensures { MatchOption result ((endpoint : Endpoint) → RowLeadsTo row word.now endpoint → ⊥)
+        (RowLeadsTo row word.now) }
+{
+    match row {
+        TableRow::Requests => Some(Endpoint::Requests),
+        TableRow::Import => Some(Endpoint::Import),
+        TableRow::Nodes => Some(Endpoint::Nodes),
+        TableRow::Text => Some(Endpoint::Text),
+        TableRow::Word => match Plain::of_word(word) {
+            Some(plain) => Some(Endpoint::Word(plain)),
+            None => None,
+        },
+    }
 }
 
 impl Routes {
@@ -62,8 +95,9 @@ impl Routes {
         let Ok(found) = self.router.at(path) else {
             return None;
         };
+        let word = found.params.get("word").unwrap_or("");
         Some(FoundRoute {
-            endpoint: *found.value,
+            endpoint: endpoint_of(*found.value, word)?,
             ring: found.params.get("ring").unwrap_or(""),
             version: found.params.get("version").unwrap_or(""),
         })

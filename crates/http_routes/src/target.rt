@@ -6,9 +6,9 @@ ghost use Rattle.http_routes.specs.Inner.Routing.{RouteAsks, RouteFails};
 use crate::query::{read_key, read_path};
 use crate::routes::{Endpoint, FoundRoute};
 use crate::table::Routes;
-use http_answers::RouteFault;
-use http_requests::Method;
-use path_lookup::{Path, PathFault};
+use http_messages::{Method, RouteFault};
+use path_lookup::PathFault;
+use ring_reads::{Format, Read};
 use ring_words::{Key, RingName, SpellingFault, read_name, read_number};
 use std::alloc::Global;
 
@@ -20,20 +20,7 @@ pub enum TargetAsk {
     /// That the table in the body is imported into a ring.
     Import(RingName, Key),
     /// That this is read of a ring.
-    Read(RingName, RingRead),
-}
-
-/// What is read of a ring.
-#[derive(Drop)]
-pub enum RingRead {
-    /// Its device table.
-    Devices,
-    /// Its balance table.
-    Balance,
-    /// The nodes of a path.
-    Nodes(Path),
-    /// Its text that is published under this version.
-    Text(u32),
+    Read(RingName, Read),
 }
 
 /// Why a target asks for nothing.
@@ -99,22 +86,21 @@ fn read_route(alloc: Global, found: FoundRoute<'_>, query: &[u8]) -> Result<Targ
         found.entry.version.now query.now)
         (RouteFails found.entry.endpoint found.entry.ring.now found.entry.version.now query.now) }
 {
-    if found.endpoint == Endpoint::Requests {
+    if let Endpoint::Requests = found.endpoint {
         return Ok(TargetAsk::Deliver);
     }
     let ring: RingName = read_name(alloc, found.ring)?;
     match found.endpoint {
         Endpoint::Requests => Ok(TargetAsk::Deliver),
         Endpoint::Import => Ok(TargetAsk::Import(ring, read_key(alloc, query)?)),
-        Endpoint::Devices => Ok(TargetAsk::Read(ring, RingRead::Devices)),
-        Endpoint::Balance => Ok(TargetAsk::Read(ring, RingRead::Balance)),
+        Endpoint::Word(plain) => Ok(TargetAsk::Read(ring, Read::Plain(plain))),
         Endpoint::Nodes => {
             let path = read_path(alloc, query)?;
-            Ok(TargetAsk::Read(ring, RingRead::Nodes(path)))
+            Ok(TargetAsk::Read(ring, Read::Nodes(path)))
         }
         Endpoint::Text => {
             let version = read_number(found.version, u32::MAX)?;
-            Ok(TargetAsk::Read(ring, RingRead::Text(version)))
+            Ok(TargetAsk::Read(ring, Read::Published(version, Format::Text)))
         }
     }
 }

@@ -1,9 +1,16 @@
 //! Sockets and clocks that are not there.
+use path_lookup::HashNames;
 use std::cell::Cell;
 use std::io::{self, ErrorKind, Read, Write};
 use std::net::{Net, OpenListener, OpenStream, SocketAddr};
 use std::os::fd::{AsRawFd, RawFd};
 use std::time::{Clock, Duration};
+
+/// Nothing stands around the paths that are hashed.
+pub const NO_NAMES: HashNames<'static> = HashNames {
+    prefix: b"",
+    suffix: b"",
+};
 
 /// A clock that goes on by so much whenever it is read, and tells that so many seconds have passed
 /// since 1970, or nothing.

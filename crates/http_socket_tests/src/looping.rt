@@ -1,10 +1,11 @@
 //! Bytes served by way of a socket.
+use crate::doubles::NO_NAMES;
 use crate::serving::{CREATE, CREATED, LAST, LAST_ANSWER, RingBook, are_joined, open};
 use byte_streams::{CountedWriter, StreamFault};
 use http_sockets::{HourClock, ServeFault, loop_over};
 use std::alloc::{AllocError, Global};
 use std::test::Fail;
-use test_streams::Taker;
+use test_fixtures::Taker;
 
 const READ: &str = "GET /v2 HTTP/1.1\r\nHost: a\r\n\r\n";
 
@@ -19,7 +20,7 @@ fn looped(
 ) -> (Result<(), ServeFault>, Vec<u8>) {
     let mut clock = HourClock::new(rt, Some(7));
     let mut writer = CountedWriter::new(Vec::new(rt.alloc()));
-    let came = loop_over(rt, input, &mut writer, &mut clock, book, b"", b"");
+    let came = loop_over(rt, input, &mut writer, &mut clock, book, NO_NAMES);
     (came, writer.into_inner())
 }
 
@@ -105,8 +106,7 @@ fn failing_writer(rt: &HostRuntime, book: &mut RingBook) -> (Result<(), ServeFau
         &mut writer,
         &mut clock,
         book,
-        b"",
-        b"",
+        NO_NAMES,
     );
     let is_counted = writer.faults() == 1;
     let taken = writer.into_inner().taken;

@@ -1,5 +1,5 @@
 //! Clients of a server.
-use crate::doubles::ShortNet;
+use crate::doubles::{NO_NAMES, ShortNet};
 use builder::RingMachine;
 use http_sockets::{HourClock, ServeFault, Server, serve_connections};
 use request_book::{Book, MemKeeper};
@@ -109,7 +109,7 @@ fn serve_new_book(
 ) -> Result<(), ServeFault> {
     let mut clock = HourClock::new(rt, Some(7));
     let mut book = open(rt.alloc());
-    server.serve(count, &mut clock, &mut book, b"", b"")
+    server.serve(count, &mut clock, &mut book, NO_NAMES)
 }
 
 /// Serves so many connections over a new book, and tells how long that took.
@@ -201,7 +201,7 @@ fn free_port(rt: &HostRuntime) -> Result<Port, Fail> {
 fn serve_none(rt: &HostRuntime, port: Port) -> Result<(), ServeFault> {
     let mut book = open(rt.alloc());
     let mut clock = HourClock::new(rt, Some(7));
-    serve_connections(rt, port, 0, &mut clock, &mut book, b"", b"")
+    serve_connections(rt, port, 0, &mut clock, &mut book, NO_NAMES)
 }
 
 #[test]
@@ -225,8 +225,8 @@ fn served_twice(alloc: Global) -> Result<(bool, bool), ServeFault> {
     let mut book = open(alloc);
     let mut clock = HourClock::new(&ShortNet, Some(7));
     let mut server = Server::bind(&machine, 0, Patience::usual())?;
-    let first = server.serve(1, &mut clock, &mut book, b"", b"");
-    let second = server.serve(1, &mut clock, &mut book, b"", b"");
+    let first = server.serve(1, &mut clock, &mut book, NO_NAMES);
+    let second = server.serve(1, &mut clock, &mut book, NO_NAMES);
     Ok((first.is_ok(), second == Err(ServeFault::NetFailed)))
 }
 

@@ -7,8 +7,7 @@ use Rattle.std.proofs.lemmas.List.Elements.{All-append, All-cons, All-nil}
 use Rattle.std.specs.Prelude.{⊤}
 use Rattle.builder.proofs.Safe.{safe_run}
 use Rattle.builder.specs.Safety.{IsSafeRun}
-use Rattle.builder.specs.Step.{State}
-use Rattle.book_front.specs.Front.{is_closed}
+use Rattle.request_book.specs.Front.{is_closed}
 use Rattle.byte_streams.specs.declared.fault.StreamFault.{StreamFault}
 use Rattle.byte_streams.specs.declared.fault.StreamFault.TheVariants.{NoMemory, ReadFailed}
 use Rattle.byte_streams.specs.declared.fault.StreamFault.TheVariants.{WriteFailed}
@@ -20,11 +19,8 @@ use Rattle.http_sockets.specs.Inner.One.{OneServed}
 use Rattle.http_sockets.specs.declared.fault.ServeFault.{ServeFault}
 use Rattle.http_stream.specs.Serving.{RequestsServed, RequestsStopped}
 use Rattle.http_stream.specs.Streams.{AreRequests, BeginWith, Calls, Follow, Item, Refuses}
-use Rattle.http_requests.specs.Requests.{StopsShort}
-use Rattle.line_api.specs.Served.{RingBook, steps_of}
-use Rattle.request_book.specs.Content.{Content}
-use Rattle.ring_words.specs.declared.command.Command.{Command}
-use Rattle.ring_words.specs.declared.command.Reply.{Reply}
+use Rattle.http_messages.specs.Requests.{StopsShort}
+use Rattle.ring_book.specs.Book.{Keeping, RingBook, steps_of}
 
 -- nothing is in front of nothing
 front_of_none : {A : Type 0} (front back : List A) → front ++ back ≡ [] → front ≡ []
@@ -56,24 +52,23 @@ begin_all items bytes are =
     begins StopsShort items [] bytes
     (subst (λ (xs : List Item). AreRequests bytes xs) (sym (append-nil items)) are)
 
-module _ {K C : Type 0} (content : K → Content State Command Reply) (sound : K → Type 0)
-    (limit : K → ℕ) (faults : K → ℕ)
+module _ {K C : Type 0} (kept : Keeping K)
     (tells : C → ℕ → C → Type 0) (prefix suffix : List ℕ) where
   abbrev Book : Type 0
-  Book = RingBook content sound limit faults
+  Book = RingBook kept
 
   abbrev At : Type 0
-  At = Front {C = C} content sound limit faults tells prefix suffix
+  At = Front {C = C} kept tells prefix suffix
 
   abbrev Serves : At → List Item → List (List ℕ) → At → Type 0
   Serves old items texts new =
-      ServesHttp content sound limit faults tells prefix suffix old items texts new
+      ServesHttp kept tells prefix suffix old items texts new
 
   abbrev One : At → At → Type 0
-  One old new = OneServed content sound limit faults tells prefix suffix old new
+  One old new = OneServed kept tells prefix suffix old new
 
   abbrev All_of : ℕ → At → At → Type 0
-  All_of count old new = ConnectionsServed content sound limit faults tells prefix suffix count old
+  All_of count old new = ConnectionsServed kept tells prefix suffix count old
       new
 
   -- Over a connection that ended before it began nothing was answered.
@@ -81,12 +76,13 @@ module _ {K C : Type 0} (content : K → Content State Command Reply) (sound : K
   none_of_one old = record {
     connection = record { bytes = []; items = []; texts = [] };
     first = tt;
-    serves = serves_none steps_of content sound limit faults (λ (front : At). front.1) _ old;
+    serves = serves_none steps_of kept.content kept.sound kept.limit kept.fault_count
+        (λ (front : At). front.1) _ old;
   }
 
   stopped_one : (known left before after : Option (List ℕ)) (early late : C) (old new : Book)
       (readers writers : Type 0) (fault : StreamFault) →
-      RequestsStopped (ServesHttp content sound limit faults tells prefix suffix) known left before
+      RequestsStopped (ServesHttp kept tells prefix suffix) known left before
       after (early, old) (late, new) (readers × writers × (late ≡ early) × (new ≡ old)) fault →
       One (early, old) (late, new)
   stopped_one known left before after early late old new readers writers ReadFailed stopped =
@@ -120,9 +116,9 @@ module _ {K C : Type 0} (content : K → Content State Command Reply) (sound : K
   -- what serving a stream says of its connection
   pub one_of : (known left before after : Option (List ℕ)) (early late : C) (old new : Book)
       (readers writers : Type 0) (result : Result ℕ StreamFault) →
-      IfOk result (RequestsServed (ServesHttp content sound limit faults tells prefix suffix) known
+      IfOk result (RequestsServed (ServesHttp kept tells prefix suffix) known
       before after (early, old) (late, new)) →
-      IfErr result (RequestsStopped (ServesHttp content sound limit faults tells prefix suffix)
+      IfErr result (RequestsStopped (ServesHttp kept tells prefix suffix)
       known left before after (early, old) (late, new)
       (readers × writers × (late ≡ early) × (new ≡ old))) → One (early, old) (late, new)
   one_of known left before after early late old new readers writers (Ok count) served stopped =
@@ -144,7 +140,8 @@ module _ {K C : Type 0} (content : K → Content State Command Reply) (sound : K
     connections = [];
     count_is = refl;
     first = All-nil AnswersFirst;
-    serves = serves_none steps_of content sound limit faults (λ (front : At). front.1) _ old;
+    serves = serves_none steps_of kept.content kept.sound kept.limit kept.fault_count
+        (λ (front : At). front.1) _ old;
   }
 
   -- one connection more
@@ -163,7 +160,8 @@ module _ {K C : Type 0} (content : K → Content State Command Reply) (sound : K
       (append-nil one.connection.texts) in
       let both : Serves old (items_of all.connections ++ one.connection.items)
       (answers_of all.connections ++ one.connection.texts) new =
-      serves_on steps_of content sound limit faults (λ (front : At). front.1) _ old
+      serves_on steps_of kept.content kept.sound kept.limit kept.fault_count
+      (λ (front : At). front.1) _ old
       (items_of all.connections) (answers_of all.connections) mid one.connection.items
       one.connection.texts new all.serves one.serves in
       record {
@@ -184,22 +182,25 @@ module _ {K C : Type 0} (content : K → Content State Command Reply) (sound : K
 
   -- The connections, however many, are a safe run.
   pub safe_all : (count : ℕ) (early late : C) (old new : Book) → All_of count (early, old) (late, new)
-      → sound new.keeper → IsSafeRun old.machine.limits (content old.keeper) (content new.keeper)
+      → kept.sound new.keeper → IsSafeRun old.machine.limits (kept.content old.keeper)
+      (kept.content new.keeper)
   safe_all count early late old new all s =
-      safe_run old.machine.limits (limit old.keeper) (is_closed steps_of content sound limit faults
-      old) (content old.keeper) (content new.keeper) all.serves.calls (all.serves.made.run s)
+      safe_run old.machine.limits (kept.limit old.keeper)
+      (is_closed steps_of kept.content kept.sound kept.limit kept.fault_count
+      old) (kept.content old.keeper) (kept.content new.keeper) all.serves.calls (all.serves.made.run s)
 
   -- However the serving ended, the connections are a safe run.
   pub safe_few : (count : ℕ) (early late : C) (old new : Book) →
-      ServedAtMost content sound limit faults tells prefix suffix count (early, old) (late, new)
-      → sound new.keeper → IsSafeRun old.machine.limits (content old.keeper) (content new.keeper)
+      ServedAtMost kept tells prefix suffix count (early, old) (late, new)
+      → kept.sound new.keeper → IsSafeRun old.machine.limits (kept.content old.keeper)
+      (kept.content new.keeper)
   safe_few count early late old new few s = safe_all few.0 early late old new few.2 s
 
   pub safe_up_to : (count : ℕ) (early late : C) (old new : Book)
       (result : Result (Unit {0}) ServeFault) →
-      ServedUpTo content sound limit faults tells prefix suffix count (early, old) (late, new)
-      result → sound new.keeper → IsSafeRun old.machine.limits (content old.keeper)
-      (content new.keeper)
+      ServedUpTo kept tells prefix suffix count (early, old) (late, new)
+      result → kept.sound new.keeper → IsSafeRun old.machine.limits (kept.content old.keeper)
+      (kept.content new.keeper)
   safe_up_to count early late old new (Ok done) served s = safe_all count early late old new served s
   safe_up_to count early late old new (Err fault) served s =
       safe_few count early late old new served.1 s

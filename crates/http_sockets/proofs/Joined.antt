@@ -5,8 +5,8 @@ use Rattle.std.specs.Option.{option_to_list}
 use Rattle.request_book.specs.Book.{Parts}
 use Rattle.request_book.specs.Call.{Call}
 use Rattle.request_book.specs.Content.{Content}
-use Rattle.book_front.specs.Front.{AreAnswered, CallsMade, Serves}
-use Rattle.book_front.proofs.Fronts.{goes_on, starts}
+use Rattle.request_book.specs.Front.{AreAnswered, CallsMade, Serves}
+use Rattle.request_book.proofs.Fronts.{goes_on, starts}
 
 module _ {M S C R K : Type 0} (step : M → S → ℕ → C → R → S → Type 0) (content : K → Content S C R)
     (sound : K → Type 0)

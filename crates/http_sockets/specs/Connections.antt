@@ -1,13 +1,10 @@
 -- What serving connections, one after another, does to a clock and a book.
 use Rattle.std.specs.Prelude.{◌≡◌, ◌≤◌, ℕ, List, All, flat_map, length, MatchResult, Result}
-use Rattle.builder.specs.Step.{State}
 use Rattle.http_api.specs.Served.{HttpFront, ServesHttp}
 use Rattle.http_sockets.specs.declared.fault.ServeFault.{ServeFault}
 use Rattle.http_sockets.specs.declared.fault.ServeFault.TheVariants.{NetFailed}
 use Rattle.http_stream.specs.Streams.{BeginWith, Item}
-use Rattle.request_book.specs.Content.{Content}
-use Rattle.ring_words.specs.declared.command.Command.{Command}
-use Rattle.ring_words.specs.declared.command.Reply.{Reply}
+use Rattle.ring_book.specs.Book.{Keeping}
 
 -- the bytes that came over a connection, the requests that were answered, and their answers
 pub record Connection : Type 0 where
@@ -31,12 +28,11 @@ answers_of connections = flat_map (λ connection. connection.texts) connections
 abbrev pub AnswersFirst : Connection → Type 0
 AnswersFirst connection = BeginWith connection.bytes connection.items
 
-module _ {K C : Type 0} (content : K → Content State Command Reply) (sound : K → Type 0)
-    (limit : K → ℕ) (faults : K → ℕ)
+module _ {K C : Type 0} (kept : Keeping K)
     (tells : C → ℕ → C → Type 0) (prefix suffix : List ℕ) where
   -- a clock and a book of the builder
   abbrev pub Front : Type 0
-  Front = HttpFront {C = C} content sound limit faults tells prefix suffix
+  Front = HttpFront {C = C} kept tells prefix suffix
 
   -- So many connections were served, and their requests, one connection after another, as those of
   -- one stream: the calls that they lead to are one run.
@@ -44,7 +40,7 @@ module _ {K C : Type 0} (content : K → Content State Command Reply) (sound : K
     pub connections : List Connection
     pub count_is : length connections ≡ count
     pub first : All AnswersFirst connections
-    pub serves : ServesHttp content sound limit faults tells prefix suffix old
+    pub serves : ServesHttp kept tells prefix suffix old
         (items_of connections) (answers_of connections) new
 
   -- So many connections were served, or fewer.

@@ -15,8 +15,9 @@ fn whole_hours(seconds: u64) -> Option<Hour>
     Hour::try_from(seconds / SECONDS_OF_HOUR).ok()
 }
 
-/// The whole hours since 1970, where the machine can tell them.
-fn machine_hour<T: time::Clock>(time: &T) -> Option<Hour> {
+/// The whole hours since 1970, where the machine can tell them and they are no more than
+/// 4294967295.
+pub fn machine_hour<T: time::Clock>(time: &T) -> Option<Hour> {
     let now = SystemTime::now(time).ok()?;
     let since = now.duration_since(SystemTime::UNIX_EPOCH).ok()?;
     whole_hours(since.as_secs())

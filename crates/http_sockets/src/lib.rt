@@ -2,7 +2,7 @@
 //!
 //! `serve_connections` serves a port, and `loop_over` the bytes of a file by way of a socket. That
 //! the requests of all connections are one run of the book stands in `specs/Connections.antt`.
-//! `HourClock` tells the hour of the machine, or a given one.
+//! `machine_hour` is the hour of the machine, and `HourClock` tells that, or a given one.
 #![tactic(auto)]
 
 mod fault;
@@ -12,7 +12,7 @@ mod server;
 mod serving;
 
 pub use fault::ServeFault;
-pub use hours::HourClock;
+pub use hours::{HourClock, machine_hour};
 pub use looping::{MOST_LOOPED, loop_over};
 pub use server::Server;
 pub use serving::serve_connections;

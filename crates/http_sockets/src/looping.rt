@@ -14,6 +14,7 @@ use crate::serving::{close, converse};
 use builder::RingMachine;
 use byte_streams::{CountedWriter, StreamFault, write_text};
 use http_api::Clock;
+use path_lookup::HashNames;
 use request_book::{Book, Keeper};
 use std::alloc::Global;
 use std::io::{self, Read, Write};
@@ -97,16 +98,15 @@ fn serve_capped<
     twin: S,
     clock: &mut C,
     book: &mut Book<RingMachine, K>,
-    prefix: &[u8],
-    suffix: &[u8],
+    names: HashNames<'_>,
 ) -> Result<u32, StreamFault>
-    ensures { OneServed K.content K.sound K.limit K.fault_count C.tells prefix.now suffix.now
+    ensures { OneServed K.Keeper C.tells names.entry.prefix.now names.entry.suffix.now
         (clock.old, book.old) (clock.new, book.new) }
 {
     let pace = Pace::new(time, Patience::usual());
     let reader = TimedReader::new(stream, &pace);
     let writer = CappedWriter::new(TimedWriter::new(twin, &pace), MOST_LOOPED);
-    let (result, stream) = converse(alloc, reader, writer, clock, book, prefix, suffix);
+    let (result, stream) = converse(alloc, reader, writer, clock, book, names);
     close(stream, time, Patience::usual());
     result
 }
@@ -119,16 +119,15 @@ fn answer_into<R: AllocGlobal + Net + time::Clock, C: Clock, K: Keeper<RingMachi
     room: &mut [u8],
     clock: &mut C,
     book: &mut Book<RingMachine, K>,
-    prefix: &[u8],
-    suffix: &[u8],
+    names: HashNames<'_>,
 ) -> Result<(usize, Result<u32, StreamFault>), ServeFault>
     ensures bound { IfOk result (λ told. told.0 ≤ length room.new) }
     ensures same { length room.new ≡ length room.old }
     ensures served { MatchResult result
-        (λ _. ConnectionsServed K.content K.sound K.limit K.fault_count C.tells prefix.now
-        suffix.now 1 (clock.old, book.old) (clock.new, book.new))
+        (λ _. ConnectionsServed K.Keeper C.tells names.entry.prefix.now
+        names.entry.suffix.now 1 (clock.old, book.old) (clock.new, book.new))
         (λ fault. (fault ≡ NetFailed)
-        × ServedAtMost K.content K.sound K.limit K.fault_count C.tells prefix.now suffix.now 1
+        × ServedAtMost K.Keeper C.tells names.entry.prefix.now names.entry.suffix.now 1
         (clock.old, book.old) (clock.new, book.new)) }
     ensures safe { K.sound book.new.keeper → IsSafeRun book.old.machine.limits
         (K.content book.old.keeper) (K.content book.new.keeper) }
@@ -142,7 +141,7 @@ fn answer_into<R: AllocGlobal + Net + time::Clock, C: Clock, K: Keeper<RingMachi
         twin,
     } = ends;
     let alloc = rt.alloc();
-    let result = serve_capped(alloc, rt, served, twin, clock, book, prefix, suffix);
+    let result = serve_capped(alloc, rt, served, twin, clock, book, names);
     match fill_within(&mut client, rt, Patience::usual().between, room) {
         Ok(count) => Ok((count, result)),
         Err(_) => Err(ServeFault::NetFailed),
@@ -180,13 +179,12 @@ pub fn loop_over<R: AllocGlobal + Net + time::Clock, W: Write, C: Clock, K: Keep
     writer: &mut CountedWriter<W>,
     clock: &mut C,
     book: &mut Book<RingMachine, K>,
-    prefix: &[u8],
-    suffix: &[u8],
+    names: HashNames<'_>,
 ) -> Result<(), ServeFault>
     ensures served { MatchResult result
-        (λ _. ConnectionsServed K.content K.sound K.limit K.fault_count C.tells prefix.now
-        suffix.now 1 (clock.old, book.old) (clock.new, book.new))
-        (λ _. ServedAtMost K.content K.sound K.limit K.fault_count C.tells prefix.now suffix.now 1
+        (λ _. ConnectionsServed K.Keeper C.tells names.entry.prefix.now
+        names.entry.suffix.now 1 (clock.old, book.old) (clock.new, book.new))
+        (λ _. ServedAtMost K.Keeper C.tells names.entry.prefix.now names.entry.suffix.now 1
         (clock.old, book.old) (clock.new, book.new)) }
     ensures few { (answers : List ℕ) × (length answers ≤ most_looped)
         × Appends (W.contents (writer_of writer.old)) (W.contents (writer_of writer.new)) answers }
@@ -201,7 +199,7 @@ pub fn loop_over<R: AllocGlobal + Net + time::Clock, W: Write, C: Clock, K: Keep
     let Ok(mut room) = vec![in rt.alloc(); 0u8; MOST_LOOPED] else {
         return Err(ServeFault::Stream(StreamFault::NoMemory));
     };
-    let (count, result) = answer_into(rt, input, &mut room, clock, book, prefix, suffix)?;
+    let (count, result) = answer_into(rt, input, &mut room, clock, book, names)?;
     write_few(writer, &room[..count])?;
     result?;
     Ok(())

@@ -11,6 +11,7 @@ use crate::server::Server;
 use builder::RingMachine;
 use byte_streams::{CountedReader, CountedWriter, StreamFault};
 use http_api::{Clock, serve_stream};
+use path_lookup::HashNames;
 use request_book::{Book, Keeper};
 use ring_words::Port;
 use std::alloc::Global;
@@ -32,15 +33,14 @@ pub(crate) fn converse<
     writer: W,
     clock: &mut C,
     book: &mut Book<RingMachine, K>,
-    prefix: &[u8],
-    suffix: &[u8],
+    names: HashNames<'_>,
 ) -> (Result<u32, StreamFault>, S)
-    ensures { OneServed K.content K.sound K.limit K.fault_count C.tells prefix.now suffix.now
+    ensures { OneServed K.Keeper C.tells names.entry.prefix.now names.entry.suffix.now
         (clock.old, book.old) (clock.new, book.new) }
 {
     let mut reader = CountedReader::new(reader);
     let mut writer = CountedWriter::new(writer);
-    let result = serve_stream(alloc, &mut reader, &mut writer, clock, book, prefix, suffix);
+    let result = serve_stream(alloc, &mut reader, &mut writer, clock, book, names);
     (result, reader.into_inner().into_inner())
 }
 
@@ -62,10 +62,9 @@ impl<'a, R: AllocGlobal + Net + time::Clock> Server<'a, R> {
         stream: R::Stream,
         clock: &mut C,
         book: &mut Book<RingMachine, K>,
-        prefix: &[u8],
-        suffix: &[u8],
+        names: HashNames<'_>,
     )
-        ensures { OneServed K.content K.sound K.limit K.fault_count C.tells prefix.now suffix.now
+        ensures { OneServed K.Keeper C.tells names.entry.prefix.now names.entry.suffix.now
             (clock.old, book.old) (clock.new, book.new) }
     {
         // Answers that are written are sent at once. Where the machine can't, they come later.
@@ -77,7 +76,7 @@ impl<'a, R: AllocGlobal + Net + time::Clock> Server<'a, R> {
         let pace = Pace::new(rt, self.patience());
         let reader = TimedReader::new(stream, &pace);
         let writer = TimedWriter::new(twin, &pace);
-        let (result, stream) = converse(rt.alloc(), reader, writer, clock, book, prefix, suffix);
+        let (result, stream) = converse(rt.alloc(), reader, writer, clock, book, names);
         if result.is_ok() {
             close(stream, rt, self.patience());
         }
@@ -93,11 +92,10 @@ impl<'a, R: AllocGlobal + Net + time::Clock> Server<'a, R> {
         count: u16,
         clock: &mut C,
         book: &mut Book<RingMachine, K>,
-        prefix: &[u8],
-        suffix: &[u8],
+        names: HashNames<'_>,
     ) -> Result<(), ServeFault>
-        ensures served { ServedUpTo K.content K.sound K.limit K.fault_count C.tells prefix.now
-            suffix.now count (clock.old, book.old) (clock.new, book.new) result }
+        ensures served { ServedUpTo K.Keeper C.tells names.entry.prefix.now
+            names.entry.suffix.now count (clock.old, book.old) (clock.new, book.new) result }
         ensures accepted { MatchResult result
             (λ _. accepted_count self.new ≡ accepted_count self.old + count)
             (λ _. accepted_count self.new ≤ accepted_count self.old + count) }
@@ -108,7 +106,7 @@ impl<'a, R: AllocGlobal + Net + time::Clock> Server<'a, R> {
         let mut served = 0;
         while served < count {
             let stream = self.accept()?;
-            self.serve_one(stream, clock, book, prefix, suffix);
+            self.serve_one(stream, clock, book, names);
             served += 1;
         }
         Ok(())
@@ -122,16 +120,15 @@ pub fn serve_connections<R: AllocGlobal + Net + time::Clock, C: Clock, K: Keeper
     count: u16,
     clock: &mut C,
     book: &mut Book<RingMachine, K>,
-    prefix: &[u8],
-    suffix: &[u8],
+    names: HashNames<'_>,
 ) -> Result<(), ServeFault>
-    ensures served { ServedUpTo K.content K.sound K.limit K.fault_count C.tells prefix.now
-        suffix.now count (clock.old, book.old) (clock.new, book.new) result }
+    ensures served { ServedUpTo K.Keeper C.tells names.entry.prefix.now
+        names.entry.suffix.now count (clock.old, book.old) (clock.new, book.new) result }
     ensures safe { K.sound book.new.keeper → IsSafeRun book.old.machine.limits
         (K.content book.old.keeper) (K.content book.new.keeper) }
 {
     let Ok(mut server) = Server::bind(rt, port.get(), Patience::usual()) else {
         return Err(ServeFault::NetFailed);
     };
-    server.serve(count, clock, book, prefix, suffix)
+    server.serve(count, clock, book, names)
 }

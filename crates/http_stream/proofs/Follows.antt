@@ -2,9 +2,9 @@
 use Rattle.std.proofs.Common.{◌≡◌, ◌<◌, ℕ, true, false, List, [], ◌∷◌, ◌++◌, length, ap, subst, inl}
 use Rattle.std.proofs.Common.{inr, arith, length-append}
 use Rattle.httparse.specs.Grammar.{RequestHead, print_request}
-use Rattle.http_requests.specs.declared.request.HeadFault.{HeadFault}
-use Rattle.http_requests.specs.Requests.{Ask, HasAsk, IsFaulty}
-use Rattle.http_requests.proofs.RequestLemmas.{HasAsk-more, IsFaulty-more}
+use Rattle.http_messages.specs.declared.request.HeadFault.{HeadFault}
+use Rattle.http_messages.specs.Requests.{Ask, HasAsk, IsFaulty}
+use Rattle.http_messages.proofs.RequestLemmas.{HasAsk-more, IsFaulty-more}
 use Rattle.http_stream.specs.Streams.{Item, Calls, Refuses, Follow}
 use Rattle.http_stream.specs.Inner.Midstream.{LeadTo}
 

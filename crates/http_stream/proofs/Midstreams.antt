@@ -14,8 +14,8 @@ use Rattle.byte_streams.specs.declared.fault.StreamFault.TheVariants.{WriteFaile
 use Rattle.byte_streams.proofs.KnownLemmas.{Forwards-then, Forwards-none, Forwards-all}
 use Rattle.byte_streams.proofs.KnownLemmas.{Forwards-whole, beginning_of_left, beginning_then}
 use Rattle.byte_streams.proofs.InTurnLemmas.{InTurn-push}
-use Rattle.http_requests.specs.declared.request.HeadFault.{HeadFault}
-use Rattle.http_requests.specs.Requests.{Ask, HasAsk, IsFaulty, StopsShort}
+use Rattle.http_messages.specs.declared.request.HeadFault.{HeadFault}
+use Rattle.http_messages.specs.Requests.{Ask, HasAsk, IsFaulty, StopsShort}
 use Rattle.http_stream.specs.Streams.{Item, Calls, Refuses, Follow, BeginWith}
 use Rattle.http_stream.specs.Answers.{joined}
 use Rattle.http_stream.specs.Serving.{RequestsServed, RequestsStopped}

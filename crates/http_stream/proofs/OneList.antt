@@ -1,10 +1,10 @@
 -- A stream has one list of requests, up to a bad head where it ends within a head.
 use Rattle.std.proofs.Common.{◌≡◌, ℕ, true, false, Bool, List, [], ◌∷◌, refl, sym, ap, subst, ◌∙◌}
 use Rattle.std.proofs.Common.{inl, inr}
-use Rattle.http_requests.specs.declared.request.HeadFault.{HeadFault}
-use Rattle.http_requests.specs.Requests.{Ask, StopsShort}
-use Rattle.http_requests.proofs.OneRequest.{asks_same, asks_refused, asks_ends, refused_same}
-use Rattle.http_requests.proofs.OneRequest.{refused_ends}
+use Rattle.http_messages.specs.declared.request.HeadFault.{HeadFault}
+use Rattle.http_messages.specs.Requests.{Ask, StopsShort}
+use Rattle.http_messages.proofs.OneRequest.{asks_same, asks_refused, asks_ends, refused_same}
+use Rattle.http_messages.proofs.OneRequest.{refused_ends}
 use Rattle.http_stream.specs.Streams.{Item, Calls, Refuses, Follow, AreRequests, AlmostSame}
 
 one_more : (item : Item) (a b : List Item) → AlmostSame a b → AlmostSame (item ∷ a) (item ∷ b)

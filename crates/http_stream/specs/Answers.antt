@@ -1,7 +1,7 @@
 -- The answers to the requests of a stream.
 use Rattle.std.specs.Prelude.{◌≡◌, ◌⊎◌, ℕ, List, flat_map}
-use Rattle.http_requests.specs.Requests.{Ask}
-use Rattle.http_answers.specs.Answers.{no_memory_answer, refusal_answer}
+use Rattle.http_messages.specs.Requests.{Ask}
+use Rattle.http_messages.specs.Answers.{no_memory_answer, refusal_answer}
 use Rattle.http_stream.specs.Streams.{Item, Calls, Refuses}
 
 -- A request may be given this text: the service's answer, or what stands for a lost answer. A

@@ -1,8 +1,8 @@
 -- The requests of a whole stream of bytes.
 use Rattle.std.specs.Prelude.{◌≡◌, ◌⊎◌, ℕ, true, false, List, [], ◌∷◌, ◌++◌, ⊤}
-use Rattle.http_requests.specs.declared.request.HeadFault.{HeadFault}
-use Rattle.http_requests.specs.declared.request.HeadFault.TheVariants.{BadHead}
-use Rattle.http_requests.specs.Requests.{Ask, HasAsk, IsFaulty, StopsShort}
+use Rattle.http_messages.specs.declared.request.HeadFault.{HeadFault}
+use Rattle.http_messages.specs.declared.request.HeadFault.TheVariants.{BadHead}
+use Rattle.http_messages.specs.Requests.{Ask, HasAsk, IsFaulty, StopsShort}
 
 -- What gets one answer: a whole request, or one that is refused by its head.
 pub data Item : Type 0 where

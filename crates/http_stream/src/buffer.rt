@@ -3,10 +3,10 @@ ghost use Rattle.std.specs.Prelude.{◌≡◌, ◌≤◌, ◌+◌, ◌++◌, ℕ
 ghost use Rattle.http_stream.specs.Inner.Midstream.{buffer_room};
 ghost use Rattle.std.specs.Prelude.{◌↔◌, ◌<◌, vec_len, vec_capacity};
 ghost use Rattle.httparse.specs.Spans.{IsWithin, span_bytes};
-ghost use Rattle.http_requests.specs.Requests.{IsLook};
+ghost use Rattle.http_messages.specs.Requests.{IsLook};
 
 use byte_streams::CHUNK;
-use http_requests::{Look, MAX_BODY, MAX_HEAD, look_at};
+use http_messages::{Look, MAX_BODY, MAX_HEAD, look_at};
 use httparse::spans::Span;
 use std::alloc::{AllocError, Global};
 use std::marker::Model;

@@ -1,6 +1,6 @@
 //! Laws of the definitions.
 ghost use Rattle.std.specs.Prelude.{◌≡◌, ◌⊎◌, ◌++◌, ℕ, List, [], ◌∷◌};
-ghost use Rattle.http_requests.specs.declared.request.HeadFault.TheVariants.{BadHead};
+ghost use Rattle.http_messages.specs.declared.request.HeadFault.TheVariants.{BadHead};
 ghost use Rattle.http_stream.specs.Streams.{Item, Refuses, AlmostSame, AreRequests, BeginWith};
 
 /// A stream has one list of requests. Only where it ends within a head may httparse have refused

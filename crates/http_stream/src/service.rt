@@ -1,8 +1,8 @@
 //! What answers requests.
 ghost use Rattle.std.specs.Prelude.{ℕ, List, MatchResult};
-ghost use Rattle.http_requests.specs.Requests.{Ask};
+ghost use Rattle.http_messages.specs.Requests.{Ask};
 
-use http_requests::Method;
+use http_messages::Method;
 use std::alloc::AllocError;
 
 /// Answers requests, one after another, each from the clock and the state that the one before left.

@@ -1,6 +1,6 @@
 //! The requests of a stream are answered.
 ghost use Rattle.std.specs.Prelude.{◌≡◌, ◌≤◌, ◌<◌, ◌++◌, ℕ, List, [], Option, ◌+◌, ◌-◌, ◌^◌, min};
-ghost use Rattle.http_requests.specs.Requests.{longest_body};
+ghost use Rattle.http_messages.specs.Requests.{longest_body};
 ghost use Rattle.byte_streams.specs.Pieces.{chunk_size};
 ghost use Rattle.std.specs.Prelude.{IfSome, OnOk, IfOk, IfErr, MatchOption, MatchResult, true};
 ghost use Rattle.std.specs.Prelude.{false, length, drop, vec_len};
@@ -13,9 +13,9 @@ ghost use Rattle.byte_streams.specs.Writing.{Forwards, WritesBeginning};
 ghost use Rattle.byte_streams.specs.declared.fault.StreamFault.TheVariants.{ReadFailed};
 ghost use Rattle.byte_streams.specs.declared.fault.StreamFault.TheVariants.{WriteFailed};
 ghost use Rattle.httparse.specs.Spans.{IsWithin};
-ghost use Rattle.http_answers.specs.Answers.{refusal_answer};
-ghost use Rattle.http_requests.specs.Requests.{HasAsk, IsFaulty, IsLook, ask_at, longest_head};
-ghost use Rattle.http_requests.specs.declared.request.Look.TheVariants.{More};
+ghost use Rattle.http_messages.specs.Answers.{refusal_answer};
+ghost use Rattle.http_messages.specs.Requests.{HasAsk, IsFaulty, IsLook, ask_at, longest_head};
+ghost use Rattle.http_messages.specs.declared.request.Look.TheVariants.{More};
 ghost use Rattle.http_stream.specs.Streams.{Item, Calls};
 ghost use Rattle.http_stream.specs.Answers.{ItemAnswered};
 ghost use Rattle.http_stream.specs.Serving.{RequestsServed, RequestsStopped};
@@ -25,8 +25,7 @@ ghost use Rattle.http_stream.specs.Inner.Midstream.{IsBroken};
 use crate::buffer::Buffer;
 use crate::service::Service;
 use byte_streams::{CountedReader, CountedWriter, Outbox, StreamFault, new_chunk, read_some};
-use http_answers::{no_memory_text, refusal_text};
-use http_requests::{HeadFault, Look, RequestParts};
+use http_messages::{HeadFault, Look, RequestParts, no_memory_text, refusal_text};
 use std::alloc::{AllocError, Global};
 use std::io::{Read, Write};
 

@@ -1,11 +1,11 @@
 //! Readers and writers that fail over four requests.
-use crate::serving::{CREATE, CREATED, RingBook, answers, clock_at, open};
+use crate::serving::{CREATE, CREATED, NO_NAMES, RingBook, answers, clock_at, open};
 use byte_streams::{CountedReader, CountedWriter, StreamFault};
 use http_api::serve_stream;
 use ring_words::Limits;
 use std::alloc::{AllocError, Global};
 use std::test::Fail;
-use test_streams::{Giver, Taker};
+use test_fixtures::{Giver, Taker};
 
 /// Four requests.
 static FOUR: [&str; 4] = [
@@ -67,7 +67,7 @@ fn serve(
     let mut clock = clock_at(alloc, 0)?;
     let mut reader = CountedReader::new(Giver::new(stream.as_bytes(), reads.0, reads.1));
     let mut writer = CountedWriter::new(taker);
-    let told = serve_stream(alloc, &mut reader, &mut writer, &mut clock, book, b"", b"");
+    let told = serve_stream(alloc, &mut reader, &mut writer, &mut clock, book, NO_NAMES);
     Ok(Outcome {
         fault: told.err(),
         read_faults: reader.faults(),

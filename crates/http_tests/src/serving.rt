@@ -2,12 +2,19 @@
 use builder::RingMachine;
 use byte_streams::{CountedReader, CountedWriter, StreamFault};
 use http_api::{Clock, KnownClock, serve_stream};
+use path_lookup::HashNames;
 use request_book::{Book, MemKeeper};
 use ring_model::Rings;
 use ring_words::{Command, Limits, Reply};
 use std::alloc::{AllocError, Global};
 use std::test::Fail;
-use test_streams::{Giver, Taker};
+use test_fixtures::{Giver, Taker};
+
+/// Nothing stands around the paths that are hashed.
+pub const NO_NAMES: HashNames<'static> = HashNames {
+    prefix: b"",
+    suffix: b"",
+};
 
 pub type Memory = MemKeeper<Rings, Command, Reply>;
 
@@ -74,7 +81,7 @@ fn ask_in_pieces(
     let mut clock = clock_at(alloc, 0)?;
     let mut reader = CountedReader::new(Giver::new(stream, size, u32::MAX));
     let mut writer = CountedWriter::new(Taker::new(alloc, size, u32::MAX));
-    let count = serve_stream(alloc, &mut reader, &mut writer, &mut clock, book, b"", b"");
+    let count = serve_stream(alloc, &mut reader, &mut writer, &mut clock, book, NO_NAMES);
     Ok((count, writer.into_inner().taken))
 }
 
@@ -256,8 +263,7 @@ fn hours_left(alloc: Global, stream: &str) -> Result<(u32, u32), Fail> {
         &mut writer,
         &mut clock,
         &mut book,
-        b"",
-        b"",
+        NO_NAMES,
     )?;
     Ok((count, clock.hour()))
 }

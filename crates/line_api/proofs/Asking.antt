@@ -1,10 +1,11 @@
 -- What a line asks for.
 use Rattle.std.proofs.Common.{◌≡◌, ℕ, ◌^◌, ◌<◌, ◌≤◌, true, List, [], ◌∷◌, ◌++◌, decimal, sym, subst}
-use Rattle.std.proofs.Common.{◌∙◌, lit<, ⊎_elim, arith}
+use Rattle.std.proofs.Common.{◌∙◌, lit<, ⊎_elim, arith, ap, refl, codes, length, ◌+◌, Bor, Option}
+use Rattle.std.proofs.Common.{Some, None}
 use Rattle.std.specs.Prelude.{IsUtf8, ◌==◌, ◌&&◌, ◌||◌, nat_le}
-use Rattle.std.specs.List.{list_all}
+use Rattle.std.specs.List.{after_first, before_first, list_all, position_or_len}
 use Rattle.std.proofs.lemmas.Bool.{and_parts, or_cases, leb-true, eqb-true}
-use Rattle.std.proofs.lemmas.List.{append_cancel_left}
+use Rattle.std.proofs.lemmas.List.{append_cancel_left, length-append}
 use Rattle.std.proofs.lemmas.Fmt.{IsAscii-decimal}
 use Rattle.std.proofs.lemmas.Str.{IsUtf8-append, IsUtf8-from_ascii}
 use Rattle.std.proofs.lemmas.Str.Ascii.{IsAscii-cons, IsAscii-nil}
@@ -14,10 +15,12 @@ use Rattle.ring_words.specs.declared.command.Command.{Command}
 use Rattle.ring_words.specs.declared.request.Delivery.{Delivery}
 use Rattle.ring_words.proofs.Decimals.{separated_parts}
 use Rattle.ring_messages.specs.Message.{IsMessage}
-use Rattle.line_api.specs.Lines.{Asks, AsksTable, words_of}
-use Rattle.line_api.specs.declared.questions.Question.{Question}
-use Rattle.line_api.specs.declared.questions.Table.{Table}
-use Rattle.line_api.specs.declared.questions.Table.TheVariants.{Devices, Balance}
+use Rattle.ring_words.proofs.Decimals.{IsCut, Splits}
+use Rattle.ring_reads.specs.Reads.{plain_word}
+use Rattle.ring_reads.specs.declared.plain.Plain.{Plain}
+use Rattle.ring_reads.specs.declared.plain.Plain.TheVariants.{Devices, Balance}
+use Rattle.ring_reads.specs.declared.reads.Question.{Question}
+use Rattle.line_api.specs.Lines.{Asks, AsksPlain}
 
 -- a line that asks for something is text
 pub asks_text : (line : List ℕ) (x : Delivery Command) → Asks line x → IsUtf8 line
@@ -54,18 +57,59 @@ label_bytes [] h = IsAscii-nil
 label_bytes (b ∷ name) h = let both = and_parts _ _ h in IsAscii-cons b name (label_byte b both.0)
     (label_bytes name both.1)
 
-same_name : (one other : Table) (rest name : List ℕ) → words_of one ++ rest ≡ words_of other ++
-    name → rest ≡ name
-same_name Devices Devices rest name e = append_cancel_left (words_of Devices) rest name e
-same_name Balance Balance rest name e = append_cancel_left (words_of Balance) rest name e
-same_name Devices Balance rest name e = cc
-same_name Balance Devices rest name e = cc
+-- the text of a question behind its question mark
+abbrev pub asked_text : Plain → List ℕ → List ℕ
+asked_text plain rest = plain_word plain ++ 32 ∷ rest
 
--- what stands behind the words of a question is text
-pub name_is_text : (line rest : List ℕ) (table : Table) (question : Question) →
-    line ≡ words_of table ++ rest → AsksTable line question → IsUtf8 rest
-name_is_text line rest table question is asks =
-    let name : rest ≡ question.ring = same_name table question.table rest question.ring
-    (sym is ∙ asks.is) in
-    subst (λ (t : List ℕ). IsUtf8 t) (sym name) (IsUtf8-from_ascii question.ring
-    (label_bytes question.ring (and_parts _ _ asks.named).1))
+word_text : (plain : Plain) → IsUtf8 (plain_word plain)
+word_text Devices = IsUtf8-from_ascii (codes "devices") (label_bytes (codes "devices") refl)
+word_text Balance = IsUtf8-from_ascii (codes "balance") (label_bytes (codes "balance") refl)
+
+first_word : (plain : Plain) (rest : List ℕ) →
+    before_first (λ b. b == 32) (asked_text plain rest) ≡ plain_word plain
+first_word Devices rest = refl
+first_word Balance rest = refl
+
+first_rest : (plain : Plain) (rest : List ℕ) →
+    after_first (λ b. b == 32) (asked_text plain rest) ≡ rest
+first_rest Devices rest = refl
+first_rest Balance rest = refl
+
+first_place : (plain : Plain) (rest : List ℕ) →
+    position_or_len (λ b. b == 32) (asked_text plain rest) ≡ length (plain_word plain)
+first_place Devices rest = refl
+first_place Balance rest = refl
+
+-- a text that begins with a word and a space has a space
+pub has_space : (t : List ℕ) (r : Option (Bor (List ℕ) × Bor (List ℕ))) → Splits 32 t r → r ≡ None →
+    (plain : Plain) (rest : List ℕ) → t ≡ asked_text plain rest → ⊥
+has_space t None h is plain rest e =
+    let long : length (asked_text plain rest) ≡ length (plain_word plain) + length (32 ∷ rest) =
+    length-append (plain_word plain) (32 ∷ rest) in
+    let all : position_or_len (λ b. b == 32) (asked_text plain rest)
+    ≡ length (asked_text plain rest) = subst (λ (u : List ℕ). position_or_len (λ b. b == 32) u ≡
+    length u) e h in
+    let place = first_place plain rest in
+    omega (arith, long, all, place)
+has_space t (Some x) h is plain rest e = cc
+
+-- what stands before the first space is the word
+pub is_word : (t front back : List ℕ) → IsCut 32 t front back → (plain : Plain) (rest : List ℕ) →
+    t ≡ asked_text plain rest → front ≡ plain_word plain
+is_word t front back cut plain rest e = sym cut.before ∙ ap (before_first (λ b. b == 32)) e
+    ∙ first_word plain rest
+
+-- what stands behind the question mark of a question
+pub behind_mark : (line rest : List ℕ) (question : Question) → line ≡ codes "? " ++ rest →
+    (asks : AsksPlain line question) → rest ≡ asked_text asks.plain question.ring
+behind_mark line rest question is asks = append_cancel_left (codes "? ") rest
+    (asked_text asks.plain question.ring) (sym is ∙ asks.is)
+
+-- what stands behind the question mark is text
+pub question_text : (line rest : List ℕ) (question : Question) → line ≡ codes "? " ++ rest →
+    AsksPlain line question → IsUtf8 rest
+question_text line rest question is asks =
+    subst (λ (t : List ℕ). IsUtf8 t) (sym (behind_mark line rest question is asks))
+    (IsUtf8-append (plain_word asks.plain) (32 ∷ question.ring) (word_text asks.plain)
+    (IsUtf8-from_ascii (32 ∷ question.ring) (IsAscii-cons 32 question.ring (lit< tt)
+    (label_bytes question.ring (and_parts _ _ asks.named).1))))

@@ -10,34 +10,33 @@ use Rattle.byte_streams.proofs.ServedLemmas.{served_as, stopped_as}
 use Rattle.ring_words.specs.declared.command.Command.{Command}
 use Rattle.ring_words.specs.declared.command.Reply.{Reply}
 use Rattle.request_book.specs.Call.{Call}
-use Rattle.request_book.specs.Content.{Content}
-use Rattle.book_front.specs.Front.{Turn}
-use Rattle.book_front.specs.Front.{CallsMade, is_closed}
-use Rattle.book_front.proofs.Fronts.{in_turn_serves, none_made, starts}
+use Rattle.request_book.specs.Front.{Turn}
+use Rattle.request_book.specs.Front.{CallsMade, is_closed}
+use Rattle.request_book.proofs.Fronts.{in_turn_serves, none_made, starts}
 use Rattle.builder.proofs.Safe.{safe_run}
 use Rattle.builder.specs.Safety.{IsSafeRun}
-use Rattle.builder.specs.Step.{State}
 use Rattle.ring_messages.specs.declared.told.Told.TheVariants as told
 use Rattle.line_stream.specs.Answers.{Answered}
 use Rattle.line_stream.specs.Lines.{AreLines, HaveEnded, ended}
 use Rattle.line_stream.specs.Serving.{LinesServed, LinesStopped}
-use Rattle.line_api.specs.Lines.{Asked, Gets, answer_line}
-use Rattle.line_api.specs.Served.{Found, RingBook, ServesLines, steps_of}
-use Rattle.line_api.specs.Inner.Answering.{Answers, Loses, Made}
+use Rattle.ring_book.specs.Book.{Asked, Found, Keeping, Made, RingBook, steps_of}
+use Rattle.line_api.specs.Lines.{Gets, answer_line}
+use Rattle.line_api.specs.Served.{ServesLines}
+use Rattle.line_api.specs.Inner.Answering.{Answers, Loses}
 
-module _ {K : Type 0} (content : K → Content State Command Reply) (sound : K → Type 0) (limit : K →
-    ℕ) (faults : K → ℕ) where
+module _ {K : Type 0} (kept : Keeping K) where
   abbrev Book : Type 0
-  Book = RingBook content sound limit faults
+  Book = RingBook kept
 
   -- what the handler of lines gives
   abbrev Gives : Book → List ℕ → List ℕ → Book → Type 0
-  Gives old line text new = Answered (Answers content sound limit faults) (Loses content sound limit
-      faults) (answer_line told.NoMemory) (answer_line told.Unreadable) old line text new
+  Gives old line text new = Answered (Answers kept) (Loses kept) (answer_line told.NoMemory)
+      (answer_line told.Unreadable) old line text new
 
   abbrev IsTurn : Book → List ℕ → Asked → List ℕ → Book → Type 0
-  IsTurn old line asked text new = Turn steps_of content sound limit faults (λ book. book)
-      (λ before item asks answer after. Gets (Found content sound limit faults before after) item
+  IsTurn old line asked text new = Turn steps_of kept.content kept.sound kept.limit kept.fault_count
+      (λ book. book)
+      (λ before item asks answer after. Gets (Found kept before after) item
       asks answer) old line asked text new
 
   turns : (old : Book) (line text : List ℕ) (new : Book) → Gives old line text new →
@@ -51,52 +50,55 @@ module _ {K : Type 0} (content : K → Content State Command Reply) (sound : K �
     record {
       gets = inr (long, refl, text_is);
       made =
-          subst (λ book. Made content sound limit faults old book None) (sym same)
-          (none_made steps_of content sound limit faults old);
+          subst (λ book. Made kept old book None) (sym same)
+          (none_made steps_of kept.content kept.sound kept.limit kept.fault_count old);
     },
   )
 
   serves : (old : Book) (lines texts : List (List ℕ)) (new : Book) →
-      InTurn Gives old lines texts new → ServesLines content sound limit faults old lines texts new
-  serves old lines texts new turn = in_turn_serves steps_of content sound limit faults
+      InTurn Gives old lines texts new → ServesLines kept old lines texts new
+  serves old lines texts new turn = in_turn_serves steps_of kept.content kept.sound kept.limit
+      kept.fault_count
       (λ book. book)
-      (λ before item asks answer after. Gets (Found content sound limit faults before after) item
+      (λ before item asks answer after. Gets (Found kept before after) item
       asks answer) Gives turns old lines texts new turn
 
   -- what the server of lines tells of its handler holds of the run
   pub served_run : (known before after : Option (List ℕ)) (old new : Book) (count : ℕ) →
       LinesServed (InTurn Gives) known before after old new count
-      → LinesServed (ServesLines content sound limit faults) known before after old new count
-  served_run = served_as AreLines HaveEnded ended (InTurn Gives) (ServesLines content sound limit
-      faults) serves
+      → LinesServed (ServesLines kept) known before after old new count
+  served_run = served_as AreLines HaveEnded ended (InTurn Gives) (ServesLines kept) serves
 
   pub stopped_run : (known left before after : Option (List ℕ)) (old new : Book)
       (untouched : Type 0) (fault : StreamFault)
       → LinesStopped (InTurn Gives) known left before after old new untouched fault
-      → LinesStopped (ServesLines content sound limit faults) known left before after old new
+      → LinesStopped (ServesLines kept) known left before after old new
       untouched fault
-  stopped_run = stopped_as AreLines HaveEnded ended (InTurn Gives) (ServesLines content sound limit
-      faults) serves
+  stopped_run = stopped_as AreLines HaveEnded ended (InTurn Gives) (ServesLines kept) serves
 
   -- calls that are one run are a safe run
   safe_calls : (old new : Book) (calls : List (Call Command Reply)) →
-      CallsMade steps_of content sound limit faults old new calls → sound new.keeper
-      → IsSafeRun old.machine.limits (content old.keeper) (content new.keeper)
+      CallsMade steps_of kept.content kept.sound kept.limit kept.fault_count old new calls
+      → kept.sound new.keeper
+      → IsSafeRun old.machine.limits (kept.content old.keeper) (kept.content new.keeper)
   safe_calls old new calls made s =
-      safe_run old.machine.limits (limit old.keeper) (is_closed steps_of content sound limit faults
-      old) (content old.keeper) (content new.keeper) calls (made.run s)
+      safe_run old.machine.limits (kept.limit old.keeper)
+      (is_closed steps_of kept.content kept.sound kept.limit kept.fault_count
+      old) (kept.content old.keeper) (kept.content new.keeper) calls (made.run s)
 
-  unmoved : (old new : Book) → new ≡ old → sound new.keeper →
-      IsSafeRun old.machine.limits (content old.keeper) (content new.keeper)
-  unmoved old new same = subst (λ (book : Book). sound book.keeper →
-      IsSafeRun old.machine.limits (content old.keeper) (content book.keeper)) (sym same)
-      (λ s. safe_calls old old [] (starts steps_of content sound limit faults old) s)
+  unmoved : (old new : Book) → new ≡ old → kept.sound new.keeper →
+      IsSafeRun old.machine.limits (kept.content old.keeper) (kept.content new.keeper)
+  unmoved old new same = subst (λ (book : Book). kept.sound book.keeper →
+      IsSafeRun old.machine.limits (kept.content old.keeper) (kept.content book.keeper)) (sym same)
+      (λ s. safe_calls old old [] (starts steps_of kept.content kept.sound kept.limit
+      kept.fault_count old) s)
 
   stopped_safe : (known left before after : Option (List ℕ)) (old new : Book)
       (readers writers : Type 0) (fault : StreamFault)
-      → LinesStopped (ServesLines content sound limit faults) known left before after old new
+      → LinesStopped (ServesLines kept) known left before after old new
       (readers × writers × (new ≡ old)) fault
-      → sound new.keeper → IsSafeRun old.machine.limits (content old.keeper) (content new.keeper)
+      → kept.sound new.keeper → IsSafeRun old.machine.limits (kept.content old.keeper)
+      (kept.content new.keeper)
   stopped_safe known left before after old new readers writers ReadFailed stopped s =
       safe_calls old new stopped.get.calls stopped.get.made s
   stopped_safe known left before after old new readers writers WriteFailed stopped s =
@@ -107,11 +109,12 @@ module _ {K : Type 0} (content : K → Content State Command Reply) (sound : K �
   -- whatever lines came, what the book was led to is a safe run
   pub served_safe : (known left before after : Option (List ℕ)) (old new : Book)
       (readers writers : Type 0) (result : Result ℕ StreamFault)
-      → IfOk result (LinesServed (ServesLines content sound limit faults) known before after old
+      → IfOk result (LinesServed (ServesLines kept) known before after old
       new)
-      → IfErr result (LinesStopped (ServesLines content sound limit faults) known left before after
+      → IfErr result (LinesStopped (ServesLines kept) known left before after
       old new (readers × writers × (new ≡ old)))
-      → sound new.keeper → IsSafeRun old.machine.limits (content old.keeper) (content new.keeper)
+      → kept.sound new.keeper → IsSafeRun old.machine.limits (kept.content old.keeper)
+      (kept.content new.keeper)
   served_safe known left before after old new readers writers (Ok count) served stopped s =
       safe_calls old new served.get.calls served.get.made s
   served_safe known left before after old new readers writers (Err fault) served stopped s =

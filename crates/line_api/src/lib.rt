@@ -8,4 +8,4 @@
 mod lines;
 mod questions;
 
-pub use lines::{run_lines, told_fault, told_of};
+pub use lines::run_lines;

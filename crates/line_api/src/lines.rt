@@ -1,26 +1,30 @@
 //! The lines of `run`: numbered requests and questions in, answers out.
-ghost use Rattle.std.specs.Prelude.{◌≡◌, IfErr, IfOk, OnOk, Result, Some, string_bytes};
+ghost use Rattle.std.specs.Prelude.{◌≡◌, ◌++◌, ◌∷◌, [], ℕ, List, IfErr, IfOk, IsUtf8, OnOk};
+ghost use Rattle.std.specs.Prelude.{Result, Some, string_bytes};
 ghost use Rattle.std.specs.Io.KnownBytes.{IsAtEnd};
 ghost use Rattle.ring_words.specs.Spelling.{Reads};
 ghost use Rattle.builder.specs.Safety.{IsSafeRun};
 ghost use Rattle.byte_streams.specs.Counted.{FailsWithCause, LeavesFlushed, reader_of, writer_of};
 ghost use Rattle.request_book.specs.Call.{Load};
 ghost use Rattle.request_book.specs.declared.book.Fault.{Fault};
-ghost use Rattle.line_api.specs.Lines.{Asks, AsksFor, IsShown, IsTold, answer_line, told_fault};
-ghost use Rattle.line_api.specs.Lines.{told_of};
-ghost use Rattle.line_api.specs.Served.{Found, ServesLines};
-ghost use Rattle.line_api.specs.Inner.Answering.{Answers, Loses, Made};
-ghost use Rattle.line_api.specs.Inner.Delivered.{Delivers};
+ghost use Rattle.line_api.specs.Lines.{Asks, AsksFor, IsTold, answer_line};
+ghost use Rattle.line_api.specs.Served.{ServesLines};
+ghost use Rattle.line_api.specs.Inner.Answering.{Answers, Loses};
+ghost use Rattle.ring_book.specs.Book.{Found, Made};
+ghost use Rattle.ring_reads.specs.declared.plain.Plain.{Plain};
+ghost use Rattle.ring_reads.specs.declared.reads.Read.TheVariants as reads;
 ghost use Rattle.line_stream.specs.Serving.{LinesServed, LinesStopped};
 ghost use Rattle.ring_messages.specs.declared.told.Told.TheVariants as told;
 
-use crate::questions::{Question, read_question, table_text};
+use crate::questions::read_question;
 use builder::{MessageFault, RingMachine, Told, read_delivery, status_of, told_text};
 use byte_streams::{CountedReader, CountedWriter, StreamFault};
 use line_stream::{Handler, serve_lines};
-use request_book::{Answer, Book, Fault, Keeper};
-use ring_model::Rings;
-use ring_words::{Command, Delivery, Refusal, Reply, parse_decimal_up_to};
+use path_lookup::HashNames;
+use request_book::{Book, Keeper};
+use ring_book::{deliver, read};
+use ring_reads::Question;
+use ring_words::{Command, Delivery, parse_decimal_up_to};
 use std::alloc::{AllocError, Global};
 use std::io::{Read, Write};
 use std::marker::PhantomData;
@@ -31,7 +35,7 @@ use std::str;
 enum Request {
     /// That a delivery is made.
     Delivery(Delivery<Command>),
-    /// A table of a ring.
+    /// What a word alone asks of a ring.
     Question(Question),
 }
 
@@ -61,29 +65,6 @@ fn read_request(alloc: Global, line: &[u8]) -> Result<Request, MessageFault>
     }
 }
 
-/// What a fault of the book is told as.
-pub fn told_fault(fault: Fault) -> Told
-    ensures { result ≡ told_fault fault }
-{
-    match fault {
-        Fault::NumberReused => Told::NumberReused,
-        Fault::BookFull => Told::BookFull,
-        Fault::NoMemory => Told::NoMemory,
-        Fault::StoreFault => Told::StoreFault,
-        Fault::Closed => Told::Closed,
-    }
-}
-
-/// What a delivery's answer is told as.
-pub fn told_of(answer: Answer<Reply>) -> Told
-    ensures { result ≡ told_of answer }
-{
-    match answer {
-        Ok(reply) => Told::Reply(reply),
-        Err(fault) => told_fault(fault),
-    }
-}
-
 /// An answer as a line, without its line feed: a status, a space and the answer's text.
 fn answer_text(alloc: Global, told: &Told) -> Result<String, AllocError>
     ensures { IfOk result (λ text. string_bytes text ≡ answer_line told.now) }
@@ -93,23 +74,18 @@ fn answer_text(alloc: Global, told: &Told) -> Result<String, AllocError>
     format!(in alloc; "{status} {text}")
 }
 
-/// What a book answers to a delivery.
-fn deliver<K: Keeper<RingMachine>>(
-    book: &mut Book<RingMachine, K>,
-    delivery: Delivery<Command>,
-) -> Told
-    ensures { Delivers K.content K.sound K.limit K.fault_count book.old book.new delivery result }
+/// Bytes that are shown, as an answer, which has no line feed at its end.
+fn shown_text(bytes: Vec<u8>) -> String
+    requires utf8 { IsUtf8 bytes.items }
+    requires ended { (front : List ℕ) × (bytes.items ≡ front ++ 10 ∷ []) }
+    ensures { string_bytes result ++ 10 ∷ [] ≡ bytes.items }
 {
-    told_of(book.deliver(delivery.hour, delivery.key, delivery.command))
-}
-
-/// The table that a question asks for, or that there is no ring of its name.
-fn shown(alloc: Global, rings: &Rings, question: &Question) -> Result<String, AllocError>
-    ensures { IfOk result (λ text. IsShown rings.now question.now (string_bytes text)) }
-{
-    match rings.get(&question.ring) {
-        Some(ring) => table_text(alloc, question.table, ring),
-        None => answer_text(alloc, &Told::Reply(Reply::Refused(Refusal::NoRing))),
+    match String::from_utf8(bytes) {
+        Ok(mut text) => {
+            let _ = text.pop();
+            text
+        }
+        Err(_) => unreachable!(),
     }
 }
 
@@ -119,14 +95,19 @@ fn show<K: Keeper<RingMachine>>(
     book: &mut Book<RingMachine, K>,
     question: &Question,
 ) -> Result<String, AllocError>
+    requires { (plain : Plain) × (question.now.read ≡ reads.Plain plain) }
     ensures { (answer : Result (Unit {0}) Fault)
-        × Made K.content K.sound K.limit K.fault_count book.old book.new (Some (Load answer))
-        × IfOk result (λ text. IsTold (Found K.content K.sound K.limit K.fault_count book.old book.new)
+        × Made K.Keeper book.old book.new (Some (Load answer))
+        × IfOk result (λ text. IsTold (Found K.Keeper book.old book.new)
         question.now answer (string_bytes text)) }
 {
-    match book.load() {
-        Ok(()) => shown(alloc, book.state(), question),
-        Err(fault) => answer_text(alloc, &told_fault(fault)),
+    let no_names = HashNames {
+        prefix: b"",
+        suffix: b"",
+    };
+    match read(alloc, book, no_names, question) {
+        Ok(bytes) => Ok(shown_text(bytes)),
+        Err(told) => answer_text(alloc, &told),
     }
 }
 
@@ -138,9 +119,9 @@ struct RingLines<K> {
 impl<K: Keeper<RingMachine>> Handler for RingLines<K> {
     type State = Book<RingMachine, K>;
 
-    ghost answers = { Answers K.content K.sound K.limit K.fault_count };
+    ghost answers = { Answers K.Keeper };
 
-    ghost loses = { Loses K.content K.sound K.limit K.fault_count };
+    ghost loses = { Loses K.Keeper };
 
     ghost no_memory = { answer_line told.NoMemory };
 
@@ -152,7 +133,10 @@ impl<K: Keeper<RingMachine>> Handler for RingLines<K> {
         line: &[u8],
     ) -> Result<String, AllocError> {
         match read_request(alloc, line) {
-            Ok(Request::Delivery(delivery)) => answer_text(alloc, &deliver(book, delivery)),
+            Ok(Request::Delivery(delivery)) => {
+                let Delivery { hour, key, command } = delivery;
+                answer_text(alloc, &deliver(book, hour, key, command))
+            }
             Ok(Request::Question(question)) => show(alloc, book, &question),
             Err(MessageFault::Bad) => answer_text(alloc, &Told::Unreadable),
             Err(MessageFault::NoMemory) => Err(AllocError),
@@ -170,9 +154,10 @@ impl<K: Keeper<RingMachine>> Handler for RingLines<K> {
 
 /// Answers every line of a reader on a writer, in order, and tells how many there were, 4294967295
 /// for more. A line is an hour in decimal, one space, and a message with the request's key and its
-/// command; it is answered by a status, a space and the answer. Or it is `? devices RING` or `?
-/// balance RING`, and is answered by that table of the ring, or by a status, a space and why there
-/// is none. What came is answered and flushed before the reader is asked for more.
+/// command; it is answered by a status, a space and the answer. Or it is `? WORD RING`, where the
+/// word alone asks for something of the ring, as `devices` and `balance` do, and is answered by what
+/// is shown, or by a status, a space and why nothing is. What came is answered and flushed before the
+/// reader is asked for more.
 ///
 /// The deliveries are one run of the book: each number is decided once, in the order of the lines,
 /// and every repeat gets its kept reply. A question is answered from the rings that the deliveries
@@ -188,12 +173,12 @@ pub fn run_lines<R: Read, W: Write, K: Keeper<RingMachine>>(
     writer: &mut CountedWriter<W>,
     book: &mut Book<RingMachine, K>,
 ) -> Result<u32, StreamFault>
-    ensures served { IfOk result (LinesServed (ServesLines K.content K.sound K.limit K.fault_count)
-        (R.remaining (reader_of reader.old)) (W.contents (writer_of writer.old)) (W.contents (writer_of writer.new))
+    ensures served { IfOk result (LinesServed (ServesLines K.Keeper)
+        (R.remaining (reader_of reader.old)) (W.contents (writer_of writer.old))
+        (W.contents (writer_of writer.new))
         book.old book.new) }
     ensures at_end { OnOk result (IsAtEnd (R.remaining (reader_of reader.new))) }
-    ensures stopped { IfErr result (LinesStopped (ServesLines K.content K.sound K.limit
-        K.fault_count)
+    ensures stopped { IfErr result (LinesStopped (ServesLines K.Keeper)
         (R.remaining (reader_of reader.old)) (R.remaining (reader_of reader.new))
         (W.contents (writer_of writer.old)) (W.contents (writer_of writer.new)) book.old book.new
         ((reader.new ≡ reader.old) × (writer.new ≡ writer.old) × (book.new ≡ book.old))) }

@@ -9,6 +9,13 @@ use crate::path::Path;
 use md5::{Digest, Md5};
 use ring_words::Power;
 
+/// What stands before and after each path that is hashed: a cluster's own bytes, or none.
+#[derive(Clone, Copy, Debug)]
+pub struct HashNames<'a> {
+    pub prefix: &'a [u8],
+    pub suffix: &'a [u8],
+}
+
 /// Adds a `/` and a name to what is hashed, if there is a name.
 fn add_name(hasher: &mut Md5, name: Option<&[u8]>)
     ensures { (m : List ℕ) → Holds hasher.old m →
@@ -21,16 +28,16 @@ fn add_name(hasher: &mut Md5, name: Option<&[u8]>)
 }
 
 /// The hash of a path: the MD5 digest (RFC 1321) of the prefix, of each of the path's names behind
-/// a `/`, and of the suffix. Prefix and suffix are a cluster's own, and may be empty.
-pub fn hash_path(prefix: &[u8], path: &Path, suffix: &[u8]) -> [u8; 16]
-    ensures { result ≡ path_hash prefix.now path.now suffix.now }
+/// a `/`, and of the suffix.
+pub fn hash_path(names: HashNames<'_>, path: &Path) -> [u8; 16]
+    ensures { result ≡ path_hash names.entry.prefix.now path.now names.entry.suffix.now }
 {
     let mut hasher = Md5::new();
-    hasher.update(prefix);
+    hasher.update(names.prefix);
     add_name(&mut hasher, Some(path.account()));
     add_name(&mut hasher, path.container());
     add_name(&mut hasher, path.object());
-    hasher.update(suffix);
+    hasher.update(names.suffix);
     hasher.finalize()
 }
 

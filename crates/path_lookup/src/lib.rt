@@ -12,6 +12,6 @@ mod lookup;
 mod path;
 
 pub use fault::{NodesFault, PathFault};
-pub use hash::{hash_path, partition_of};
+pub use hash::{HashNames, hash_path, partition_of};
 pub use lookup::nodes;
 pub use path::Path;

@@ -12,7 +12,7 @@ use ring_model::Rings;
 use ring_words::{Command, Delivery, Done, Hour, Limits, Refusal, Reply};
 use std::alloc::{AllocError, Global};
 use std::test::Fail;
-use test_streams::{Giver, Taker};
+use test_fixtures::{Giver, Taker};
 
 type Memory = MemKeeper<Rings, Command, Reply>;
 

@@ -1,5 +1,5 @@
 //! What words ask for, and which ask for nothing.
-use program_words::{ArgsFault, task_of};
+use command_line::{ArgsFault, task_of};
 use std::alloc::{AllocError, Global};
 use std::test::Fail;
 
@@ -58,23 +58,23 @@ static ASKED: [(&str, &str); 15] = [
     ),
     (
         "serve F 8642 0",
-        "Serve { file: \"F\", port: Bounded { number: 8642 }, count: 0, hour: None, names: HashNames { prefix: \"\", suffix: \"\" } }",
+        "Serve { file: \"F\", port: Bounded { number: 8642 }, count: 0, hour: None, names: HashNames { prefix: [], suffix: [] } }",
     ),
     (
         "serve F --hour 9 1 --prefix x 65535 --suffix y",
-        "Serve { file: \"F\", port: Bounded { number: 1 }, count: 65535, hour: Some(9), names: HashNames { prefix: \"x\", suffix: \"y\" } }",
+        "Serve { file: \"F\", port: Bounded { number: 1 }, count: 65535, hour: Some(9), names: HashNames { prefix: [120], suffix: [121] } }",
     ),
     (
         "loop F input --suffix=y --hour=0",
-        "Loop { file: \"F\", input: \"input\", hour: Some(0), names: HashNames { prefix: \"\", suffix: \"y\" } }",
+        "Loop { file: \"F\", input: \"input\", hour: Some(0), names: HashNames { prefix: [], suffix: [121] } }",
     ),
     (
         "nodes F tiny a",
-        "Nodes { file: \"F\", ring: \"tiny\", account: \"a\", container: None, object: None, names: HashNames { prefix: \"\", suffix: \"\" } }",
+        "Nodes { file: \"F\", ring: \"tiny\", account: \"a\", container: None, object: None, names: HashNames { prefix: [], suffix: [] } }",
     ),
     (
         "nodes --suffix y F tiny a --container c --object=o --prefix x",
-        "Nodes { file: \"F\", ring: \"tiny\", account: \"a\", container: Some(\"c\"), object: Some(\"o\"), names: HashNames { prefix: \"x\", suffix: \"y\" } }",
+        "Nodes { file: \"F\", ring: \"tiny\", account: \"a\", container: Some(\"c\"), object: Some(\"o\"), names: HashNames { prefix: [120], suffix: [121] } }",
     ),
 ];
 

@@ -3,14 +3,14 @@ use Rattle.std.proofs.Common.{◌≡◌, ◌⊎◌, inl, inr, List, Option, Resu
 use Rattle.std.specs.Prelude.{IfErr, IfOk}
 use Rattle.byte_streams.specs.declared.counted.CountedReader.{CountedReader}
 use Rattle.byte_streams.specs.declared.counted.CountedWriter.{CountedWriter}
-use Rattle.program_words.specs.declared.task.Task.{Task}
+use Rattle.command_line.specs.declared.task.Task.{Task}
 use Rattle.builder.specs.Step.{State}
-use Rattle.keeper_programs.specs.Begun.{Keeping}
 use Rattle.programs.specs.Performed.{EndsSo, FailsSo, ShowsStore}
-use Rattle.keeper_programs.specs.declared.faults.ProgramFault.{ProgramFault}
+use Rattle.programs.specs.declared.faults.ProgramFault.{ProgramFault}
 use Rattle.programs.specs.declared.performing.Ending.{Ending}
 use Rattle.programs.specs.declared.performing.Ending.TheVariants.{Done}
-use Rattle.keeper_programs.specs.declared.showing.FileQuestion.{FileQuestion}
+use Rattle.ring_reads.specs.declared.reads.Question.{Question}
+use Rattle.ring_book.specs.Book.{Keeping}
 
 -- what is known of what was read
 read_well : {A E : Type 0} (read : Result A E) (Asks : A → Type 0) (value : A) → IfOk read Asks
@@ -25,16 +25,16 @@ read_ill read Fails why fails is = subst (λ r. IfErr r Fails) is fails
 module _ {K W : Type 0} (stores : Keeping K) (Begins : K → Type 0) (contents : W → Option (List ℕ))
     (writer later : CountedWriter W) where
   -- what was asked for was shown
-  pub ended_shown : (result : Result Ending ProgramFault) (read : Result FileQuestion ProgramFault)
-      (Asks : FileQuestion → Type 0) (Ends : Ending → Type 0) → IfOk read Asks
-      → (ShowsStore stores Begins contents writer later Asks → Ends Done)
+  pub ended_shown : (result : Result Ending ProgramFault) (read : Result Question ProgramFault)
+      (prefix suffix : List ℕ) (Asks : Question → Type 0) (Ends : Ending → Type 0) → IfOk read Asks
+      → (ShowsStore stores Begins contents writer later prefix suffix Asks → Ends Done)
       → IfOk result (λ ending. (ending ≡ Done)
-      × ShowsStore stores Begins contents writer later (λ question. read ≡ Ok question))
+      × ShowsStore stores Begins contents writer later prefix suffix (λ question. read ≡ Ok question))
       → IfOk result Ends
-  ended_shown (Ok ending) read Asks Ends asks make done =
+  ended_shown (Ok ending) read prefix suffix Asks Ends asks make done =
       let shown = done.1 in
       subst Ends (sym done.0) (make (shown.0, read_well read Asks shown.0 asks shown.1, shown.2))
-  ended_shown (Err why) read Asks Ends asks make done = tt
+  ended_shown (Err why) read prefix suffix Asks Ends asks make done = tt
 
 -- what was asked for failed: its words were not of their form, or the work did
 pub failed_asked : {A W : Type 0} (writer later : CountedWriter W)
@@ -47,18 +47,22 @@ pub failed_asked : {A W : Type 0} (writer later : CountedWriter W)
     ⊎ ((asked : A) × (read ≡ Ok asked) × Work asked why))
     → IfErr result Fails
 failed_asked writer later (Ok ending) read Asks Forms Fails Work asks forms ill work failed = tt
-failed_asked writer later (Err why) read Asks Forms Fails Work asks forms ill work failed = elim failed [
-  | inl word ↦ ill why (read_ill read Forms why forms word.0) word.1
-  | inr done ↦ work why (done.0, read_well read Asks done.0 asks done.1, done.2)
-]
+failed_asked writer later (Err why) read Asks Forms Fails Work asks forms ill work failed = elim
+    failed [
+      | inl word ↦ ill why (read_ill read Forms why forms word.0) word.1
+      | inr done ↦ work why (done.0, read_well read Asks done.0 asks done.1, done.2)
+    ]
 
 module _ {M K R W : Type 0} (memory : Keeping M) (stores : Keeping K) (Begins : K → Type 0)
     (remaining : R → Option (List ℕ)) (contents : W → Option (List ℕ))
-    (reader late_reader : CountedReader R) (writer later : CountedWriter W) (IsMade : State → ℕ → Type 0) where
+    (reader late_reader : CountedReader R) (writer later : CountedWriter W)
+    (IsMade : State → ℕ → Type 0) where
   -- a task ended as the one that it is
   pub ends_as : (ending : Ending) (task asked : Task) → task ≡ asked
-      → EndsSo memory stores Begins remaining contents reader late_reader writer later IsMade asked ending
-      → EndsSo memory stores Begins remaining contents reader late_reader writer later IsMade task ending
+      → EndsSo memory stores Begins remaining contents reader late_reader writer later IsMade asked
+      ending
+      → EndsSo memory stores Begins remaining contents reader late_reader writer later IsMade task
+      ending
   ends_as ending task asked is = subst (λ t. EndsSo memory stores Begins remaining contents reader
       late_reader writer later IsMade t ending) (sym is)
 

@@ -6,14 +6,15 @@ use Rattle.byte_streams.specs.declared.fault.StreamFault.{StreamFault}
 use Rattle.builder.specs.Step.{State}
 use Rattle.ring_messages.specs.declared.told.Told.{Told}
 use Rattle.ring_words.specs.declared.device.Row.{Row}
-use Rattle.keeper_programs.specs.Importing.{Imports}
-use Rattle.keeper_programs.specs.Begun.{IsAny, Keeping}
-use Rattle.keeper_programs.specs.Running.{AnswersLines, StopsLines}
-use Rattle.keeper_programs.specs.Showing.{FailsToShow, IsAsked, Shows}
-use Rattle.keeper_programs.specs.declared.faults.ProgramFault.{ProgramFault}
-use Rattle.keeper_programs.specs.declared.importing.ImportAsk.{ImportAsk}
-use Rattle.keeper_programs.specs.declared.showing.FileQuestion.{FileQuestion}
-use Rattle.keeper_programs.proofs.Runs.{answers, asked, fails_to_show, imports, shows, stops}
+use Rattle.programs.specs.Importing.{Imports}
+use Rattle.programs.specs.Begun.{IsAny}
+use Rattle.programs.specs.Running.{AnswersLines, StopsLines}
+use Rattle.programs.specs.Showing.{FailsToShow, IsAsked, ShowsRead}
+use Rattle.programs.specs.declared.faults.ProgramFault.{ProgramFault}
+use Rattle.programs.specs.declared.importing.ImportAsk.{ImportAsk}
+use Rattle.ring_reads.specs.declared.reads.Question.{Question}
+use Rattle.programs.proofs.Runs.{answers, asked, fails_to_show, imports, shows, stops}
+use Rattle.ring_book.specs.Book.{Keeping}
 
 module _ {K : Type 0} (g : Keeping K) (Begins : K → Type 0) (kept : K) (is : Begins kept)
     (Ends : K → Type 0) where
@@ -35,19 +36,19 @@ module _ {K : Type 0} (g : Keeping K) (Begins : K → Type 0) (kept : K) (is : B
         reader late_reader writer late_writer why all
 
   module _ {W : Type 0} (contents : W → Option (List ℕ)) (writer later : CountedWriter W)
-      (question : FileQuestion) where
-    pub shows_kept : Shows g (λ k. k ≡ kept) Ends contents writer later question
-        → Shows g Begins IsAny contents writer later question
+      (prefix suffix : List ℕ) (question : Question) where
+    pub shows_kept : ShowsRead g (λ k. k ≡ kept) Ends contents writer later prefix
+        suffix question → ShowsRead g Begins IsAny contents writer later prefix suffix question
     shows_kept s = shows g (λ k. k ≡ kept) Begins Ends same_kept contents writer later
-        question s
+        prefix suffix question s
 
     pub fails_kept : (why : ProgramFault)
-        → FailsToShow g (λ k. k ≡ kept) Ends contents writer later question why
-        → FailsToShow g Begins IsAny contents writer later question why
+        → FailsToShow g (λ k. k ≡ kept) Ends contents writer later prefix suffix
+        question why → FailsToShow g Begins IsAny contents writer later prefix suffix question why
     fails_kept why f = fails_to_show g (λ k. k ≡ kept) Begins Ends same_kept contents writer
-        later question why f
+        later prefix suffix question why f
 
-  pub asked_kept : (Tells : State → Type 0)
+  pub asked_kept : (Tells : State → ℕ → Type 0)
       → IsAsked g (λ k. k ≡ kept) Ends Tells → IsAsked g Begins IsAny Tells
   asked_kept Tells a = asked g (λ k. k ≡ kept) Begins Ends same_kept Tells a
 

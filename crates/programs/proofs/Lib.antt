@@ -1,4 +1,6 @@
+pub mod BadTables
 pub mod Endings
 pub mod Kept
 pub mod Renewals
+pub mod Runs
 pub mod Services

@@ -1,8 +1,8 @@
 -- What renewing a store comes to.
 use Rattle.std.proofs.Common.{◌≡◌, ℕ, subst, sym}
 use Rattle.builder.specs.Step.{State}
-use Rattle.keeper_programs.specs.Begun.{Keeping}
 use Rattle.programs.specs.Renewing.{IsRead, Renews}
+use Rattle.ring_book.specs.Book.{Keeping}
 
 -- a keeper that is known was read, and less is known of it
 pub read_kept : {K : Type 0} (g : Keeping K) (Begins : K → Type 0) (kept : K) → Begins kept

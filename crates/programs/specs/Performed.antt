@@ -1,42 +1,43 @@
 -- What a program does that words ask for.
-use Rattle.std.specs.Prelude.{◌≡◌, ◌≢◌, ◌⊎◌, ℕ, List, Option, None, Some, IfSome}
+use Rattle.std.specs.Prelude.{◌≡◌, ◌≢◌, ◌⊎◌, ℕ, List, [], Option, None, Some, IfSome}
 use Rattle.std.specs.Borrow.{Bor}
 use Rattle.byte_streams.specs.declared.counted.CountedReader.{CountedReader}
 use Rattle.byte_streams.specs.declared.counted.CountedWriter.{CountedWriter}
 use Rattle.byte_streams.specs.declared.fault.StreamFault.{StreamFault}
-use Rattle.program_words.specs.Tasks.{AskFor}
-use Rattle.program_words.specs.declared.task.HashNames.{HashNames}
-use Rattle.program_words.specs.declared.task.Task.{Task}
-use Rattle.program_words.specs.declared.task.Task.TheVariants as task
-use Rattle.keeper_programs.specs.Faults.{GetsText, fault_line, stream_fault}
-use Rattle.keeper_programs.specs.Importing.{AnswersImport, AsksImport, FailsToImport}
-use Rattle.keeper_programs.specs.Begun.{IsAny, IsNew, IsStoreFault, Keeping}
+use Rattle.command_line.specs.Tasks.{AskFor}
+use Rattle.path_lookup.specs.declared.hash.HashNames.{HashNames}
+use Rattle.command_line.specs.declared.task.Task.{Task}
+use Rattle.command_line.specs.declared.task.Task.TheVariants as task
+use Rattle.programs.specs.Faults.{GetsText, fault_line, stream_fault}
+use Rattle.programs.specs.Importing.{AnswersImport, AsksImport, FailsToImport}
+use Rattle.programs.specs.Begun.{IsAny, IsNew, IsStoreFault}
 use Rattle.builder.specs.Step.{State}
 use Rattle.programs.specs.Renewing.{Renews}
-use Rattle.keeper_programs.specs.Running.{AnswersLines, FailsLines, StopsLines}
-use Rattle.keeper_programs.specs.Serving.{FailsToLoopInput, FailsToServe, LoopsInput}
-use Rattle.keeper_programs.specs.Serving.{ServesConnections}
-use Rattle.keeper_programs.specs.Showing.{AsksShown, FailsToShow, IsFormFault, HasBadWord}
-use Rattle.keeper_programs.specs.Showing.{IsPathless, Shows}
-use Rattle.keeper_programs.specs.declared.faults.ProgramFault.{ProgramFault}
-use Rattle.keeper_programs.specs.declared.faults.ProgramFault.TheVariants as fault
-use Rattle.keeper_programs.specs.declared.importing.ImportAsk.{ImportAsk}
+use Rattle.programs.specs.Running.{AnswersLines, FailsLines, StopsLines}
+use Rattle.programs.specs.Serving.{FailsToLoopInput, FailsToServe, LoopsInput}
+use Rattle.programs.specs.Serving.{ServesConnections}
+use Rattle.programs.specs.Showing.{AsksShown, FailsToShow, IsFormFault, HasBadWord}
+use Rattle.programs.specs.Showing.{IsPathless, ShowsRead}
+use Rattle.programs.specs.declared.faults.ProgramFault.{ProgramFault}
+use Rattle.programs.specs.declared.faults.ProgramFault.TheVariants as fault
+use Rattle.programs.specs.declared.importing.ImportAsk.{ImportAsk}
 use Rattle.programs.specs.declared.performing.Ending.{Ending}
 use Rattle.programs.specs.declared.performing.Ending.TheVariants.{Done, Refused}
-use Rattle.keeper_programs.specs.declared.showing.FileQuestion.{FileQuestion}
+use Rattle.ring_reads.specs.declared.reads.Question.{Question}
+use Rattle.ring_book.specs.Book.{Keeping}
 
 -- Keepers of stores are these, and begin so, and the writer is this, before and after.
 module _ {K W : Type 0} (stores : Keeping K) (Begins : K → Type 0) (contents : W → Option (List ℕ))
     (writer later : CountedWriter W) where
   -- What is asked for was shown of the rings in a store.
-  abbrev pub ShowsStore : (FileQuestion → Type 0) → Type 0
-  ShowsStore Asks = (question : FileQuestion) × Asks question
-      × Shows stores Begins IsAny contents writer later question
+  abbrev pub ShowsStore : List ℕ → List ℕ → (Question → Type 0) → Type 0
+  ShowsStore prefix suffix Asks = (question : Question) × Asks question
+      × ShowsRead stores Begins IsAny contents writer later prefix suffix question
 
   -- This fault came of it.
-  abbrev pub FailsToShowStore : (FileQuestion → Type 0) → ProgramFault → Type 0
-  FailsToShowStore Asks why = (question : FileQuestion) × Asks question
-      × FailsToShow stores Begins IsAny contents writer later question why
+  abbrev pub FailsToShowStore : List ℕ → List ℕ → (Question → Type 0) → ProgramFault → Type 0
+  FailsToShowStore prefix suffix Asks why = (question : Question) × Asks question
+      × FailsToShow stores Begins IsAny contents writer later prefix suffix question why
 
   -- The table in a CSV file was imported as one request, at the hour that was given or any other,
   -- and the status that was written ends it so.
@@ -69,7 +70,8 @@ module _ {M K R W : Type 0} (memory : Keeping M) (stores : Keeping K) (Begins : 
     (reader late_reader : CountedReader R) (writer later : CountedWriter W) where
   -- The lines of the reader were answered, over memory or over a store.
   abbrev pub Runs : Option (Bor (List ℕ)) → Type 0
-  Runs None = AnswersLines memory (IsNew memory) IsAny remaining contents reader late_reader writer later
+  Runs None = AnswersLines memory (IsNew memory) IsAny remaining contents reader late_reader writer
+      later
   Runs (Some file) = AnswersLines stores Begins IsAny remaining contents reader late_reader
       writer later
 
@@ -91,12 +93,12 @@ module _ {M K R W : Type 0} (memory : Keeping M) (stores : Keeping K) (Begins : 
     EndsSo (task.Loop file input given names) Done = (late_reader ≡ reader)
         × LoopsInput stores Begins IsAny given names contents writer later None
     EndsSo (task.Table file ring) Done = (late_reader ≡ reader)
-        × ShowsStore stores Begins contents writer later (AsksShown (task.Table file ring))
+        × ShowsStore stores Begins contents writer later [] [] (AsksShown (task.Table file ring))
     EndsSo (task.Export file ring version written) Done = (late_reader ≡ reader)
-        × ShowsStore stores Begins contents writer later
+        × ShowsStore stores Begins contents writer later [] []
         (AsksShown (task.Export file ring version written))
     EndsSo (task.Nodes file ring account container object names) Done = (late_reader ≡ reader)
-        × ShowsStore stores Begins contents writer later
+        × ShowsStore stores Begins contents writer later names.prefix.now names.suffix.now
         (AsksShown (task.Nodes file ring account container object names))
     EndsSo (task.Import file ring caller number csv given) ending = (late_reader ≡ reader)
         × ImportsFile stores Begins contents writer later (AsksImport ring.now caller.now number.now)
@@ -113,14 +115,15 @@ module _ {M K R W : Type 0} (memory : Keeping M) (stores : Keeping K) (Begins : 
   FailsToDo (task.Loop file input given names) why = (late_reader ≡ reader)
       × FailsToLoopFile stores Begins contents writer later given names why
   FailsToDo (task.Table file ring) why = (late_reader ≡ reader)
-      × FailsToShowStore stores Begins contents writer later (AsksShown (task.Table file ring)) why
+      × FailsToShowStore stores Begins contents writer later [] [] (AsksShown (task.Table file ring))
+      why
   FailsToDo (task.Export file ring version written) why = (late_reader ≡ reader)
-      × FailsToShowStore stores Begins contents writer later
+      × FailsToShowStore stores Begins contents writer later [] []
       (AsksShown (task.Export file ring version written)) why
   FailsToDo (task.Renew file fresh) why = (late_reader ≡ reader) × (later ≡ writer)
       × IsStoreFault why
   FailsToDo (task.Nodes file ring account container object names) why = (late_reader ≡ reader)
-      × FailsToShowStore stores Begins contents writer later
+      × FailsToShowStore stores Begins contents writer later names.prefix.now names.suffix.now
       (AsksShown (task.Nodes file ring account container object names)) why
   FailsToDo (task.Import file ring caller number csv given) why = (late_reader ≡ reader)
       × FailsToImportFile stores Begins contents writer later (AsksImport ring.now caller.now

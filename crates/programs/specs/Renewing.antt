@@ -2,7 +2,7 @@
 use Rattle.std.specs.Prelude.{◌≡◌, ℕ}
 use Rattle.builder.specs.Step.{State}
 use Rattle.request_book.specs.Keeper.{LeavesOnly}
-use Rattle.keeper_programs.specs.Begun.{Keeping}
+use Rattle.ring_book.specs.Book.{Keeping}
 
 -- A keeper that begins so is read, and this is so of its rings and its hour. It keeps its content,
 -- and a crash leaves that and nothing else.

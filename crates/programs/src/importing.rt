@@ -1,19 +1,173 @@
 //! The program `import`: one numbered import of a table.
-ghost use Rattle.std.specs.Prelude.{◌≡◌, ◌⊎◌, IfErr, IfOk};
-ghost use Rattle.keeper_programs.specs.Begun.{IsAny, IsStoreFault};
-ghost use Rattle.keeper_programs.specs.Importing.{AnswersImport, FailsToImport, Imports};
-ghost use Rattle.keeper_programs.specs.Importing.{TellsImport};
-ghost use Rattle.keeper_programs.specs.Tables.{IsLong, longest_table};
-ghost use Rattle.keeper_programs.specs.declared.faults.ProgramFault.TheVariants.{TooLong};
+ghost use Rattle.std.specs.Prelude.{◌≡◌, ◌≢◌, ◌⊎◌, IfErr, IfOk, string_bytes};
+ghost use Rattle.csv_import.specs.Rows.{AreRows, IsWrong, records_of};
+ghost use Rattle.programs.specs.Tables.{IsBadTable, IsLong, ReadsTable, longest_table};
+ghost use Rattle.byte_streams.specs.declared.fault.StreamFault.TheVariants.{WriteFailed};
+ghost use Rattle.programs.specs.Importing.{AsksImport, FailsTold, Imports, WritesTold};
+ghost use Rattle.programs.specs.Importing.{AnswersImport, FailsToImport, TellsImport};
+ghost use Rattle.programs.specs.Importing.{told_line};
+ghost use Rattle.programs.specs.Showing.{IsFormFault, IsNoName, IsNoNumber};
+ghost use Rattle.programs.specs.Begun.{IsAny, IsStoreFault};
+ghost use Rattle.programs.specs.declared.faults.ProgramFault.TheVariants.{TooLong};
 
-use builder::Told;
-use byte_streams::CountedWriter;
+use crate::book::open_book;
+use crate::faults::ProgramFault;
+use crate::stores::Stores;
+use crate::texts::read_short;
+use builder::{RingMachine, Told, status_of, told_text};
+use byte_streams::{CountedReader, CountedWriter, StreamFault, write_text};
+use csv_import::{CsvFault, read_rows};
 use http_api::told_csv;
-use keeper_programs::{
-    ImportAsk, ProgramFault, Stores, TableFault, deliver_rows, read_table, write_told,
-};
-use ring_words::{Hour, Row};
+use request_book::Keeper;
+use ring_book::told_of;
+use ring_words::{Act, Caller, Command, Hour, Key, RingName, Row, Rows, read_name, read_number};
+use std::alloc::{AllocError, Global};
 use std::io::{Read, Write};
+
+/// How many bytes a table may have.
+const MOST_BYTES: u32 = 65536;
+
+/// What is printed where an answer finds no memory for its text.
+const NO_MEMORY_LINE: &str = "503 {\"fault\":\"NoMemory\",\"rule\":23}\n";
+
+/// Which ring is imported into, and which request the import is.
+#[derive(Drop)]
+pub(crate) struct ImportAsk {
+    pub ring: RingName,
+    pub key: Key,
+}
+
+/// What `import` asks for.
+pub(crate) fn ask_import(
+    alloc: Global,
+    ring: &str,
+    caller: &str,
+    number: &str,
+) -> Result<ImportAsk, ProgramFault>
+    ensures asked { IfOk result (AsksImport ring.now caller.now number.now) }
+    ensures fault { IfErr result
+        (IsFormFault (IsNoName ring.now ⊎ IsNoName caller.now ⊎ IsNoNumber number.now) ⊥) }
+{
+    let number = read_number(number, u32::MAX)?;
+    let ring: RingName = read_name(alloc, ring)?;
+    let caller: Caller = read_name(alloc, caller)?;
+    Ok(ImportAsk {
+        ring,
+        key: Key { caller, number },
+    })
+}
+
+/// Why no rows are read.
+#[derive(Clone, Copy, Debug, PartialEq, Eq)]
+pub(crate) enum TableFault {
+    /// The table has more than 65,536 bytes.
+    TooLong,
+    /// It couldn't be read, or has no rows.
+    Csv(CsvFault),
+}
+
+impl From<ProgramFault> for TableFault {
+    ghost use Rattle.programs.specs.Inner.Forms.{unread_table};
+
+    ghost from_gives = { λ cause fault. fault ≡ unread_table cause };
+
+    fn from(fault: ProgramFault) -> TableFault {
+        match fault {
+            ProgramFault::TooLong => TableFault::TooLong,
+            ProgramFault::NoMemory => TableFault::Csv(CsvFault::NoMemory),
+            _ => TableFault::Csv(CsvFault::ReadFailed),
+        }
+    }
+}
+
+impl From<CsvFault> for TableFault {
+    ghost use Rattle.programs.specs.declared.importing.TableFault.TheVariants.{Csv};
+
+    ghost from_gives = { λ cause fault. fault ≡ Csv cause };
+
+    fn from(fault: CsvFault) -> TableFault {
+        TableFault::Csv(fault)
+    }
+}
+
+/// The rows of a text.
+fn rows_of(alloc: Global, text: &[u8]) -> Result<Vec<Row>, CsvFault>
+    ensures rows { IfOk result (λ rows. AreRows (records_of text.now) rows.items) }
+    ensures wrong { IfErr result (λ why. why ≢ CsvFault.ReadFailed
+        → IsWrong (records_of text.now) why) }
+{
+    read_rows(alloc, &mut CountedReader::new(text))
+}
+
+/// The rows of the table that a reader gives, of at most 65,536 bytes.
+fn read_table<R: Read + Drop>(alloc: Global, reader: R) -> Result<Vec<Row>, TableFault>
+    ensures rows { IfOk result (λ rows. ReadsTable (R.remaining reader) rows.items) }
+    ensures wrong { IfErr result (IsBadTable (R.remaining reader)) }
+{
+    let text = read_short(alloc, reader, MOST_BYTES)?;
+    Ok(rows_of(alloc, text.as_slice())?)
+}
+
+/// An answer as a line: its status, a space, its text and a line feed.
+fn told_line(alloc: Global, told: &Told) -> Result<String, AllocError>
+    ensures { IfOk result (λ line. string_bytes line ≡ told_line told.now) }
+{
+    let status = status_of(told);
+    let text = told_text(alloc, told)?;
+    let mut line = format!(in alloc; "{status} {text}")?;
+    line.push('\n')?;
+    Ok(line)
+}
+
+/// Writes a line that tells this, and answers its status.
+fn write_line<W: Write>(
+    writer: &mut CountedWriter<W>,
+    line: &[u8],
+    told: &Told,
+) -> Result<u16, StreamFault>
+    requires { line.now ≡ told_line told.now }
+    ensures told { IfOk result (WritesTold W.contents writer.old writer.new told.now) }
+    ensures failed { IfErr result (λ why. (why ≡ WriteFailed) × FailsTold W.contents writer.old
+        writer.new told.now) }
+{
+    write_text(writer, line)?;
+    Ok(status_of(told))
+}
+
+/// Writes an answer as a line, and answers the status that it tells: that of want of memory where
+/// the answer finds none for its text.
+fn write_told<W: Write>(
+    alloc: Global,
+    writer: &mut CountedWriter<W>,
+    told: &Told,
+) -> Result<u16, StreamFault>
+    ensures told { IfOk result (WritesTold W.contents writer.old writer.new told.now) }
+    ensures failed { IfErr result (λ why. (why ≡ WriteFailed) × FailsTold W.contents writer.old
+        writer.new told.now) }
+{
+    match told_line(alloc, told) {
+        Ok(line) => write_line(writer, line.as_bytes(), told),
+        Err(AllocError) => write_line(writer, NO_MEMORY_LINE.as_bytes(), &Told::NoMemory),
+    }
+}
+
+/// Delivers rows as an import to what a keeper holds.
+fn deliver_rows<K: Keeper<RingMachine>>(
+    alloc: Global,
+    keeper: K,
+    ask: ImportAsk,
+    rows: Vec<Row>,
+    hour: Hour,
+) -> (Told, K)
+    requires { K.fault_count keeper ≡ 0 }
+    ensures { Imports K.Keeper (λ k. k ≡ keeper) (λ k. k ≡ result.1) ask rows.items hour result.0 }
+{
+    let mut book = open_book(alloc, keeper);
+    let ImportAsk { ring, key } = ask;
+    let act = Act::Import(Rows::new(rows));
+    let told = told_of(book.deliver(hour, key, Command { ring, act }));
+    (told, book.into_keeper())
+}
 
 /// Delivers rows as an import to the store, and closes it.
 fn deliver_to_store<S: Stores>(
@@ -27,15 +181,10 @@ fn deliver_to_store<S: Stores>(
     ensures told { IfOk result (Imports S.Kept.Keeper S.begins IsAny ask rows.items hour) }
     ensures fault { IfErr result IsStoreFault }
 {
-    let keeper = match stores.open(rt, file) {
-        Ok(keeper) => keeper,
-        Err(fault) => return Err(fault),
-    };
+    let keeper = stores.open(rt, file)?;
     let (told, keeper) = deliver_rows(rt.alloc(), keeper, ask, rows, hour);
-    match S::close(keeper) {
-        Ok(()) => Ok(told),
-        Err(fault) => Err(fault),
-    }
+    S::close(keeper)?;
+    Ok(told)
 }
 
 /// What the import of a table into a ring of the store is told.
@@ -76,12 +225,6 @@ pub(crate) fn import_table<S: Stores, R: Read + Drop, W: Write>(
     ensures failed { IfErr result (FailsToImport S.Kept.Keeper S.begins IsAny W.contents writer.old
         writer.new (R.remaining table) ask hour) }
 {
-    let told = match tell_import(rt, file, table, ask, hour, stores) {
-        Ok(told) => told,
-        Err(fault) => return Err(fault),
-    };
-    match write_told(rt.alloc(), writer, &told) {
-        Ok(status) => Ok(status),
-        Err(fault) => Err(ProgramFault::from(fault)),
-    }
+    let told = tell_import(rt, file, table, ask, hour, stores)?;
+    Ok(write_told(rt.alloc(), writer, &told)?)
 }

@@ -1,16 +1,26 @@
 //! The programs of `ringd`: what the words of the command line ask for is done over three streams
 //! and the stores that they name.
 //!
-//! Where the stores are is the caller's: `Stores` of `keeper_programs` opens, makes and closes them.
-//! `perform` is what `main` calls, over the stores in files of `file_stores`. What a program that is
-//! done has done, and what a fault leaves, stands in `specs/Performed.antt`, a case for each program.
+//! `Stores` is where the stores are, and is the caller's: it opens, makes and closes them. Each
+//! program has a file, which reads what its words ask for, does that over what any keeper holds, and
+//! opens and closes the store round it. `perform` is what `main` calls, over the stores in files of
+//! `file_stores`. What a program that is done has done, and what a fault leaves, stands in
+//! `specs/Performed.antt`, a case for each program.
 #![tactic(auto)]
 
+mod book;
+mod faults;
+mod hours;
 mod importing;
 mod lines;
 mod performing;
 mod renewing;
 mod serving;
 mod showing;
+mod stores;
+mod texts;
 
+pub use faults::ProgramFault;
+pub use lines::MemoryKeeper;
 pub use performing::perform;
+pub use stores::Stores;

@@ -1,29 +1,30 @@
 //! What the program does over three streams.
 ghost use Rattle.std.specs.Prelude.{◌≡◌, ◌⊎◌, ◌≤◌, Err, IfErr, IfOk, None, Ok, OnOk, map};
 ghost use Rattle.std.specs.Prelude.{string_bytes};
-ghost use Rattle.program_words.specs.Tasks.{AskForNothing};
-ghost use Rattle.keeper_programs.specs.Begun.{IsAny};
-ghost use Rattle.keeper_programs.specs.Serving.{LoopsInput};
-ghost use Rattle.keeper_programs.specs.Showing.{AsksShown, HasBadWord, IsFormFault, IsPathless};
+ghost use Rattle.command_line.specs.Tasks.{AskForNothing};
+ghost use Rattle.programs.specs.Begun.{IsAny};
+ghost use Rattle.programs.specs.Serving.{LoopsInput};
+ghost use Rattle.programs.specs.Showing.{AsksShown, HasBadWord, IsFormFault, IsPathless};
 ghost use Rattle.programs.specs.Performed.{DoesAsked, EndsBy, EndsSo, FailsAsked, FailsSo};
 ghost use Rattle.programs.specs.Performed.{FailsToImportFile, FailsToLoopFile, FailsToRun};
 ghost use Rattle.programs.specs.Performed.{FailsToShowStore, ImportsFile, Runs, ShowsStore};
-ghost use Rattle.programs.specs.Inner.Showing.{IsShowing};
+ghost use Rattle.programs.specs.Inner.Showing.{IsShowing, prefix_asked, suffix_asked};
 ghost use Rattle.programs.specs.declared.performing.Ending.TheVariants.{Done};
 
-use crate::importing::import_table;
-use crate::lines::run_over_store;
+use crate::faults::{ProgramFault, tell_fault};
+use crate::hours::hour_of;
+use crate::importing::{ImportAsk, ask_import, import_table};
+use crate::lines::{MemoryKeeper, run_over_memory, run_over_store};
 use crate::renewing::renew_store;
 use crate::serving::{loop_reader, serve_store};
-use crate::showing::show;
+use crate::showing::{ask_nodes, ask_published, ask_tables, show};
+use crate::stores::Stores;
 use builder::RingMachine;
 use byte_streams::{CountedReader, CountedWriter, write_text};
-use keeper_programs::{
-    FileQuestion, ImportAsk, MemoryKeeper, ProgramFault, Stores, ask_import, ask_nodes,
-    ask_published, ask_tables, hour_of, run_over_memory, tell_fault,
-};
-use program_words::{ArgsFault, HashNames, Task, task_of};
+use command_line::{ArgsFault, Task, task_of};
+use path_lookup::HashNames;
 use request_book::Keeper;
+use ring_reads::Question;
 use ring_words::Hour;
 use std::fs::File;
 use std::io::{Read, Write};
@@ -31,9 +32,15 @@ use std::io::{Read, Write};
 /// The status of what was done.
 const DONE: u16 = 200;
 
+/// What is shown without a path hashes none.
+const NO_NAMES: HashNames<'static> = HashNames {
+    prefix: b"",
+    suffix: b"",
+};
+
 /// How a task ended that had no fault.
 #[derive(Clone, Copy, Debug, PartialEq, Eq)]
-pub enum Ending {
+pub(crate) enum Ending {
     /// It was done.
     Done,
     /// An import was answered with another status than 200.
@@ -55,39 +62,32 @@ fn run<S: Stores, R: Read, W: Write>(
 {
     match file {
         Some(file) => run_over_store(rt, file, reader, writer, stores),
-        None => match run_over_memory(rt.alloc(), reader, writer) {
-            Ok(()) => Ok(()),
-            Err(fault) => Err(ProgramFault::from(fault)),
-        },
+        None => Ok(run_over_memory(rt.alloc(), reader, writer)?),
     }
 }
 
-/// Shows what is asked for of a store.
+/// ShowsRead what is asked for of a store.
 fn show_asked<S: Stores, W: Write>(
     rt: &HostRuntime,
     file: &str,
-    asked: Result<FileQuestion<'_>, ProgramFault>,
+    asked: Result<Question, ProgramFault>,
+    names: HashNames<'_>,
     writer: &mut CountedWriter<W>,
     stores: S,
 ) -> Result<Ending, ProgramFault>
     ensures done { IfOk result (λ ending. (ending ≡ Done)
         × ShowsStore S.Kept.Keeper S.begins W.contents writer.old writer.new
-        (λ question. asked.entry ≡ Ok question)) }
-    ensures failed { IfErr result (λ why. ((asked.entry ≡ Err why) × (writer.new ≡ writer.old))
+        names.entry.prefix.now names.entry.suffix.now (λ question. asked ≡ Ok question)) }
+    ensures failed { IfErr result (λ why. ((asked ≡ Err why) × (writer.new ≡ writer.old))
         ⊎ FailsToShowStore S.Kept.Keeper S.begins W.contents writer.old writer.new
-        (λ question. asked.entry ≡ Ok question) why) }
+        names.entry.prefix.now names.entry.suffix.now (λ question. asked ≡ Ok question) why) }
 {
-    let question = match asked {
-        Ok(question) => question,
-        Err(fault) => return Err(fault),
-    };
-    match show(rt, file, &question, writer, stores) {
-        Ok(()) => Ok(Ending::Done),
-        Err(fault) => Err(fault),
-    }
+    let question = asked?;
+    show(rt, file, names, &question, writer, stores)?;
+    Ok(Ending::Done)
 }
 
-/// Shows what a task asks to be shown.
+/// ShowsRead what a task asks to be shown.
 fn show_task<S: Stores, W: Write>(
     rt: &HostRuntime,
     task: &Task<'_>,
@@ -96,16 +96,24 @@ fn show_task<S: Stores, W: Write>(
 ) -> Result<Ending, ProgramFault>
     requires { IsShowing task.now }
     ensures done { IfOk result (λ ending. (ending ≡ Done)
-        × ShowsStore S.Kept.Keeper S.begins W.contents writer.old writer.new (AsksShown task.now)) }
+        × ShowsStore S.Kept.Keeper S.begins W.contents writer.old writer.new
+        (prefix_asked task.now) (suffix_asked task.now) (AsksShown task.now)) }
     ensures failed { IfErr result (λ why. (IsFormFault (HasBadWord task.now) (IsPathless task.now) why
         × (writer.new ≡ writer.old))
         ⊎ FailsToShowStore S.Kept.Keeper S.begins W.contents writer.old writer.new
-        (AsksShown task.now) why) }
+        (prefix_asked task.now) (suffix_asked task.now) (AsksShown task.now) why) }
 {
     let alloc = rt.alloc();
     match task {
         Task::Table { file, ring } => {
-            show_asked(rt, *file, ask_tables(alloc, *ring), writer, stores)
+            show_asked(
+                rt,
+                *file,
+                ask_tables(alloc, *ring),
+                NO_NAMES,
+                writer,
+                stores,
+            )
         }
         Task::Nodes {
             file,
@@ -115,8 +123,8 @@ fn show_task<S: Stores, W: Write>(
             object,
             names,
         } => {
-            let asked = ask_nodes(alloc, *ring, *account, *container, *object, *names);
-            show_asked(rt, *file, asked, writer, stores)
+            let asked = ask_nodes(alloc, *ring, *account, *container, *object);
+            show_asked(rt, *file, asked, *names, writer, stores)
         }
         Task::Export {
             file,
@@ -125,7 +133,7 @@ fn show_task<S: Stores, W: Write>(
             format,
         } => {
             let asked = ask_published(alloc, *ring, *version, *format);
-            show_asked(rt, *file, asked, writer, stores)
+            show_asked(rt, *file, asked, NO_NAMES, writer, stores)
         }
         _ => unreachable!(),
     }
@@ -147,18 +155,15 @@ fn import<S: Stores, W: Write>(
         ⊎ FailsToImportFile S.Kept.Keeper S.begins W.contents writer.old writer.new
         (λ ask. asked ≡ Ok ask) given why) }
 {
-    let ask = match asked {
-        Ok(ask) => ask,
-        Err(fault) => return Err(fault),
-    };
+    let ask = asked?;
     let Ok(table) = File::open(rt, csv) else {
         return Err(ProgramFault::NoFile);
     };
     let hour = hour_of(rt, given);
-    match import_table(rt, file, table, ask, hour, writer, stores) {
-        Ok(status) if status == DONE => Ok(Ending::Done),
-        Ok(_) => Ok(Ending::Refused),
-        Err(fault) => Err(fault),
+    if import_table(rt, file, table, ask, hour, writer, stores)? == DONE {
+        Ok(Ending::Done)
+    } else {
+        Ok(Ending::Refused)
     }
 }
 
@@ -199,36 +204,36 @@ fn perform_task<S: Stores, R: Read, W: Write>(
 {
     let alloc = rt.alloc();
     match task {
-        Task::Run { file } => match run(rt, *file, reader, writer, stores) {
-            Ok(()) => Ok(Ending::Done),
-            Err(fault) => Err(fault),
-        },
+        Task::Run { file } => {
+            run(rt, *file, reader, writer, stores)?;
+            Ok(Ending::Done)
+        }
         Task::Serve {
             file,
             port,
             count,
             hour,
             names,
-        } => match serve_store(rt, *file, *port, *count, *hour, *names, stores) {
-            Ok(()) => Ok(Ending::Done),
-            Err(fault) => Err(fault),
-        },
+        } => {
+            serve_store(rt, *file, *port, *count, *hour, *names, stores)?;
+            Ok(Ending::Done)
+        }
         Task::Loop {
             file,
             input,
             hour,
             names,
-        } => match loop_bytes(rt, *file, *input, *hour, *names, writer, stores) {
-            Ok(()) => Ok(Ending::Done),
-            Err(fault) => Err(fault),
-        },
+        } => {
+            loop_bytes(rt, *file, *input, *hour, *names, writer, stores)?;
+            Ok(Ending::Done)
+        }
         Task::Table { .. } | Task::Nodes { .. } | Task::Export { .. } => {
             show_task(rt, task, writer, stores)
         }
-        Task::Renew { file, new } => match renew_store(rt, *file, *new, stores) {
-            Ok(()) => Ok(Ending::Done),
-            Err(fault) => Err(fault),
-        },
+        Task::Renew { file, new } => {
+            renew_store(rt, *file, *new, stores)?;
+            Ok(Ending::Done)
+        }
         Task::Import {
             file,
             ring,

@@ -1,24 +1,15 @@
 //! The program `renew`: a new store with the rings of another one, in which numbers begin anew.
 ghost use Rattle.std.specs.Prelude.{◌≡◌, IfErr, IfOk, OnOk};
 ghost use Rattle.request_book.specs.Keeper.{LeavesOnly};
-ghost use Rattle.keeper_programs.specs.Begun.{IsStoreFault};
+ghost use Rattle.programs.specs.Begun.{IsStoreFault};
 ghost use Rattle.programs.specs.Renewing.{IsRead, Renews};
 
+use crate::faults::ProgramFault;
+use crate::stores::Stores;
 use builder::RingMachine;
-use keeper_programs::{ProgramFault, Stores};
-use request_book::{KeepFault, Keeper};
+use request_book::Keeper;
 use ring_model::Rings;
 use ring_words::Hour;
-
-/// What a call of a keeper that failed is told as.
-fn keep_fault(fault: KeepFault) -> ProgramFault
-    ensures { IsStoreFault result }
-{
-    match fault {
-        KeepFault::NoMemory => ProgramFault::NoMemory,
-        KeepFault::Store => ProgramFault::StoreFault,
-    }
-}
 
 /// The rings that a keeper holds.
 fn rings_of<K: Keeper<RingMachine>>(keeper: &mut K) -> Result<Rings, ProgramFault>
@@ -31,10 +22,8 @@ fn rings_of<K: Keeper<RingMachine>>(keeper: &mut K) -> Result<Rings, ProgramFaul
     ensures left { K.sound keeper.new → LeavesOnly (K.may_leave keeper.new)
         (K.content keeper.old) }
 {
-    match keeper.load() {
-        Ok(()) => Ok(keeper.state().clone()?),
-        Err(fault) => Err(keep_fault(fault)),
-    }
+    keeper.load()?;
+    Ok(keeper.state().clone()?)
 }
 
 /// The rings and the greatest hour that a keeper holds.
@@ -48,14 +37,8 @@ fn rings_and_hour<K: Keeper<RingMachine>>(keeper: &mut K) -> Result<(Rings, Hour
     ensures left { K.sound keeper.new → LeavesOnly (K.may_leave keeper.new)
         (K.content keeper.old) }
 {
-    let hour = match keeper.hour() {
-        Ok(hour) => hour,
-        Err(fault) => return Err(keep_fault(fault)),
-    };
-    match rings_of(keeper) {
-        Ok(rings) => Ok((rings, hour)),
-        Err(fault) => Err(fault),
-    }
+    let hour = keeper.hour()?;
+    Ok((rings_of(keeper)?, hour))
 }
 
 /// The rings and the greatest hour that a keeper holds, and the keeper as it is then.
@@ -80,19 +63,12 @@ fn read_store<S: Stores>(
         (λ rings hour. (rings ≡ found.0) × (hour ≡ found.1))) }
     ensures fault { IfErr result IsStoreFault }
 {
-    let keeper = match stores.open(rt, file) {
-        Ok(keeper) => keeper,
-        Err(fault) => return Err(fault),
-    };
+    let keeper = stores.open(rt, file)?;
     let (found, keeper) = found_in(keeper);
     let closed = S::close(keeper);
-    match found {
-        Ok(found) => match closed {
-            Ok(()) => Ok(found),
-            Err(fault) => Err(fault),
-        },
-        Err(fault) => Err(fault),
-    }
+    let found = found?;
+    closed?;
+    Ok(found)
 }
 
 /// Makes the store `new`, where there is none, of the rings and the hour of another one.
@@ -105,9 +81,6 @@ pub(crate) fn renew_store<S: Stores>(
     ensures renewed { OnOk result (Renews S.Kept.Keeper S.begins S.is_made) }
     ensures fault { IfErr result IsStoreFault }
 {
-    let (rings, hour) = match read_store(rt, file, stores) {
-        Ok(found) => found,
-        Err(fault) => return Err(fault),
-    };
+    let (rings, hour) = read_store(rt, file, stores)?;
     S::make(rt, new, rings, hour)
 }

@@ -1,15 +1,72 @@
 //! The programs `serve` and `loop`: requests of HTTP over sockets of this machine.
-ghost use Rattle.std.specs.Prelude.{IfErr, OnOk};
-ghost use Rattle.keeper_programs.specs.Begun.{IsAny};
-ghost use Rattle.keeper_programs.specs.Serving.{FailsToLoop, FailsToLoopInput, FailsToServe};
-ghost use Rattle.keeper_programs.specs.Serving.{LoopsInput, LoopsOnce, ServesConnections};
+ghost use Rattle.std.specs.Prelude.{◌≡◌, MatchResult, IfErr, OnOk};
+ghost use Rattle.http_sockets.specs.declared.fault.ServeFault.TheVariants.{NetFailed};
+ghost use Rattle.programs.specs.Serving.{IsSet, LoopsOnce, ServesAtMost, ServesConnections};
+ghost use Rattle.programs.specs.Serving.{StopsLoop, FailsToLoop, FailsToLoopInput};
+ghost use Rattle.programs.specs.Serving.{FailsToServe, LoopsInput};
+ghost use Rattle.programs.specs.Begun.{IsAny};
 
+use crate::book::open_book;
+use crate::faults::ProgramFault;
+use crate::stores::Stores;
+use crate::texts::read_short;
+use builder::RingMachine;
 use byte_streams::CountedWriter;
-use http_sockets::MOST_LOOPED;
-use keeper_programs::{ProgramFault, Stores, loop_input, read_short, serve_port};
-use program_words::HashNames;
+use http_sockets::{HourClock, MOST_LOOPED, ServeFault, loop_over, serve_connections};
+use path_lookup::HashNames;
+use request_book::Keeper;
 use ring_words::{Hour, Port};
 use std::io::{Read, Write};
+
+/// A clock that tells the given hour, or else that of the machine.
+fn new_clock(rt: &HostRuntime, given: Option<Hour>) -> HourClock<&HostRuntime>
+    ensures { IsSet given result }
+{
+    HourClock::new(rt, given)
+}
+
+/// Serves connections of a port over what a keeper holds, and gives the keeper back.
+fn serve_port<K: Keeper<RingMachine>>(
+    rt: &HostRuntime,
+    keeper: K,
+    port: Port,
+    count: u16,
+    given: Option<Hour>,
+    names: HashNames<'_>,
+) -> (Result<(), ServeFault>, K)
+    requires { K.fault_count keeper ≡ 0 }
+    ensures { MatchResult result.0
+        (λ _. ServesConnections K.Keeper (λ k. k ≡ keeper) (λ k. k ≡ result.1) given names.entry count)
+        (λ cause. (cause ≡ NetFailed)
+        × ServesAtMost K.Keeper (λ k. k ≡ keeper) (λ k. k ≡ result.1) given names.entry count) }
+{
+    let mut book = open_book(rt.alloc(), keeper);
+    let mut clock = new_clock(rt, given);
+    let served = serve_connections(rt, port, count, &mut clock, &mut book, names);
+    (served, book.into_keeper())
+}
+
+/// Serves an input by way of a socket over what a keeper holds, writes the answers, and gives the
+/// keeper back.
+fn loop_input<W: Write, K: Keeper<RingMachine>>(
+    rt: &HostRuntime,
+    keeper: K,
+    input: &[u8],
+    given: Option<Hour>,
+    names: HashNames<'_>,
+    writer: &mut CountedWriter<W>,
+) -> (Result<(), ServeFault>, K)
+    requires { K.fault_count keeper ≡ 0 }
+    ensures { MatchResult result.0
+        (λ _. LoopsOnce K.Keeper (λ k. k ≡ keeper) (λ k. k ≡ result.1) given names.entry W.contents writer.old
+        writer.new)
+        (StopsLoop K.Keeper (λ k. k ≡ keeper) (λ k. k ≡ result.1) given names.entry W.contents writer.old writer.new) }
+{
+    let mut book = open_book(rt.alloc(), keeper);
+    let mut clock = new_clock(rt, given);
+    let looped = loop_over(rt, input, writer, &mut clock, &mut book, names);
+    (looped, book.into_keeper())
+}
 
 /// Serves so many connections of a port of 127.0.0.1, one after another, over a store, and closes
 /// it.
@@ -27,16 +84,11 @@ pub(crate) fn serve_store<S: Stores>(
     ensures failed { IfErr result (FailsToServe S.Kept.Keeper S.begins IsAny given names.entry
         count) }
 {
-    let keeper = match stores.open(rt, file) {
-        Ok(keeper) => keeper,
-        Err(fault) => return Err(fault),
-    };
+    let keeper = stores.open(rt, file)?;
     let (served, keeper) = serve_port(rt, keeper, port, count, given, names);
     let closed = S::close(keeper);
-    match served {
-        Ok(()) => closed,
-        Err(fault) => Err(ProgramFault::from(fault)),
-    }
+    served?;
+    closed
 }
 
 /// Serves an input over a store, and closes it.
@@ -54,16 +106,11 @@ fn loop_store<S: Stores, W: Write>(
     ensures failed { IfErr result (FailsToLoop S.Kept.Keeper S.begins IsAny given names.entry
         W.contents writer.old writer.new) }
 {
-    let keeper = match stores.open(rt, file) {
-        Ok(keeper) => keeper,
-        Err(fault) => return Err(fault),
-    };
+    let keeper = stores.open(rt, file)?;
     let (looped, keeper) = loop_input(rt, keeper, input, given, names, writer);
     let closed = S::close(keeper);
-    match looped {
-        Ok(()) => closed,
-        Err(cause) => Err(ProgramFault::from(cause)),
-    }
+    looped?;
+    closed
 }
 
 /// Serves the bytes that a reader gives, at most 32,768, as those of one connection over a store,
@@ -82,9 +129,6 @@ pub(crate) fn loop_reader<S: Stores, R: Read + Drop, W: Write>(
     ensures failed { IfErr result (FailsToLoopInput S.Kept.Keeper S.begins IsAny given names.entry
         W.contents writer.old writer.new (R.remaining input)) }
 {
-    let input = match read_short(rt.alloc(), input, MOST_LOOPED as u32) {
-        Ok(input) => input,
-        Err(fault) => return Err(fault),
-    };
+    let input = read_short(rt.alloc(), input, MOST_LOOPED as u32)?;
     loop_store(rt, file, &input, given, names, writer, stores)
 }

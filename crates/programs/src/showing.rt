@@ -1,58 +1,212 @@
 //! The programs `table`, `nodes` and `export`: what a store's rings show.
-ghost use Rattle.std.specs.Prelude.{◌⊎◌, IfErr, IfOk, OnOk};
-ghost use Rattle.keeper_programs.specs.Begun.{IsAny, IsStoreFault};
-ghost use Rattle.keeper_programs.specs.Showing.{FailsToShow, HidesOf, IsAsked, Shows, ShowsOf};
+ghost use Rattle.std.specs.Prelude.{◌≡◌, ◌≢◌, ◌⊎◌, ◌++◌, ◌∷◌, [], IfErr, IfOk, OnOk, true};
+ghost use Rattle.path_lookup.specs.Names.{is_path};
+ghost use Rattle.programs.specs.Begun.{IsStoreFault, IsAny};
+ghost use Rattle.programs.specs.Showing.{AsksNodes, AsksPublished, AsksTables, FailsToShow};
+ghost use Rattle.programs.specs.Showing.{HidesAs};
+ghost use Rattle.programs.specs.Showing.{IsAsked, IsFormFault, IsNoName, IsNoNumber, ShowsRead, ShowsAs};
+ghost use Rattle.programs.specs.Showing.{hidden_fault, names_given};
 
+use crate::faults::ProgramFault;
+use crate::stores::Stores;
+use builder::RingMachine;
 use byte_streams::{CountedWriter, write_text};
-use keeper_programs::{FileQuestion, ProgramFault, Stores, told_bytes};
+use path_lookup::{HashNames, Path, PathFault};
+use request_book::Keeper;
+use ring_model::Rings;
+use ring_reads::{Format, Hidden, Question, Read, show as show_rings};
+use ring_words::{Hour, read_name, read_number};
+use std::alloc::{AllocError, Global};
 use std::io::Write;
+
+/// What `table` shows.
+pub(crate) fn ask_tables(alloc: Global, ring: &str) -> Result<Question, ProgramFault>
+    ensures asked { IfOk result (AsksTables ring.now) }
+    ensures fault { IfErr result (IsFormFault (IsNoName ring.now) ⊥) }
+{
+    Ok(Question {
+        ring: read_name(alloc, ring)?,
+        read: Read::Tables,
+    })
+}
+
+/// What `export` shows.
+pub(crate) fn ask_published(
+    alloc: Global,
+    ring: &str,
+    version: &str,
+    format: Format,
+) -> Result<Question, ProgramFault>
+    ensures asked { IfOk result (AsksPublished ring.now version.now format) }
+    ensures fault { IfErr result (IsFormFault (IsNoName ring.now ⊎ IsNoNumber version.now) ⊥) }
+{
+    let ring = read_name(alloc, ring)?;
+    let version = read_number(version, u32::MAX)?;
+    Ok(Question {
+        ring,
+        read: Read::Published(version, format),
+    })
+}
+
+/// The path of names that words give.
+fn path_given(
+    alloc: Global,
+    account: &str,
+    container: Option<&str>,
+    object: Option<&str>,
+) -> Result<Path, ProgramFault>
+    ensures path { IfOk result (λ path. path ≡ names_given account.entry container.entry
+        object.entry) }
+    ensures good { IfOk result (λ path. is_path path ≡ true) }
+    ensures fault { IfErr result (IsFormFault ⊥
+        (is_path (names_given account.entry container.entry object.entry) ≢ true)) }
+{
+    let container = container.map(str::as_bytes);
+    let object = object.map(str::as_bytes);
+    match Path::new(alloc, account.as_bytes(), container, object) {
+        Ok(path) => Ok(path),
+        Err(PathFault::BadPath) => Err(ProgramFault::BadPath),
+        Err(PathFault::NoMemory) => Err(ProgramFault::NoMemory),
+    }
+}
+
+/// What `nodes` shows.
+pub(crate) fn ask_nodes(
+    alloc: Global,
+    ring: &str,
+    account: &str,
+    container: Option<&str>,
+    object: Option<&str>,
+) -> Result<Question, ProgramFault>
+    ensures asked { IfOk result (AsksNodes ring.now
+        (names_given account.entry container.entry object.entry)) }
+    ensures fault { IfErr result (IsFormFault (IsNoName ring.now)
+        (is_path (names_given account.entry container.entry object.entry) ≢ true)) }
+{
+    let ring = read_name(alloc, ring)?;
+    let path = path_given(alloc, account, container, object)?;
+    Ok(Question {
+        ring,
+        read: Read::Nodes(path),
+    })
+}
+
+impl From<Hidden> for ProgramFault {
+    ghost from_gives = { λ why fault. fault ≡ hidden_fault why };
+
+    fn from(why: Hidden) -> ProgramFault {
+        match why {
+            Hidden::NoRing => ProgramFault::NoRing,
+            Hidden::NotAssigned => ProgramFault::NotAssigned,
+            Hidden::NoVersion => ProgramFault::NoVersion,
+            Hidden::BadText => ProgramFault::BadStore,
+            Hidden::NoMemory => ProgramFault::NoMemory,
+        }
+    }
+}
+
+/// Ends a line.
+fn end_line(bytes: &mut Vec<u8>) -> Result<(), AllocError>
+    ensures { OnOk result (bytes.new.items ≡ bytes.old.items ++ 10 ∷ []) }
+{
+    bytes.push(b'\n')?;
+    Ok(())
+}
+
+/// What is shown of these rings at an hour, as a program writes it: the nodes of a path end with a
+/// line feed.
+fn shown_bytes(
+    alloc: Global,
+    rings: &Rings,
+    hour: Hour,
+    names: HashNames<'_>,
+    question: &Question,
+) -> Result<Vec<u8>, ProgramFault>
+    ensures shown { IfOk result (λ bytes. ShowsAs names.entry.prefix.now names.entry.suffix.now question.now bytes.items rings.now
+        hour) }
+    ensures fault { IfErr result (λ why. HidesAs question.now why rings.now) }
+{
+    let mut bytes = show_rings(alloc, hour, names, rings, question)?;
+    if let Read::Nodes(_) = question.read {
+        end_line(&mut bytes)?;
+    }
+    Ok(bytes)
+}
+
+/// What is shown of the rings that a keeper holds.
+fn kept_bytes<K: Keeper<RingMachine>>(
+    alloc: Global,
+    keeper: &mut K,
+    names: HashNames<'_>,
+    question: &Question,
+) -> Result<Vec<u8>, ProgramFault>
+    requires { K.fault_count keeper.old ≡ 0 }
+    ensures shown { IfOk result (λ bytes. K.sound keeper.new
+        → ShowsAs names.entry.prefix.now names.entry.suffix.now question.now bytes.items (K.content keeper.old).state
+        (K.content keeper.old).hour) }
+    ensures fault { IfErr result (λ why. IsStoreFault why ⊎ (K.sound keeper.new
+        → HidesAs question.now why (K.content keeper.old).state)) }
+    ensures sound { K.sound keeper.new → K.sound keeper.old }
+    ensures content { K.sound keeper.new → K.content keeper.new ≡ K.content keeper.old }
+{
+    let hour = keeper.hour()?;
+    keeper.load()?;
+    shown_bytes(alloc, keeper.state(), hour, names, question)
+}
+
+/// What is shown of the rings that a keeper holds, and the keeper as it is then.
+fn told_bytes<K: Keeper<RingMachine>>(
+    alloc: Global,
+    keeper: K,
+    names: HashNames<'_>,
+    question: &Question,
+) -> (Result<Vec<u8>, ProgramFault>, K)
+    requires { K.fault_count keeper ≡ 0 }
+    ensures shown { IfOk result.0 (λ bytes. IsAsked K.Keeper (λ k. k ≡ keeper) (λ k. k ≡ result.1)
+        (ShowsAs names.entry.prefix.now names.entry.suffix.now question.now bytes.items)) }
+    ensures fault { IfErr result.0 (λ why. IsStoreFault why ⊎ IsAsked K.Keeper (λ k. k ≡ keeper) (λ k. k ≡ result.1)
+        (λ rings hour. HidesAs question.now why rings)) }
+{
+    let mut keeper = keeper;
+    let bytes = kept_bytes(alloc, &mut keeper, names, question);
+    (bytes, keeper)
+}
 
 /// What is shown of the rings in a store, which is closed then.
 fn store_bytes<S: Stores>(
     rt: &HostRuntime,
     file: &str,
-    question: &FileQuestion<'_>,
+    names: HashNames<'_>,
+    question: &Question,
     stores: S,
 ) -> Result<Vec<u8>, ProgramFault>
     ensures shown { IfOk result (λ bytes. IsAsked S.Kept.Keeper S.begins IsAny
-        (λ rings. ShowsOf rings question.now bytes.items)) }
+        (ShowsAs names.entry.prefix.now names.entry.suffix.now question.now bytes.items)) }
     ensures fault { IfErr result (λ why. IsStoreFault why ⊎ IsAsked S.Kept.Keeper S.begins IsAny
-        (λ rings. HidesOf rings question.now why)) }
+        (λ rings hour. HidesAs question.now why rings)) }
 {
-    let keeper = match stores.open(rt, file) {
-        Ok(keeper) => keeper,
-        Err(fault) => return Err(fault),
-    };
-    let (bytes, keeper) = told_bytes(rt.alloc(), keeper, question);
+    let keeper = stores.open(rt, file)?;
+    let (bytes, keeper) = told_bytes(rt.alloc(), keeper, names, question);
     let closed = S::close(keeper);
-    match bytes {
-        Ok(bytes) => match closed {
-            Ok(()) => Ok(bytes),
-            Err(fault) => Err(fault),
-        },
-        Err(fault) => Err(fault),
-    }
+    let bytes = bytes?;
+    closed?;
+    Ok(bytes)
 }
 
-/// Shows what is asked for of the store.
+/// ShowsRead what is asked for of the store.
 pub(crate) fn show<S: Stores, W: Write>(
     rt: &HostRuntime,
     file: &str,
-    question: &FileQuestion<'_>,
+    names: HashNames<'_>,
+    question: &Question,
     writer: &mut CountedWriter<W>,
     stores: S,
 ) -> Result<(), ProgramFault>
-    ensures shown { OnOk result (Shows S.Kept.Keeper S.begins IsAny W.contents writer.old writer.new
-        question.now) }
+    ensures shown { OnOk result (ShowsRead S.Kept.Keeper S.begins IsAny W.contents writer.old writer.new
+        names.entry.prefix.now names.entry.suffix.now question.now) }
     ensures fault { IfErr result (FailsToShow S.Kept.Keeper S.begins IsAny W.contents writer.old
-        writer.new question.now) }
+        writer.new names.entry.prefix.now names.entry.suffix.now question.now) }
 {
-    let bytes = match store_bytes(rt, file, question, stores) {
-        Ok(bytes) => bytes,
-        Err(fault) => return Err(fault),
-    };
-    match write_text(writer, bytes.as_slice()) {
-        Ok(()) => Ok(()),
-        Err(fault) => Err(ProgramFault::from(fault)),
-    }
+    let bytes = store_bytes(rt, file, names, question, stores)?;
+    Ok(write_text(writer, bytes.as_slice())?)
 }

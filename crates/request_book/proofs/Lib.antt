@@ -3,3 +3,4 @@ pub mod Calls
 pub mod Once
 pub mod Runs
 pub mod Places
+pub mod Fronts

@@ -12,6 +12,11 @@ pub data Call (C R : Type 0) : Type 0 where
   Deliver : Delivery C → Result R Fault → Call C R
   Load : Result (Unit {0}) Fault → Call C R
 
+-- the answer of the call that makes the state ready, without the hour that it tells
+abbrev pub ready : Result ℕ Fault → Result (Unit {0}) Fault
+ready (Ok hour) = Ok tt
+ready (Err fault) = Err fault
+
 -- the deliveries of a list, each with its answer
 abbrev pub calls_of : {C R : Type 0} → List (Delivery C) → List (Result R Fault) → List (Call C R)
 calls_of deliveries answers = map (λ served. Deliver served.0 served.1) (zip deliveries answers)

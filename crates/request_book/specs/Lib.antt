@@ -7,3 +7,4 @@ pub mod Made
 pub mod Once
 pub mod Run
 pub mod Inner
+pub mod Front

@@ -3,6 +3,7 @@ ghost use Rattle.std.specs.Prelude.{◌≡◌, ◌≤◌, ◌<◌, ◌↔◌, �
 ghost use Rattle.std.specs.Prelude.{OnErr, OnOk, length, nat_lt};
 ghost use Rattle.request_book.specs.Book.{Parts};
 ghost use Rattle.request_book.specs.Call.{ClosesAfterFault, Deliver, FaultsTold, Load, calls_of};
+ghost use Rattle.request_book.specs.Call.{ready};
 ghost use Rattle.request_book.specs.Called.{Called};
 ghost use Rattle.request_book.specs.Content.{entry_of};
 ghost use Rattle.request_book.specs.Inner.Deciding.{MayDecide};
@@ -214,18 +215,21 @@ impl<M: Machine, K: Keeper<M>> Book<M, K> {
         Ok(answers)
     }
 
-    /// Makes the state ready for `state`. The content stays. `Closed` after an earlier
-    /// `StoreFault`; a `StoreFault` of this call closes the book; `NoMemory` leaves it open.
+    /// Makes the state ready for `state`, and tells the greatest hour that was decided at. The
+    /// content stays. `Closed` after an earlier `StoreFault`; a `StoreFault` of this call closes
+    /// the book; `NoMemory` leaves it open.
     #[tactic(auto, using(crate::proofs::Runs::run_one))]
-    pub fn load(&mut self) -> Result<(), Fault>
+    pub fn load(&mut self) -> Result<Hour, Fault>
+        ensures hour { K.sound self.new.keeper →
+            IfOk result (λ hour. hour ≡ (K.content self.old.keeper).hour) }
         ensures loaded { OnOk result (K.is_loaded self.new.keeper ×
             (K.fault_count self.new.keeper ≡ 0)) }
         ensures run { K.sound self.new.keeper →
             Run (M.step self.old.machine) (K.limit self.old.keeper) (nat_lt 0 (K.fault_count self.old.keeper))
-            (K.content self.old.keeper) (Load result ∷ []) (K.content self.new.keeper) }
+            (K.content self.old.keeper) (Load (ready result) ∷ []) (K.content self.new.keeper) }
         ensures made { Makes M.step K.content K.sound K.limit K.fault_count K.may_leave self.old
             self.new
-            (Load result) }
+            (Load (ready result)) }
         ensures content { K.sound self.new.keeper → K.content self.new.keeper ≡ K.content
             self.old.keeper }
         ensures left { K.sound self.new.keeper → K.fault_count self.old.keeper ≡ 0 →
@@ -234,8 +238,9 @@ impl<M: Machine, K: Keeper<M>> Book<M, K> {
         if self.is_closed() {
             return Err(Fault::Closed);
         }
+        let hour = self.keeper.hour()?;
         self.keeper.load()?;
-        Ok(())
+        Ok(hour)
     }
 
     /// The state. The last call that may change the book was a `load` that succeeded.

@@ -1,10 +1,14 @@
 //! What follows from the definitions alone.
-ghost use Rattle.std.specs.Prelude.{◌++◌, ◌∷◌, ◌||◌, [], Bool, List, is_some, ℕ};
+ghost use Rattle.std.specs.Prelude.{◌++◌, ◌∷◌, ◌||◌, [], Bool, List, Option, is_some, ℕ};
+ghost use Rattle.std.specs.Option.{option_to_list};
+ghost use Rattle.request_book.specs.Book.{Parts};
 ghost use Rattle.request_book.specs.Call.{Call, failed};
 ghost use Rattle.request_book.specs.Called.{Called};
 ghost use Rattle.request_book.specs.Content.{Content};
+ghost use Rattle.request_book.specs.Front.{CallMade, CallsMade};
 ghost use Rattle.request_book.specs.Run.{AnswersAlike, Run};
 
+use crate::keeper::Keeper;
 use crate::machine::Machine;
 
 /// A run goes on by one call, of a delivery or of a read: so whatever is called between, the
@@ -23,4 +27,15 @@ pub fn replies_are_alike<M: Machine>()
     ensures { (machine : M) (limit : ℕ) (closed : Bool) (old new : Content M.State M.Command
         M.Reply) (calls : List (Call M.Command M.Reply)) → Run (M.step machine) limit closed old
         calls new → AnswersAlike calls }
+{}
+
+/// No call leaves the book as it is, and the calls so far and one more are one run: so all calls of
+/// a front are, whatever asks for them.
+pub fn calls_go_on<M: Machine, K: Keeper<M>>()
+    ensures none { (book : Parts M K) → CallsMade M.step K.content K.sound K.limit K.fault_count
+        book book [] }
+    ensures more { (start mid new : Parts M K) (calls : List (Call M.Command M.Reply))
+        (asked : Option (Call M.Command M.Reply))
+        → CallsMade M.step K.content K.sound K.limit K.fault_count start mid calls → CallMade M.step K.content K.sound K.limit K.fault_count mid new asked
+        → CallsMade M.step K.content K.sound K.limit K.fault_count start new (calls ++ option_to_list asked) }
 {}

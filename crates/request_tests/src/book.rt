@@ -87,7 +87,7 @@ fn other_answer<K: Keeper<Counter>>(
 /// Whether a book's count is this.
 fn has_count<K: Keeper<Counter>>(book: &mut Book<Counter, K>, count: u32) -> bool {
     match book.load() {
-        Ok(()) => *book.state() == count,
+        Ok(_hour) => *book.state() == count,
         Err(_) => false,
     }
 }

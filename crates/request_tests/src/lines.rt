@@ -7,7 +7,7 @@ use std::cell::Cell;
 use std::io::{self, ErrorKind, Read, Write};
 use std::str;
 use std::test::Fail;
-use test_streams::{Giver, Taker};
+use test_fixtures::{Giver, Taker};
 
 /// Answers a line with itself, loses the answer to `lose`, and counts the lines that it hears of.
 struct Echo;

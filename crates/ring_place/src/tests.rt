@@ -545,7 +545,8 @@ fn calm_rows(alloc: Global, ring: &Ring) -> Result<usize, Fail> {
     let room = Room::of(alloc, &ring, &wants)?;
     let mut count = 0;
     for row in ring.seats().chunks(3) {
-        count += usize::from(room.has_some_room() && is_calm_row(&room, &ring, row));
+        let is_calm = room.has_some_room() && is_calm_row(&room, &ring, row);
+        count = usize::from(is_calm).saturating_add(count);
     }
     Ok(count)
 }

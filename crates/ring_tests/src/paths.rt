@@ -3,7 +3,7 @@
 mod lookups;
 
 use md5::{Digest, Md5};
-use path_lookup::{Path, PathFault, hash_path, partition_of};
+use path_lookup::{HashNames, Path, PathFault, hash_path, partition_of};
 use ring_words::Power;
 use std::alloc::{AllocError, Global};
 use std::test::Fail;
@@ -24,12 +24,12 @@ fn counting_hashes(alloc: Global, path: &Path, is_behind: bool) -> Result<Vec<u8
     let mut hashes = Vec::new(alloc);
     let mut text = Vec::new(alloc);
     for byte in 0..131u8 {
-        let hash = if is_behind {
-            hash_path(&text, path, b"")
+        let (prefix, suffix): (&[u8], &[u8]) = if is_behind {
+            (&text, b"")
         } else {
-            hash_path(b"", path, &text)
+            (b"", &text)
         };
-        hashes.extend_from_slice(&hash)?;
+        hashes.extend_from_slice(&hash_path(HashNames { prefix, suffix }, path))?;
         text.push(byte)?;
     }
     Ok(hashes)
@@ -145,7 +145,7 @@ fn has_hash(
     hash: &[u8; 16],
 ) -> Result<bool, PathFault> {
     let path = Path::new(alloc, names.0, names.1, names.2)?;
-    Ok(hash_path(prefix, &path, suffix) == *hash)
+    Ok(hash_path(HashNames { prefix, suffix }, &path) == *hash)
 }
 
 #[test]

@@ -5,7 +5,7 @@ use crate::fixtures::{
     RingRow, WITHOUT_DEVICES, device, ring, spelled_ring,
 };
 use ring_model::Ring;
-use ring_tables::{balance_table, device_table};
+use ring_reads::{balance_table, device_table};
 use ring_words::{Address, Device, DeviceName, Port};
 use std::alloc::Global;
 use std::test::Fail;

@@ -8,19 +8,19 @@ use Rattle.std.specs.FinMap.{get-remove, get-from_entries, same_map, is_sorted, 
 use Rattle.std.specs.FinMap.Entries.{below_all}
 use Rattle.std.proofs.lemmas.Bool.{cases_Bool, and_parts}
 use Rattle.std.proofs.lemmas.Cmp.{tied_itself}
-use Rattle.store_contents.specs.Contents.{Contents, device_key, ring_of, device_of, part_of}
-use Rattle.store_contents.specs.Contents.{published_of}
-use Rattle.store_contents.specs.Changes.{with_change, changed_all}
-use Rattle.store_contents.specs.declared.change.RowChange.{RowChange}
-use Rattle.store_contents.specs.declared.change.RowChange.TheVariants.{DropDevice, PutRing}
-use Rattle.store_contents.specs.declared.change.RowChange.TheVariants.{AddDevice, PutPart}
-use Rattle.store_contents.specs.declared.change.RowChange.TheVariants.{PutPublished}
-use Rattle.store_contents.specs.declared.rows.DeviceKey.{DeviceKey}
-use Rattle.store_contents.specs.declared.rows.DeviceRow.{DeviceRow}
-use Rattle.store_contents.specs.declared.rows.RingRow.{RingRow}
-use Rattle.store_contents.specs.declared.rows.PartRow.{PartRow}
-use Rattle.store_contents.specs.declared.rows.PublishedRow.{PublishedRow}
-use Rattle.store_contents.proofs.Keys.{tied}
+use Rattle.store_model.specs.Contents.{Contents, device_key, ring_of, device_of, part_of}
+use Rattle.store_model.specs.Contents.{published_of}
+use Rattle.store_model.specs.Changes.{with_change, changed_all}
+use Rattle.store_model.specs.declared.change.RowChange.{RowChange}
+use Rattle.store_model.specs.declared.change.RowChange.TheVariants.{DropDevice, PutRing}
+use Rattle.store_model.specs.declared.change.RowChange.TheVariants.{AddDevice, PutPart}
+use Rattle.store_model.specs.declared.change.RowChange.TheVariants.{PutPublished}
+use Rattle.store_model.specs.declared.rows.DeviceKey.{DeviceKey}
+use Rattle.store_model.specs.declared.rows.DeviceRow.{DeviceRow}
+use Rattle.store_model.specs.declared.rows.RingRow.{RingRow}
+use Rattle.store_model.specs.declared.rows.PartRow.{PartRow}
+use Rattle.store_model.specs.declared.rows.PublishedRow.{PublishedRow}
+use Rattle.store_model.proofs.Keys.{tied}
 use Rattle.store_rows.specs.Differences.{has_same, new_entries}
 use Rattle.store_rows.specs.Inner.Lacking.{lacking}
 use Rattle.store_rows.proofs.Maps.{entries_of}

@@ -12,8 +12,8 @@ use Rattle.std.proofs.lemmas.Bool.{cases_Bool}
 use Rattle.std.proofs.lemmas.Slice.Eq.{bytes_eq-Decides}
 use Rattle.ring_model.specs.Ring.{RingRecord}
 use Rattle.ring_model.specs.Rings.{ring_at}
-use Rattle.store_contents.specs.Entries.{NameNumber, name_number_cmp}
-use Rattle.store_contents.proofs.Keys.{name_number_exact, tied}
+use Rattle.store_model.specs.Entries.{NameNumber, name_number_cmp}
+use Rattle.store_model.proofs.Keys.{name_number_exact, tied}
 use Rattle.store_rows.specs.RingRows.{NamedRings}
 use Rattle.store_rows.specs.Differences.{has_same}
 use Rattle.store_rows.specs.Inner.Lacking.{lacking, rows_at}

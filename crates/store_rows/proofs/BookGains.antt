@@ -15,9 +15,9 @@ use Rattle.std.proofs.lemmas.Bool.{cases_Bool}
 use Rattle.ring_words.specs.declared.request.Key.{Key}
 use Rattle.request_book.specs.Content.{entry_of, same_key}
 use Rattle.request_book.specs.Run.{last_hour}
-use Rattle.store_contents.specs.Entries as rows
-use Rattle.store_contents.specs.Contents.{Contents, with_meta_row, with_request}
-use Rattle.store_contents.proofs.Keys.{name_number_total, name_number_exact}
+use Rattle.store_model.specs.Entries as rows
+use Rattle.store_model.specs.Contents.{Contents, with_meta_row, with_request}
+use Rattle.store_model.proofs.Keys.{name_number_total, name_number_exact}
 use Rattle.store_rows.specs.Stands.{DecidedRequest, RingContent, IsDecision, IsHoldable}
 use Rattle.store_rows.specs.Stands.{contents_for, gained, key_of_request, meta_value, request_entry}
 use Rattle.store_rows.specs.Stands.{request_entries}

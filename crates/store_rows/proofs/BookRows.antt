@@ -20,11 +20,11 @@ use Rattle.std.proofs.lemmas.List.Quantifiers.{all_pairs_push}
 use Rattle.std.proofs.lemmas.List.Sorted.{IsPermutation-map, IsPermutation-sym}
 use Rattle.request_book.specs.Content.{same_key}
 use Rattle.request_book.specs.Run.{last_hour}
-use Rattle.store_contents.specs.Entries as rows
-use Rattle.store_contents.specs.Contents.{request_of}
-use Rattle.store_contents.specs.declared.rows.RequestRow.{RequestRow}
-use Rattle.store_contents.proofs.Keys.{name_number_total, name_number_exact}
-use Rattle.store_contents.proofs.Permuted.{entries_are, keys_stay}
+use Rattle.store_model.specs.Entries as rows
+use Rattle.store_model.specs.Contents.{request_of}
+use Rattle.store_model.specs.declared.rows.RequestRow.{RequestRow}
+use Rattle.store_model.proofs.Keys.{name_number_total, name_number_exact}
+use Rattle.store_model.proofs.Permuted.{entries_are, keys_stay}
 use Rattle.store_rows.specs.Stands.{DecidedRequest, IsBook, IsDecision, key_of_request}
 use Rattle.store_rows.specs.Stands.{request_entry, request_entries}
 use Rattle.store_rows.specs.Inner.Books.{IsSaid, SaysRequest}

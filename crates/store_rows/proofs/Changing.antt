@@ -20,22 +20,22 @@ use Rattle.std.proofs.lemmas.Grind.{flat_map-append}
 use Rattle.ring_model.specs.Ring.{RingRecord, published_at}
 use Rattle.ring_model.specs.Rings.{ring_at}
 use Rattle.ring_model.specs.Valid.{IsValid}
-use Rattle.store_contents.specs.Entries as rows
-use Rattle.store_contents.specs.Entries.{NameNumber, name_cmp, name_number_cmp}
-use Rattle.store_contents.specs.Contents.{Contents, device_key, ring_of, device_of, part_of}
-use Rattle.store_contents.specs.Contents.{published_of}
-use Rattle.store_contents.specs.Changes.{changed_all}
-use Rattle.store_contents.specs.declared.change.RowChange.{RowChange}
-use Rattle.store_contents.specs.declared.change.RowChange.TheVariants.{DropDevice, PutRing}
-use Rattle.store_contents.specs.declared.change.RowChange.TheVariants.{AddDevice, PutPart}
-use Rattle.store_contents.specs.declared.change.RowChange.TheVariants.{PutPublished}
-use Rattle.store_contents.specs.declared.rows.DeviceKey.{DeviceKey}
-use Rattle.store_contents.specs.declared.rows.DeviceRow.{DeviceRow}
-use Rattle.store_contents.specs.declared.rows.RingRow.{RingRow}
-use Rattle.store_contents.specs.declared.rows.PartRow.{PartRow}
-use Rattle.store_contents.specs.declared.rows.PublishedRow.{PublishedRow}
-use Rattle.store_contents.proofs.Keys.{name_total, name_exact, name_number_total, name_number_exact}
-use Rattle.store_contents.proofs.Keys.{tied}
+use Rattle.store_model.specs.Entries as rows
+use Rattle.store_model.specs.Entries.{NameNumber, name_cmp, name_number_cmp}
+use Rattle.store_model.specs.Contents.{Contents, device_key, ring_of, device_of, part_of}
+use Rattle.store_model.specs.Contents.{published_of}
+use Rattle.store_model.specs.Changes.{changed_all}
+use Rattle.store_model.specs.declared.change.RowChange.{RowChange}
+use Rattle.store_model.specs.declared.change.RowChange.TheVariants.{DropDevice, PutRing}
+use Rattle.store_model.specs.declared.change.RowChange.TheVariants.{AddDevice, PutPart}
+use Rattle.store_model.specs.declared.change.RowChange.TheVariants.{PutPublished}
+use Rattle.store_model.specs.declared.rows.DeviceKey.{DeviceKey}
+use Rattle.store_model.specs.declared.rows.DeviceRow.{DeviceRow}
+use Rattle.store_model.specs.declared.rows.RingRow.{RingRow}
+use Rattle.store_model.specs.declared.rows.PartRow.{PartRow}
+use Rattle.store_model.specs.declared.rows.PublishedRow.{PublishedRow}
+use Rattle.store_model.proofs.Keys.{name_total, name_exact, name_number_total, name_number_exact}
+use Rattle.store_model.proofs.Keys.{tied}
 use Rattle.store_rows.specs.RingRows.{NamedRings, ring_entries, device_entries, part_entry}
 use Rattle.store_rows.specs.RingRows.{part_entries_of, part_entries, published_entry}
 use Rattle.store_rows.specs.RingRows.{published_entries}

@@ -17,8 +17,8 @@ use Rattle.ring_model.specs.Ring.{RingRecord}
 use Rattle.ring_model.specs.Rings.{AreByName, ring_at, seen}
 use Rattle.ring_model.specs.declared.ring.Ring.{Ring}
 use Rattle.ring_words.specs.declared.device.Device.{Device}
-use Rattle.store_contents.specs.Entries as rows
-use Rattle.store_contents.specs.Entries.{NameNumber, name_number_cmp}
+use Rattle.store_model.specs.Entries as rows
+use Rattle.store_model.specs.Entries.{NameNumber, name_number_cmp}
 use Rattle.store_rows.specs.RingRows.{NamedRings, device_entry, device_entries}
 use Rattle.store_rows.specs.Differences.{gone_entries}
 use Rattle.store_rows.specs.Inner.Lacking.{device_in, gone, rows_at}

@@ -7,14 +7,14 @@ use Rattle.std.specs.Cmp.{int_cmp_total}
 use Rattle.std.proofs.Common.{arith, Vec}
 use Rattle.std.specs.declared.alloc.Global.{Global}
 use Rattle.std.proofs.lemmas.Bool.Decides.{Decides-eqb}
-use Rattle.store_contents.specs.Entries.{name_number_cmp}
-use Rattle.store_contents.specs.Contents.{Contents, meta_of, part_of}
-use Rattle.store_contents.specs.Changes.{prepared}
-use Rattle.store_contents.specs.declared.change.RowChange.{RowChange}
-use Rattle.store_contents.specs.declared.change.RowChange.TheVariants.{PutPart}
-use Rattle.store_contents.specs.declared.rows.PartRow.{PartRow}
-use Rattle.store_contents.proofs.Keys.{name_total, name_exact, name_number_total, name_number_exact}
-use Rattle.store_contents.proofs.Keys.{seat_total, seat_exact}
+use Rattle.store_model.specs.Entries.{name_number_cmp}
+use Rattle.store_model.specs.Contents.{Contents, meta_of, part_of}
+use Rattle.store_model.specs.Changes.{prepared}
+use Rattle.store_model.specs.declared.change.RowChange.{RowChange}
+use Rattle.store_model.specs.declared.change.RowChange.TheVariants.{PutPart}
+use Rattle.store_model.specs.declared.rows.PartRow.{PartRow}
+use Rattle.store_model.proofs.Keys.{name_total, name_exact, name_number_total, name_number_exact}
+use Rattle.store_model.proofs.Keys.{seat_total, seat_exact}
 use Rattle.store_rows.specs.RingRows.{NamedRings, part_entries}
 use Rattle.store_rows.specs.Stands.{AreRings, DecidedRequest, RingContent, contents_for}
 use Rattle.store_rows.specs.Stands.{first_contents_for, meta_value, request_entries}

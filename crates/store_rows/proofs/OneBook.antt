@@ -13,8 +13,8 @@ use Rattle.ring_words.specs.declared.command.Reply.{Reply}
 use Rattle.ring_messages.specs.Commands.{canonical, IsProperCommand}
 use Rattle.ring_messages.specs.Replies.{reply_text, IsProperReply}
 use Rattle.request_book.specs.Content.{same_key}
-use Rattle.store_contents.specs.Entries as rows
-use Rattle.store_contents.proofs.Keys.{name_number_total, name_number_exact, tied}
+use Rattle.store_model.specs.Entries as rows
+use Rattle.store_model.proofs.Keys.{name_number_total, name_number_exact, tied}
 use Rattle.store_rows.specs.Stands.{DecidedRequest, IsBook, IsDecision, key_of_request}
 use Rattle.store_rows.specs.Stands.{request_entry, request_entries}
 use Rattle.store_rows.proofs.BookGains.{pairs-head, pairs-tail}

@@ -11,9 +11,9 @@ use Rattle.ring_words.specs.declared.device.Device.{Device}
 use Rattle.ring_words.proofs.Spelled.{one_address}
 use Rattle.ring_messages.specs.Fields.{IsProperRow}
 use Rattle.ring_model.specs.Ring.{RingRecord}
-use Rattle.store_contents.specs.Entries as rows
-use Rattle.store_contents.specs.Entries.{name_cmp, NameNumber}
-use Rattle.store_contents.proofs.Keys.{name_total}
+use Rattle.store_model.specs.Entries as rows
+use Rattle.store_model.specs.Entries.{name_cmp, NameNumber}
+use Rattle.store_model.proofs.Keys.{name_total}
 use Rattle.store_rows.specs.RingRows.{NamedRings, ring_entry, ring_entries, device_entry}
 use Rattle.store_rows.specs.RingRows.{device_entries, published_entry, published_entries}
 use Rattle.store_rows.specs.RingRows.{part_entry, part_entries_of, part_entries, two_bytes}

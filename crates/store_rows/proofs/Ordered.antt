@@ -15,8 +15,8 @@ use Rattle.std.proofs.lemmas.Cmp.{tied_itself}
 use Rattle.std.proofs.lemmas.List.Elements.{recursion_from_All}
 use Rattle.ring_model.specs.Ring.{RingRecord}
 use Rattle.ring_model.specs.Rings.{AreByName, is_before}
-use Rattle.store_contents.specs.Entries.{name_cmp, NameNumber, name_number_cmp}
-use Rattle.store_contents.proofs.Keys.{name_total}
+use Rattle.store_model.specs.Entries.{name_cmp, NameNumber, name_number_cmp}
+use Rattle.store_model.proofs.Keys.{name_total}
 use Rattle.store_rows.specs.RingRows.{NamedRings, ring_entries, device_entry, device_entries}
 use Rattle.store_rows.specs.RingRows.{published_entry, published_entries, part_entry}
 use Rattle.store_rows.specs.RingRows.{part_entries_of, part_entries}

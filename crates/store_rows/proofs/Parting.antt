@@ -14,11 +14,11 @@ use Rattle.std.specs.List.{AllByRecursion, enumerate_from, flat_map}
 use Rattle.std.proofs.lemmas.Cmp.{tied_itself}
 use Rattle.ring_model.specs.Ring.{RingRecord}
 use Rattle.ring_model.specs.Rings.{AreByName, is_before, seen, with_ring}
-use Rattle.store_contents.specs.Contents.{ring_of}
-use Rattle.store_contents.specs.Entries as rows
-use Rattle.store_contents.specs.declared.rows.RingRow.{RingRow}
-use Rattle.store_contents.specs.Entries.{name_cmp}
-use Rattle.store_contents.proofs.Keys.{name_total}
+use Rattle.store_model.specs.Contents.{ring_of}
+use Rattle.store_model.specs.Entries as rows
+use Rattle.store_model.specs.declared.rows.RingRow.{RingRow}
+use Rattle.store_model.specs.Entries.{name_cmp}
+use Rattle.store_model.proofs.Keys.{name_total}
 use Rattle.store_rows.specs.RingRows.{NamedRings, device_entry, part_entries_of, published_entry}
 use Rattle.store_rows.specs.RingRows.{ring_entries, ring_entry}
 use Rattle.store_rows.specs.Stands.{IsNamedRing}

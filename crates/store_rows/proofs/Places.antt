@@ -8,11 +8,11 @@ use Rattle.std.specs.List.{AllByRecursion, enumerate_from, flat_map}
 use Rattle.ring_words.specs.Spelling.{Reads}
 use Rattle.ring_words.specs.declared.spelling.SpellingFault.{SpellingFault}
 use Rattle.ring_words.specs.declared.spelling.SpellingFault.TheVariants.{Bad, NoMemory}
-use Rattle.store_contents.specs.Contents.{moved_of, part_of}
-use Rattle.store_contents.specs.Entries as rows
-use Rattle.store_contents.specs.Entries.{NameNumber}
-use Rattle.store_contents.specs.declared.rows.PartRow.{PartRow}
-use Rattle.store_contents.specs.declared.rows.MovedRow.{MovedRow}
+use Rattle.store_model.specs.Contents.{moved_of, part_of}
+use Rattle.store_model.specs.Entries as rows
+use Rattle.store_model.specs.Entries.{NameNumber}
+use Rattle.store_model.specs.declared.rows.PartRow.{PartRow}
+use Rattle.store_model.specs.declared.rows.MovedRow.{MovedRow}
 use Rattle.std.proofs.Math.Nat.{suc-mul, mul-le-mul_right}
 use Rattle.std.proofs.Math.Seq.{take-add}
 use Rattle.std.proofs.lemmas.List.{length-drop, length-map, take_all}

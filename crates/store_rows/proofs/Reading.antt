@@ -13,9 +13,9 @@ use Rattle.ring_words.specs.Texts.{address_text, address_limit}
 use Rattle.ring_words.specs.declared.device.Device.{Device}
 use Rattle.ring_words.proofs.Spelled.{one_address}
 use Rattle.ring_messages.specs.Fields.{IsProperRow}
-use Rattle.store_contents.specs.Contents.{device_of}
-use Rattle.store_contents.specs.Entries as rows
-use Rattle.store_contents.specs.declared.rows.DeviceRow.{DeviceRow}
+use Rattle.store_model.specs.Contents.{device_of}
+use Rattle.store_model.specs.Entries as rows
+use Rattle.store_model.specs.declared.rows.DeviceRow.{DeviceRow}
 use Rattle.store_rows.specs.RingRows.{device_entry, mark_number}
 use Rattle.store_rows.proofs.OneRings.{one_mark}
 use Rattle.store_rows.proofs.Steps.{map_append}

@@ -18,8 +18,8 @@ use Rattle.ring_messages.specs.Replies.{reply_text, IsProperReply}
 use Rattle.request_book.specs.Content.{entry_of, same_key}
 use Rattle.request_book.specs.Keeper.{IsFound}
 use Rattle.request_book.specs.declared.keeper.Found.TheVariants.{New, Same, Other}
-use Rattle.store_contents.specs.Entries as rows
-use Rattle.store_contents.proofs.Keys.{name_number_total, name_number_exact, tied}
+use Rattle.store_model.specs.Entries as rows
+use Rattle.store_model.proofs.Keys.{name_number_total, name_number_exact, tied}
 use Rattle.store_rows.specs.Stands.{DecidedRequest, RingContent, IsDecision, IsHoldable}
 use Rattle.store_rows.specs.Stands.{key_of_request, request_entry, request_entries}
 

@@ -10,12 +10,12 @@ use Rattle.ring_model.specs.Ring.{RingRecord, has_device}
 use Rattle.ring_model.specs.Valid.{IsValid}
 use Rattle.ring_words.specs.declared.device.Device.{Device}
 use Rattle.ring_messages.specs.Fields.{IsProperRow}
-use Rattle.store_contents.specs.Contents.{device_of, published_of, ring_of, seat_of}
-use Rattle.store_contents.specs.Entries as rows
-use Rattle.store_contents.specs.declared.rows.DeviceRow.{DeviceRow}
-use Rattle.store_contents.specs.declared.rows.PublishedRow.{PublishedRow}
-use Rattle.store_contents.specs.declared.rows.RingRow.{RingRow}
-use Rattle.store_contents.specs.declared.rows.SeatRow.{SeatRow}
+use Rattle.store_model.specs.Contents.{device_of, published_of, ring_of, seat_of}
+use Rattle.store_model.specs.Entries as rows
+use Rattle.store_model.specs.declared.rows.DeviceRow.{DeviceRow}
+use Rattle.store_model.specs.declared.rows.PublishedRow.{PublishedRow}
+use Rattle.store_model.specs.declared.rows.RingRow.{RingRow}
+use Rattle.store_model.specs.declared.rows.SeatRow.{SeatRow}
 use Rattle.store_rows.specs.RingRows.{device_entry, published_entry, ring_entry}
 use Rattle.store_rows.specs.FirstRows.{seat_entry}
 use Rattle.store_rows.specs.declared.naming.RingTables.{RingTables}

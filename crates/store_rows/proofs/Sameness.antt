@@ -16,7 +16,7 @@ use Rattle.std.proofs.lemmas.Slice.Eq.{bytes_eq-Decides}
 use Rattle.ring_words.specs.Texts.{address_limit}
 use Rattle.ring_words.specs.declared.device.Device.{Device}
 use Rattle.ring_words.proofs.Spelled.{one_address}
-use Rattle.store_contents.specs.Entries as rows
+use Rattle.store_model.specs.Entries as rows
 use Rattle.store_rows.specs.RingRows.{two_bytes, hour_number}
 use Rattle.store_rows.specs.Differences.{is_same_device, is_same_part, has_same}
 use Rattle.store_rows.specs.Inner.Lacking.{device_value, part_value}

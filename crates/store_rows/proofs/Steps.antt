@@ -22,9 +22,9 @@ use Rattle.std.proofs.lemmas.List.FromFn.{length-enumerate_from, get_or-enumerat
 use Rattle.std.proofs.lemmas.List.Elements.{filter-append, AllZip-push}
 use Rattle.ring_model.specs.Ring.{RingRecord}
 use Rattle.ring_words.specs.declared.device.Device.{Device}
-use Rattle.store_contents.specs.Entries as rows
-use Rattle.store_contents.specs.Entries.{NameNumber, name_cmp, name_number_cmp}
-use Rattle.store_contents.proofs.Keys.{name_number_exact, name_number_total, tied}
+use Rattle.store_model.specs.Entries as rows
+use Rattle.store_model.specs.Entries.{NameNumber, name_cmp, name_number_cmp}
+use Rattle.store_model.proofs.Keys.{name_number_exact, name_number_total, tied}
 use Rattle.std.specs.declared.rc.Rc.{Rc}
 use Rattle.std.specs.declared.alloc.Global.{Global}
 use Rattle.ring_model.specs.declared.ring.Ring.{Ring}

@@ -21,9 +21,9 @@ use Rattle.ring_model.specs.Ring.{RingRecord}
 use Rattle.ring_words.specs.Rows.{is_same_row}
 use Rattle.ring_words.specs.declared.device.Device.{Device}
 use Rattle.ring_words.proofs.AlikeRows.{one_row}
-use Rattle.store_contents.specs.Entries as rows
-use Rattle.store_contents.specs.Entries.{NameNumber, name_number_cmp}
-use Rattle.store_contents.proofs.Keys.{name_number_exact, name_number_total, tied}
+use Rattle.store_model.specs.Entries as rows
+use Rattle.store_model.specs.Entries.{NameNumber, name_number_cmp}
+use Rattle.store_model.proofs.Keys.{name_number_exact, name_number_total, tied}
 use Rattle.store_rows.specs.Differences.{has_same, is_same_device, is_same_part}
 use Rattle.store_rows.specs.RingRows.{device_entry, part_entry, part_entries_of}
 use Rattle.store_rows.specs.Inner.Lacking.{device_in, device_value, lacking, rows_at}

@@ -8,14 +8,14 @@ use Rattle.std.specs.declared.cmp.Ordering.{Ordering}
 use Rattle.std.specs.FinMap.{FinMap, entries, get, contains_key}
 use Rattle.ring_model.specs.Ring.{RingRecord, published_at}
 use Rattle.ring_model.specs.Rings.{ring_at}
-use Rattle.store_contents.specs.declared.change.RowChange.{RowChange}
-use Rattle.store_contents.specs.declared.change.RowChange.TheVariants.{DropDevice, PutRing}
-use Rattle.store_contents.specs.declared.change.RowChange.TheVariants.{AddDevice, PutPart}
-use Rattle.store_contents.specs.declared.change.RowChange.TheVariants.{PutPublished}
-use Rattle.store_contents.specs.Entries as rows
-use Rattle.store_contents.specs.Contents.{Contents, device_key, ring_of, device_of, part_of}
-use Rattle.store_contents.specs.Contents.{published_of}
-use Rattle.store_contents.specs.Changes.{changed_all}
+use Rattle.store_model.specs.declared.change.RowChange.{RowChange}
+use Rattle.store_model.specs.declared.change.RowChange.TheVariants.{DropDevice, PutRing}
+use Rattle.store_model.specs.declared.change.RowChange.TheVariants.{AddDevice, PutPart}
+use Rattle.store_model.specs.declared.change.RowChange.TheVariants.{PutPublished}
+use Rattle.store_model.specs.Entries as rows
+use Rattle.store_model.specs.Contents.{Contents, device_key, ring_of, device_of, part_of}
+use Rattle.store_model.specs.Contents.{published_of}
+use Rattle.store_model.specs.Changes.{changed_all}
 use Rattle.store_rows.specs.RingRows.{NamedRings}
 use Rattle.store_rows.specs.Stands.{RingContent, contents_for}
 

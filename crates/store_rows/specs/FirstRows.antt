@@ -1,7 +1,7 @@
 -- Which rows stand for seats and moves in a store of schema 1, which had a row for each seat.
 use Rattle.std.specs.Prelude.{ℕ, ◌/◌, ◌%◌, ℤ, pos, List, [], ◌∷◌, map, Option, Some, None}
 use Rattle.std.specs.List.{flat_map, enumerate_from}
-use Rattle.store_contents.specs.Entries.{NameNumber, SeatKey}
+use Rattle.store_model.specs.Entries.{NameNumber, SeatKey}
 use Rattle.store_rows.specs.RingRows.{NamedRings}
 
 -- The row of a seat. The seats of a ring stand by partition and then by replica, so many a

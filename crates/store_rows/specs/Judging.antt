@@ -2,10 +2,10 @@
 use Rattle.std.specs.Prelude.{◌≡◌, ℕ, pos, map, length, Result, IfOk, MatchOption}
 use Rattle.std.specs.FinMap.{entries}
 use Rattle.ring_words.specs.declared.spelling.SpellingFault.{SpellingFault}
-use Rattle.store_contents.specs.declared.rows.MetaRow.{MetaRow}
-use Rattle.store_contents.specs.Contents.{Contents, meta_of, ring_of, device_of, seat_of, moved_of}
-use Rattle.store_contents.specs.Contents.{published_of, request_of, part_of}
-use Rattle.store_contents.specs.Changes.{prepared}
+use Rattle.store_model.specs.declared.rows.MetaRow.{MetaRow}
+use Rattle.store_model.specs.Contents.{Contents, meta_of, ring_of, device_of, seat_of, moved_of}
+use Rattle.store_model.specs.Contents.{published_of, request_of, part_of}
+use Rattle.store_model.specs.Changes.{prepared}
 use Rattle.store_rows.specs.Stands.{RingContent, IsHoldable, contents_for, first_contents_for}
 use Rattle.store_rows.specs.declared.judging.StoreRows.{StoreRows}
 use Rattle.store_rows.specs.declared.judging.Judged.{Judged}

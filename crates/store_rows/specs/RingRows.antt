@@ -5,7 +5,7 @@ use Rattle.std.specs.List.{flat_map, enumerate_from}
 use Rattle.ring_words.specs.Texts.{address_text}
 use Rattle.ring_words.specs.declared.device.Device.{Device}
 use Rattle.ring_model.specs.Ring.{RingRecord}
-use Rattle.store_contents.specs.Entries as rows
+use Rattle.store_model.specs.Entries as rows
 
 -- Rings by rising name.
 abbrev pub NamedRings : Type 0

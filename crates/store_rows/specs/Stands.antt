@@ -17,8 +17,8 @@ use Rattle.ring_messages.specs.Replies.{reply_text, IsProperReply}
 use Rattle.request_book.specs.Content.{Content, same_key}
 use Rattle.request_book.specs.Run.{last_hour}
 use Rattle.request_book.specs.declared.entry.Entry.{Entry}
-use Rattle.store_contents.specs.Contents.{Contents}
-use Rattle.store_contents.specs.Entries as rows
+use Rattle.store_model.specs.Contents.{Contents}
+use Rattle.store_model.specs.Entries as rows
 use Rattle.store_rows.specs.RingRows.{NamedRings, ring_entries, device_entries, published_entries}
 use Rattle.store_rows.specs.RingRows.{part_entries}
 use Rattle.store_rows.specs.Numbers.{IsHour, IsVersioned}

@@ -5,8 +5,8 @@ ghost use Rattle.std.specs.FinMap.{FinMap, entries, from_entries};
 ghost use Rattle.request_book.specs.Run.{last_hour};
 ghost use Rattle.ring_words.specs.Spelling.{Reads};
 ghost use Rattle.store_rows.specs.Stands.{DecidedRequest, IsBook, request_entries};
-ghost use Rattle.store_contents.specs.Contents.{request_of};
-ghost use Rattle.store_contents.specs.Entries.{Request, name_number_cmp};
+ghost use Rattle.store_model.specs.Contents.{request_of};
+ghost use Rattle.store_model.specs.Entries.{Request, name_number_cmp};
 ghost use Rattle.store_rows.specs.Inner.Books.{IsSaid, SaysRequest};
 
 use crate::numbers::number32;
@@ -14,7 +14,7 @@ use request_book::Entry;
 use ring_messages::{read_command, read_reply};
 use ring_words::{Command, Hour, Key, Reply, SpellingFault, read_name};
 use std::alloc::Global;
-use store_contents::RequestRow;
+use store_model::RequestRow;
 
 /// The decided request of a row, which is the `place`-th from 0.
 fn read_request(

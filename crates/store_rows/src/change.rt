@@ -1,9 +1,9 @@
 //! The change from some rings to others.
 ghost use Rattle.std.specs.Prelude.{◌≡◌, ◌++◌, IfOk, OnOk, map};
-ghost use Rattle.store_contents.specs.Contents.{device_key, device_of};
-ghost use Rattle.store_contents.specs.declared.change.RowChange.TheVariants.{AddDevice, DropDevice};
-ghost use Rattle.store_contents.specs.declared.change.RowChange.TheVariants.{PutPart, PutPublished};
-ghost use Rattle.store_contents.specs.declared.change.RowChange.TheVariants.{PutRing};
+ghost use Rattle.store_model.specs.Contents.{device_key, device_of};
+ghost use Rattle.store_model.specs.declared.change.RowChange.TheVariants.{AddDevice, DropDevice};
+ghost use Rattle.store_model.specs.declared.change.RowChange.TheVariants.{PutPart, PutPublished};
+ghost use Rattle.store_model.specs.declared.change.RowChange.TheVariants.{PutRing};
 ghost use Rattle.store_rows.specs.Differences.{Grows, IsChange, differing_rows, with_state};
 ghost use Rattle.store_rows.specs.Stands.{AreRings, RingContent, contents_for};
 
@@ -12,7 +12,7 @@ use crate::proper::rings_are_proper;
 use ring_model::Rings;
 use std::alloc::{AllocError, Global};
 use std::marker::Model;
-use store_contents::{DeviceKey, DeviceRow, PartRow, PublishedRow, RingRow, RowChange};
+use store_model::{DeviceKey, DeviceRow, PartRow, PublishedRow, RingRow, RowChange};
 
 /// The keys of rows of devices.
 fn keys_of(alloc: Global, rows: &[DeviceRow]) -> Result<Vec<DeviceKey>, AllocError>
@@ -111,7 +111,7 @@ pub struct Change {
 
 impl Model for Change {
     ghost use Rattle.std.specs.Prelude.{ℕ, List};
-    ghost use Rattle.store_contents.specs.declared.change.RowChange.{RowChange};
+    ghost use Rattle.store_model.specs.declared.change.RowChange.{RowChange};
 
     ghost Value = { List RowChange × ℕ };
 

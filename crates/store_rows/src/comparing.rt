@@ -1,10 +1,10 @@
 //! Rows of the store beside rows that stand for rings.
 ghost use Rattle.std.specs.Prelude.{◌≡◌, ◌↔◌, IsTrue};
 ghost use Rattle.std.specs.List.{AllZip};
-ghost use Rattle.store_contents.specs.Contents.{device_of, moved_of, part_of, published_of};
-ghost use Rattle.store_contents.specs.Contents.{ring_of, seat_of};
+ghost use Rattle.store_model.specs.Contents.{device_of, moved_of, part_of, published_of};
+ghost use Rattle.store_model.specs.Contents.{ring_of, seat_of};
 
-use store_contents::{DeviceRow, MovedRow, PartRow, PublishedRow, RingRow, SeatRow};
+use store_model::{DeviceRow, MovedRow, PartRow, PublishedRow, RingRow, SeatRow};
 
 /// A row that can be compared with another.
 pub(crate) trait Comparable {

@@ -6,8 +6,8 @@ ghost use Rattle.std.specs.Option.{option_copied, option_map};
 ghost use Rattle.std.specs.Rc.{rc_str_bytes};
 ghost use Rattle.ring_model.specs.Ring.{partition_count};
 ghost use Rattle.ring_words.specs.Texts.{address_limit};
-ghost use Rattle.store_contents.specs.Entries.{name_cmp, name_number_cmp};
-ghost use Rattle.store_contents.specs.Contents.{device_of, part_of, published_of, ring_of};
+ghost use Rattle.store_model.specs.Entries.{name_cmp, name_number_cmp};
+ghost use Rattle.store_model.specs.Contents.{device_of, part_of, published_of, ring_of};
 ghost use Rattle.store_rows.specs.Differences.{has_same, is_same_device, is_same_part};
 ghost use Rattle.store_rows.specs.Differences.{is_same_ring, is_same_text};
 ghost use Rattle.store_rows.specs.Inner.Lacking.{device_in, device_value, gone, lacking};
@@ -22,7 +22,7 @@ use ring_model::{Ring, Rings};
 use ring_words::{Device, DeviceId, Hour, RingName};
 use std::alloc::{AllocError, Global};
 use std::rc::RcStr;
-use store_contents::{DeviceRow, PartRow, PublishedRow, RingRow};
+use store_model::{DeviceRow, PartRow, PublishedRow, RingRow};
 
 // ---- rings
 

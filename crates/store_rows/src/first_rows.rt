@@ -2,13 +2,13 @@
 ghost use Rattle.std.specs.Prelude.{◌≡◌, ◌++◌, ◌<◌, ◌≤◌, IfOk, None, OnOk, length, map};
 ghost use Rattle.std.specs.Prelude.{slice_index_or};
 ghost use Rattle.std.specs.List.{enumerate_from, flat_map};
-ghost use Rattle.store_contents.specs.Contents.{moved_of, seat_of};
+ghost use Rattle.store_model.specs.Contents.{moved_of, seat_of};
 ghost use Rattle.store_rows.specs.FirstRows.{moved_entries, moved_entry, seat_entries, seat_entry};
 
 use ring_model::{Ring, Rings};
 use ring_words::{DeviceId, Hour, RingName};
 use std::alloc::{AllocError, Global};
-use store_contents::{MovedRow, SeatRow};
+use store_model::{MovedRow, SeatRow};
 
 /// The row of a seat, the `place`-th of a ring with so many replicas.
 fn seat_row(

@@ -5,9 +5,9 @@ ghost use Rattle.ring_words.specs.Spelling.{Reads};
 ghost use Rattle.store_rows.specs.Stands.{AreRings};
 ghost use Rattle.store_rows.specs.Inner.Found.{ReadsRow};
 ghost use Rattle.std.specs.Prelude.{map, pos, true};
-ghost use Rattle.store_contents.specs.Contents.{meta_of, part_of, Contents};
-ghost use Rattle.store_contents.specs.declared.change.RowChange.TheVariants.{PutPart};
-ghost use Rattle.store_contents.specs.declared.rows.PartRow.{PartRow};
+ghost use Rattle.store_model.specs.Contents.{meta_of, part_of, Contents};
+ghost use Rattle.store_model.specs.declared.change.RowChange.TheVariants.{PutPart};
+ghost use Rattle.store_model.specs.declared.rows.PartRow.{PartRow};
 ghost use Rattle.store_rows.specs.Stands.{meta_value};
 ghost use Rattle.store_rows.specs.RingRows.{part_entries};
 ghost use Rattle.store_rows.specs.Inner.Sayings.{SayPlaces, SayRings};
@@ -25,7 +25,7 @@ use crate::rings_reading::read_rings;
 use ring_model::Rings;
 use ring_words::{Hour, SpellingFault};
 use std::alloc::{AllocError, Global};
-use store_contents::{
+use store_model::{
     DeviceRow, MetaRow, MovedRow, PartRow, PublishedRow, RequestRow, RingRow, RowChange, SeatRow,
 };
 

@@ -1,6 +1,6 @@
 //! What follows from the definitions alone.
 ghost use Rattle.std.specs.Prelude.{◌≡◌, []};
-ghost use Rattle.store_contents.specs.Contents.{Contents};
+ghost use Rattle.store_model.specs.Contents.{Contents};
 ghost use Rattle.store_rows.specs.Stands.{IsHoldable, RingContent, contents_for};
 
 use ring_messages::{one_reply, one_text};

@@ -1,7 +1,7 @@
 //! Which rows of the store stand for rings and a book: the rows that a change writes, those of a
 //! decided request, and what the rows of a store that is opened say.
 //!
-//! No SQL is here. Rows are those of the crate `store_contents`, and contracts speak of the contents
+//! No SQL is here. Rows are those of the crate `store_model`, and contracts speak of the contents
 //! of the tables. `contents_for` in `specs/Stands.antt` says what these are where the store holds a
 //! content.
 #![tactic(auto)]

@@ -2,7 +2,7 @@
 ghost use Rattle.std.specs.Prelude.{◌≡◌, ◌≤◌, ◌++◌, ℕ, List, drop, length, string_bytes, take};
 ghost use Rattle.store_rows.specs.Inner.Parted.{ArePartedAt};
 
-use store_contents::{DeviceRow, MovedRow, PartRow, PublishedRow, SeatRow};
+use store_model::{DeviceRow, MovedRow, PartRow, PublishedRow, SeatRow};
 
 /// A row that says of which ring it is.
 pub(crate) trait RowOfRing {

@@ -8,8 +8,8 @@ ghost use Rattle.request_book.specs.Keeper.{IsFound};
 ghost use Rattle.ring_words.specs.declared.request.Key.{Key};
 ghost use Rattle.ring_words.specs.declared.spelling.SpellingFault.TheVariants.{Bad};
 ghost use Rattle.ring_messages.specs.Commands.{canonical};
-ghost use Rattle.store_contents.specs.Changes.{with_decided};
-ghost use Rattle.store_contents.specs.Contents.{kept_of};
+ghost use Rattle.store_model.specs.Changes.{with_decided};
+ghost use Rattle.store_model.specs.Contents.{kept_of};
 ghost use Rattle.store_rows.specs.Judging.{meta_now};
 ghost use Rattle.store_rows.specs.Stands.{IsHoldable, RingContent, contents_for, gained};
 ghost use Rattle.store_rows.specs.Stands.{key_of_request};
@@ -20,7 +20,7 @@ use ring_messages::{
 };
 use ring_words::{Command, Hour, Key, Reply, SpellingFault};
 use std::alloc::{AllocError, Global};
-use store_contents::{KeptRequest, MetaRow, RequestRow};
+use store_model::{KeptRequest, MetaRow, RequestRow};
 
 /// The rows that keep a decided request.
 #[derive(Debug, Drop)]

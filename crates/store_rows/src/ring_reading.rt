@@ -2,7 +2,7 @@
 ghost use Rattle.std.specs.Prelude.{◌≡◌, ◌++◌, ◌<◌, ◌^◌, All, List, OnOk, ℕ, map, true};
 ghost use Rattle.std.specs.List.{flat_map};
 ghost use Rattle.ring_model.specs.Parts.{record_of};
-ghost use Rattle.store_contents.specs.Contents.{moved_of};
+ghost use Rattle.store_model.specs.Contents.{moved_of};
 ghost use Rattle.store_rows.specs.RingRows.{two_bytes};
 ghost use Rattle.store_rows.specs.Inner.Found.{ReadsRow, StandForMoves, StandForParts};
 ghost use Rattle.store_rows.specs.Inner.Found.{StandForPlaces};
@@ -14,7 +14,7 @@ use crate::row_reading::read_each;
 use ring_model::{BuildFault, Ring, RingParts};
 use ring_words::{DeviceId, Hour, Power, SpellingFault, partition_count};
 use std::alloc::{AllocError, Global};
-use store_contents::{MovedRow, PartRow, RingRow};
+use store_model::{MovedRow, PartRow, RingRow};
 
 /// The seats of a ring, and the hours at which its partitions were moved last.
 #[derive(Debug, Drop)]

@@ -3,7 +3,7 @@ ghost use Rattle.std.specs.Prelude.{◌≡◌, ◌++◌, ◌*◌, ◌<◌, IfOk,
 ghost use Rattle.std.specs.List.{flat_map};
 ghost use Rattle.std.specs.Rc.{rc_str_bytes};
 ghost use Rattle.ring_model.specs.Ring.{partition_count};
-ghost use Rattle.store_contents.specs.Contents.{device_of, part_of, published_of, ring_of};
+ghost use Rattle.store_model.specs.Contents.{device_of, part_of, published_of, ring_of};
 ghost use Rattle.store_rows.specs.RingRows.{device_entry, part_entry, published_entry, ring_entry};
 ghost use Rattle.store_rows.specs.RingRows.{two_bytes};
 
@@ -12,7 +12,7 @@ use ring_model::Ring;
 use ring_words::{Device, DeviceId, RingName};
 use std::alloc::{AllocError, Global};
 use std::rc::RcStr;
-use store_contents::{DeviceRow, PartRow, PublishedRow, RingRow};
+use store_model::{DeviceRow, PartRow, PublishedRow, RingRow};
 
 /// The row of a ring.
 pub(crate) fn ring_row(alloc: Global, name: &RingName, ring: &Ring) -> Result<RingRow, AllocError>

@@ -10,7 +10,7 @@ use crate::ring_reading::read_ring;
 use ring_model::{Ring, Rings};
 use ring_words::{RingName, SpellingFault, read_name};
 use std::alloc::Global;
-use store_contents::RingRow;
+use store_model::RingRow;
 
 /// Whether a name comes after all names of rings.
 fn comes_last(rings: &Rings, name: &RingName) -> bool

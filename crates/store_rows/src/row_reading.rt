@@ -7,7 +7,7 @@ use crate::numbers::{bounded, mark, number16, number32, weight};
 use ring_words::{Device, DeviceId, Row, SpellingFault, read_address, read_name};
 use std::alloc::Global;
 use std::rc::RcStr;
-use store_contents::{DeviceRow, PublishedRow, SeatRow};
+use store_model::{DeviceRow, PublishedRow, SeatRow};
 
 /// A row that stands for one thing.
 pub(crate) trait Readable {

@@ -12,7 +12,7 @@ use Rattle.sqlite.specs.State.{State, HasCleanDisk, Shown, Survives, CommitsShow
 use Rattle.sqlite.proofs.Callers.{IsPlain, command_of, reads_as}
 use Rattle.sqlite_trees.specs.Tree.{Trees}
 use Rattle.store_tables.specs.Tables.{store_schema}
-use Rattle.store_contents.specs.Contents.{Contents}
+use Rattle.store_model.specs.Contents.{Contents}
 use Rattle.store_tables.specs.Contents.{contents_of}
 use Rattle.store_tables.specs.Entries.{Layout, map_of}
 use Rattle.store_tables.specs.Inner.Shown.{Lists, shown_as}

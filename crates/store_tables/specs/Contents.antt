@@ -1,6 +1,6 @@
 -- What the trees of a database contain.
 use Rattle.sqlite_trees.specs.Tree.{Trees}
-use Rattle.store_contents.specs.Contents.{Contents}
+use Rattle.store_model.specs.Contents.{Contents}
 use Rattle.store_tables.specs.Entries.{map_of, meta_rows, ring_rows, device_rows, seat_rows}
 use Rattle.store_tables.specs.Entries.{moved_rows, published_rows, request_rows, part_rows}
 

@@ -6,8 +6,8 @@ use Rattle.std.specs.FinMap.{FinMap, from_entries}
 use Rattle.sqlite_value.specs.declared.value.Value.TheVariants.{Int, Text, Blob}
 use Rattle.sqlite_value.specs.Order.{Row, column, bytes}
 use Rattle.sqlite_rules.specs.Edit.{id_in}
-use Rattle.store_contents.specs.Entries.{name_cmp, NameNumber, name_number_cmp, SeatKey, seat_cmp}
-use Rattle.store_contents.specs.Entries.{Meta, Ring, Device, Request, Part}
+use Rattle.store_model.specs.Entries.{name_cmp, NameNumber, name_number_cmp, SeatKey, seat_cmp}
+use Rattle.store_model.specs.Entries.{Meta, Ring, Device, Request, Part}
 use Rattle.store_tables.specs.Plain.{Plain}
 use Rattle.store_tables.specs.Tables as tables
 

@@ -11,7 +11,7 @@ use Rattle.sqlite.specs.Effect.{Database, IsDatabase}
 use Rattle.sqlite.specs.State.{State, HasCleanDisk, IsUnchanged, KeepsCommit, Survives}
 use Rattle.sqlite.specs.declared.error.Error.{Error}
 use Rattle.store_tables.specs.Tables.{store_schema, schema_of_first}
-use Rattle.store_contents.specs.Contents.{Contents}
+use Rattle.store_model.specs.Contents.{Contents}
 use Rattle.store_tables.specs.Contents.{contents_of}
 
 -- The rowids of each table rise. A `Connection` keeps this true, and its contracts do not tell.

@@ -2,8 +2,8 @@
 
 ghost use Rattle.std.specs.Prelude.{◌≡◌, ◌≤◌, false};
 ghost use Rattle.sqlite.specs.Held.{state};
-ghost use Rattle.store_contents.specs.Changes.{with_change, changed_all, prepared, with_decided};
-ghost use Rattle.store_contents.specs.Changes.{with_kept};
+ghost use Rattle.store_model.specs.Changes.{with_change, changed_all, prepared, with_decided};
+ghost use Rattle.store_model.specs.Changes.{with_kept};
 ghost use Rattle.sqlite.specs.State.{HasCleanDisk};
 ghost use Rattle.store_tables.specs.Contents.{contents_of};
 ghost use Rattle.store_tables.specs.Inner.Writing.{Writes};
@@ -15,7 +15,7 @@ use crate::writes::{
     add_device, add_request, clear_moved, clear_seats, drop_device, put, put_published,
 };
 use sqlite::{Alter, Connection, Error, Transaction};
-use store_contents::{MetaRow, RequestRow, RowChange};
+use store_model::{MetaRow, RequestRow, RowChange};
 
 /// Makes one change.
 fn apply_one<S: Alter>(tx: &mut Transaction<'_, S>, change: &RowChange) -> Result<(), Error>

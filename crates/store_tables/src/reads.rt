@@ -3,21 +3,21 @@
 ghost use Rattle.std.specs.Prelude.{◌≡◌, false, pos, map, option_map, slice_get, IfOk};
 ghost use Rattle.std.specs.FinMap.{get};
 ghost use Rattle.sqlite.specs.Held.{state};
-ghost use Rattle.store_contents.specs.Contents.{kept_of};
+ghost use Rattle.store_model.specs.Contents.{kept_of};
 ghost use Rattle.store_tables.specs.Inner.Told.{told};
 ghost use Rattle.store_tables.specs.Inner.Shown.{Lists, shown_as};
 ghost use Rattle.store_tables.specs.Store.{ReadsTables, SeesStore};
 
 use sqlite::{Alter, Connection, Error, Row, params};
 use std::alloc::Global;
-use store_contents::{
+use store_model::{
     DeviceRow, KeptRequest, MetaRow, MovedRow, PartRow, PublishedRow, RequestRow, RingRow, SeatRow,
 };
 
 /// A row of a table that a statement lists whole.
 pub trait Listed: Sized {
     ghost use Rattle.std.specs.Prelude.{List};
-    ghost use Rattle.store_contents.specs.Contents.{Contents};
+    ghost use Rattle.store_model.specs.Contents.{Contents};
     ghost use Rattle.store_tables.specs.Entries.{Layout};
 
     /// A key of the table.
@@ -48,8 +48,8 @@ pub trait Listed: Sized {
 impl Listed for MetaRow {
     ghost use Rattle.std.specs.Prelude.{ℤ};
     ghost use Rattle.std.specs.FinMap.{entries};
-    ghost use Rattle.store_contents.specs.Contents.{meta_of};
-    ghost use Rattle.store_contents.specs.Entries.{Meta};
+    ghost use Rattle.store_model.specs.Contents.{meta_of};
+    ghost use Rattle.store_model.specs.Entries.{Meta};
     ghost use Rattle.store_tables.specs.Entries.{meta_rows};
 
     ghost Key = { ℤ };
@@ -79,8 +79,8 @@ impl Listed for MetaRow {
 impl Listed for RingRow {
     ghost use Rattle.std.specs.Prelude.{ℕ, List};
     ghost use Rattle.std.specs.FinMap.{entries};
-    ghost use Rattle.store_contents.specs.Contents.{ring_of};
-    ghost use Rattle.store_contents.specs.Entries.{Ring};
+    ghost use Rattle.store_model.specs.Contents.{ring_of};
+    ghost use Rattle.store_model.specs.Entries.{Ring};
     ghost use Rattle.store_tables.specs.Entries.{ring_rows};
 
     ghost Key = { List ℕ };
@@ -112,8 +112,8 @@ impl Listed for RingRow {
 // All devices, by ring and rising id.
 impl Listed for DeviceRow {
     ghost use Rattle.std.specs.FinMap.{entries};
-    ghost use Rattle.store_contents.specs.Contents.{device_of};
-    ghost use Rattle.store_contents.specs.Entries.{NameNumber, Device};
+    ghost use Rattle.store_model.specs.Contents.{device_of};
+    ghost use Rattle.store_model.specs.Entries.{NameNumber, Device};
     ghost use Rattle.store_tables.specs.Entries.{device_rows};
 
     ghost Key = { NameNumber };
@@ -149,8 +149,8 @@ impl Listed for DeviceRow {
 impl Listed for SeatRow {
     ghost use Rattle.std.specs.Prelude.{ℤ};
     ghost use Rattle.std.specs.FinMap.{entries};
-    ghost use Rattle.store_contents.specs.Contents.{seat_of};
-    ghost use Rattle.store_contents.specs.Entries.{SeatKey};
+    ghost use Rattle.store_model.specs.Contents.{seat_of};
+    ghost use Rattle.store_model.specs.Entries.{SeatKey};
     ghost use Rattle.store_tables.specs.Entries.{seat_rows};
 
     ghost Key = { SeatKey };
@@ -181,8 +181,8 @@ impl Listed for SeatRow {
 impl Listed for MovedRow {
     ghost use Rattle.std.specs.Prelude.{ℤ};
     ghost use Rattle.std.specs.FinMap.{entries};
-    ghost use Rattle.store_contents.specs.Contents.{moved_of};
-    ghost use Rattle.store_contents.specs.Entries.{NameNumber};
+    ghost use Rattle.store_model.specs.Contents.{moved_of};
+    ghost use Rattle.store_model.specs.Entries.{NameNumber};
     ghost use Rattle.store_tables.specs.Entries.{moved_rows};
 
     ghost Key = { NameNumber };
@@ -212,8 +212,8 @@ impl Listed for MovedRow {
 impl Listed for PublishedRow {
     ghost use Rattle.std.specs.Prelude.{ℕ, List};
     ghost use Rattle.std.specs.FinMap.{entries};
-    ghost use Rattle.store_contents.specs.Contents.{published_of};
-    ghost use Rattle.store_contents.specs.Entries.{NameNumber};
+    ghost use Rattle.store_model.specs.Contents.{published_of};
+    ghost use Rattle.store_model.specs.Entries.{NameNumber};
     ghost use Rattle.store_tables.specs.Entries.{published_rows};
 
     ghost Key = { NameNumber };
@@ -242,8 +242,8 @@ impl Listed for PublishedRow {
 // All decided requests, by caller and rising number.
 impl Listed for RequestRow {
     ghost use Rattle.std.specs.FinMap.{entries};
-    ghost use Rattle.store_contents.specs.Contents.{request_of};
-    ghost use Rattle.store_contents.specs.Entries.{NameNumber, Request};
+    ghost use Rattle.store_model.specs.Contents.{request_of};
+    ghost use Rattle.store_model.specs.Entries.{NameNumber, Request};
     ghost use Rattle.store_tables.specs.Entries.{request_rows};
 
     ghost Key = { NameNumber };
@@ -275,8 +275,8 @@ impl Listed for RequestRow {
 // All partitions, by ring and rising number.
 impl Listed for PartRow {
     ghost use Rattle.std.specs.FinMap.{entries};
-    ghost use Rattle.store_contents.specs.Contents.{part_of};
-    ghost use Rattle.store_contents.specs.Entries.{NameNumber, Part};
+    ghost use Rattle.store_model.specs.Contents.{part_of};
+    ghost use Rattle.store_model.specs.Entries.{NameNumber, Part};
     ghost use Rattle.store_tables.specs.Entries.{part_rows};
 
     ghost Key = { NameNumber };

@@ -4,16 +4,16 @@ ghost use Rattle.std.specs.Prelude.{◌≡◌, ◌<◌, IfOk, OnOk, ℕ, Ok};
 ghost use Rattle.sqlite.specs.Held.{state};
 ghost use Rattle.sqlite.specs.State.{Executes, HasCleanDisk, KeepsCommit, Survives};
 ghost use Rattle.sqlite.specs.Values.{bound};
-ghost use Rattle.store_contents.specs.Contents.{device_key, device_of, published_of, request_of};
-ghost use Rattle.store_contents.specs.Contents.{with_device_row, with_published_row, with_request};
-ghost use Rattle.store_contents.specs.Contents.{without_device, without_moved, without_seats};
+ghost use Rattle.store_model.specs.Contents.{device_key, device_of, published_of, request_of};
+ghost use Rattle.store_model.specs.Contents.{with_device_row, with_published_row, with_request};
+ghost use Rattle.store_model.specs.Contents.{without_device, without_moved, without_seats};
 ghost use Rattle.store_tables.specs.Contents.{contents_of};
 ghost use Rattle.store_tables.specs.Inner.Writing.{Writes};
 ghost use Rattle.store_tables.specs.Store.{Becomes, SeesStore};
 
 use sqlite::types::ValueRef;
 use sqlite::{Alter, Error, Transaction, params};
-use store_contents::{DeviceKey, DeviceRow, MetaRow, PartRow, PublishedRow, RequestRow, RingRow};
+use store_model::{DeviceKey, DeviceRow, MetaRow, PartRow, PublishedRow, RequestRow, RingRow};
 
 /// Runs a statement within the transaction.
 pub(crate) fn run<S: Alter>(
@@ -59,7 +59,7 @@ fn count<S: Alter>(
 
 /// A row that is written over the one with its key, or beside the others.
 pub(crate) trait Replaces {
-    ghost use Rattle.store_contents.specs.Contents.{Contents};
+    ghost use Rattle.store_model.specs.Contents.{Contents};
 
     /// The contents with this row, in place of one with its key.
     ghost with_row: { Contents → Self → Contents };
@@ -91,7 +91,7 @@ pub(crate) trait Replaces {
 }
 
 impl Replaces for MetaRow {
-    ghost use Rattle.store_contents.specs.Contents.{meta_of, with_meta_row};
+    ghost use Rattle.store_model.specs.Contents.{meta_of, with_meta_row};
 
     ghost with_row = { λ c row. with_meta_row c (meta_of row).0 (meta_of row).1 };
 
@@ -113,7 +113,7 @@ impl Replaces for MetaRow {
 }
 
 impl Replaces for RingRow {
-    ghost use Rattle.store_contents.specs.Contents.{ring_of, with_ring_row};
+    ghost use Rattle.store_model.specs.Contents.{ring_of, with_ring_row};
 
     ghost with_row = { λ c row. with_ring_row c (ring_of row).0 (ring_of row).1 };
 
@@ -150,7 +150,7 @@ impl Replaces for RingRow {
 }
 
 impl Replaces for PartRow {
-    ghost use Rattle.store_contents.specs.Contents.{part_of, with_part};
+    ghost use Rattle.store_model.specs.Contents.{part_of, with_part};
 
     ghost with_row = { λ c row. with_part c (part_of row).0 (part_of row).1 };
 

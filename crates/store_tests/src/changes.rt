@@ -4,7 +4,7 @@ use ring_model::{Ring, Rings};
 use ring_words::{Power, Replicas, RingName};
 use std::alloc::Global;
 use std::test::Fail;
-use store_contents::RowChange;
+use store_model::RowChange;
 use store_rows::{Change, grows};
 
 /// How many rows differ, and how many changes of rows there are.

@@ -16,7 +16,7 @@ use ring_words::Limits;
 use sqlite::{Alter, Connection};
 use std::alloc::{AllocError, Global};
 use std::test::Fail;
-use worked_rows::{AT_THE_HOUR, FIRST, FULL, LOCKED, RUNS, WorkedRow};
+use test_fixtures::rows::{AT_THE_HOUR, FIRST, FULL, LOCKED, RUNS, WorkedRow};
 
 /// A text with `"` for `'`.
 fn quoted(alloc: Global, text: &str) -> Result<String, AllocError> {

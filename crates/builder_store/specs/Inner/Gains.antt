@@ -2,11 +2,11 @@
 use Rattle.std.specs.Prelude.{◌≡◌, ◌<◌, ◌≤◌, ℕ, Bool, List, None, if◌then◌else◌, length}
 use Rattle.sqlite_trees.specs.Tree.{Trees}
 use Rattle.request_book.specs.Content.{entry_of}
-use Rattle.store_contents.specs.Changes.{changed_all, with_decided, with_kept}
-use Rattle.store_contents.specs.Contents.{Contents}
-use Rattle.store_contents.specs.declared.change.RowChange.{RowChange}
-use Rattle.store_contents.specs.declared.rows.MetaRow.{MetaRow}
-use Rattle.store_contents.specs.declared.rows.RequestRow.{RequestRow}
+use Rattle.store_model.specs.Changes.{changed_all, with_decided, with_kept}
+use Rattle.store_model.specs.Contents.{Contents}
+use Rattle.store_model.specs.declared.change.RowChange.{RowChange}
+use Rattle.store_model.specs.declared.rows.MetaRow.{MetaRow}
+use Rattle.store_model.specs.declared.rows.RequestRow.{RequestRow}
 use Rattle.store_rows.specs.RingRows.{NamedRings}
 use Rattle.store_rows.specs.Differences.{with_state}
 use Rattle.store_rows.specs.Stands.{DecidedRequest, RingContent, gained}

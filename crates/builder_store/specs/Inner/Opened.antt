@@ -2,7 +2,7 @@
 use Rattle.std.specs.Prelude.{◌≡◌, IfOk, IsTrue, OnOk, Result, length}
 use Rattle.sqlite_trees.specs.Tree.{Trees}
 use Rattle.sqlite.specs.State.{HasCleanDisk, IsLive, State, Survives}
-use Rattle.store_contents.specs.Contents.{Contents}
+use Rattle.store_model.specs.Contents.{Contents}
 use Rattle.store_tables.specs.Contents.{contents_of}
 use Rattle.store_tables.specs.Store.{AreOrdered}
 use Rattle.store_rows.specs.Stands.{RingContent, contents_for}

@@ -1,6 +1,6 @@
 -- What a crash leaves.
 use Rattle.request_book.specs.Keeper.{LeavesOnly}
-use Rattle.keeper_programs.specs.Begun.{Keeping}
+use Rattle.ring_book.specs.Book.{Keeping}
 
 -- A crash leaves what a keeper holds, and nothing else, if its disk returned what was written.
 pub record IsLeftToClose {K : Type 0} (g : Keeping K) (keeper : K) : Type 0 where

@@ -2,8 +2,8 @@
 use Rattle.builder_store.specs.declared.fault.FileFault.{FileFault}
 use Rattle.builder_store.specs.declared.fault.FileFault.TheVariants as file
 use Rattle.builder_store.specs.declared.fault.OpenFault.TheVariants as opening
-use Rattle.keeper_programs.specs.declared.faults.ProgramFault.{ProgramFault}
-use Rattle.keeper_programs.specs.declared.faults.ProgramFault.TheVariants as fault
+use Rattle.programs.specs.declared.faults.ProgramFault.{ProgramFault}
+use Rattle.programs.specs.declared.faults.ProgramFault.TheVariants as fault
 
 -- what is told where the store in a file isn't opened
 abbrev pub open_fault : FileFault → ProgramFault

@@ -1,15 +1,12 @@
 -- What the parts of the service do with a body.
 use Rattle.std.specs.Prelude.{◌≡◌, ◌≢◌, ℕ, List, Some, None, Result, Ok, Err}
 use Rattle.builder.specs.Message.{IsMessage}
-use Rattle.builder.specs.Step.{State}
 use Rattle.csv_import.specs.Rows.{AreRows, IsWrong, records_of}
 use Rattle.csv_import.specs.declared.fault.CsvFault.{CsvFault}
 use Rattle.csv_import.specs.declared.fault.CsvFault.TheVariants as csv
-use Rattle.line_api.specs.Lines.{Asked, told_of}
-use Rattle.line_api.specs.Inner.Answering.{Made}
-use Rattle.line_api.specs.Served.{RingBook}
+use Rattle.ring_book.specs.Book.{Asked, Keeping, Made, RingBook}
+use Rattle.ring_book.specs.Told.{told_of}
 use Rattle.request_book.specs.Call.{Deliver, Load}
-use Rattle.request_book.specs.Content.{Content}
 use Rattle.request_book.specs.declared.book.Fault.{Fault}
 use Rattle.ring_messages.specs.declared.told.Told.{Told}
 use Rattle.ring_messages.specs.declared.told.Told.TheVariants as told
@@ -21,17 +18,16 @@ use Rattle.ring_words.specs.declared.request.Key.{Key}
 use Rattle.std.specs.declared.alloc.AllocError.{AllocError}
 use Rattle.http_api.specs.Http.{told_csv}
 
-module _ {K C : Type 0} (content : K → Content State Command Reply) (sound : K → Type 0)
-    (limit : K → ℕ) (faults : K → ℕ)
+module _ {K C : Type 0} (kept : Keeping K)
     (tells : C → ℕ → C → Type 0) where
   -- A command is delivered at the hour that the clock tells, and its answer is told so.
-  pub record DeliversAt (early late : C) (old new : RingBook content sound limit faults) (key : Key)
+  pub record DeliversAt (early late : C) (old new : RingBook kept) (key : Key)
       (command : Command) (told : Told) : Type 0 where
     pub hour : ℕ
     pub clock : tells early hour late
     pub answer : Result Reply Fault
     pub told_is : told ≡ told_of answer
-    pub made : Made content sound limit faults old new
+    pub made : Made kept old new
         (Some (Deliver (record { hour = hour; key = key; command = command }) answer))
 
 module _ {C : Type 0} (tells : C → ℕ → C → Type 0) where

@@ -6,7 +6,8 @@ use Rattle.ring_words.specs.Spelling.{SpellsNumber}
 use Rattle.ring_words.specs.Texts.{is_label}
 use Rattle.http_routes.specs.declared.routes.Endpoint.{Endpoint}
 use Rattle.http_routes.specs.declared.routes.Endpoint.TheVariants as endpoint
-use Rattle.http_routes.specs.declared.target.RingRead.TheVariants.{Devices, Balance, Nodes, Text}
+use Rattle.ring_reads.specs.declared.reads.Format.TheVariants as format
+use Rattle.ring_reads.specs.declared.reads.Read.TheVariants.{Plain, Tables, Nodes, Published}
 use Rattle.http_routes.specs.declared.target.TargetAsk.{TargetAsk}
 use Rattle.http_routes.specs.declared.target.TargetAsk.TheVariants.{Deliver, Import, Read}
 use Rattle.http_routes.specs.declared.target.TargetFault.{TargetFault}
@@ -20,14 +21,14 @@ RouteAsks at ring version query Deliver = at ≡ endpoint.Requests
 RouteAsks at ring version query (Import name key) =
     (at ≡ endpoint.Import) × (name ≡ ring) × IsTrue (is_label ring) × IsImportQuery (pairs_of query)
     key
-RouteAsks at ring version query (Read name Devices) =
-    (at ≡ endpoint.Devices) × (name ≡ ring) × IsTrue (is_label ring)
-RouteAsks at ring version query (Read name Balance) =
-    (at ≡ endpoint.Balance) × (name ≡ ring) × IsTrue (is_label ring)
+RouteAsks at ring version query (Read name (Plain plain)) =
+    (at ≡ endpoint.Word plain) × (name ≡ ring) × IsTrue (is_label ring)
+RouteAsks at ring version query (Read name Tables) = ⊥
 RouteAsks at ring version query (Read name (Nodes names)) =
     (at ≡ endpoint.Nodes) × (name ≡ ring) × IsTrue (is_label ring)
     × IsPathQuery (pairs_of query) names × (is_path names ≡ true)
-RouteAsks at ring version query (Read name (Text number)) =
+RouteAsks at ring version query (Read name (Published number format.Swift)) = ⊥
+RouteAsks at ring version query (Read name (Published number format.Text)) =
     (at ≡ endpoint.Text) × (name ≡ ring) × IsTrue (is_label ring) ×
     SpellsNumber version 0 greatest_long number
 

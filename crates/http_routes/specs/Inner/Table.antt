@@ -1,54 +1,82 @@
 -- The routes as a router holds them.
-use Rattle.std.specs.Prelude.{◌≡◌, ◌++◌, ℕ, List, [], ◌∷◌, None, Result, Ok, Err, codes}
+use Rattle.std.specs.Prelude.{◌≡◌, ◌++◌, ℕ, List, [], ◌∷◌, None, Result, Ok, Err, codes, ⊤}
 use Rattle.matchit.specs.Order.{placed}
 use Rattle.matchit.specs.Route.{Scan}
 use Rattle.matchit.specs.Router.{RouteOf, nearest, route_from}
 use Rattle.matchit.specs.declared.error.InsertError.{InsertError}
 use Rattle.matchit.specs.Rows.{RowsOf}
 use Rattle.http_routes.specs.declared.routes.Endpoint.{Endpoint}
-use Rattle.http_routes.specs.declared.routes.Endpoint.TheVariants.{Requests, Import, Devices}
-use Rattle.http_routes.specs.declared.routes.Endpoint.TheVariants.{Balance, Nodes, Text}
+use Rattle.http_routes.specs.Routes.{IsPathSegment, ring_path}
+use Rattle.http_routes.specs.declared.routes.Endpoint.TheVariants as endpoint
+use Rattle.http_routes.specs.declared.table.TableRow.{TableRow}
+use Rattle.http_routes.specs.declared.table.TableRow.TheVariants.{Requests, Import, Nodes, Text}
+use Rattle.http_routes.specs.declared.table.TableRow.TheVariants.{Word}
+use Rattle.ring_reads.specs.Reads.{plain_word}
 
 -- the token of a parameter
 abbrev pub segment_token : ℕ
 segment_token = 256
 
 -- a route: its tokens, its text, and where the names of its segments are in this text
-abbrev pub route_row : List ℕ → List ℕ → List (ℕ × ℕ) → Endpoint → List ℕ × RouteOf Endpoint
-route_row pattern text names endpoint = (
+abbrev pub route_row : List ℕ → List ℕ → List (ℕ × ℕ) → TableRow → List ℕ × RouteOf TableRow
+route_row pattern text names row = (
   pattern,
-  record { pattern = pattern; text = text; names = names; value = endpoint },
+  record { pattern = pattern; text = text; names = names; value = row },
 )
 
 -- a route of a ring whose name behind the ring's is this text
-abbrev pub ring_row : List ℕ → Endpoint → List ℕ × RouteOf Endpoint
-ring_row name endpoint = route_row (codes "/v1/rings/" ++ segment_token ∷ name)
-    (codes "/v1/rings/{ring}" ++ name) ((11, 15) ∷ []) endpoint
+abbrev pub ring_row : List ℕ → TableRow → List ℕ × RouteOf TableRow
+ring_row name row = route_row (codes "/v1/rings/" ++ segment_token ∷ name)
+    (codes "/v1/rings/{ring}" ++ name) ((11, 15) ∷ []) row
 
-abbrev pub import_row : List ℕ × RouteOf Endpoint
+abbrev pub import_row : List ℕ × RouteOf TableRow
 import_row = route_row (codes "/v1/import/" ++ segment_token ∷ []) (codes "/v1/import/{ring}")
     ((12, 16) ∷ []) Import
 
-abbrev pub text_row : List ℕ × RouteOf Endpoint
+abbrev pub text_row : List ℕ × RouteOf TableRow
 text_row = route_row (codes "/v1/rings/" ++ segment_token ∷ codes "/text/" ++ segment_token ∷ [])
     (codes "/v1/rings/{ring}/text/{version}") ((11, 15) ∷ (23, 30) ∷ []) Text
 
-abbrev pub requests_row : List ℕ × RouteOf Endpoint
+abbrev pub word_row : List ℕ × RouteOf TableRow
+word_row = route_row (codes "/v1/rings/" ++ segment_token ∷ 47 ∷ segment_token ∷ [])
+    (codes "/v1/rings/{ring}/{word}") ((11, 15) ∷ (18, 22) ∷ []) Word
+
+abbrev pub requests_row : List ℕ × RouteOf TableRow
 requests_row = route_row (codes "/v1/requests") (codes "/v1/requests") [] Requests
 
 -- the routes, in the order of a router
-abbrev pub all_routes : RowsOf (RouteOf Endpoint)
-all_routes = import_row ∷ requests_row ∷
-    ring_row (codes "/balance") Balance ∷ ring_row (codes "/devices") Devices ∷
-    ring_row (codes "/nodes") Nodes ∷ text_row ∷ []
+abbrev pub all_routes : RowsOf (RouteOf TableRow)
+all_routes = import_row ∷ requests_row ∷ ring_row (codes "/nodes") Nodes ∷ text_row ∷ word_row ∷ []
+
+-- The path has this row, with these segments as they stand in it.
+abbrev pub HasRow : List ℕ → TableRow → List ℕ → List ℕ → List ℕ → Type 0
+HasRow path Requests ring version word = (path ≡ codes "/v1/requests") × (ring ≡ []) ×
+    (version ≡ [])
+HasRow path Import ring version word = (path ≡ codes "/v1/import/" ++ ring) × IsPathSegment ring ×
+    (version ≡ [])
+HasRow path Nodes ring version word = (path ≡ ring_path ring ++ codes "/nodes") ×
+    IsPathSegment ring × (version ≡ [])
+HasRow path Text ring version word = (path ≡ ring_path ring ++ codes "/text/" ++ version) ×
+    IsPathSegment ring × IsPathSegment version
+HasRow path Word ring version word = (path ≡ ring_path ring ++ 47 ∷ word) × IsPathSegment ring ×
+    (version ≡ [])
+
+-- The row leads to this endpoint where its segment for a word is this one.
+abbrev pub RowLeadsTo : TableRow → List ℕ → Endpoint → Type 0
+RowLeadsTo Requests word endpoint.Requests = ⊤
+RowLeadsTo Import word endpoint.Import = ⊤
+RowLeadsTo Nodes word endpoint.Nodes = ⊤
+RowLeadsTo Text word endpoint.Text = ⊤
+RowLeadsTo Word word (endpoint.Word plain) = word ≡ plain_word plain
+RowLeadsTo _ word _ = ⊥
 
 -- A text that reads as a route and conflicts with none of the rows.
-abbrev pub IsNewRoute : Result Scan InsertError → RowsOf (RouteOf Endpoint) → Type 0
+abbrev pub IsNewRoute : Result Scan InsertError → RowsOf (RouteOf TableRow) → Type 0
 IsNewRoute (Ok route) rows = nearest route.pattern rows ≡ None
 IsNewRoute (Err fault) rows = ⊥
 
 -- The rows with the route that a text reads as.
-abbrev pub IsAdded : Result Scan InsertError → Endpoint → RowsOf (RouteOf Endpoint) →
-    RowsOf (RouteOf Endpoint) → Type 0
-IsAdded (Ok route) endpoint old new = new ≡ placed (route.pattern, route_from route endpoint) old
-IsAdded (Err fault) endpoint old new = ⊥
+abbrev pub IsAdded : Result Scan InsertError → TableRow → RowsOf (RouteOf TableRow) →
+    RowsOf (RouteOf TableRow) → Type 0
+IsAdded (Ok route) row old new = new ≡ placed (route.pattern, route_from route row) old
+IsAdded (Err fault) row old new = ⊥

@@ -8,11 +8,11 @@ use Rattle.byte_streams.specs.declared.fault.StreamFault.TheVariants.{ReadFailed
 use Rattle.byte_streams.specs.declared.fault.StreamFault.TheVariants.{NoMemory}
 use Rattle.byte_streams.specs.InTurn.{InTurn}
 use Rattle.byte_streams.specs.Writing.{Forwards, WritesBeginning}
-use Rattle.http_requests.specs.Requests.{HasAsk}
+use Rattle.http_messages.specs.Requests.{HasAsk}
 use Rattle.http_stream.specs.Streams.{Item, Calls, Refuses, Follow, BeginWith}
 use Rattle.http_stream.specs.Answers.{joined}
 use Rattle.byte_streams.specs.Pieces.{chunk_size}
-use Rattle.http_requests.specs.Requests.{longest_body, longest_head}
+use Rattle.http_messages.specs.Requests.{longest_body, longest_head}
 
 -- how many bytes of a stream wait at most: a request of the greatest length, and one more read
 abbrev pub buffer_room : ℕ

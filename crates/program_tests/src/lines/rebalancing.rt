@@ -6,7 +6,7 @@ use ring_model::Rings;
 use ring_words::{Limits, RingName};
 use std::alloc::{AllocError, Global};
 use std::test::Fail;
-use worked_rows::{
+use test_fixtures::rows::{
     ADD_D0, ADD_D1, ADD_D2, ADD_D3, ADDED_D0, AT_THE_HOUR, CLOCK_BACK, CREATED, FAR, FEW, FIRST,
     FULL, LOCKED, PAIRS, PRETEND, REBALANCE, REMOVAL, REORDERED, REPEATED, SET_ASIDE, SMALL,
     TOO_FEW, UNREACHABLE, WorkedRow,

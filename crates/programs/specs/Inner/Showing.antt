@@ -1,7 +1,7 @@
 -- The tasks that show something of a store.
-use Rattle.std.specs.Prelude.{⊤}
-use Rattle.program_words.specs.declared.task.Task.{Task}
-use Rattle.program_words.specs.declared.task.Task.TheVariants as task
+use Rattle.std.specs.Prelude.{⊤, ℕ, List, []}
+use Rattle.command_line.specs.declared.task.Task.{Task}
+use Rattle.command_line.specs.declared.task.Task.TheVariants as task
 
 -- The task asks to be shown a ring's tables, where a path is held, or a published ring.
 abbrev pub IsShowing : Task → Type 0
@@ -9,3 +9,12 @@ IsShowing (task.Table file ring) = ⊤
 IsShowing (task.Nodes file ring account container object names) = ⊤
 IsShowing (task.Export file ring version written) = ⊤
 IsShowing _ = ⊥
+
+-- what the path of a task is hashed behind, and before; nothing for a task without one
+abbrev pub prefix_asked : Task → List ℕ
+prefix_asked (task.Nodes file ring account container object names) = names.prefix.now
+prefix_asked _ = []
+
+abbrev pub suffix_asked : Task → List ℕ
+suffix_asked (task.Nodes file ring account container object names) = names.suffix.now
+suffix_asked _ = []

@@ -5,7 +5,7 @@ use csv_import::{CsvFault, read_rows};
 use ring_words::Row;
 use std::alloc::{AllocError, Global};
 use std::test::Fail;
-use test_streams::Giver;
+use test_fixtures::Giver;
 
 /// Whether the two rows are read where so many bytes come at a time.
 fn are_read_by(alloc: Global, text: &[u8], size: usize) -> Result<bool, CsvFault> {

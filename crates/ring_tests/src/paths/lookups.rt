@@ -1,6 +1,6 @@
 //! The nodes of partitions.
 use crate::fixtures::{DEVICE_0, DeviceRow, RingRow, WITHOUT_DEVICES, spelled_ring};
-use path_lookup::{NodesFault, Path, hash_path, nodes, partition_of};
+use path_lookup::{HashNames, NodesFault, Path, hash_path, nodes, partition_of};
 use ring_model::Ring;
 use ring_words::{Power, Replicas};
 use std::alloc::Global;
@@ -49,7 +49,11 @@ fn nodes_are_in_order_of_replica(rt: HostRuntime) -> Result<(), Fail> {
 /// The hash of the path `/a/c` between `x` and `y`.
 fn hash_of_container(alloc: Global) -> Result<[u8; 16], Fail> {
     let path = Path::new(alloc, b"a", Some(b"c"), None)?;
-    Ok(hash_path(b"x", &path, b"y"))
+    let names = HashNames {
+        prefix: b"x",
+        suffix: b"y",
+    };
+    Ok(hash_path(names, &path))
 }
 
 /// Whether the nodes of a hash in a ring are devices 5 and 3.

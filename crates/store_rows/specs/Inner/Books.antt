@@ -1,7 +1,7 @@
 -- What the rows of a book say.
 use Rattle.std.specs.Prelude.{◌≡◌, ◌≤◌, ℕ, List, map, All, AllPairs}
-use Rattle.store_contents.specs.Contents.{request_of}
-use Rattle.store_contents.specs.declared.rows.RequestRow.{RequestRow}
+use Rattle.store_model.specs.Contents.{request_of}
+use Rattle.store_model.specs.declared.rows.RequestRow.{RequestRow}
 use Rattle.store_rows.specs.Stands.{DecidedRequest, IsDecision, request_entry, request_entries}
 
 -- The row is that of the request at this place.

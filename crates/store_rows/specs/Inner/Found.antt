@@ -7,15 +7,15 @@ use Rattle.ring_words.specs.declared.spelling.SpellingFault.{SpellingFault}
 use Rattle.ring_words.specs.declared.spelling.SpellingFault.TheVariants.{Bad, NoMemory}
 use Rattle.ring_messages.specs.Fields.{IsProperRow}
 use Rattle.ring_model.specs.Ring.{RingRecord}
-use Rattle.store_contents.specs.Contents.{device_of, moved_of, part_of, published_of, ring_of}
-use Rattle.store_contents.specs.Contents.{seat_of}
-use Rattle.store_contents.specs.Entries.{NameNumber}
-use Rattle.store_contents.specs.declared.rows.DeviceRow.{DeviceRow}
-use Rattle.store_contents.specs.declared.rows.MovedRow.{MovedRow}
-use Rattle.store_contents.specs.declared.rows.PartRow.{PartRow}
-use Rattle.store_contents.specs.declared.rows.PublishedRow.{PublishedRow}
-use Rattle.store_contents.specs.declared.rows.RingRow.{RingRow}
-use Rattle.store_contents.specs.declared.rows.SeatRow.{SeatRow}
+use Rattle.store_model.specs.Contents.{device_of, moved_of, part_of, published_of, ring_of}
+use Rattle.store_model.specs.Contents.{seat_of}
+use Rattle.store_model.specs.Entries.{NameNumber}
+use Rattle.store_model.specs.declared.rows.DeviceRow.{DeviceRow}
+use Rattle.store_model.specs.declared.rows.MovedRow.{MovedRow}
+use Rattle.store_model.specs.declared.rows.PartRow.{PartRow}
+use Rattle.store_model.specs.declared.rows.PublishedRow.{PublishedRow}
+use Rattle.store_model.specs.declared.rows.RingRow.{RingRow}
+use Rattle.store_model.specs.declared.rows.SeatRow.{SeatRow}
 use Rattle.store_rows.specs.RingRows.{device_entry, part_entry, part_entries_of}
 use Rattle.store_rows.specs.RingRows.{published_entry, ring_entry}
 use Rattle.store_rows.specs.FirstRows.{moved_entry, seat_entry}

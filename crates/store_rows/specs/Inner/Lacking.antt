@@ -7,7 +7,7 @@ use Rattle.std.specs.declared.cmp.Ordering.{Ordering}
 use Rattle.std.specs.FinMap.{find}
 use Rattle.ring_model.specs.Ring.{RingRecord, published_at}
 use Rattle.ring_words.specs.declared.device.Device.{Device}
-use Rattle.store_contents.specs.Entries as rows
+use Rattle.store_model.specs.Entries as rows
 use Rattle.store_rows.specs.RingRows.{ring_entry, device_entry, part_entry, published_entry}
 use Rattle.store_rows.specs.Differences.{has_same, is_same_ring}
 

@@ -1,9 +1,9 @@
 -- Rows of several rings, which stand by ring.
 use Rattle.std.specs.Prelude.{◌≡◌, ℕ, Bool, cond, List, [], ◌∷◌, ⊤, map}
 use Rattle.std.specs.List.{AllByRecursion}
-use Rattle.store_contents.specs.Contents.{device_of, moved_of, part_of, published_of, ring_of}
-use Rattle.store_contents.specs.Contents.{seat_of}
-use Rattle.store_contents.specs.declared.rows.RingRow.{RingRow}
+use Rattle.store_model.specs.Contents.{device_of, moved_of, part_of, published_of, ring_of}
+use Rattle.store_model.specs.Contents.{seat_of}
+use Rattle.store_model.specs.declared.rows.RingRow.{RingRow}
 use Rattle.store_rows.specs.RingRows.{NamedRings, device_entries, part_entries, published_entries}
 use Rattle.store_rows.specs.RingRows.{ring_entries}
 use Rattle.store_rows.specs.FirstRows.{moved_entries, seat_entries}

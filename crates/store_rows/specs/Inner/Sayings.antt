@@ -1,8 +1,8 @@
 -- What the rows of a store say of rings, in a store of schema 1 or of schema 2.
 use Rattle.std.specs.Prelude.{◌≡◌, Bool, cond, pos, [], ◌∷◌, map}
 use Rattle.std.specs.FinMap.{from_entries}
-use Rattle.store_contents.specs.Contents.{Contents, device_of, moved_of, part_of, published_of}
-use Rattle.store_contents.specs.Contents.{ring_of, seat_of}
+use Rattle.store_model.specs.Contents.{Contents, device_of, moved_of, part_of, published_of}
+use Rattle.store_model.specs.Contents.{ring_of, seat_of}
 use Rattle.store_rows.specs.RingRows.{NamedRings, device_entries, part_entries, published_entries}
 use Rattle.store_rows.specs.RingRows.{ring_entries}
 use Rattle.store_rows.specs.FirstRows.{moved_entries, seat_entries}

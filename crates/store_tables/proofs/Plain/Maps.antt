@@ -20,7 +20,7 @@ use Rattle.sqlite_rules.proofs.ListLemmas.{all_has, has_filtered}
 use Rattle.sqlite_rules.proofs.ProbeLemmas.{has_mapped, mapped_has}
 use Rattle.sqlite_rules.proofs.TableLemmas.{int_is, has_put, put_has, put_all_keeps}
 use Rattle.sqlite_rules.proofs.PlaceLemmas.{row_at_is, left_or_taken}
-use Rattle.store_contents.proofs.Keys.{tied}
+use Rattle.store_model.proofs.Keys.{tied}
 
 -- a row that is left was there, and has none of the rowids
 left_from : (ids : List ℤ) (rows : List Row) (x : Row) → Has (without_all rows ids) x

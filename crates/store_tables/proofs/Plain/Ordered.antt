@@ -18,7 +18,7 @@ use Rattle.sqlite_trees.specs.Tree.{rowid, IsTable}
 use Rattle.sqlite_rules.specs.Lists.{Has}
 use Rattle.sqlite_rules.proofs.ListLemmas.{all_has, all_from, has_contained, contains_had}
 use Rattle.sqlite_rules.proofs.ProbeLemmas.{has_mapped}
-use Rattle.store_contents.proofs.Keys.{tied}
+use Rattle.store_model.proofs.Keys.{tied}
 use Rattle.store_tables.proofs.Plain.Maps.{AreApart}
 
 pub moved : {X : Type 0} (xs ys : List X) (x : X) → IsPermutation xs ys → Has xs x → Has ys x

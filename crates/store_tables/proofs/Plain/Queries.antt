@@ -29,9 +29,9 @@ use Rattle.sqlite.proofs.Callers.{IsPlain, command_of, reads_as}
 use Rattle.sqlite_schema.specs.declared.schema.Schema.{Schema}
 use Rattle.sqlite_value.specs.declared.keys.Key.{Key}
 use Rattle.store_tables.specs.Entries.{Layout, map_of}
-use Rattle.store_contents.proofs.Keys.{tied}
+use Rattle.store_model.proofs.Keys.{tied}
 use Rattle.store_tables.proofs.Plain.Maps.{found_at, missing_at}
-use Rattle.store_contents.proofs.Permuted.{entries_are, keys_stay}
+use Rattle.store_model.proofs.Permuted.{entries_are, keys_stay}
 use Rattle.store_tables.proofs.Plain.Ordered.{moved, rises, rows_distinct}
 use Rattle.store_tables.proofs.Plain.Facts.{Facts, AreRows, Lives, rows_in, key_is, entry_is}
 

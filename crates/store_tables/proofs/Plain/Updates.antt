@@ -42,7 +42,7 @@ use Rattle.std.proofs.lemmas.Bool.{and_parts}
 use Rattle.store_tables.specs.Plain.{Plain, table_of}
 use Rattle.store_tables.specs.Entries.{Layout, map_of}
 use Rattle.store_tables.proofs.Plain.Values.{left_shaped}
-use Rattle.store_contents.proofs.Keys.{tied}
+use Rattle.store_model.proofs.Keys.{tied}
 use Rattle.store_tables.proofs.Plain.Maps.{left_out, left_in, Puts, put_is}
 use Rattle.store_tables.proofs.Plain.Ordered.{moved}
 use Rattle.store_tables.proofs.Plain.Writes.{AreShaped, Spares, went, same_value, concluded}

@@ -4,10 +4,10 @@ use Rattle.std.specs.FinMap.{FinMap}
 use Rattle.sqlite_trees.specs.Tree.{Trees}
 use Rattle.sqlite.specs.State.{State, Executes}
 use Rattle.store_tables.specs.Tables.{store_schema}
-use Rattle.store_contents.specs.Entries.{NameNumber}
+use Rattle.store_model.specs.Entries.{NameNumber}
 use Rattle.store_tables.specs.Entries.{map_of, meta_rows, ring_rows, device_rows, seat_rows}
 use Rattle.store_tables.specs.Entries.{moved_rows, published_rows, request_rows, part_rows}
-use Rattle.store_contents.specs.Contents.{with_published_row}
+use Rattle.store_model.specs.Contents.{with_published_row}
 use Rattle.store_tables.specs.Contents.{contents_of}
 use Rattle.store_tables.specs.Store.{IsStore, Becomes}
 use Rattle.store_tables.specs.Inner.Texts.{put_published}

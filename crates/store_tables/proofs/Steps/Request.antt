@@ -5,10 +5,10 @@ use Rattle.sqlite_value.specs.Order.{Row}
 use Rattle.sqlite_trees.specs.Tree.{Trees}
 use Rattle.sqlite.specs.State.{State, Executes, Shown}
 use Rattle.store_tables.specs.Tables.{store_schema}
-use Rattle.store_contents.specs.Entries.{NameNumber, Request}
+use Rattle.store_model.specs.Entries.{NameNumber, Request}
 use Rattle.store_tables.specs.Entries.{map_of, meta_rows, ring_rows, device_rows, seat_rows}
 use Rattle.store_tables.specs.Entries.{moved_rows, published_rows, request_rows, part_rows}
-use Rattle.store_contents.specs.Contents.{with_request}
+use Rattle.store_model.specs.Contents.{with_request}
 use Rattle.store_tables.specs.Contents.{contents_of}
 use Rattle.store_tables.specs.Inner.Told.{told}
 use Rattle.store_tables.specs.Store.{IsStore, Becomes}

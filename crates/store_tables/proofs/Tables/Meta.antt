@@ -20,7 +20,7 @@ use Rattle.sqlite_tied.specs.Compute.{everything}
 use Rattle.sqlite.specs.Listing.{understood, reads_listing}
 use Rattle.sqlite.proofs.Callers.{IsPlain, command_of}
 use Rattle.store_tables.specs.Tables.{store_schema}
-use Rattle.store_contents.specs.Entries.{Meta}
+use Rattle.store_model.specs.Entries.{Meta}
 use Rattle.store_tables.specs.Entries.{meta_rows}
 use Rattle.store_tables.specs.Inner.Texts.{put_meta, set_meta, list_meta}
 use Rattle.store_tables.proofs.Plain.Values.{cast_null, cast_int, equal_ints, alone}

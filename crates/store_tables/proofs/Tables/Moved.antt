@@ -13,7 +13,7 @@ use Rattle.sqlite_tied.specs.Compute.{everything}
 use Rattle.sqlite.specs.Listing.{understood, reads_listing}
 use Rattle.sqlite.proofs.Callers.{IsPlain, command_of}
 use Rattle.store_tables.specs.Tables.{store_schema}
-use Rattle.store_contents.specs.Entries.{NameNumber, name_cmp}
+use Rattle.store_model.specs.Entries.{NameNumber, name_cmp}
 use Rattle.store_tables.specs.Entries.{moved_rows}
 use Rattle.store_tables.specs.Inner.Texts.{list_moved, clear_moved}
 use Rattle.store_tables.proofs.Plain.Values.{equal_ints, equal_texts, both_equal}
@@ -21,7 +21,7 @@ use Rattle.store_tables.proofs.Plain.Shapes.{present, shape_of}
 use Rattle.store_tables.proofs.Plain.Facts.{Facts}
 use Rattle.store_tables.proofs.Plain.Queries.{ListText, of_table, passes}
 use Rattle.store_tables.proofs.Plain.Drops.{DropText}
-use Rattle.store_contents.proofs.Keys.{name_number_total, name_number_exact}
+use Rattle.store_model.proofs.Keys.{name_number_total, name_number_exact}
 use Rattle.store_tables.proofs.Ties.{then_equal}
 use Rattle.std.proofs.lemmas.Bool.{and_parts}
 

@@ -17,7 +17,7 @@ use Rattle.sqlite_tied.specs.Compute.{everything}
 use Rattle.sqlite.specs.Listing.{understood, reads_listing}
 use Rattle.sqlite.proofs.Callers.{IsPlain, command_of}
 use Rattle.store_tables.specs.Tables.{store_schema}
-use Rattle.store_contents.specs.Entries.{NameNumber, name_cmp, Request}
+use Rattle.store_model.specs.Entries.{NameNumber, name_cmp, Request}
 use Rattle.store_tables.specs.Entries.{request_rows}
 use Rattle.store_tables.specs.Inner.Told.{told}
 use Rattle.store_tables.specs.Inner.Texts.{put_request, list_request, pick_request}
@@ -27,7 +27,7 @@ use Rattle.store_tables.proofs.Plain.Shapes.{present, shape_of}
 use Rattle.store_tables.proofs.Plain.Facts.{Facts}
 use Rattle.store_tables.proofs.Plain.Adds.{AddText}
 use Rattle.store_tables.proofs.Plain.Queries.{ListText, PickText, of_table, passes}
-use Rattle.store_contents.proofs.Keys.{name_number_total, name_number_exact}
+use Rattle.store_model.proofs.Keys.{name_number_total, name_number_exact}
 use Rattle.store_tables.proofs.Ties.{then_equal}
 use Rattle.std.proofs.lemmas.Bool.{and_parts}
 

@@ -18,7 +18,7 @@ use Rattle.sqlite_tied.specs.Compute.{everything}
 use Rattle.sqlite.specs.Listing.{understood, reads_listing}
 use Rattle.sqlite.proofs.Callers.{IsPlain, command_of}
 use Rattle.store_tables.specs.Tables.{store_schema}
-use Rattle.store_contents.specs.Entries.{name_cmp, Ring}
+use Rattle.store_model.specs.Entries.{name_cmp, Ring}
 use Rattle.store_tables.specs.Entries.{ring_rows}
 use Rattle.store_tables.specs.Inner.Texts.{put_ring, set_ring, list_ring}
 use Rattle.store_tables.proofs.Plain.Values.{cast_null, cast_int, equal_ints, equal_texts, alone}
@@ -27,7 +27,7 @@ use Rattle.store_tables.proofs.Plain.Facts.{Facts}
 use Rattle.store_tables.proofs.Plain.Puts.{PutText}
 use Rattle.store_tables.proofs.Plain.Updates.{SetText}
 use Rattle.store_tables.proofs.Plain.Queries.{ListText, of_table, passes}
-use Rattle.store_contents.proofs.Keys.{name_total, name_exact}
+use Rattle.store_model.proofs.Keys.{name_total, name_exact}
 use Rattle.store_tables.proofs.Ties.{first_of, or_false}
 use Rattle.std.proofs.lemmas.Bool.{and_parts, cases_Bool}
 

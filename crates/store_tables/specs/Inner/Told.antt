@@ -1,7 +1,7 @@
 -- What a row of a request tells.
 use Rattle.sqlite_value.specs.Order.{Row, column, bytes}
 use Rattle.sqlite_rules.specs.Edit.{id_in}
-use Rattle.store_contents.specs.Entries.{Request}
+use Rattle.store_model.specs.Entries.{Request}
 
 -- What a row of the columns `place`, `hour`, `command` and `reply` tells.
 abbrev pub told : Row → Request

@@ -2,7 +2,7 @@
 use Rattle.std.specs.Prelude.{Result}
 use Rattle.sqlite.specs.State.{State}
 use Rattle.sqlite.specs.declared.error.Error.{Error}
-use Rattle.store_contents.specs.Contents.{Contents}
+use Rattle.store_model.specs.Contents.{Contents}
 use Rattle.store_tables.specs.Contents.{contents_of}
 use Rattle.store_tables.specs.Store.{Reaches}
 

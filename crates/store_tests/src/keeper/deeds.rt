@@ -11,7 +11,7 @@ use sqlite::{Alter, Connection};
 use std::alloc::Global;
 use std::test::Fail;
 use store_rows::{Change, grows};
-use worked_rows::WorkedRow;
+use test_fixtures::rows::WorkedRow;
 
 /// What a deed leaves of a connection.
 pub enum After<S: Alter> {

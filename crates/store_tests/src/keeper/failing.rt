@@ -9,7 +9,7 @@ use sqlite::{Alter, Connection, Files};
 use sqlite_disk::{Disk, Fuse, Memory};
 use std::alloc::Global;
 use std::test::Fail;
-use worked_rows::{AT_THE_HOUR, FIRST, WorkedRow};
+use test_fixtures::rows::{AT_THE_HOUR, FIRST, WorkedRow};
 
 type Fused = Files<Fuse<Memory>>;
 

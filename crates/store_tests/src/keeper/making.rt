@@ -9,7 +9,7 @@ use sqlite::Files;
 use sqlite_disk::Memory;
 use std::alloc::Global;
 use std::test::Fail;
-use worked_rows::{FIRST, LOCKED, RENEWED, RISEN, WorkedRow};
+use test_fixtures::rows::{FIRST, LOCKED, RENEWED, RISEN, WorkedRow};
 
 /// Files whose store holds seven numbers and the hour 24, where it held nothing, and its rings.
 fn filled(alloc: Global) -> Result<(Rings, Files<Memory>), Fail> {

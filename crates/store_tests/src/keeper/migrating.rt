@@ -7,7 +7,7 @@ use sqlite::{Alter, Connection, Error, Files, MemStore};
 use sqlite_disk::Memory;
 use std::alloc::Global;
 use std::test::Fail;
-use worked_rows::{AT_THE_HOUR, FIRST, LOCKED, WorkedRow};
+use test_fixtures::rows::{AT_THE_HOUR, FIRST, LOCKED, WorkedRow};
 
 /// The tables of schema 1.
 static TABLES: [&str; 7] = [

@@ -1,7 +1,7 @@
 use Rattle.std.proofs.Common.{◌∙◌, ap}
 use Rattle.store_rows.specs.Differences.{with_state}
 use Rattle.store_rows.specs.Stands.{RingContent}
-use Rattle.store_contents.specs.Changes.{with_decided}
+use Rattle.store_model.specs.Changes.{with_decided}
 use Rattle.builder_store.proofs.planning.planned.Goals as goal
 
 pub returns : goal.returns

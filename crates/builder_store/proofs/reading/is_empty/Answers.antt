@@ -1,7 +1,7 @@
 use Rattle.std.proofs.Common.{◌∙◌, ap}
 use Rattle.std.specs.Prelude.{◌&&◌, ◌==◌}
-use Rattle.store_contents.specs.Contents.{Contents, device_of, meta_of, moved_of, part_of}
-use Rattle.store_contents.specs.Contents.{published_of, request_of, ring_of, seat_of}
+use Rattle.store_model.specs.Contents.{Contents, device_of, meta_of, moved_of, part_of}
+use Rattle.store_model.specs.Contents.{published_of, request_of, ring_of, seat_of}
 use Rattle.builder_store.proofs.Empty.{and_is, both, table_empty}
 use Rattle.builder_store.proofs.reading.is_empty.Goals as goal
 

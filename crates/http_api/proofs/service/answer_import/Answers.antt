@@ -8,7 +8,7 @@ use Rattle.http_api.proofs.service.answer_import.Goals as goal
 
 pub returns-in-Ok : goal.returns-in-Ok
 returns-in-Ok g c =
-    let d = c.deliver.ensures in
+    let d = c.deliver_now.ensures in
     let rows : AreRows (records_of c.args.body.now) c.in-Ok.rows.items =
     c.in-Ok.ensures.rows c.args.body.now (search rules) in (
       Some (Deliver (record {

@@ -1,6 +1,6 @@
 use Rattle.std.proofs.Common.{refl, None}
-use Rattle.book_front.proofs.Fronts.{none_made}
-use Rattle.line_api.specs.Served.{steps_of}
+use Rattle.request_book.proofs.Fronts.{none_made}
+use Rattle.ring_book.specs.Book.{steps_of}
 use Rattle.http_api.proofs.service.answer_message.Goals as goal
 
 pub returns-in-Err-Bad : goal.returns-in-Err-Bad

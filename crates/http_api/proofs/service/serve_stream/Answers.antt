@@ -6,8 +6,8 @@ use Rattle.http_api.proofs.service.serve_stream.Goals as goal
 
 pub returns-clause-served : goal.returns-clause-served
 returns-clause-served g c = IfOk-weaker c.serve_requests.result _ _
-    (served_run g.K.Keeper.content g.K.Keeper.sound g.K.Keeper.limit g.K.Keeper.fault_count
-    g.C.Clock.tells c.args.prefix.now c.args.suffix.now
+    (served_run g.K.Keeper
+    g.C.Clock.tells c.args.names.prefix.now c.args.names.suffix.now
     (g.R.Read.remaining (reader_of c.args.reader.now))
     (g.W.Write.contents (writer_of c.args.writer.now))
     (g.W.Write.contents (writer_of c.serve_requests.new.writer))
@@ -16,8 +16,8 @@ returns-clause-served g c = IfOk-weaker c.serve_requests.result _ _
 
 pub returns-clause-stopped : goal.returns-clause-stopped
 returns-clause-stopped g c = IfErr-weaker c.serve_requests.result _ _
-    (stopped_run g.K.Keeper.content g.K.Keeper.sound g.K.Keeper.limit g.K.Keeper.fault_count
-    g.C.Clock.tells c.args.prefix.now c.args.suffix.now
+    (stopped_run g.K.Keeper
+    g.C.Clock.tells c.args.names.prefix.now c.args.names.suffix.now
     (g.R.Read.remaining (reader_of c.args.reader.now))
     (g.R.Read.remaining (reader_of c.serve_requests.new.reader))
     (g.W.Write.contents (writer_of c.args.writer.now))
@@ -26,8 +26,8 @@ returns-clause-stopped g c = IfErr-weaker c.serve_requests.result _ _
     c.serve_requests.ensures.stopped
 
 pub returns-clause-safe : goal.returns-clause-safe
-returns-clause-safe g c = served_safe g.K.Keeper.content g.K.Keeper.sound g.K.Keeper.limit
-    g.K.Keeper.fault_count g.C.Clock.tells c.args.prefix.now c.args.suffix.now
+returns-clause-safe g c = served_safe g.K.Keeper g.C.Clock.tells c.args.names.prefix.now
+    c.args.names.suffix.now
     _ _ _ _ (c.args.clock.now, c.args.book.now) (
       c.serve_requests.new.clock,
       c.serve_requests.new.state,
@@ -35,6 +35,6 @@ returns-clause-safe g c = served_safe g.K.Keeper.content g.K.Keeper.sound g.K.Ke
     (returns-clause-served g c) (returns-clause-stopped g c)
 
 pub returns-in_err-routes-clause-safe : goal.returns-in_err-routes-clause-safe
-returns-in_err-routes-clause-safe g c = unmoved g.K.Keeper.content g.K.Keeper.sound
-    g.K.Keeper.limit g.K.Keeper.fault_count g.C.Clock.tells c.args.prefix.now c.args.suffix.now
+returns-in_err-routes-clause-safe g c = unmoved g.K.Keeper g.C.Clock.tells c.args.names.prefix.now
+    c.args.names.suffix.now
     c.args.book.now c.args.book.now refl

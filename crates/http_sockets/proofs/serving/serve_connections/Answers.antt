@@ -8,18 +8,16 @@ returns-in_default-clause-served g c = (
   (
     0,
     omega arith,
-    none_yet g.K.Keeper.content g.K.Keeper.sound g.K.Keeper.limit
-        g.K.Keeper.fault_count g.C.Clock.tells c.args.prefix.now c.args.suffix.now
+    none_yet g.K.Keeper g.C.Clock.tells c.args.names.prefix.now c.args.names.suffix.now
         (c.args.clock.now, c.args.book.now),
   ),
 )
 
 pub returns-in_default-clause-safe : goal.returns-in_default-clause-safe
-returns-in_default-clause-safe g c = safe_all g.K.Keeper.content g.K.Keeper.sound g.K.Keeper.limit
-    g.K.Keeper.fault_count g.C.Clock.tells c.args.prefix.now c.args.suffix.now
+returns-in_default-clause-safe g c = safe_all g.K.Keeper g.C.Clock.tells c.args.names.prefix.now
+    c.args.names.suffix.now
     0 c.args.clock.now c.args.clock.now c.args.book.now c.args.book.now
-    (none_yet g.K.Keeper.content g.K.Keeper.sound g.K.Keeper.limit
-    g.K.Keeper.fault_count g.C.Clock.tells c.args.prefix.now c.args.suffix.now
+    (none_yet g.K.Keeper g.C.Clock.tells c.args.names.prefix.now c.args.names.suffix.now
     (c.args.clock.now, c.args.book.now))
 
 pub returns-clause-served : goal.returns-clause-served

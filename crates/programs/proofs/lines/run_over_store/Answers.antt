@@ -1,35 +1,38 @@
 use Rattle.std.proofs.Common.{inl, inr}
-use Rattle.std.proofs.lemmas.Result.{IfErr-weaker}
-use Rattle.keeper_programs.proofs.Runs.{at_err, at_ok}
-use Rattle.keeper_programs.proofs.Services.{on_ok}
+use Rattle.std.proofs.lemmas.Result.{IfErr-weaker, err_from_is_err_and}
+use Rattle.programs.proofs.Runs.{at_err, at_ok}
+use Rattle.programs.proofs.Services.{on_ok}
 use Rattle.programs.proofs.Kept.{answers_kept, stops_kept}
 use Rattle.programs.proofs.lines.run_over_store.Goals as goal
 
-pub returns-in-Ok-answered-clause-answered : goal.returns-in-Ok-answered-clause-answered
-returns-in-Ok-answered-clause-answered g c = let ran = c.answer_lines-answered in
+pub returns-clause-answered : goal.returns-clause-answered
+returns-clause-answered g c = let ran = c.answer_lines-answered in
     on_ok _ _
-    (answers_kept g.S.Kept.Keeper g.S.Stores.begins c.in-Ok.keeper c.in-Ok.ensures.begins _ g.R.Read.remaining g.W.Write.contents
+    (answers_kept g.S.Kept.Keeper g.S.Stores.begins c.in_ok-keeper.keeper c.in_ok-keeper.ensures.begins _ g.R.Read.remaining g.W.Write.contents
     c.args.reader.now ran.new.reader c.args.writer.now ran.new.writer
-    (at_ok ran.result.0 _ _ c.in-Ok-answered.is ran.ensures.answered))
+    (at_ok ran.result.0 _ _ c.in_ok-answered.was ran.ensures.answered))
 
-pub returns-in-Ok-answered-clause-failed : goal.returns-in-Ok-answered-clause-failed
-returns-in-Ok-answered-clause-failed g c = let ran = c.answer_lines-answered in
+pub returns-clause-failed : goal.returns-clause-failed
+returns-clause-failed g c = let ran = c.answer_lines-answered in
     IfErr-weaker c.close-closed.result _ _
     (λ why is. inr (inr (
       is,
-      answers_kept g.S.Kept.Keeper g.S.Stores.begins c.in-Ok.keeper c.in-Ok.ensures.begins _ g.R.Read.remaining g.W.Write.contents
+      answers_kept g.S.Kept.Keeper g.S.Stores.begins c.in_ok-keeper.keeper c.in_ok-keeper.ensures.begins _ g.R.Read.remaining g.W.Write.contents
           c.args.reader.now ran.new.reader c.args.writer.now ran.new.writer
-          (at_ok ran.result.0 _ _ c.in-Ok-answered.is ran.ensures.answered),
+          (at_ok ran.result.0 _ _ c.in_ok-answered.was ran.ensures.answered),
     )))
     c.close-closed.ensures
 
-pub returns-in-Err-answered-clause-failed : goal.returns-in-Err-answered-clause-failed
-returns-in-Err-answered-clause-failed g c = let ran = c.answer_lines-answered in
-    inl (
-      c.in-Err-answered.fault,
-      c.from.ensures,
-      stops_kept g.S.Kept.Keeper g.S.Stores.begins c.in-Ok.keeper c.in-Ok.ensures.begins _ g.R.Read.remaining g.W.Write.contents
+pub returns-in_err-answered-clause-failed : goal.returns-in_err-answered-clause-failed
+returns-in_err-answered-clause-failed g c =
+    let ran = c.answer_lines-answered in
+    let p = err_from_is_err_and c.from_residual-in_err-answered.result
+    c.from_residual-in_err-answered.ensures.1 in
+    rw (p.1) (inl (
+      c.in_err-answered.field-0.0,
+      p.2,
+      stops_kept g.S.Kept.Keeper g.S.Stores.begins c.in_ok-keeper.keeper c.in_ok-keeper.ensures.begins _ g.R.Read.remaining g.W.Write.contents
           c.args.reader.now ran.new.reader c.args.writer.now ran.new.writer
-          c.in-Err-answered.fault
-          (at_err ran.result.0 c.in-Err-answered.fault _ c.in-Err-answered.is ran.ensures.stopped),
-    )
+          c.in_err-answered.field-0.0
+          (at_err ran.result.0 c.in_err-answered.field-0.0 _ c.in_err-answered.was ran.ensures.stopped),
+    ))

@@ -1,4 +1,5 @@
 use Rattle.std.proofs.Common.{inl, inr, refl}
+use Rattle.std.proofs.lemmas.Result.{err_from_is_err_and}
 use Rattle.programs.proofs.Endings.{ends_as, failed_asked, fails_as}
 use Rattle.programs.proofs.performing.perform_task.Goals as goal
 
@@ -8,22 +9,28 @@ returns-in-Import-clause-failed g c = rw c.in-Import.is (failed_asked
     c.ask_import-asked.ensures.asked c.ask_import-asked.ensures.fault
     (λ why form same. inl (form, refl, same)) (λ why f. inr (refl, f)) c.import.ensures.failed)
 
-pub returns-in-Ok-serve_store-clause-ended : goal.returns-in-Ok-serve_store-clause-ended
-returns-in-Ok-serve_store-clause-ended g c = ends_as _ _ _ g.R.Read.remaining g.W.Write.contents
+pub returns-in_ok-serve_store-in-Serve-clause-ended : goal.returns-in_ok-serve_store-in-Serve-clause-ended
+returns-in_ok-serve_store-in-Serve-clause-ended g c = ends_as _ _ _ g.R.Read.remaining g.W.Write.contents
     c.args.reader.now c.args.reader.now c.args.writer.now c.args.writer.now _ _ _ _ c.in-Serve.is
-    (refl, refl, c.in-Ok-serve_store.ensures.served)
+    (refl, refl, c.in_ok-serve_store-in-Serve.ensures.served)
 
-pub returns-in-Err-serve_store-clause-failed : goal.returns-in-Err-serve_store-clause-failed
-returns-in-Err-serve_store-clause-failed g c = fails_as _ _ _ g.R.Read.remaining g.W.Write.contents
+pub returns-in_err-serve_store-in-Serve-clause-failed : goal.returns-in_err-serve_store-in-Serve-clause-failed
+returns-in_err-serve_store-in-Serve-clause-failed g c =
+    let p = err_from_is_err_and c.from_residual-in_err-serve_store-in-Serve.result
+    c.from_residual-in_err-serve_store-in-Serve.ensures.1 in
+    rw (p.1, p.2) (fails_as _ _ _ g.R.Read.remaining g.W.Write.contents
     c.args.reader.now c.args.reader.now c.args.writer.now c.args.writer.now _ _ _ c.in-Serve.is
-    (inr (refl, refl, c.in-Err-serve_store.ensures.failed))
+    (inr (refl, refl, c.in_err-serve_store-in-Serve.ensures.failed)))
 
-pub returns-in-Ok-loop_bytes-clause-ended : goal.returns-in-Ok-loop_bytes-clause-ended
-returns-in-Ok-loop_bytes-clause-ended g c = ends_as _ _ _ g.R.Read.remaining g.W.Write.contents
+pub returns-in_ok-loop_bytes-in-Loop-clause-ended : goal.returns-in_ok-loop_bytes-in-Loop-clause-ended
+returns-in_ok-loop_bytes-in-Loop-clause-ended g c = ends_as _ _ _ g.R.Read.remaining g.W.Write.contents
     c.args.reader.now c.args.reader.now c.args.writer.now c.loop_bytes.new.writer _ _ _ _
-    c.in-Loop.is (refl, c.in-Ok-loop_bytes.ensures.done)
+    c.in-Loop.is (refl, c.in_ok-loop_bytes-in-Loop.ensures.done)
 
-pub returns-in-Err-loop_bytes-clause-failed : goal.returns-in-Err-loop_bytes-clause-failed
-returns-in-Err-loop_bytes-clause-failed g c = fails_as _ _ _ g.R.Read.remaining g.W.Write.contents
+pub returns-in_err-loop_bytes-in-Loop-clause-failed : goal.returns-in_err-loop_bytes-in-Loop-clause-failed
+returns-in_err-loop_bytes-in-Loop-clause-failed g c =
+    let p = err_from_is_err_and c.from_residual-in_err-loop_bytes-in-Loop.result
+    c.from_residual-in_err-loop_bytes-in-Loop.ensures.1 in
+    rw (p.1, p.2) (fails_as _ _ _ g.R.Read.remaining g.W.Write.contents
     c.args.reader.now c.args.reader.now c.args.writer.now c.loop_bytes.new.writer _ _ _
-    c.in-Loop.is (inr (refl, c.in-Err-loop_bytes.ensures.failed))
+    c.in-Loop.is (inr (refl, c.in_err-loop_bytes-in-Loop.ensures.failed)))

@@ -1,25 +1,28 @@
 use Rattle.std.proofs.Common.{◌∙◌, ap, inr}
-use Rattle.keeper_programs.specs.Faults.{stream_fault}
+use Rattle.std.proofs.lemmas.Result.{err_from_is_err_and}
+use Rattle.programs.specs.Faults.{stream_fault}
 use Rattle.programs.proofs.showing.show.Goals as goal
 
-pub returns-in-Ok-write_text-clause-shown : goal.returns-in-Ok-write_text-clause-shown
-returns-in-Ok-write_text-clause-shown g c = (
-  c.in-Ok.bytes.items,
-  c.in-Ok.ensures.shown,
-  rw c.as_slice.ensures.value at c.in-Ok-write_text.ensures.ok,
-  c.in-Ok-write_text.ensures.cause,
-  c.in-Ok-write_text.ensures.flushed,
+pub returns-clause-shown : goal.returns-clause-shown
+returns-clause-shown g c = (
+  c.in_ok-bytes.bytes.items,
+  c.in_ok-bytes.ensures.shown,
+  rw c.as_slice.ensures.value at c.in_ok-write_text.ensures.ok,
+  c.in_ok-write_text.ensures.cause,
+  c.in_ok-write_text.ensures.flushed,
 )
 
-pub returns-clause-fault : goal.returns-clause-fault
-returns-clause-fault g c =
-    let failed = c.in-Err-write_text.ensures.failed in
-    inr (inr (
-      c.from.ensures ∙ ap stream_fault failed.0,
+pub returns-in_err-write_text-clause-fault : goal.returns-in_err-write_text-clause-fault
+returns-in_err-write_text-clause-fault g c =
+    let failed = c.in_err-write_text.ensures.failed in
+    let p = err_from_is_err_and c.from_residual-in_err-write_text.result
+    c.from_residual-in_err-write_text.ensures.1 in
+    rw (p.1) (inr (inr (
+      p.2 ∙ ap stream_fault failed.0,
       (
-        c.in-Ok.bytes.items,
-        c.in-Ok.ensures.shown,
+        c.in_ok-bytes.bytes.items,
+        c.in_ok-bytes.ensures.shown,
         rw c.as_slice.ensures.value at failed.1,
-        c.in-Err-write_text.ensures.cause,
+        c.in_err-write_text.ensures.cause,
       ),
-    ))
+    )))

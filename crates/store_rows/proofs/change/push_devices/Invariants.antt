@@ -1,5 +1,5 @@
 use Rattle.std.proofs.Common.{◌≡◌, ◌++◌, map}
-use Rattle.store_contents.specs.declared.change.RowChange.TheVariants.{AddDevice}
+use Rattle.store_model.specs.declared.change.RowChange.TheVariants.{AddDevice}
 use Rattle.store_rows.proofs.change.push_devices.Given as goal
 
 abbrev pub invariant-loop-row : goal.invariant-loop-row

@@ -1,5 +1,5 @@
 use Rattle.std.proofs.Common.{◌≡◌, ◌++◌, map}
-use Rattle.store_contents.specs.declared.change.RowChange.TheVariants.{DropDevice}
+use Rattle.store_model.specs.declared.change.RowChange.TheVariants.{DropDevice}
 use Rattle.store_rows.proofs.change.push_drops.Given as goal
 
 abbrev pub invariant-loop-key : goal.invariant-loop-key

@@ -1,6 +1,6 @@
 use Rattle.std.proofs.Common.{map, ap, ◌∙◌, ◌++◌}
-use Rattle.store_contents.specs.Contents.{part_of}
-use Rattle.store_contents.specs.Entries.{name_number_cmp}
+use Rattle.store_model.specs.Contents.{part_of}
+use Rattle.store_model.specs.Entries.{name_number_cmp}
 use Rattle.store_rows.specs.Differences.{is_same_part}
 use Rattle.store_rows.specs.RingRows.{part_entries_of}
 use Rattle.store_rows.specs.Inner.Lacking.{lacking, rows_at}

@@ -1,8 +1,8 @@
 use Rattle.std.proofs.Common.{◌≡◌, map, take}
 use Rattle.std.specs.List.{flat_map}
 use Rattle.ring_model.specs.Rings.{seen}
-use Rattle.store_contents.specs.Entries.{name_number_cmp}
-use Rattle.store_contents.specs.Contents.{part_of}
+use Rattle.store_model.specs.Entries.{name_number_cmp}
+use Rattle.store_model.specs.Contents.{part_of}
 use Rattle.store_rows.specs.Differences.{is_same_part}
 use Rattle.store_rows.specs.RingRows.{part_entries_of}
 use Rattle.store_rows.specs.Inner.Lacking.{lacking}

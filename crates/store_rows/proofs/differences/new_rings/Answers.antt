@@ -1,7 +1,7 @@
 use Rattle.std.proofs.Common.{map, ap, ◌∙◌, ◌++◌}
 use Rattle.ring_model.specs.Ring.{RingRecord}
 use Rattle.ring_model.specs.Rings.{ring_at}
-use Rattle.store_contents.specs.Contents.{ring_of}
+use Rattle.store_model.specs.Contents.{ring_of}
 use Rattle.store_rows.specs.Inner.Lacking.{added_ring}
 use Rattle.store_rows.proofs.Steps.{ring_step}
 use Rattle.store_rows.proofs.differences.new_rings.Goals as goal

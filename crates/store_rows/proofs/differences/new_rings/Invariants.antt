@@ -1,7 +1,7 @@
 use Rattle.std.proofs.Common.{◌≡◌, map, take}
 use Rattle.ring_model.specs.Rings.{seen}
-use Rattle.store_contents.specs.Entries.{name_cmp}
-use Rattle.store_contents.specs.Contents.{ring_of}
+use Rattle.store_model.specs.Entries.{name_cmp}
+use Rattle.store_model.specs.Contents.{ring_of}
 use Rattle.store_rows.specs.Differences.{is_same_ring}
 use Rattle.store_rows.specs.RingRows.{ring_entries}
 use Rattle.store_rows.specs.Inner.Lacking.{lacking}

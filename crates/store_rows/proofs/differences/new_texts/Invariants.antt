@@ -1,8 +1,8 @@
 use Rattle.std.proofs.Common.{◌≡◌, map, take}
 use Rattle.std.specs.List.{flat_map}
 use Rattle.ring_model.specs.Rings.{seen}
-use Rattle.store_contents.specs.Entries.{name_number_cmp}
-use Rattle.store_contents.specs.Contents.{published_of}
+use Rattle.store_model.specs.Entries.{name_number_cmp}
+use Rattle.store_model.specs.Contents.{published_of}
 use Rattle.store_rows.specs.Differences.{is_same_text}
 use Rattle.store_rows.specs.RingRows.{published_entry}
 use Rattle.store_rows.specs.Inner.Lacking.{lacking}

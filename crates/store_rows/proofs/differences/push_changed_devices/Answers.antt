@@ -1,5 +1,5 @@
 use Rattle.std.proofs.Common.{map, ap, sym, ◌∙◌}
-use Rattle.store_contents.specs.Contents.{device_of}
+use Rattle.store_model.specs.Contents.{device_of}
 use Rattle.store_rows.proofs.Unchanged.{adds_no_device, same_devices}
 use Rattle.store_rows.proofs.differences.push_changed_devices.Goals as goal
 

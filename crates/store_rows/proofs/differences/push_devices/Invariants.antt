@@ -1,6 +1,6 @@
 use Rattle.std.proofs.Common.{◌≡◌, ◌++◌, map, take}
-use Rattle.store_contents.specs.Entries.{name_number_cmp}
-use Rattle.store_contents.specs.Contents.{device_of}
+use Rattle.store_model.specs.Entries.{name_number_cmp}
+use Rattle.store_model.specs.Contents.{device_of}
 use Rattle.store_rows.specs.Differences.{is_same_device}
 use Rattle.store_rows.specs.RingRows.{device_entry}
 use Rattle.store_rows.specs.Inner.Lacking.{lacking}

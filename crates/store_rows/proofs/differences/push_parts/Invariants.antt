@@ -1,8 +1,8 @@
 use Rattle.std.proofs.Common.{◌≡◌, ◌++◌, map, take}
 use Rattle.std.specs.List.{enumerate_from}
 use Rattle.std.specs.Option.{option_map}
-use Rattle.store_contents.specs.Entries.{name_number_cmp}
-use Rattle.store_contents.specs.Contents.{part_of}
+use Rattle.store_model.specs.Entries.{name_number_cmp}
+use Rattle.store_model.specs.Contents.{part_of}
 use Rattle.store_rows.specs.Differences.{is_same_part}
 use Rattle.store_rows.specs.RingRows.{part_entry, part_entries_of}
 use Rattle.store_rows.specs.Inner.Lacking.{lacking, rows_at}

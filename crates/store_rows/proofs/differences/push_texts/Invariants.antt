@@ -3,8 +3,8 @@ use Rattle.std.specs.Option.{option_map}
 use Rattle.std.specs.Rc.{rc_str_bytes}
 use Rattle.std.specs.declared.rc.RcStr.{RcStr}
 use Rattle.std.specs.declared.alloc.Global.{Global}
-use Rattle.store_contents.specs.Entries.{name_number_cmp}
-use Rattle.store_contents.specs.Contents.{published_of}
+use Rattle.store_model.specs.Entries.{name_number_cmp}
+use Rattle.store_model.specs.Contents.{published_of}
 use Rattle.store_rows.specs.Differences.{is_same_text}
 use Rattle.store_rows.specs.RingRows.{published_entry}
 use Rattle.store_rows.specs.Inner.Lacking.{lacking, rows_at, text_entries_of}

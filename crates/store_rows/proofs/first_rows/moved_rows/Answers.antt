@@ -1,7 +1,7 @@
 use Rattle.std.proofs.Common.{ℕ, List, map, ap, ◌∙◌, ◌++◌}
 use Rattle.std.specs.List.{enumerate_from, flat_map}
 use Rattle.ring_model.specs.Ring.{RingRecord}
-use Rattle.store_contents.specs.Contents.{moved_of}
+use Rattle.store_model.specs.Contents.{moved_of}
 use Rattle.store_rows.specs.FirstRows.{moved_entry}
 use Rattle.store_rows.proofs.Steps.{seen_step}
 use Rattle.store_rows.proofs.first_rows.moved_rows.Goals as goal

@@ -2,7 +2,7 @@ use Rattle.std.proofs.Common.{ℕ, Option, None, map, ap, ◌∙◌, ◌++◌, g
 use Rattle.std.specs.List.{enumerate_from, flat_map}
 use Rattle.std.proofs.lemmas.List.{take_all}
 use Rattle.std.proofs.lemmas.List.FromFn.{length-enumerate_from}
-use Rattle.store_contents.specs.Contents.{moved_of}
+use Rattle.store_model.specs.Contents.{moved_of}
 use Rattle.store_rows.specs.FirstRows.{moved_entry}
 use Rattle.store_rows.proofs.Steps.{placed_step, flat_append}
 use Rattle.store_rows.proofs.first_rows.push_moves.Goals as goal

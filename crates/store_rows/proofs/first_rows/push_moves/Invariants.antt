@@ -1,6 +1,6 @@
 use Rattle.std.proofs.Common.{◌≡◌, ◌++◌, map, take}
 use Rattle.std.specs.List.{enumerate_from, flat_map}
-use Rattle.store_contents.specs.Contents.{moved_of}
+use Rattle.store_model.specs.Contents.{moved_of}
 use Rattle.store_rows.specs.FirstRows.{moved_entry}
 use Rattle.store_rows.proofs.first_rows.push_moves.Given as goal
 

@@ -2,7 +2,7 @@ use Rattle.std.proofs.Common.{◌≡◌, ℕ, map, ap, ◌∙◌, ◌++◌, ◌�
 use Rattle.std.specs.List.{enumerate_from}
 use Rattle.std.proofs.lemmas.List.{take_all}
 use Rattle.std.proofs.lemmas.List.FromFn.{length-enumerate_from}
-use Rattle.store_contents.specs.Contents.{seat_of}
+use Rattle.store_model.specs.Contents.{seat_of}
 use Rattle.store_rows.specs.FirstRows.{seat_entry}
 use Rattle.store_rows.proofs.Steps.{placed_step, map_append}
 use Rattle.store_rows.proofs.first_rows.push_seats.Goals as goal

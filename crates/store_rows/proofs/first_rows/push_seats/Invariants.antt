@@ -1,6 +1,6 @@
 use Rattle.std.proofs.Common.{◌≡◌, ◌++◌, map, take}
 use Rattle.std.specs.List.{enumerate_from}
-use Rattle.store_contents.specs.Contents.{seat_of}
+use Rattle.store_model.specs.Contents.{seat_of}
 use Rattle.store_rows.specs.FirstRows.{seat_entry}
 use Rattle.store_rows.proofs.first_rows.push_seats.Given as goal
 

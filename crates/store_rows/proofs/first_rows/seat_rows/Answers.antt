@@ -1,7 +1,7 @@
 use Rattle.std.proofs.Common.{ℕ, List, map, ap, ◌∙◌, ◌++◌}
 use Rattle.std.specs.List.{enumerate_from}
 use Rattle.ring_model.specs.Ring.{RingRecord}
-use Rattle.store_contents.specs.Contents.{seat_of}
+use Rattle.store_model.specs.Contents.{seat_of}
 use Rattle.store_rows.specs.FirstRows.{seat_entry}
 use Rattle.store_rows.proofs.Steps.{seen_step}
 use Rattle.store_rows.proofs.first_rows.seat_rows.Goals as goal

@@ -2,7 +2,7 @@ use Rattle.std.proofs.Common.{◌≡◌, ℕ, List, map, take}
 use Rattle.std.specs.List.{enumerate_from, flat_map}
 use Rattle.ring_model.specs.Ring.{RingRecord}
 use Rattle.ring_model.specs.Rings.{seen}
-use Rattle.store_contents.specs.Contents.{seat_of}
+use Rattle.store_model.specs.Contents.{seat_of}
 use Rattle.store_rows.specs.FirstRows.{seat_entry}
 use Rattle.store_rows.proofs.first_rows.seat_rows.Given as goal
 

@@ -1,7 +1,7 @@
 use Rattle.std.proofs.Common.{map, ap, sym, ◌∙◌}
 use Rattle.std.proofs.Common.{arith}
 use Rattle.std.specs.Vec.{vec_len}
-use Rattle.store_contents.specs.Contents.{seat_of, moved_of, part_of}
+use Rattle.store_model.specs.Contents.{seat_of, moved_of, part_of}
 use Rattle.store_rows.proofs.Steps.{alike_by, alike_map, unlike}
 use Rattle.store_rows.proofs.FoundRows.{empty_of}
 use Rattle.store_rows.proofs.judging.are_first_places.Goals as goal

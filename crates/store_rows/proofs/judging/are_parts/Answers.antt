@@ -1,8 +1,8 @@
 use Rattle.std.proofs.Common.{map, ap, sym, ◌∙◌}
 use Rattle.std.proofs.Common.{arith}
 use Rattle.std.specs.Vec.{vec_len}
-use Rattle.store_contents.specs.Contents.{seat_of, moved_of, part_of}
-use Rattle.store_contents.specs.Entries.{name_number_cmp}
+use Rattle.store_model.specs.Contents.{seat_of, moved_of, part_of}
+use Rattle.store_model.specs.Entries.{name_number_cmp}
 use Rattle.store_rows.specs.RingRows.{part_entries}
 use Rattle.store_rows.specs.Differences.{is_same_part}
 use Rattle.store_rows.specs.Inner.Lacking.{lacking}

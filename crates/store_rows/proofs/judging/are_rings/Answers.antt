@@ -1,7 +1,7 @@
 use Rattle.std.proofs.Common.{map, ap, sym, ◌∙◌}
 use Rattle.std.proofs.lemmas.Result.{IfOk-weaker}
-use Rattle.store_contents.specs.Contents.{ring_of, device_of, published_of}
-use Rattle.store_contents.specs.Entries.{name_cmp, name_number_cmp}
+use Rattle.store_model.specs.Contents.{ring_of, device_of, published_of}
+use Rattle.store_model.specs.Entries.{name_cmp, name_number_cmp}
 use Rattle.store_rows.specs.RingRows.{ring_entries, device_entries, published_entries}
 use Rattle.store_rows.specs.Differences.{is_same_ring, is_same_device, is_same_text}
 use Rattle.store_rows.specs.Inner.Lacking.{lacking}

@@ -1,5 +1,5 @@
 use Rattle.std.proofs.Common.{ap, map, sym, refl, ◌∙◌, arith}
-use Rattle.store_contents.specs.Contents.{meta_of}
+use Rattle.store_model.specs.Contents.{meta_of}
 use Rattle.store_rows.specs.Stands.{RingContent}
 use Rattle.store_rows.proofs.FoundRows.{stands, found_in}
 use Rattle.store_rows.proofs.judging.judge.Goals as goal

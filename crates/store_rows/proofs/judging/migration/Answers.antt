@@ -1,6 +1,6 @@
 use Rattle.std.proofs.Common.{◌++◌, ap, map, ◌∙◌}
-use Rattle.store_contents.specs.Entries.{name_number_cmp}
-use Rattle.store_contents.specs.declared.change.RowChange.TheVariants.{PutPart}
+use Rattle.store_model.specs.Entries.{name_number_cmp}
+use Rattle.store_model.specs.declared.change.RowChange.TheVariants.{PutPart}
 use Rattle.store_rows.specs.RingRows.{part_entries}
 use Rattle.store_rows.specs.Differences.{is_same_part}
 use Rattle.store_rows.specs.Inner.Lacking.{lacking}

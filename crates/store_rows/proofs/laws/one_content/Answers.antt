@@ -3,9 +3,9 @@ use Rattle.std.specs.FinMap.{entries, get, get-from_entries}
 use Rattle.std.specs.Cmp.{int_cmp_total}
 use Rattle.std.specs.Ordering.{int_cmp}
 use Rattle.std.proofs.lemmas.List.Elements.{recursion_from_All}
-use Rattle.store_contents.specs.Contents.{Contents}
-use Rattle.store_contents.specs.Entries as rows
-use Rattle.store_contents.proofs.Keys.{name_total, name_exact, name_number_total, name_number_exact}
+use Rattle.store_model.specs.Contents.{Contents}
+use Rattle.store_model.specs.Entries as rows
+use Rattle.store_model.proofs.Keys.{name_total, name_exact, name_number_total, name_number_exact}
 use Rattle.store_rows.specs.Stands.{IsNamedRing, request_entries, meta_value}
 use Rattle.store_rows.proofs.Maps.{entries_of}
 use Rattle.store_rows.proofs.Ordered.{rings_sorted, up, devices_sorted, texts_sorted, parts_sorted}

@@ -1,9 +1,9 @@
 use Rattle.std.proofs.Common.{ap, sym, ◌∙◌, refl, ◌≡◌, pos, to_z, of_z, w64, arith}
 use Rattle.std.specs.String.{string_bytes}
 use Rattle.std.proofs.lemmas.Int.{ints}
-use Rattle.store_contents.specs.Changes.{with_decided}
-use Rattle.store_contents.specs.declared.rows.MetaRow.{MetaRow}
-use Rattle.store_contents.specs.declared.rows.RequestRow.{RequestRow}
+use Rattle.store_model.specs.Changes.{with_decided}
+use Rattle.store_model.specs.declared.rows.MetaRow.{MetaRow}
+use Rattle.store_model.specs.declared.rows.RequestRow.{RequestRow}
 use Rattle.store_rows.specs.Stands.{DecidedRequest, contents_for}
 use Rattle.store_rows.proofs.BookGains.{stands_more, holds_more}
 use Rattle.store_rows.proofs.requests.decided_rows.Goals as goal

@@ -5,7 +5,7 @@ use Rattle.ring_words.specs.declared.command.Reply.{Reply}
 use Rattle.ring_words.specs.declared.spelling.SpellingFault.{SpellingFault}
 use Rattle.ring_words.specs.declared.spelling.SpellingFault.TheVariants.{Bad}
 use Rattle.ring_messages.specs.Replies.{reply_text, IsProperReply}
-use Rattle.store_contents.specs.Contents.{kept_of}
+use Rattle.store_model.specs.Contents.{kept_of}
 use Rattle.store_rows.proofs.RequestKeys.{is_new, is_other, is_same, is_good}
 use Rattle.store_rows.proofs.requests.read_found.Goals as goal
 

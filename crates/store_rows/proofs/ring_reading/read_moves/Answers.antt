@@ -1,9 +1,9 @@
 use Rattle.std.proofs.Common.{ℕ, ℤ, Bor, Global, List, Option, Vec, ap, map, sym, ◌∙◌, ◌++◌, ◌∷◌, [], take, arith}
 use Rattle.std.proofs.lemmas.List.{take_all}
 use Rattle.std.proofs.lemmas.Result.{err_from_is_err_and}
-use Rattle.store_contents.specs.Contents.{moved_of}
-use Rattle.store_contents.specs.Entries.{NameNumber}
-use Rattle.store_contents.specs.declared.rows.MovedRow.{MovedRow}
+use Rattle.store_model.specs.Contents.{moved_of}
+use Rattle.store_model.specs.Entries.{NameNumber}
+use Rattle.store_model.specs.declared.rows.MovedRow.{MovedRow}
 use Rattle.store_rows.proofs.Places.{move_next}
 use Rattle.store_rows.proofs.Reading.{fails_likewise}
 use Rattle.store_rows.proofs.ring_reading.read_moves.Goals as goal

@@ -1,6 +1,6 @@
 use Rattle.std.proofs.Common.{◌≡◌, List, Option, ℕ, drop, map, take}
 use Rattle.std.specs.List.{enumerate_from, flat_map}
-use Rattle.store_contents.specs.Contents.{moved_of}
+use Rattle.store_model.specs.Contents.{moved_of}
 use Rattle.store_rows.specs.FirstRows.{moved_entry}
 use Rattle.store_rows.specs.Inner.Found.{StandForMoves}
 use Rattle.store_rows.proofs.ring_reading.read_moves.Given as goal

@@ -1,7 +1,7 @@
 use Rattle.std.proofs.Common.{ℕ, Bor, List, Option, Some, ap, map, sym, ◌∙◌}
 use Rattle.std.proofs.lemmas.Result.{err_from_is_err_and}
-use Rattle.store_contents.specs.Contents.{moved_of}
-use Rattle.store_contents.specs.declared.rows.MovedRow.{MovedRow}
+use Rattle.store_model.specs.Contents.{moved_of}
+use Rattle.store_model.specs.declared.rows.MovedRow.{MovedRow}
 use Rattle.store_rows.proofs.Places.{hour_there, moved_there}
 use Rattle.store_rows.proofs.Reading.{fails_where, one_number}
 use Rattle.store_rows.proofs.ring_reading.split_move.Goals as goal

@@ -2,7 +2,7 @@ use Rattle.std.proofs.Common.{◌∙◌, ◌+◌, drop, ap, arith, rules}
 use Rattle.std.proofs.lemmas.Grind.{common_steps}
 use Rattle.sqlite.specs.Held.{state}
 use Rattle.sqlite.specs.State.{HasCleanDisk}
-use Rattle.store_contents.specs.Changes.{changed_all}
+use Rattle.store_model.specs.Changes.{changed_all}
 use Rattle.store_tables.proofs.Inside.{kept_on, quiet_on}
 use Rattle.store_tables.proofs.changes.apply.Goals as goal
 

@@ -1,7 +1,7 @@
 use Rattle.std.proofs.Common.{◌≡◌, drop}
 use Rattle.sqlite.specs.Held.{state}
 use Rattle.sqlite.specs.State.{HasCleanDisk, KeepsCommit, Survives}
-use Rattle.store_contents.specs.Changes.{changed_all}
+use Rattle.store_model.specs.Changes.{changed_all}
 use Rattle.store_tables.specs.Contents.{contents_of}
 use Rattle.store_tables.specs.Store.{SeesStore}
 use Rattle.store_tables.proofs.changes.apply.Given as goal

@@ -2,7 +2,7 @@ use Rattle.std.proofs.Common.{◌∙◌, pos, ap, arith, slice_get, option_map, 
 use Rattle.std.proofs.lemmas.Result.{IfOk-weaker}
 use Rattle.sqlite.specs.Held.{state}
 use Rattle.store_tables.specs.Inner.Told.{told}
-use Rattle.store_contents.specs.Entries.{NameNumber}
+use Rattle.store_model.specs.Entries.{NameNumber}
 use Rattle.store_tables.specs.Inner.Texts.{pick_request}
 use Rattle.store_tables.proofs.Tables.Request.{pick_plain, key_params}
 use Rattle.store_tables.proofs.Steps.Request.{picks_request}

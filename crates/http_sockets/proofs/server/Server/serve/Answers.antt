@@ -5,8 +5,7 @@ use Rattle.http_sockets.proofs.server.Server.serve.Goals as goal
 pub loop-served-init : goal.loop-served-init
 loop-served-init g c = record {
   within = omega arith;
-  all = none_yet g.K.Keeper.content g.K.Keeper.sound g.K.Keeper.limit
-      g.K.Keeper.fault_count g.C.Clock.tells c.args.prefix.now c.args.suffix.now
+  all = none_yet g.K.Keeper g.C.Clock.tells c.args.names.prefix.now c.args.names.suffix.now
       (c.args.clock.now, c.args.book.now);
   counted = omega arith;
   same = refl;
@@ -15,8 +14,7 @@ loop-served-init g c = record {
 pub loop-served-preserved : goal.loop-served-preserved
 loop-served-preserved g c = record {
   within = omega (arith, c.loop-served-test.true);
-  all = one_more g.K.Keeper.content g.K.Keeper.sound g.K.Keeper.limit
-      g.K.Keeper.fault_count g.C.Clock.tells c.args.prefix.now c.args.suffix.now
+  all = one_more g.K.Keeper g.C.Clock.tells c.args.names.prefix.now c.args.names.suffix.now
       c.loop-served.served (c.args.clock.now, c.args.book.now)
       (c.loop-served.clock, c.loop-served.book) (c.serve_one.new.clock, c.serve_one.new.book)
       c.loop-served.invariant.all c.serve_one.ensures;
@@ -25,13 +23,13 @@ loop-served-preserved g c = record {
 }
 
 pub returns-in_err-stream-clause-safe : goal.returns-in_err-stream-clause-safe
-returns-in_err-stream-clause-safe g c = safe_all g.K.Keeper.content g.K.Keeper.sound g.K.Keeper.limit
-    g.K.Keeper.fault_count g.C.Clock.tells c.args.prefix.now c.args.suffix.now
+returns-in_err-stream-clause-safe g c = safe_all g.K.Keeper g.C.Clock.tells c.args.names.prefix.now
+    c.args.names.suffix.now
     c.loop-served.served c.args.clock.now c.loop-served.clock c.args.book.now c.loop-served.book
     c.loop-served.invariant.all
 
 pub returns-clause-safe : goal.returns-clause-safe
-returns-clause-safe g c = safe_all g.K.Keeper.content g.K.Keeper.sound g.K.Keeper.limit
-    g.K.Keeper.fault_count g.C.Clock.tells c.args.prefix.now c.args.suffix.now
+returns-clause-safe g c = safe_all g.K.Keeper g.C.Clock.tells c.args.names.prefix.now
+    c.args.names.suffix.now
     c.loop-served.served c.args.clock.now c.loop-served.clock c.args.book.now c.loop-served.book
     c.loop-served.invariant.all

@@ -1,5 +1,5 @@
 use Rattle.std.proofs.lemmas.Result.{err_from_is_err_and}
-use Rattle.http_requests.specs.Requests.{ask_at}
+use Rattle.http_messages.specs.Requests.{ask_at}
 use Rattle.http_stream.specs.Answers.{ItemAnswered}
 use Rattle.http_stream.proofs.Midstreams.{answered_more, answered_last, broken_answer}
 use Rattle.http_stream.proofs.serving.StreamProgress.answer.Goals as goal

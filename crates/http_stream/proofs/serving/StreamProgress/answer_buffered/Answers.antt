@@ -1,6 +1,6 @@
 use Rattle.std.proofs.Common.{length, drop, ap, arith, refl}
 use Rattle.std.proofs.lemmas.Result.{err_from_is_err_and}
-use Rattle.http_requests.specs.Requests.{ask_at}
+use Rattle.http_messages.specs.Requests.{ask_at}
 use Rattle.http_stream.specs.Answers.{ItemAnswered}
 use Rattle.http_stream.proofs.Follows.{HasAsk-shorter}
 use Rattle.http_stream.proofs.Midstreams.{refused_last, broken_refusal}

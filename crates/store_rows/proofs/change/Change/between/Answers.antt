@@ -1,7 +1,7 @@
 use Rattle.std.proofs.Common.{map, ap, sym, subst, ◌∙◌, ◌≡◌, ◌+◌, length, arith}
-use Rattle.store_contents.specs.Contents.{device_of}
-use Rattle.store_contents.specs.Entries as rows
-use Rattle.store_contents.specs.declared.rows.DeviceRow.{DeviceRow}
+use Rattle.store_model.specs.Contents.{device_of}
+use Rattle.store_model.specs.Entries as rows
+use Rattle.store_model.specs.declared.rows.DeviceRow.{DeviceRow}
 use Rattle.store_rows.specs.Differences.{IsChange}
 use Rattle.store_rows.proofs.Changing.{applied, counted, written, mapped_keys}
 use Rattle.store_rows.proofs.change.Change.between.Goals as goal

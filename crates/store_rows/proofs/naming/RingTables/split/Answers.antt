@@ -1,6 +1,6 @@
 use Rattle.std.proofs.Common.{ℕ, ℤ, List}
-use Rattle.store_contents.specs.Contents.{device_of, moved_of, part_of, published_of, seat_of}
-use Rattle.store_contents.specs.Entries as rows
+use Rattle.store_model.specs.Contents.{device_of, moved_of, part_of, published_of, seat_of}
+use Rattle.store_model.specs.Entries as rows
 use Rattle.store_rows.proofs.Ordered.{devices_named, parts_named, texts_named}
 use Rattle.store_rows.proofs.Parting.{devices_of, moves_named, moves_of, parts_are, parts_if}
 use Rattle.store_rows.proofs.Parting.{parts_unless, seats_named, seats_of, texts_of}

@@ -1,0 +1,121 @@
+-- The task that words ask for, from what `clap` says of them.
+use Rattle.std.proofs.Common.{◌≡◌, List, [], true, Option, Some, None, refl, sym, ap}
+use Rattle.ring_words.specs.Limits.{greatest_short}
+use Rattle.std.proofs.Common.{subst, ◌∙◌, ⊎_elim, codes, ℕ, ◌∷◌, slice_index, arith}
+use Rattle.std.specs.Option.{option_map}
+use Rattle.std.proofs.lemmas.Option.{none-some, same_Some}
+use Rattle.clap.specs.Faults.{fault_of, is_simple_and_free}
+use Rattle.clap.specs.Kinds.{HasKind, IsAmong, Kinds}
+use Rattle.clap.specs.Matches.{subcommand_name_of}
+use Rattle.clap.specs.Simple.{App, HasMatchesOf, subcommand_of, subcommand_rows_of}
+use Rattle.clap.specs.Values.{kind_of}
+use Rattle.clap.specs.Walk.{Row, Text}
+use Rattle.clap.specs.declared.error.Error.{Error}
+use Rattle.clap.specs.declared.error.kind.ErrorKind.TheVariants.{OutOfMemory}
+use Rattle.clap.specs.declared.parser.matches.ArgMatches.{ArgMatches}
+use Rattle.command_line.specs.Shapes.{programs}
+use Rattle.command_line.specs.Tasks.{AskFor, AskForNothing, HasArguments, HasNumber, IfBad}
+use Rattle.command_line.specs.Tasks.{program_of}
+use Rattle.command_line.specs.Inner.Reading.{IsTask}
+use Rattle.command_line.specs.declared.task.ArgsFault.{ArgsFault}
+use Rattle.command_line.specs.declared.task.ArgsFault.TheVariants.{Bad, NoMemory}
+use Rattle.command_line.specs.declared.task.Task.{Task}
+use Rattle.command_line.specs.declared.task.Task.TheVariants.{Run, Serve, Loop, Import, Table}
+use Rattle.command_line.specs.declared.task.Task.TheVariants.{Nodes, Export, Renew}
+
+-- words that were read have nothing wrong
+pub right : (app : App) (words : List Text) → app ≡ programs →
+    (is_simple_and_free app ≡ true → fault_of app words ≡ []) → fault_of programs words ≡ []
+right app words is kinds =
+    subst (λ (a : App). is_simple_and_free a ≡ true → fault_of a words ≡ []) is kinds refl
+
+-- what is told of the two parts of an option is told of both
+both : {A B C : Type 0} (f : A → B) (g : A → C) (o : Option A) (b : B) (x : C) →
+    Some b ≡ option_map f o →
+    Some x ≡ option_map (λ (p : B × C). p.1) (option_map {U = B × C} (λ (a : A). (f a, g a)) o) →
+    option_map {U = B × C} (λ (a : A). (f a, g a)) o ≡ Some (b, x)
+both f g None b x one two = absurd (none-some b (sym one))
+both {A} {B} {C} f g (Some a) b x one two =
+    let first : f a ≡ b = sym (same_Some b (f a) one) in
+    let second : g a ≡ x = sym (same_Some x (g a) two) in
+    let pair : B → C → B × C = λ y z. (y, z) in
+    ap (λ (y : B). Some (pair y (g a))) first ∙ ap (λ (z : C). Some (pair b z)) second
+
+-- the program that the words name, with its arguments
+pub named : (app : App) (words : List Text) (m : ArgMatches) (name : Text) (rows : List Row) →
+    app ≡ programs → HasMatchesOf app words m → Some name ≡ subcommand_name_of m →
+    Some rows ≡ option_map (λ (p : Text × List Row). p.1) (subcommand_rows_of m) →
+    subcommand_of programs words ≡ Some (name, rows)
+named app words m name rows is has one two =
+    let pairs = subst (λ (a : App). HasMatchesOf a words m) is has refl in
+    sym pairs.1 ∙ both _ _ _ name rows one two
+
+-- a task of this program with these arguments is what the words ask for
+pub asked : (app : App) (words : List Text) (m : ArgMatches) (name : Text) (rows : List Row)
+    (task : Task) → app ≡ programs → (is_simple_and_free app ≡ true → fault_of app words ≡ []) →
+    HasMatchesOf app words m → Some name ≡ subcommand_name_of m →
+    Some rows ≡ option_map (λ (p : Text × List Row). p.1) (subcommand_rows_of m) →
+    IsTask name rows (Some task) → AskFor words task
+asked app words m name rows task is kinds has one two of_task = record {
+  right = right app words is kinds;
+  rows = rows;
+  named = named app words m name rows is has one two
+      ∙ ap (λ (n : Text). Some (n, rows)) (sym of_task.0);
+  arguments = of_task.1;
+}
+
+-- where no task has these arguments, the words ask for nothing
+pub not_asked : (app : App) (words : List Text) (m : ArgMatches) (name : Text) (rows : List Row) →
+    app ≡ programs → HasMatchesOf app words m → Some name ≡ subcommand_name_of m →
+    Some rows ≡ option_map (λ (p : Text × List Row). p.1) (subcommand_rows_of m) →
+    IsTask name rows None → AskForNothing words
+not_asked app words m name rows is has one two no_task task asks =
+    let same = same_Some (program_of task, asks.rows) (name, rows)
+    (sym asks.named ∙ named app words m name rows is has one two) in
+    no_task task (ap (λ (p : Text × List Row). p.0) same)
+    (subst (λ (r : List Row). HasArguments r task) (ap (λ (p : Text × List Row). p.1) same)
+    asks.arguments)
+
+-- words that `clap` refuses, not for want of memory, ask for nothing
+pub refused : (app : App) (words : List Text) (error : Error) → app ≡ programs →
+    (is_simple_and_free app ≡ true → HasKind (fault_of app words) error) →
+    (kind_of error ≡ OutOfMemory → ⊥) → AskForNothing words
+refused app words error is kinds no_want task asks =
+    let has : HasKind (fault_of programs words) error =
+    subst (λ (a : App). is_simple_and_free a ≡ true → HasKind (fault_of a words) error) is kinds refl
+    in ⊎_elim no_want (λ among. subst (λ (ks : Kinds). IsAmong (kind_of error) ks) asks.right among)
+    has
+
+pub bad_by : (fault : ArgsFault) (A B : Type 0) → (A → B) → IfBad fault A → IfBad fault B
+bad_by (Bad text) A B f h = f h
+bad_by NoMemory A B f h = tt
+
+pub bad_if : (fault : ArgsFault) (A : Type 0) → A → IfBad fault A
+bad_if (Bad text) A h = h
+bad_if NoMemory A h = tt
+
+-- words that begin with different letters are not the same
+other_word : (first second : ℕ) (one two : List ℕ) → first ∷ one ≡ second ∷ two →
+    (first ≡ second → ⊥) → ⊥
+other_word first second one two same differ = differ (ap (λ (t : List ℕ). slice_index t 0) same)
+
+-- where a service has no port or no count, no task is one
+pub no_service : (rows : List Row) →
+    ((port count : ℕ) → HasNumber rows (codes "PORT") 1 greatest_short port →
+    HasNumber rows (codes "COUNT") 0 greatest_short count → ⊥) → IsTask (codes "serve") rows None
+no_service rows none (Serve file port count hour names) is_named (file_is, port_is, count_is, hour_is, names_are) =
+    none port count port_is count_is
+no_service rows none (Run file) is_named has =
+    other_word 114 115 _ _ is_named (λ e. omega (arith, e))
+no_service rows none (Loop file input hour names) is_named has =
+    other_word 108 115 _ _ is_named (λ e. omega (arith, e))
+no_service rows none (Import file ring caller number csv hour) is_named has =
+    other_word 105 115 _ _ is_named (λ e. omega (arith, e))
+no_service rows none (Table file ring) is_named has =
+    other_word 116 115 _ _ is_named (λ e. omega (arith, e))
+no_service rows none (Nodes file ring account container object names) is_named has =
+    other_word 110 115 _ _ is_named (λ e. omega (arith, e))
+no_service rows none (Export file ring version written) is_named has =
+    other_word 101 115 _ _ is_named (λ e. omega (arith, e))
+no_service rows none (Renew file fresh) is_named has =
+    other_word 114 115 _ _ is_named (λ e. omega (arith, e))

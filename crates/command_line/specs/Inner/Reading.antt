@@ -1,0 +1,28 @@
+-- What reading the arguments of a program answers.
+use Rattle.std.specs.Prelude.{◌≡◌, ℕ, List, Option, Some, None}
+use Rattle.clap.specs.Walk.{Row, Text}
+use Rattle.command_line.specs.Tasks.{HasArguments, HasFormat, HasHour, HasNumber, program_of}
+use Rattle.ring_reads.specs.declared.reads.Format.{Format}
+use Rattle.command_line.specs.declared.task.Task.{Task}
+
+-- The task is one of this program with these arguments; there is None where no task is.
+abbrev pub IsTask : Text → List Row → Option Task → Type 0
+IsTask name rows (Some task) = (program_of task ≡ name) × HasArguments rows task
+IsTask name rows None = (task : Task) → program_of task ≡ name → HasArguments rows task → ⊥
+
+-- The hour is the one that the clock is to tell, if it is told one; None stands for a text that is
+-- no hour.
+abbrev pub IsHourWord : List Row → Option (Option ℕ) → Type 0
+IsHourWord rows (Some hour) = HasHour rows hour
+IsHourWord rows None = (hour : Option ℕ) → HasHour rows hour → ⊥
+
+-- The number is the one that an argument spells within these bounds; None stands for an argument
+-- that spells none.
+abbrev pub IsNumberWord : List Row → Text → ℕ → ℕ → Option ℕ → Type 0
+IsNumberWord rows id least most (Some n) = HasNumber rows id least most n
+IsNumberWord rows id least most None = (n : ℕ) → HasNumber rows id least most n → ⊥
+
+-- The format is the one that is named, if one is; None stands for a word that names none.
+abbrev pub IsFormat : List Row → Option Format → Type 0
+IsFormat rows (Some written) = HasFormat rows written
+IsFormat rows None = (written : Format) → HasFormat rows written → ⊥

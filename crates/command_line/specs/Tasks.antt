@@ -1,0 +1,109 @@
+-- What the words of the command line ask for.
+use Rattle.std.specs.Prelude.{◌≡◌, ℕ, List, [], Option, Some, None, MatchOption, codes, option_map}
+use Rattle.ring_words.specs.Limits.{greatest_long, greatest_short}
+use Rattle.std.specs.Prelude.{unwrap_or}
+use Rattle.std.specs.Borrow.{Bor}
+use Rattle.clap.specs.Faults.{fault_of}
+use Rattle.clap.specs.Simple.{subcommand_of}
+use Rattle.clap.specs.Walk.{Row, Text, first_of}
+use Rattle.ring_words.specs.Spelling.{SpellsNumber}
+use Rattle.command_line.specs.Shapes.{programs}
+use Rattle.command_line.specs.declared.task.ArgsFault.{ArgsFault}
+use Rattle.command_line.specs.declared.task.ArgsFault.TheVariants.{Bad, NoMemory}
+use Rattle.ring_reads.specs.declared.reads.Format.{Format}
+use Rattle.ring_reads.specs.declared.reads.Format.TheVariants as format
+use Rattle.path_lookup.specs.declared.hash.HashNames.{HashNames}
+use Rattle.command_line.specs.declared.task.Task.{Task}
+use Rattle.command_line.specs.declared.task.Task.TheVariants.{Run, Serve, Loop, Import, Table}
+use Rattle.command_line.specs.declared.task.Task.TheVariants.{Nodes, Export, Renew}
+
+-- ---- one argument
+
+-- An argument has this text.
+abbrev pub HasText : List Row → Text → Bor Text → Type 0
+HasText rows id text = first_of id rows ≡ Some text.now
+
+-- An argument has this text, or isn't there.
+abbrev pub MayHaveText : List Row → Text → Option (Bor Text) → Type 0
+MayHaveText rows id text = first_of id rows ≡ option_map (λ t. t.now) text
+
+-- An argument spells this number, which is within these bounds.
+abbrev pub HasNumber : List Row → Text → ℕ → ℕ → ℕ → Type 0
+HasNumber rows id least most n =
+    (text : Text) × (first_of id rows ≡ Some text) × SpellsNumber text least most n
+
+-- The clock is told to tell this hour always, or is told nothing.
+abbrev pub HasHour : List Row → Option ℕ → Type 0
+HasHour rows hour = MatchOption hour (first_of (codes "hour") rows ≡ None)
+    (λ h. HasNumber rows (codes "hour") 0 greatest_long h)
+
+-- What is hashed before and after each path is this, and nothing where it isn't there.
+pub record HaveNames (rows : List Row) (names : HashNames) : Type 0 where
+  pub prefix : names.prefix.now ≡ unwrap_or (first_of (codes "prefix") rows) []
+  pub suffix : names.suffix.now ≡ unwrap_or (first_of (codes "suffix") rows) []
+
+-- the word of a format
+abbrev pub format_word : Format → Text
+format_word format.Text = codes "text"
+format_word format.Swift = codes "swift"
+
+-- The format is named by its word, and is text where it isn't named.
+abbrev pub HasFormat : List Row → Format → Type 0
+HasFormat rows written =
+    unwrap_or (first_of (codes "format") rows) (codes "text") ≡ format_word written
+
+-- ---- the task
+
+-- the name of a task's program
+abbrev pub program_of : Task → Text
+program_of (Run file) = codes "run"
+program_of (Serve file port count hour names) = codes "serve"
+program_of (Loop file input hour names) = codes "loop"
+program_of (Import file ring caller number csv hour) = codes "import"
+program_of (Table file ring) = codes "table"
+program_of (Nodes file ring account container object names) = codes "nodes"
+program_of (Export file ring version written) = codes "export"
+program_of (Renew file fresh) = codes "renew"
+
+-- The arguments of a program are those of the task.
+abbrev pub HasArguments : List Row → Task → Type 0
+HasArguments rows (Run file) = MayHaveText rows (codes "file") file
+HasArguments rows (Serve file port count hour names) =
+    HasText rows (codes "FILE") file × HasNumber rows (codes "PORT") 1 greatest_short port
+    × HasNumber rows (codes "COUNT") 0 greatest_short count × HasHour rows hour
+    × HaveNames rows names
+HasArguments rows (Loop file input hour names) =
+    HasText rows (codes "FILE") file × HasText rows (codes "INPUT") input
+    × HasHour rows hour × HaveNames rows names
+HasArguments rows (Import file ring caller number csv hour) =
+    HasText rows (codes "FILE") file × HasText rows (codes "RING") ring
+    × HasText rows (codes "CALLER") caller × HasText rows (codes "NUMBER") number
+    × HasText rows (codes "CSV") csv × HasHour rows hour
+HasArguments rows (Table file ring) =
+    HasText rows (codes "FILE") file × HasText rows (codes "RING") ring
+HasArguments rows (Nodes file ring account container object names) =
+    HasText rows (codes "FILE") file × HasText rows (codes "RING") ring
+    × HasText rows (codes "ACCOUNT") account × MayHaveText rows (codes "container") container
+    × MayHaveText rows (codes "object") object × HaveNames rows names
+HasArguments rows (Export file ring version written) =
+    HasText rows (codes "FILE") file × HasText rows (codes "RING") ring
+    × HasText rows (codes "VERSION") version × HasFormat rows written
+HasArguments rows (Renew file fresh) =
+    HasText rows (codes "FILE") file × HasText rows (codes "NEW") fresh
+
+-- The words, of which the first is the program's own name, ask for this task: nothing is wrong with
+-- them, they name its program, and each of its arguments is there as they say.
+pub record AskFor (words : List Text) (task : Task) : Type 0 where
+  pub right : fault_of programs words ≡ []
+  pub rows : List Row
+  pub named : subcommand_of programs words ≡ Some (program_of task, rows)
+  pub arguments : HasArguments rows task
+
+-- The words ask for no task.
+abbrev pub AskForNothing : List Text → Type 0
+AskForNothing words = (task : Task) → AskFor words task → ⊥
+
+-- This holds where words are bad.
+abbrev pub IfBad : ArgsFault → Type 0 → Type 0
+IfBad (Bad _) Holds = Holds
+IfBad NoMemory Holds = Unit {0}

@@ -1,0 +1,224 @@
+//! The task that the words ask for.
+ghost use Rattle.std.specs.Prelude.{◌≡◌, IfErr, IfOk, codes, map, option_map, string_bytes};
+ghost use Rattle.ring_words.specs.Limits.{greatest_short};
+ghost use Rattle.clap.specs.Matches.{found_of};
+ghost use Rattle.clap.specs.Values.{kind_of};
+ghost use Rattle.clap.specs.Walk.{first_of, rows_of};
+ghost use Rattle.clap.specs.declared.error.kind.ErrorKind.{ErrorKind};
+ghost use Rattle.command_line.specs.Tasks.{AskFor, AskForNothing, HaveNames, IfBad};
+ghost use Rattle.command_line.specs.Inner.Reading.{IsFormat, IsHourWord, IsNumberWord, IsTask};
+
+use crate::commands::command;
+use crate::help::{ABOUT, FORMS};
+use crate::task::{ArgsFault, Task};
+use clap::error::ErrorKind;
+use clap::{ArgMatches, Error};
+use path_lookup::HashNames;
+use ring_reads::Format;
+use ring_words::{Hour, Port, read_bounded, read_number, read_number16};
+use std::alloc::{AllocError, Global};
+use std::fmt::Display;
+
+/// The first text of an argument.
+fn text_of<'a>(matches: &ArgMatches<'a>, name: &str) -> Option<&'a str>
+    ensures { option_map (λ t. t.now) result ≡ first_of name.now (rows_of (found_of matches.now)) }
+{
+    matches.get_str(name)
+}
+
+/// The hour that the clock is to tell always, `None` where it is no hour.
+fn hour_of(matches: &ArgMatches<'_>) -> Option<Option<Hour>>
+    ensures { IsHourWord (rows_of (found_of matches.now)) result }
+{
+    match text_of(matches, "hour") {
+        None => Some(None),
+        Some(text) => match read_number(text, u32::MAX) {
+            Ok(hour) => Some(Some(hour)),
+            Err(_) => None,
+        },
+    }
+}
+
+/// The port that is to be served, `None` where it is none.
+fn port_of(matches: &ArgMatches<'_>) -> Option<Port>
+    ensures { IsNumberWord (rows_of (found_of matches.now)) (codes "PORT") 1 greatest_short result }
+{
+    match read_bounded(text_of(matches, "PORT")?) {
+        Ok(port) => Some(port),
+        Err(_) => None,
+    }
+}
+
+/// How many connections are to be served, `None` where it is no number from 0 to 65535.
+fn count_of(matches: &ArgMatches<'_>) -> Option<u16>
+    ensures { IsNumberWord (rows_of (found_of matches.now)) (codes "COUNT") 0 greatest_short
+        result }
+{
+    match read_number16(text_of(matches, "COUNT")?) {
+        Ok(count) => Some(count),
+        Err(_) => None,
+    }
+}
+
+/// How a published ring is to be written, `None` where the word names no format.
+fn format_of(matches: &ArgMatches<'_>) -> Option<Format>
+    ensures { IsFormat (rows_of (found_of matches.now)) result }
+{
+    match text_of(matches, "format").unwrap_or("text") {
+        "text" => Some(Format::Text),
+        "swift" => Some(Format::Swift),
+        _ => None,
+    }
+}
+
+/// What is hashed before and after each path.
+fn names_of<'a>(matches: &ArgMatches<'a>) -> HashNames<'a>
+    ensures { HaveNames (rows_of (found_of matches.now)) result }
+{
+    HashNames {
+        prefix: text_of(matches, "prefix").unwrap_or("").as_bytes(),
+        suffix: text_of(matches, "suffix").unwrap_or("").as_bytes(),
+    }
+}
+
+fn run<'a>(matches: &ArgMatches<'a>) -> Option<Task<'a>>
+    ensures { IsTask (codes "run") (rows_of (found_of matches.now)) result }
+{
+    Some(Task::Run {
+        file: text_of(matches, "file"),
+    })
+}
+
+fn serve<'a>(matches: &ArgMatches<'a>) -> Option<Task<'a>>
+    ensures { IsTask (codes "serve") (rows_of (found_of matches.now)) result }
+{
+    Some(Task::Serve {
+        file: text_of(matches, "FILE")?,
+        port: port_of(matches)?,
+        count: count_of(matches)?,
+        hour: hour_of(matches)?,
+        names: names_of(matches),
+    })
+}
+
+fn looping<'a>(matches: &ArgMatches<'a>) -> Option<Task<'a>>
+    ensures { IsTask (codes "loop") (rows_of (found_of matches.now)) result }
+{
+    Some(Task::Loop {
+        file: text_of(matches, "FILE")?,
+        input: text_of(matches, "INPUT")?,
+        hour: hour_of(matches)?,
+        names: names_of(matches),
+    })
+}
+
+fn table<'a>(matches: &ArgMatches<'a>) -> Option<Task<'a>>
+    ensures { IsTask (codes "table") (rows_of (found_of matches.now)) result }
+{
+    Some(Task::Table {
+        file: text_of(matches, "FILE")?,
+        ring: text_of(matches, "RING")?,
+    })
+}
+
+fn export<'a>(matches: &ArgMatches<'a>) -> Option<Task<'a>>
+    ensures { IsTask (codes "export") (rows_of (found_of matches.now)) result }
+{
+    Some(Task::Export {
+        file: text_of(matches, "FILE")?,
+        ring: text_of(matches, "RING")?,
+        version: text_of(matches, "VERSION")?,
+        format: format_of(matches)?,
+    })
+}
+
+fn renew<'a>(matches: &ArgMatches<'a>) -> Option<Task<'a>>
+    ensures { IsTask (codes "renew") (rows_of (found_of matches.now)) result }
+{
+    Some(Task::Renew {
+        file: text_of(matches, "FILE")?,
+        new: text_of(matches, "NEW")?,
+    })
+}
+
+fn nodes<'a>(matches: &ArgMatches<'a>) -> Option<Task<'a>>
+    ensures { IsTask (codes "nodes") (rows_of (found_of matches.now)) result }
+{
+    Some(Task::Nodes {
+        file: text_of(matches, "FILE")?,
+        ring: text_of(matches, "RING")?,
+        account: text_of(matches, "ACCOUNT")?,
+        container: text_of(matches, "container"),
+        object: text_of(matches, "object"),
+        names: names_of(matches),
+    })
+}
+
+fn import_rows<'a>(matches: &ArgMatches<'a>) -> Option<Task<'a>>
+    ensures { IsTask (codes "import") (rows_of (found_of matches.now)) result }
+{
+    Some(Task::Import {
+        file: text_of(matches, "FILE")?,
+        ring: text_of(matches, "RING")?,
+        caller: text_of(matches, "CALLER")?,
+        number: text_of(matches, "NUMBER")?,
+        csv: text_of(matches, "CSV")?,
+        hour: hour_of(matches)?,
+    })
+}
+
+/// The task of a program of this name.
+fn task_named<'a>(name: &str, matches: &ArgMatches<'a>) -> Option<Task<'a>>
+    ensures { IsTask name.now (rows_of (found_of matches.now)) result }
+{
+    match name {
+        "run" => run(matches),
+        "serve" => serve(matches),
+        "loop" => looping(matches),
+        "import" => import_rows(matches),
+        "table" => table(matches),
+        "nodes" => nodes(matches),
+        "export" => export(matches),
+        "renew" => renew(matches),
+        _ => None,
+    }
+}
+
+/// What words that ask for nothing are told.
+fn bad<T: Display>(alloc: Global, told: &T) -> ArgsFault {
+    match format!(in alloc; "{told}") {
+        Ok(text) => ArgsFault::Bad(text),
+        Err(AllocError) => ArgsFault::NoMemory,
+    }
+}
+
+/// What an error of `clap` is told as.
+fn fault_of(alloc: Global, error: &Error) -> ArgsFault
+    ensures { IfBad result (kind_of error.now ≡ ErrorKind.OutOfMemory → ⊥) }
+{
+    if error.kind() == ErrorKind::OutOfMemory {
+        return ArgsFault::NoMemory;
+    }
+    bad(alloc, error)
+}
+
+/// What the words ask for. The first word is the program's own name. Bad exactly where they ask for
+/// nothing.
+pub fn task_of<'a>(alloc: Global, words: &'a [String]) -> Result<Task<'a>, ArgsFault>
+    ensures task { IfOk result (AskFor (map string_bytes words.now)) }
+    ensures nothing { IfErr result (λ fault. IfBad fault (AskForNothing
+        (map string_bytes words.now))) }
+{
+    let command = command(alloc)?;
+    let matches = match command.try_get_matches_from(words) {
+        Ok(matches) => matches,
+        Err(error) => return Err(fault_of(alloc, &error)),
+    };
+    let Some((name, given)) = matches.subcommand() else {
+        return Err(bad(alloc, &ABOUT));
+    };
+    match task_named(name, given) {
+        Some(task) => Ok(task),
+        None => Err(bad(alloc, &FORMS)),
+    }
+}

@@ -1,0 +1,86 @@
+//! What words may ask for.
+ghost use Rattle.std.specs.Prelude.{◌≡◌};
+ghost use Rattle.command_line.specs.declared.task.ArgsFault.TheVariants.{NoMemory};
+
+use path_lookup::HashNames;
+use ring_reads::Format;
+use ring_words::{Hour, Port};
+use std::alloc::AllocError;
+
+/// What the words ask for. A text stands as it was written.
+#[derive(Clone, Copy, Debug)]
+pub enum Task<'a> {
+    /// To answer requests and questions, a line each, over this file or over memory.
+    Run {
+        file: Option<&'a str>,
+    },
+    /// To serve so many connections of HTTP on this port of 127.0.0.1, one after another. The clock
+    /// tells the hour that is given, always, or else that of the machine.
+    Serve {
+        file: &'a str,
+        port: Port,
+        count: u16,
+        hour: Option<Hour>,
+        names: HashNames<'a>,
+    },
+    /// To answer the bytes of a file as those of one connection of HTTP. The clock is as that of
+    /// `Serve`.
+    Loop {
+        file: &'a str,
+        input: &'a str,
+        hour: Option<Hour>,
+        names: HashNames<'a>,
+    },
+    /// To import the rows of a CSV file, under a caller's number.
+    Import {
+        file: &'a str,
+        ring: &'a str,
+        caller: &'a str,
+        number: &'a str,
+        csv: &'a str,
+        hour: Option<Hour>,
+    },
+    /// To show the devices and the balance of a ring.
+    Table {
+        file: &'a str,
+        ring: &'a str,
+    },
+    /// To show which devices hold a path.
+    Nodes {
+        file: &'a str,
+        ring: &'a str,
+        account: &'a str,
+        container: Option<&'a str>,
+        object: Option<&'a str>,
+        names: HashNames<'a>,
+    },
+    /// To write a published ring.
+    Export {
+        file: &'a str,
+        ring: &'a str,
+        version: &'a str,
+        format: Format,
+    },
+    /// To make a new file with the rings and the hour of this one, and without its numbers.
+    Renew {
+        file: &'a str,
+        new: &'a str,
+    },
+}
+
+/// Why words ask for nothing.
+#[derive(Debug, Drop)]
+pub enum ArgsFault {
+    /// They are none that the program knows, or ask for help. The text says what may be written.
+    Bad(String),
+    /// A growth of memory was refused.
+    NoMemory,
+}
+
+impl From<AllocError> for ArgsFault {
+    ghost from_gives = { λ _ fault. fault ≡ NoMemory };
+
+    fn from(_error: AllocError) -> ArgsFault {
+        ArgsFault::NoMemory
+    }
+}

@@ -1,0 +1,14 @@
+use Rattle.std.proofs.Common.{ap, sym, ◌∙◌}
+use Rattle.http_messages.specs.declared.request.Method.TheVariants.{Get}
+use Rattle.http_messages.specs.declared.faults.RouteFault.TheVariants.{WrongMethod}
+use Rattle.http_messages.specs.Answers.{route_fault_answer}
+use Rattle.http_messages.proofs.FixedAnswers as fixed
+use Rattle.http_messages.proofs.faults.get_alone.Goals as goal
+
+pub returns-then-is_last : goal.returns-then-is_last
+returns-then-is_last c = fixed.get_alone_last ∙ ap (route_fault_answer (WrongMethod Get))
+    (sym c.if-is_last.true)
+
+pub returns-else-is_last : goal.returns-else-is_last
+returns-else-is_last c = fixed.get_alone ∙ ap (route_fault_answer (WrongMethod Get))
+    (sym c.if-is_last.false)

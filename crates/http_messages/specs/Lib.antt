@@ -1,0 +1,4 @@
+pub mod Fields
+pub mod Requests
+pub mod Inner
+pub mod Answers

@@ -1,4 +1,0 @@
-pub mod FieldLemmas
-pub mod NumberLemmas
-pub mod RequestLemmas
-pub mod OneRequest

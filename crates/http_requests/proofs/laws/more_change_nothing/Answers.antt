@@ -1,8 +1,0 @@
-use Rattle.http_requests.proofs.RequestLemmas.{HasAsk-more, IsFaulty-more}
-use Rattle.http_requests.proofs.laws.more_change_nothing.Goals as goal
-
-pub returns : goal.returns
-returns c = record {
-  whole = λ bytes more ask rest h. HasAsk-more bytes ask rest more h;
-  refused = λ bytes more why h. IsFaulty-more bytes why more h;
-}

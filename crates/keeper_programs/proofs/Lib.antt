@@ -1,3 +1,0 @@
-pub mod BadTables
-pub mod Runs
-pub mod Services

@@ -1,8 +1,0 @@
-use Rattle.std.proofs.Common.{◌≡◌, map, take}
-use Rattle.clap.specs.Simple.{app_of}
-use Rattle.program_words.specs.Inner.Adding.{shape_told, with_shapes}
-use Rattle.program_words.proofs.commands.with_programs.Given as goal
-
-abbrev pub invariant-loop-program : goal.invariant-loop-program
-invariant-loop-program l = app_of l.command
-    ≡ with_shapes (app_of l.fn.command) (map shape_told (take l.program-index l.programs))

@@ -1,0 +1,34 @@
+use Rattle.std.proofs.Common.{inl, inr, refl}
+use Rattle.std.proofs.lemmas.Result.{IfErr-weaker, IfOk-weaker}
+use Rattle.programs.proofs.showing.told_bytes.Goals as goal
+
+pub returns-clause-shown : goal.returns-clause-shown
+returns-clause-shown g c = let kept = c.kept_bytes-bytes in
+    IfOk-weaker kept.result _ _
+    (λ bytes tells. record {
+      keeper = c.args.keeper;
+      later = kept.new.keeper;
+      opened = refl;
+      left = refl;
+      stays_sound = kept.ensures.sound;
+      stays = kept.ensures.content;
+      tells = tells;
+    })
+    kept.ensures.shown
+
+pub returns-clause-fault : goal.returns-clause-fault
+returns-clause-fault g c = let kept = c.kept_bytes-bytes in
+    IfErr-weaker kept.result _ _
+    (λ why told. elim told [
+      | inl store ↦ inl store
+      | inr hides ↦ inr (record {
+        keeper = c.args.keeper;
+        later = kept.new.keeper;
+        opened = refl;
+        left = refl;
+        stays_sound = kept.ensures.sound;
+        stays = kept.ensures.content;
+        tells = hides;
+      })
+    ])
+    kept.ensures.fault

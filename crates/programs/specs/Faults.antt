@@ -1,0 +1,76 @@
+-- Why programs end, and how that is told.
+use Rattle.std.specs.Prelude.{◌≡◌, ◌⊎◌, ℕ, List, [], ◌∷◌, ◌++◌, Option, codes, decimal}
+use Rattle.std.specs.Io.KnownBytes.{Appends}
+use Rattle.byte_streams.specs.Counted.{IsFlushed, one_more, write_faults, writer_of}
+use Rattle.byte_streams.specs.Writing.{WritesBeginning}
+use Rattle.byte_streams.specs.declared.counted.CountedWriter.{CountedWriter}
+use Rattle.byte_streams.specs.declared.fault.StreamFault.{StreamFault}
+use Rattle.byte_streams.specs.declared.fault.StreamFault.TheVariants as stream
+use Rattle.http_sockets.specs.declared.fault.ServeFault.{ServeFault}
+use Rattle.http_sockets.specs.declared.fault.ServeFault.TheVariants as serve
+use Rattle.ring_words.specs.declared.spelling.SpellingFault.{SpellingFault}
+use Rattle.ring_words.specs.declared.spelling.SpellingFault.TheVariants as spelling
+use Rattle.programs.specs.declared.faults.ProgramFault.{ProgramFault}
+use Rattle.programs.specs.declared.faults.ProgramFault.TheVariants as fault
+
+-- the name of a fault
+abbrev pub program_fault_name : ProgramFault → List ℕ
+program_fault_name fault.NoRing = codes "NoRing"
+program_fault_name fault.NotAssigned = codes "NotAssigned"
+program_fault_name fault.Unreadable = codes "Unreadable"
+program_fault_name fault.NoMemory = codes "NoMemory"
+program_fault_name fault.StoreFault = codes "StoreFault"
+program_fault_name fault.BadStore = codes "BadStore"
+program_fault_name fault.NoFile = codes "NoFile"
+program_fault_name fault.NetFailed = codes "NetFailed"
+program_fault_name fault.TooLong = codes "TooLong"
+program_fault_name fault.BadPath = codes "BadPath"
+program_fault_name fault.NoVersion = codes "NoVersion"
+program_fault_name fault.ReadFailed = codes "ReadFailed"
+program_fault_name fault.WriteFailed = codes "WriteFailed"
+
+-- the number of a fault
+abbrev pub fault_number : ProgramFault → ℕ
+fault_number fault.NoRing = 1
+fault_number fault.NotAssigned = 10
+fault_number fault.Unreadable = 20
+fault_number fault.NoMemory = 23
+fault_number fault.StoreFault = 24
+fault_number fault.BadStore = 26
+fault_number fault.NoFile = 27
+fault_number fault.NetFailed = 28
+fault_number fault.TooLong = 29
+fault_number fault.BadPath = 30
+fault_number fault.NoVersion = 32
+fault_number fault.ReadFailed = 50
+fault_number fault.WriteFailed = 51
+
+-- the line that tells a fault: its name and its number
+abbrev pub fault_line : ProgramFault → List ℕ
+fault_line why = codes "ringd: " ++ program_fault_name why ++ 32
+    ∷ decimal (fault_number why) ++ 10 ∷ []
+
+-- what a word that isn't of its form is told as
+abbrev pub form_fault : SpellingFault → ProgramFault
+form_fault spelling.Bad = fault.Unreadable
+form_fault spelling.NoMemory = fault.NoMemory
+
+-- what the fault of a stream is told as
+abbrev pub stream_fault : StreamFault → ProgramFault
+stream_fault stream.ReadFailed = fault.ReadFailed
+stream_fault stream.WriteFailed = fault.WriteFailed
+stream_fault stream.NoMemory = fault.NoMemory
+
+-- what the fault of a service is told as
+abbrev pub serve_fault : ServeFault → ProgramFault
+serve_fault serve.NetFailed = fault.NetFailed
+serve_fault (serve.Stream cause) = stream_fault cause
+
+-- The writer got this text: it took all of it and was flushed, or it failed and took a beginning.
+abbrev pub GetsText : {E : Type 0} → (E → Option (List ℕ)) → CountedWriter E → CountedWriter E →
+    List ℕ → Type 0
+GetsText contents old new text =
+    ((write_faults new ≡ write_faults old) × Appends (contents (writer_of old))
+    (contents (writer_of new)) text × IsFlushed new)
+    ⊎ ((write_faults new ≡ one_more (write_faults old)) × WritesBeginning (contents (writer_of old))
+    (contents (writer_of new)) text)

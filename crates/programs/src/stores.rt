@@ -1,0 +1,39 @@
+//! Where the programs find the stores that words name.
+ghost use Rattle.std.specs.Prelude.{◌≡◌, ℕ, IfErr, IfOk, OnOk};
+ghost use Rattle.builder.specs.Step.{State};
+ghost use Rattle.programs.specs.Begun.{IsStoreFault};
+ghost use Rattle.programs.specs.declared.faults.ProgramFault.TheVariants.{StoreFault};
+
+use crate::faults::ProgramFault;
+use builder::RingMachine;
+use request_book::Keeper;
+use ring_model::Rings;
+use ring_words::Hour;
+
+/// The stores that words name. One that is opened is a keeper, which is closed in the end.
+pub trait Stores: Drop {
+    /// The keeper of a store that was opened.
+    type Kept: Keeper<RingMachine>;
+
+    /// The keeper of a store that is opened begins so.
+    ghost begins: { Self.Kept → Type 0 };
+
+    /// A store was made that holds these rings and no request, and goes on from this hour.
+    ghost is_made: { State → ℕ → Type 0 };
+
+    /// Opens the store of this name, and makes it where it is missing.
+    fn open(self, rt: &HostRuntime, name: &str) -> Result<Self::Kept, ProgramFault>
+        ensures begins { IfOk result begins }
+        ensures faults { IfOk result (λ keeper. Self.Kept.fault_count keeper ≡ 0) }
+        ensures fault { IfErr result IsStoreFault };
+
+    /// Closes a store that was opened, so that all that it holds is in its place.
+    fn close(keeper: Self::Kept) -> Result<(), ProgramFault>
+        ensures { IfErr result (λ why. why ≡ StoreFault) };
+
+    /// Makes a store of this name, where there is none, of these rings, and closes it. It has no
+    /// request, and goes on from this hour.
+    fn make(rt: &HostRuntime, name: &str, rings: Rings, hour: Hour) -> Result<(), ProgramFault>
+        ensures made { OnOk result (is_made rings hour) }
+        ensures fault { IfErr result IsStoreFault };
+}

@@ -1,0 +1,3 @@
+pub mod Told
+pub mod Book
+pub mod Reads

@@ -1,0 +1,69 @@
+//! The nodes of a partition as JSON text.
+ghost use Rattle.std.specs.Prelude.{◌≡◌, ◌==◌, IfOk, find, map, string_bytes};
+ghost use Rattle.std.specs.Option.{option_copied};
+ghost use Rattle.serde_json.specs.Data.{array};
+ghost use Rattle.serde_json.specs.View.{items_of, view};
+ghost use Rattle.ring_reads.specs.Nodes.{devices_of, node_data, nodes_data, nodes_json};
+
+use ring_model::Ring;
+use ring_words::{Device, DeviceId};
+use serde_json::{Value, json};
+use std::alloc::{AllocError, Global};
+
+fn node_value(alloc: Global, device: &Device) -> Result<Value, AllocError>
+    ensures { IfOk result (λ v. view v ≡ node_data device.now) }
+{
+    let address = device.row.address.to_string(alloc)?;
+    json!(in alloc; {
+        "address": address.as_str(),
+        "device": device.row.name.as_str(),
+        "id": device.id,
+        "port": device.row.port.get(),
+        "region": device.row.region,
+        "zone": device.row.zone,
+    })
+}
+
+fn device_at(ring: &Ring, id: DeviceId) -> Option<&Device>
+    ensures { option_copied result ≡ find (λ device. device.id == id) ring.now.devices }
+{
+    ring.devices().iter().find(|device| device.id == id)
+}
+
+fn node_values(alloc: Global, ring: &Ring, ids: &[DeviceId]) -> Result<Value, AllocError>
+    ensures { IfOk result (λ v. view v ≡ array
+        (items_of (map node_data (devices_of ring.now ids.now)))) }
+{
+    let mut values = Vec::with_capacity(alloc, ids.len())?;
+    for id in ids {
+        if let Some(device) = device_at(ring, *id) {
+            values.push(node_value(alloc, device)?)?;
+        }
+    }
+    Ok(Value::Array(values))
+}
+
+fn nodes_value(
+    alloc: Global,
+    ring: &Ring,
+    partition: u32,
+    ids: &[DeviceId],
+) -> Result<Value, AllocError>
+    ensures { IfOk result (λ v. view v ≡ nodes_data ring.now partition ids.now) }
+{
+    let nodes = node_values(alloc, ring, ids)?;
+    json!(in alloc; {"nodes": nodes, "partition": partition})
+}
+
+/// The nodes of a partition as compact JSON: of each device its address, name, number, port, region
+/// and zone, in the order of the numbers that are handed in, and the partition's own number.
+pub fn nodes_text(
+    alloc: Global,
+    ring: &Ring,
+    partition: u32,
+    ids: &[DeviceId],
+) -> Result<String, AllocError>
+    ensures { IfOk result (λ text. string_bytes text ≡ nodes_json ring.now partition ids.now) }
+{
+    nodes_value(alloc, ring, partition, ids)?.to_string(alloc)
+}

@@ -1,0 +1,43 @@
+//! Reads that a word alone asks for.
+ghost use Rattle.std.specs.Prelude.{◌≡◌, IfOk, IfSome, IfNone, string_bytes};
+ghost use Rattle.ring_reads.specs.Reads.{IsPlainText, plain_word};
+ghost use Rattle.ring_reads.specs.declared.plain.Plain.{Plain as PlainModel};
+
+use crate::balances::balance_table;
+use crate::devices::device_table;
+use ring_model::Ring;
+use ring_words::Hour;
+use std::alloc::{AllocError, Global};
+
+/// What a word alone asks of a ring.
+#[derive(Clone, Copy, Debug)]
+pub enum Plain {
+    /// Where each device stands, what it weighs, and its state.
+    Devices,
+    /// How many seats each device wants and has, and how far that is from its share.
+    Balance,
+}
+
+impl Plain {
+    /// The plain read that a word asks for, none exactly where it asks for none.
+    pub fn of_word(word: &str) -> Option<Plain>
+        ensures read { IfSome result (λ plain. word.now ≡ plain_word plain) }
+        ensures none { IfNone result ((plain : PlainModel) → word.now ≡ plain_word plain → ⊥) }
+    {
+        match word {
+            "devices" => Some(Plain::Devices),
+            "balance" => Some(Plain::Balance),
+            _ => None,
+        }
+    }
+
+    /// What it shows of a ring at an hour: lines, each with its line feed.
+    pub fn text(self, alloc: Global, ring: &Ring, _hour: Hour) -> Result<String, AllocError>
+        ensures { IfOk result (λ text. IsPlainText self ring.now _hour (string_bytes text)) }
+    {
+        match self {
+            Plain::Devices => device_table(alloc, ring),
+            Plain::Balance => balance_table(alloc, ring),
+        }
+    }
+}

@@ -1,0 +1,7 @@
+//! What several crates of tests use: worked rows, and streams that fail.
+#![tactic(auto)]
+
+pub mod rows;
+mod streams;
+
+pub use streams::{Giver, Taker};
