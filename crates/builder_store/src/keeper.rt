@@ -67,8 +67,10 @@ impl<S: Alter + Drop> SqlKeeper<S> {
     ghost use Rattle.sqlite_trees.specs.Tree.{Trees};
     ghost use Rattle.sqlite_trees.specs.View.{doubt};
     ghost use Rattle.builder_store.specs.Keepers.{IsCleanLeft, content_of_keeper, left_may_leave};
-    ghost use Rattle.builder_store.specs.Opening.{IsMadeOf, IsOpenedAs, KeepsRows};
-    ghost use Rattle.builder_store.specs.declared.fault.OpenFault.TheVariants.{BadRows};
+    ghost use Rattle.std.specs.Prelude.{ℕ};
+    ghost use Rattle.store_rows.specs.Stands.{RingContent};
+    ghost use Rattle.builder_store.specs.Opening.{AreDeclared, IsMadeOf, IsOpenedAs, KeepsRows};
+    ghost use Rattle.builder_store.specs.declared.fault.OpenFault.TheVariants.{BadRows, BadTables};
 
     /// Opens what the connection's last commit holds, and keeps at most `limits.numbers` requests.
     /// What the connection hasn't committed is rolled back.
@@ -92,6 +94,13 @@ impl<S: Alter + Drop> SqlKeeper<S> {
             → left_may_leave S.Store e.1 db
             → (state S.Store conn).may_leave db ⊎ KeepsRows
             (state S.Store conn).committed.trees db) }
+        // The rows are refused only where the tables stand for nothing, and the tables only where
+        // they are not declared as a store's.
+        ensures bad { IfErr result (λ e. e.0 ≡ BadRows → IsCleanLeft S.Store e.1
+            → (content : RingContent)
+            → IsOpenedAs (state S.Store conn).committed.trees content → ⊥) }
+        ensures missing { IfErr result (λ e. e.0 ≡ BadTables → IsCleanLeft S.Store e.1
+            → (made : ℕ) → AreDeclared made (state S.Store conn).committed.trees → ⊥) }
         // A crash after a refusal leaves what it could leave before, or what an opening makes of
         // it.
         ensures crash { IfErr result (λ e. IsCleanLeft S.Store e.1 → (db : Trees)

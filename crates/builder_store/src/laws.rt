@@ -1,6 +1,11 @@
 //! What follows from the definitions alone.
-ghost use Rattle.std.specs.Prelude.{◌≡◌};
+ghost use Rattle.std.specs.Prelude.{◌≡◌, ℕ};
 ghost use Rattle.sqlite_trees.specs.Tree.{Trees};
+ghost use Rattle.ring_words.specs.declared.command.Command.{Command};
+ghost use Rattle.ring_words.specs.declared.command.Reply.{Reply};
+ghost use Rattle.ring_words.specs.declared.request.Limits.{Limits};
+ghost use Rattle.builder.specs.Step.{State, Step};
+ghost use Rattle.store_rows.specs.Differences.{Grows};
 ghost use Rattle.store_rows.specs.Stands.{RingContent};
 ghost use Rattle.builder_store.specs.Opening.{AreDeclared, IsOpenedAs};
 ghost use Rattle.builder_store.specs.Standing.{Stands};
@@ -19,3 +24,10 @@ pub fn opening_finds_what_is_left()
 {
     one_content();
 }
+
+/// No step of the builder takes a ring, a partition or a published text away. So no step is told as a
+/// fault of the store for what it leaves.
+pub fn steps_grow()
+    ensures { (limits : Limits) (old new : State) (hour : ℕ) (command : Command) (reply : Reply)
+        → Step limits old hour command reply new → Grows old new }
+{}

@@ -6,7 +6,7 @@ ghost use Rattle.store_tables.specs.Contents.{contents_of};
 ghost use Rattle.store_tables.specs.Store.{CommitsTables, HasMadeTables, begun_contents};
 ghost use Rattle.store_rows.specs.Judging.{IsFoundIn};
 ghost use Rattle.store_rows.specs.Stands.{RingContent};
-ghost use Rattle.builder_store.specs.Opening.{no_contents};
+ghost use Rattle.builder_store.specs.Opening.{OpensAs, no_contents};
 ghost use Rattle.builder_store.specs.Inner.Opened.{LeadsInStore, LeadsTo, OpensRows};
 ghost use Rattle.builder_store.specs.Inner.Tables.{HasTables, IsSettledState};
 ghost use Rattle.builder_store.specs.declared.fault.OpenFault.TheVariants.{BadRows, BadTables};
@@ -128,6 +128,9 @@ pub(crate) fn open_rows<S: Alter>(
         (state S.Store conn.old) (state S.Store conn.new) result }
     ensures quiet { result ≡ Err BadRows
         → Survives (state S.Store conn.old) (state S.Store conn.new) (λ _. ⊥) }
+    ensures bad { result ≡ Err BadRows → HasCleanDisk (state S.Store conn.new)
+        → (content : RingContent)
+        → OpensAs (contents_of (state S.Store conn.old).now.trees) content → ⊥ }
 {
     let rows = match read_rows(alloc, conn) {
         Ok(rows) => rows,

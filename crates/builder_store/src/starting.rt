@@ -1,10 +1,11 @@
 //! From what tables are there to what they hold.
-ghost use Rattle.std.specs.Prelude.{◌≡◌, ◌⊎◌, ◌≤◌, false, Err, IfOk, OnOk};
+ghost use Rattle.std.specs.Prelude.{◌≡◌, ◌≢◌, ◌⊎◌, ◌≤◌, ℕ, false, Err, IfOk, OnOk};
 ghost use Rattle.sqlite.specs.Held.{state};
 ghost use Rattle.sqlite.specs.State.{HasCleanDisk, Survives};
 ghost use Rattle.store_tables.specs.Contents.{contents_of};
 ghost use Rattle.store_tables.specs.Store.{HasMadeTables, begun_contents};
-ghost use Rattle.builder_store.specs.Opening.{IsMadeOf, KeepsRows};
+ghost use Rattle.builder_store.specs.Opening.{AreDeclared, IsMadeOf, IsOpenedAs, KeepsRows, OpensAs};
+ghost use Rattle.store_rows.specs.Stands.{RingContent};
 ghost use Rattle.builder_store.specs.Inner.Opened.{IsFresh, IsOpenedTo, LeadsInStore, LeadsTo};
 ghost use Rattle.builder_store.specs.Inner.Tables.{HasTables};
 ghost use Rattle.builder_store.specs.declared.fault.OpenFault.TheVariants.{BadRows, BadTables};
@@ -36,6 +37,10 @@ fn open_begun<S: Alter>(
     ensures quiet { result ≡ Err BadRows → Survives (state S.Store conn.old)
         (state S.Store conn.new)
         (λ trees. contents_of trees ≡ begun_contents made (state S.Store conn.old).now.trees) }
+    ensures bad { result ≡ Err BadRows → HasCleanDisk (state S.Store conn.new)
+        → (content : RingContent)
+        → OpensAs (begun_contents made (state S.Store conn.old).now.trees) content → ⊥ }
+    ensures other { result ≢ Err BadTables }
     ensures survives { Survives (state S.Store conn.old) (state S.Store conn.new)
         (λ trees. (contents_of trees ≡ begun_contents made (state S.Store conn.old).now.trees)
         ⊎ LeadsInStore (begun_contents made (state S.Store conn.old).now.trees) trees) }
@@ -67,6 +72,10 @@ pub(crate) fn open_tables<S: Alter>(
     ensures quiet { result ≡ Err BadRows → Survives (state S.Store conn.old)
         (state S.Store conn.new)
         (KeepsRows (state S.Store conn.old).committed.trees) }
+    ensures bad { result ≡ Err BadRows → HasCleanDisk (state S.Store conn.new)
+        → (content : RingContent) → IsOpenedAs (state S.Store conn.old).committed.trees content → ⊥ }
+    ensures missing { result ≡ Err BadTables → HasCleanDisk (state S.Store conn.new)
+        → (made : ℕ) → AreDeclared made (state S.Store conn.old).committed.trees → ⊥ }
     ensures survives { Survives (state S.Store conn.old) (state S.Store conn.new)
         (IsMadeOf (state S.Store conn.old).committed.trees) }
 {

@@ -1,7 +1,18 @@
 -- Rings that come of others by a change.
 use Rattle.std.proofs.Common.{◌≡◌, ◌⊎◌, inl, inr, ℕ, ◌≤◌, ◌==◌, Bool, true, false, cond, List, []}
 use Rattle.std.proofs.Common.{◌∷◌, map, Option, Some, None, IsTrue, refl, sym, ap, subst, ◌∙◌}
-use Rattle.std.proofs.Common.{is_some, nat_eq, take}
+use Rattle.std.proofs.Common.{is_some, nat_eq, take, zero, suc, ◌<◌, length, get_or, arith}
+use Rattle.std.specs.Ordering.{is_lt}
+use Rattle.std.specs.Rc.{rc_str_bytes}
+use Rattle.std.specs.declared.rc.Rc.{Rc}
+use Rattle.std.specs.declared.rc.RcStr.{RcStr}
+use Rattle.std.specs.declared.alloc.Global.{Global}
+use Rattle.std.proofs.lemmas.Cmp.{tied_itself}
+use Rattle.std.proofs.lemmas.List.Elements.{recursion_from_All}
+use Rattle.ring_model.specs.Parts.{texts_of}
+use Rattle.ring_model.specs.declared.ring.Ring.{Ring}
+use Rattle.store_model.proofs.Keys.{name_total}
+use Rattle.store_rows.proofs.BookGains.{pairs-head, pairs-tail}
 use Rattle.std.proofs.Common as std
 use Rattle.std.specs.Prelude.{IsSomeAnd}
 use Rattle.std.specs.List.{AllByRecursion}
@@ -11,7 +22,7 @@ use Rattle.std.proofs.lemmas.Bool.{cases_Bool}
 use Rattle.std.proofs.lemmas.Bool.Decides.{Decides-eqb}
 use Rattle.std.proofs.lemmas.Slice.Eq.{bytes_eq-Decides}
 use Rattle.ring_model.specs.Ring.{RingRecord, published_at}
-use Rattle.ring_model.specs.Rings.{ring_at}
+use Rattle.ring_model.specs.Rings.{AreByName, is_before, ring_at, seen}
 use Rattle.store_rows.specs.RingRows.{NamedRings}
 use Rattle.store_rows.specs.Differences.{Grows, KeepsTexts}
 
@@ -54,3 +65,59 @@ all_kept (e ∷ es) new all = λ name ring at. elim (cases_Bool (pointwise nat_e
 pub some_mapped : {X Y : Type 0} (f : X → Y) (o : Option X) → is_some (option_map f o) ≡ is_some o
 some_mapped f None = refl
 some_mapped f (Some x) = refl
+
+pub clash : (b : Bool) → b ≡ true → b ≡ false → ⊥
+clash b is isnt = let never : true ≡ false = sym is ∙ isnt in cc
+
+-- a text of a list is found under its version
+pub text_there : (items : List (ℕ × RcStr Global)) (i : ℕ) (t : ℕ × RcStr Global) →
+    i < length items → t ≡ get_or items i t → IsTrue (is_some (option_map (λ (e : ℕ × List ℕ). e.1)
+    (std.find (λ (e : ℕ × List ℕ). e.0 == t.0) (texts_of items))))
+text_there [] i t lt is = absurd (omega arith)
+text_there (x ∷ xs) zero t lt is =
+    ap (λ b. is_some (option_map (λ (e : ℕ × List ℕ). e.1) (cond b (Some (x.0, rc_str_bytes x.1))
+    (std.find (λ (e : ℕ × List ℕ). e.0 == t.0) (texts_of xs)))))
+    ((Decides-eqb x.0 t.0).1 (ap (λ (y : ℕ × RcStr Global). y.0) (sym is)))
+text_there (x ∷ xs) (suc i) t lt is = past (x.0 == t.0) (text_there xs i t (omega arith) is)
+  where
+    past : (b : Bool) → is_some (option_map (λ (e : ℕ × List ℕ). e.1)
+        (std.find (λ (e : ℕ × List ℕ). e.0 == t.0) (texts_of xs))) ≡ true
+        → is_some (option_map (λ (e : ℕ × List ℕ). e.1) (cond b (Some (x.0, rc_str_bytes x.1))
+        (std.find (λ (e : ℕ × List ℕ). e.0 == t.0) (texts_of xs)))) ≡ true
+    past true h = refl
+    past false h = h
+
+-- a ring of a list, in which each name stands once, is found under its name
+pub ring_there : (items : List (List ℕ × Rc Ring Global)) (i : ℕ) (e : List ℕ × Rc Ring Global) →
+    AreByName (seen items) → i < length items → e ≡ get_or items i e →
+    ring_at e.0 (seen items) ≡ Some e.1.value
+ring_there [] i e by lt is = absurd (omega arith)
+ring_there (x ∷ xs) zero e by lt is =
+    ap (λ b. option_map (λ (y : List ℕ × RingRecord). y.1) (cond b (Some (x.0, x.1.value))
+    (std.find (λ (y : List ℕ × RingRecord). pointwise nat_eq y.0 e.0) (seen xs))))
+    ((bytes_eq-Decides x.0 e.0).1 (ap (λ (y : List ℕ × Rc Ring Global). y.0) (sym is)))
+    ∙ ap (λ (y : List ℕ × Rc Ring Global). Some y.1.value) (sym is)
+ring_there (x ∷ xs) (suc i) e by lt is =
+    let before : is_before x.0 e.0 ≡ true = in_front xs i
+    (recursion_from_All (λ (y : List ℕ × RingRecord). is_before x.0 y.0 ≡ true) (seen xs)
+    (pairs-head (λ (a b : List ℕ × RingRecord). is_before a.0 b.0 ≡ true) (x.0, x.1.value) (seen xs)
+    by)) (omega arith) is in
+    elim (cases_Bool (pointwise nat_eq x.0 e.0)) [
+      | inl here ↦
+          let same : x.0 ≡ e.0 = (bytes_eq-Decides x.0 e.0).0 here in
+          let itself : is_before x.0 e.0 ≡ false = ap (is_before x.0) (sym same) ∙ ap is_lt
+          (tied_itself name_total x.0) in
+          absurd (let no : true ≡ false = sym before ∙ itself in cc)
+      | inr other ↦ ap (λ b. option_map (λ (y : List ℕ × RingRecord). y.1) (cond b
+          (Some (x.0, x.1.value)) (std.find (λ (y : List ℕ × RingRecord). pointwise nat_eq y.0 e.0)
+          (seen xs)))) other ∙ ring_there xs i e (pairs-tail (λ (a b : List ℕ × RingRecord). is_before
+          a.0 b.0 ≡ true) (x.0, x.1.value) (seen xs) by) (omega arith) is
+    ]
+  where
+    in_front : (ys : List (List ℕ × Rc Ring Global)) (k : ℕ) →
+        AllByRecursion (λ (y : List ℕ × RingRecord). is_before x.0 y.0 ≡ true) (seen ys) →
+        k < length ys → e ≡ get_or ys k e → is_before x.0 e.0 ≡ true
+    in_front [] k all less at = absurd (omega arith)
+    in_front (y ∷ ys) zero all less at = ap (λ (z : List ℕ × Rc Ring Global). is_before x.0 z.0) at ∙
+        all.0
+    in_front (y ∷ ys) (suc k) all less at = in_front ys k all.1 (omega arith) at

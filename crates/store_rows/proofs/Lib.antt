@@ -10,7 +10,11 @@ pub mod Steps
 pub mod Applied
 pub mod Changing
 pub mod BookRows
+pub mod Moved
+pub mod BookOpens
 pub mod FoundRows
+pub mod FirstOrdered
+pub mod Opens
 pub mod KeptRings
 pub mod Counting
 pub mod Reading

@@ -50,7 +50,7 @@ rising (e ∷ es) by = (
 )
 
 module _ {K V : Type 0} (R : K → K → Ordering) where
-  below_from : (k : K) (es : List (K × V)) → AllByRecursion (λ (e : K × V). R k e.0 ≡ Less) es →
+  pub below_from : (k : K) (es : List (K × V)) → AllByRecursion (λ (e : K × V). R k e.0 ≡ Less) es →
       below_all R k es ≡ true
   below_from k [] all = refl
   below_from k (e ∷ es) all = and_from _ _ (ap is_lt all.0) (below_from k es all.1)
@@ -62,7 +62,7 @@ module _ {K V : Type 0} (R : K → K → Ordering) where
       and_from _ _ parts.0 (below-append k es fs parts.1 l)
 
   -- sorted parts, of which the first is below the second
-  sorted-append : (es fs : List (K × V)) → is_sorted R es ≡ true → is_sorted R fs ≡ true →
+  pub sorted-append : (es fs : List (K × V)) → is_sorted R es ≡ true → is_sorted R fs ≡ true →
       AllByRecursion (λ (e : K × V). below_all R e.0 fs ≡ true) es → is_sorted R (es ++ fs) ≡ true
   sorted-append [] fs h l all = l
   sorted-append (e ∷ es) fs h l all = let parts = and_parts _ _ h in
@@ -107,7 +107,7 @@ module _ {V : Type 0} (rows_of : List ℕ × RingRecord → List (NameNumber × 
 
 -- ---- the rows of one ring
 
-int_less : (m n : ℕ) → m < n → int_cmp (pos m) (pos n) ≡ Less
+pub int_less : (m n : ℕ) → m < n → int_cmp (pos m) (pos n) ≡ Less
 int_less m n h = let less : pos m <ℤ pos n = omega (arith, ints) in
     sym (int_cmp_is (pos m) (pos n) Less less)
 

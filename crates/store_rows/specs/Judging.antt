@@ -1,5 +1,6 @@
 -- What is found of the rows of a store.
-use Rattle.std.specs.Prelude.{◌≡◌, ℕ, pos, map, length, Result, IfOk, MatchOption}
+use Rattle.std.specs.Prelude.{◌≡◌, ◌⊎◌, ℕ, pos, map, length, Result, Ok, Err, MatchOption, ⊤}
+use Rattle.ring_words.specs.declared.spelling.SpellingFault.TheVariants.{Bad, NoMemory}
 use Rattle.std.specs.FinMap.{entries}
 use Rattle.ring_words.specs.declared.spelling.SpellingFault.{SpellingFault}
 use Rattle.store_model.specs.declared.rows.MetaRow.{MetaRow}
@@ -36,6 +37,14 @@ pub record IsFoundIn (c : Contents) (content : RingContent) (found : Judged) : T
       (λ changes. (c ≡ first_contents_for content) ×
       (prepared c changes.items (meta_now content.hour) ≡ contents_for content))
 
--- A content is found where the answer is Ok.
+-- The tables stand for this content, in a store of this schema or of the first one.
+pub record StandFor (c : Contents) (content : RingContent) : Type 0 where
+  pub holdable : IsHoldable content
+  pub stands : (c ≡ contents_for content) ⊎ (c ≡ first_contents_for content)
+
+-- A content is found where the answer is Ok. Where it is Bad, the tables stand for none. Want of
+-- memory says nothing.
 abbrev pub Judges : Contents → Result Judged SpellingFault → Type 0
-Judges c result = IfOk result (λ found. (content : RingContent) × IsFoundIn c content found)
+Judges c (Ok found) = (content : RingContent) × IsFoundIn c content found
+Judges c (Err Bad) = (content : RingContent) → StandFor c content → ⊥
+Judges c (Err NoMemory) = ⊤

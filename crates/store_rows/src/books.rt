@@ -1,5 +1,5 @@
 //! The book, read from the rows of decided requests.
-ghost use Rattle.std.specs.Prelude.{◌≡◌, ◌<◌, ◌≤◌, IfOk, IsTrue, List, length, map};
+ghost use Rattle.std.specs.Prelude.{◌≡◌, ◌<◌, ◌≤◌, ◌↔◌, IsTrue, List, length, map};
 ghost use Rattle.ring_words.specs.Limits.{most_numbers};
 ghost use Rattle.std.specs.FinMap.{FinMap, entries, from_entries};
 ghost use Rattle.request_book.specs.Run.{last_hour};
@@ -43,8 +43,8 @@ fn read_request(
 /// of an earlier request.
 fn judge_in_order(alloc: Global, rows: &[RequestRow]) -> Result<Hour, SpellingFault>
     requires { length rows.now ≤ most_numbers }
-    ensures { IfOk result (λ hour. (book : List DecidedRequest) × IsSaid rows.now book ×
-        (last_hour 0 book ≡ hour)) }
+    ensures { Reads (λ hour. (book : List DecidedRequest) × IsSaid rows.now book ×
+        (last_hour 0 book ≡ hour)) result }
 {
     let mut hour = 0;
     for (place, row) in rows.iter().enumerate() {
@@ -59,7 +59,7 @@ fn judge_in_order(alloc: Global, rows: &[RequestRow]) -> Result<Hour, SpellingFa
 
 /// Whether an hour is that of the last of so many requests, if there is one.
 fn is_last(count: usize, last: Hour, hour: Hour) -> bool
-    ensures { IsTrue result → 0 < count → last ≡ hour }
+    ensures { IsTrue result ↔ (0 < count → last ≡ hour) }
 {
     count == 0 || last == hour
 }
@@ -71,10 +71,10 @@ pub(crate) fn judge_book(
     rows: Vec<RequestRow>,
     hour: Hour,
 ) -> Result<usize, SpellingFault>
-    ensures { IfOk result (λ count. (requests : FinMap name_number_cmp Request) →
-        map request_of rows.items ≡ entries requests
-        → (book : List DecidedRequest) × IsBook book × (requests ≡ from_entries (request_entries book))
-        × (last_hour hour book ≡ hour) × (length book ≡ count)) }
+    ensures { (requests : FinMap name_number_cmp Request) → map request_of rows.items ≡ entries requests
+        → Reads (λ count. (book : List DecidedRequest) × IsBook book
+        × (requests ≡ from_entries (request_entries book)) × (last_hour hour book ≡ hour)
+        × (length book ≡ count)) result }
 {
     if rows.len() > 100_000 {
         return Err(SpellingFault::Bad);

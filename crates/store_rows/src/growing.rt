@@ -1,5 +1,5 @@
 //! Whether rings may come of others by a change.
-ghost use Rattle.std.specs.Prelude.{◌≤◌, IsSomeAnd, IsTrue};
+ghost use Rattle.std.specs.Prelude.{◌≤◌, ◌↔◌, IsSomeAnd, IsTrue};
 ghost use Rattle.std.specs.Option.{option_map};
 ghost use Rattle.store_rows.specs.Differences.{Grows, KeepsTexts};
 
@@ -7,7 +7,7 @@ use ring_model::{Ring, Rings};
 
 /// Whether each text that a ring published is still there.
 fn keeps_texts(old: &Ring, new: &Ring) -> bool
-    ensures { IsTrue result → KeepsTexts old.now new.now }
+    ensures { IsTrue result ↔ KeepsTexts old.now new.now }
 {
     for text in old.published_list() {
         if new.published(text.0).is_none() {
@@ -19,7 +19,7 @@ fn keeps_texts(old: &Ring, new: &Ring) -> bool
 
 /// Whether a ring is still there, with all its partitions and published texts.
 fn is_kept(old: &Ring, new: Option<&Ring>) -> bool
-    ensures { IsTrue result → IsSomeAnd (option_map (λ ring. ring.now) new.entry)
+    ensures { IsTrue result ↔ IsSomeAnd (option_map (λ ring. ring.now) new.entry)
         (λ later. (old.now.power ≤ later.power) × KeepsTexts old.now later) }
 {
     match new {
@@ -30,7 +30,7 @@ fn is_kept(old: &Ring, new: Option<&Ring>) -> bool
 
 /// Whether no ring, no partition and no published text went from the old rings to the new.
 pub fn grows(old: &Rings, new: &Rings) -> bool
-    ensures { IsTrue result → Grows old.now new.now }
+    ensures { IsTrue result ↔ Grows old.now new.now }
 {
     for entry in old.list() {
         if !is_kept(entry.1.as_ref(), new.get(&entry.0)) {

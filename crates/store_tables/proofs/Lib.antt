@@ -7,3 +7,4 @@ pub mod Creates
 pub mod Reading
 pub mod Writing
 pub mod Inside
+pub mod PlainSchemas

@@ -4,3 +4,4 @@ pub mod Texts
 pub mod Making
 pub mod Writing
 pub mod Shown
+pub mod Matching

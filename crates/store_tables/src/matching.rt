@@ -1,6 +1,8 @@
 //! Whether two schemas are the same, for schemas of plain tables.
 
-ghost use Rattle.std.specs.Prelude.{◌≡◌, [], IfOk, IsTrue};
+ghost use Rattle.std.specs.Prelude.{◌≡◌, ◌↔◌, [], All, IfOk, IsTrue};
+ghost use Rattle.sqlite.specs.declared.types.Value.TheVariants.{Null};
+ghost use Rattle.store_tables.specs.Inner.Matching.{IsPlainSchema, IsPlainTable};
 
 use sqlite_items::Items;
 use sqlite_schema::code::Terms;
@@ -9,15 +11,22 @@ use sqlite_value::keys::Order;
 use sqlite_value::value::{Bytes, Value};
 use std::alloc::{AllocError, Global};
 
-/// A test that is true only of equal values. It may be false of equal ones that no plain table has.
+/// A test that is true only of equal values, and of those where they are such as plain tables have.
 trait Same {
+    /// Whether it is such as plain tables have.
+    ghost is_plain: { Self → Type 0 };
+
     fn is_same(&self, other: &Self, alloc: Global) -> Result<bool, AllocError>
-        ensures { IfOk result (λ same. IsTrue same → self.now ≡ other.now) };
+        ensures same { IfOk result (λ same. IsTrue same → self.now ≡ other.now) }
+        ensures plain { IfOk result (λ same. is_plain self.now → self.now ≡ other.now
+            → IsTrue same) };
 }
 
 /// Whether two lists are the same, item by item.
 fn all_same<T: Same>(alloc: Global, first: &[T], second: &[T]) -> Result<bool, AllocError>
-    ensures { IfOk result (λ same. IsTrue same → first.now ≡ second.now) }
+    ensures same { IfOk result (λ same. IsTrue same → first.now ≡ second.now) }
+    ensures plain { IfOk result (λ same. All T.is_plain first.now → first.now ≡ second.now
+        → IsTrue same) }
 {
     if first.len() != second.len() {
         return Ok(false);
@@ -32,31 +41,39 @@ fn all_same<T: Same>(alloc: Global, first: &[T], second: &[T]) -> Result<bool, A
 
 /// Whether there are no expressions.
 fn are_none(alloc: Global, terms: &Terms) -> Result<bool, AllocError>
-    ensures { IfOk result (λ none. IsTrue none → terms.now ≡ []) }
+    ensures { IfOk result (λ none. IsTrue none ↔ (terms.now ≡ [])) }
 {
     let lent = terms.lend(alloc)?;
     Ok(lent.roots.is_empty())
 }
 
 impl Same for Bytes {
+    ghost is_plain = { λ _. Unit {0} };
+
     fn is_same(&self, other: &Bytes, _: Global) -> Result<bool, AllocError> {
         Ok(self.as_slice() == other.as_slice())
     }
 }
 
 impl Same for Order {
+    ghost is_plain = { λ _. Unit {0} };
+
     fn is_same(&self, other: &Order, _: Global) -> Result<bool, AllocError> {
         Ok(self.digits == other.digits)
     }
 }
 
 impl Same for Items<usize> {
+    ghost is_plain = { λ _. Unit {0} };
+
     fn is_same(&self, other: &Items<usize>, _: Global) -> Result<bool, AllocError> {
         Ok(self.as_slice() == other.as_slice())
     }
 }
 
 impl Same for Column {
+    ghost is_plain = { λ c. c.default ≡ Null };
+
     fn is_same(&self, other: &Column, alloc: Global) -> Result<bool, AllocError> {
         let no_defaults = matches!((&self.default, &other.default), (Value::Null, Value::Null));
         Ok(
@@ -71,6 +88,8 @@ impl Same for Column {
 }
 
 impl Same for Reference {
+    ghost is_plain = { λ _. Unit {0} };
+
     fn is_same(&self, other: &Reference, alloc: Global) -> Result<bool, AllocError> {
         Ok(
             self.on_delete == other.on_delete
@@ -88,6 +107,8 @@ impl Same for Reference {
 }
 
 impl Same for Stamps {
+    ghost is_plain = { λ s. s.terms ≡ [] };
+
     fn is_same(&self, other: &Stamps, alloc: Global) -> Result<bool, AllocError> {
         Ok(
             self.places.is_same(&other.places, alloc)?
@@ -100,9 +121,11 @@ impl Same for Stamps {
 
 /// Whether two tables have the same columns and keys.
 fn have_same_columns(alloc: Global, first: &Table, second: &Table) -> Result<bool, AllocError>
-    ensures { IfOk result (λ same. IsTrue same → (first.now.columns ≡ second.now.columns)
+    ensures same { IfOk result (λ same. IsTrue same → (first.now.columns ≡ second.now.columns)
         × (first.now.primary ≡ second.now.primary) × (first.now.uniques ≡ second.now.uniques)
         × (first.now.orders ≡ second.now.orders) × (first.now.references ≡ second.now.references)) }
+    ensures plain { IfOk result (λ same. IsPlainTable first.now → first.now ≡ second.now
+        → IsTrue same) }
 {
     Ok(
         first.primary.is_same(&second.primary, alloc)?
@@ -120,9 +143,11 @@ fn have_same_columns(alloc: Global, first: &Table, second: &Table) -> Result<boo
 /// Whether two tables have the same defaults, and neither has a CHECK or a rowid that a column
 /// names.
 fn have_same_rules(alloc: Global, first: &Table, second: &Table) -> Result<bool, AllocError>
-    ensures { IfOk result (λ same. IsTrue same → (first.now.key ≡ second.now.key)
+    ensures same { IfOk result (λ same. IsTrue same → (first.now.key ≡ second.now.key)
         × (first.now.checks ≡ second.now.checks) × (first.now.computed ≡ second.now.computed)
         × (first.now.stamps ≡ second.now.stamps) × (first.now.is_counted ≡ second.now.is_counted)) }
+    ensures plain { IfOk result (λ same. IsPlainTable first.now → first.now ≡ second.now
+        → IsTrue same) }
 {
     Ok(
         first.key.is_none()
@@ -136,6 +161,8 @@ fn have_same_rules(alloc: Global, first: &Table, second: &Table) -> Result<bool,
 }
 
 impl Same for Table {
+    ghost is_plain = { IsPlainTable };
+
     fn is_same(&self, other: &Table, alloc: Global) -> Result<bool, AllocError> {
         Ok(
             self.tree == other.tree
@@ -147,6 +174,8 @@ impl Same for Table {
 }
 
 impl Same for Index {
+    ghost is_plain = { λ _. Unit {0} };
+
     fn is_same(&self, other: &Index, alloc: Global) -> Result<bool, AllocError> {
         Ok(
             self.tree == other.tree
@@ -161,7 +190,9 @@ impl Same for Index {
 
 /// Whether two schemas are the same, of plain tables and their indexes alone.
 pub(crate) fn are_same(alloc: Global, first: &Schema, second: &Schema) -> Result<bool, AllocError>
-    ensures { IfOk result (λ same. IsTrue same → first.now ≡ second.now) }
+    ensures same { IfOk result (λ same. IsTrue same → first.now ≡ second.now) }
+    ensures plain { IfOk result (λ same. IsPlainSchema first.now → first.now ≡ second.now
+        → IsTrue same) }
 {
     Ok(
         first.views.as_slice().is_empty()

@@ -1,6 +1,6 @@
 //! What is there when a connection is taken over.
 
-ghost use Rattle.std.specs.Prelude.{◌≡◌, ◌≤◌, ◌↔◌, IfOk, IfSome, IsTrue, OnOk, false};
+ghost use Rattle.std.specs.Prelude.{◌≡◌, ◌≤◌, ◌↔◌, IfOk, IfSome, IsTrue, None, OnOk, false, ℕ};
 ghost use Rattle.sqlite.specs.Held.{state};
 ghost use Rattle.sqlite.specs.State.{HasCleanDisk};
 ghost use Rattle.store_tables.specs.Store.{AreOrdered, HasMadeTables};
@@ -41,6 +41,8 @@ fn first_tables(alloc: Global, made: usize) -> Result<Connection<MemStore>, Erro
 pub fn tables_made<S: Alter>(alloc: Global, conn: &Connection<S>) -> Result<Option<usize>, Error>
     ensures declared { IfOk result (λ found. IfSome found (λ made. (made ≤ 8)
         × (conn.now.schema ≡ schema_of_first made))) }
+    ensures missing { IfOk result (λ found. found ≡ None → (made : ℕ) → made ≤ 8
+        → conn.now.schema ≡ schema_of_first made → ⊥) }
     ensures begun { IsTrue (state S.Store conn.now).is_open
         → AreOrdered (state S.Store conn.now).now
         → IfOk result (λ found. IfSome found

@@ -1,3 +1,5 @@
+use Rattle.std.proofs.Common.{Err, inl, inr}
+use Rattle.store_rows.proofs.BookOpens.{refuted}
 use Rattle.std.proofs.Common.{◌≡◌, ◌∙◌, ap, arith, subst, sym}
 use Rattle.std.specs.Prelude.{IfOk}
 use Rattle.sqlite.specs.Held.{state}
@@ -7,7 +9,9 @@ use Rattle.store_tables.proofs.Inside.{quiet_on}
 use Rattle.store_model.specs.Contents.{Contents}
 use Rattle.store_tables.specs.Contents.{contents_of}
 use Rattle.store_tables.specs.Store.{IsStore}
-use Rattle.store_rows.specs.Judging.{IsFoundIn}
+use Rattle.store_rows.specs.Judging.{IsFoundIn, Judges}
+use Rattle.ring_words.specs.declared.spelling.SpellingFault.{SpellingFault}
+use Rattle.ring_words.specs.declared.spelling.SpellingFault.TheVariants.{Bad}
 use Rattle.builder_store.specs.Opening.{no_contents}
 use Rattle.builder_store.specs.Inner.Opened.{LeadsInStore, LeadsTo}
 use Rattle.builder_store.proofs.Opens.{begun_store, opens_after}
@@ -116,3 +120,29 @@ migrate-requires-clause-tables g c = λ clean.
       store = subst IsStore (sym shown.now_is) before.store;
       committed = shown.now_is ∙ before.committed ∙ sym shown.committed_is;
     }
+
+pub returns-in-Err-Bad-clause-bad : goal.returns-in-Err-Bad-clause-bad
+returns-in-Err-Bad-clause-bad g c = λ bad clean content opens.
+    let found : Contents = contents_of (state g.S.Store c.args.conn.now).now.trees in
+    let judged : Judges found (Err Bad) = subst (λ (f : SpellingFault). Judges found (Err f))
+    c.in-Err-Bad.field-0-is (c.in-Err-Bad.ensures found (c.in-Ok.ensures.reads.answer clean)) in
+    elim opens.stands [
+      | inl second ↦ judged content (record {
+        holdable = opens.holdable;
+        stands = inl second;
+      })
+      | inr more ↦ elim more [
+        | inl first ↦ judged content (record {
+          holdable = opens.holdable;
+          stands = inr first;
+        })
+        | inr none ↦ refuted _ _ c.if-is_empty.false (c.is_empty.ensures found
+            (c.in-Ok.ensures.reads.answer clean)) none.0
+      ]
+    ]
+
+pub returns-in-Ok-judge-clause-bad : goal.returns-in-Ok-judge-clause-bad
+returns-in-Ok-judge-clause-bad g c = λ bad. absurd (c.migrate.ensures.other.0 bad)
+
+pub returns-then-is_empty-clause-bad : goal.returns-then-is_empty-clause-bad
+returns-then-is_empty-clause-bad g c = λ bad. absurd (c.begin.ensures.other.0 bad)

@@ -43,7 +43,7 @@ pub planned-requires-clause-room : goal.planned-requires-clause-room
 planned-requires-clause-room g c = omega (arith, c.if-count-limit.false, c.requires.small)
 
 pub planned-requires-clause-grows : goal.planned-requires-clause-grows
-planned-requires-clause-grows g c = c.grows.ensures c.if-not-grows.false
+planned-requires-clause-grows g c = c.grows.ensures.0 c.if-not-grows.false
 
 pub returns-clause-tables : goal.returns-clause-tables
 returns-clause-tables g c = c.write.ensures.tables

@@ -1,3 +1,4 @@
+use Rattle.builder_store.specs.Opening.{OpensAs}
 use Rattle.std.proofs.Common.{arith, inl, inr, refl, subst, sym}
 use Rattle.std.specs.Prelude.{IfOk}
 use Rattle.sqlite.specs.Held.{state}
@@ -115,3 +116,18 @@ returns-in-Err-clause-survives g c = survives_then (state g.S.Store c.args.conn.
     (state g.S.Store c.make_missing.new.conn) (state g.S.Store c.refused.new.conn) _ (λ _. ⊥) _
     (λ clean db is. inl is) (λ clean db none. absurd none) c.in-Err.ensures.commits.survives
     c.refused.ensures.survives
+
+pub returns-then-made-eq0-clause-bad : goal.returns-then-made-eq0-clause-bad
+returns-then-made-eq0-clause-bad g c = λ bad. absurd (c.begin.ensures.other.0 bad)
+
+pub returns-then-made-eq-TABLE_COUNT-clause-bad : goal.returns-then-made-eq-TABLE_COUNT-clause-bad
+returns-then-made-eq-TABLE_COUNT-clause-bad g c = λ bad clean content opens.
+    c.open_rows.ensures.bad bad clean content (subst (λ n. OpensAs (begun_contents n
+    (state g.S.Store c.args.conn.now).now.trees) content) c.if-made-eq-TABLE_COUNT.true opens)
+
+pub returns-in-Ok-clause-bad : goal.returns-in-Ok-clause-bad
+returns-in-Ok-clause-bad g c = λ bad clean content opens.
+    let before : HasCleanDisk (state g.S.Store c.make_missing.new.conn) = omega
+    (arith, c.open_rows-in-Ok.ensures.opens.survives.clean, clean) in
+    c.open_rows-in-Ok.ensures.bad bad clean content (subst (λ x. OpensAs x content)
+    (sym (c.in-Ok.ensures.commits.done before).2.contents) opens)

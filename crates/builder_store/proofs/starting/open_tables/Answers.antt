@@ -1,7 +1,12 @@
+use Rattle.std.proofs.Common.{refl, sym}
+use Rattle.sqlite_trees.specs.Objects.{catalog_tree}
+use Rattle.sqlite_catalog.proofs.ReadLemmas.{lists_once}
+use Rattle.store_tables.specs.Tables.{schema_of_first}
+use Rattle.builder_store.proofs.Declared.{made_once}
 use Rattle.std.proofs.Common.{◌∙◌, ap, arith, inl, inr, subst}
 use Rattle.std.specs.Prelude.{IfSome}
 use Rattle.std.proofs.lemmas.Result.{IfOk-weaker}
-use Rattle.sqlite.specs.Effect.{Database}
+use Rattle.sqlite.specs.Effect.{Database, IsDatabase}
 use Rattle.sqlite.specs.Held.{state}
 use Rattle.sqlite.specs.State.{HasCleanDisk}
 use Rattle.sqlite.proofs.StateLemmas.{survives_weaker}
@@ -87,3 +92,29 @@ pub returns-in-Err-clause-survives : goal.returns-in-Err-clause-survives
 returns-in-Err-clause-survives g c = survives_weaker (state g.S.Store c.args.conn.now)
     (state g.S.Store c.refused.new.conn) _ _ (λ clean db none. absurd none)
     c.refused.ensures.survives
+
+pub returns-in-Ok-Some-clause-bad : goal.returns-in-Ok-Some-clause-bad
+returns-in-Ok-Some-clause-bad g c = λ bad clean content it.
+    let s = state g.S.Store c.args.conn.now in
+    let made = c.in-Ok-Some.made in
+    let was : HasCleanDisk s = omega (arith, c.open_begun.ensures.survives.clean, clean) in
+    let fresh = c.requires.fresh was in
+    let declared = declared_as s c.in-Ok-Some.field-0 made c.in-Ok-Some.field-0-is
+    c.in-Ok-Some.ensures.declared fresh c.in-Ok-Some.ensures.begun in
+    let same = made_once it.0 made it.1.0 declared.0 (lists_once (s.committed.trees catalog_tree)
+    (schema_of_first it.0) (schema_of_first made) it.1.1.lists declared.1.lists) in
+    c.open_begun.ensures.bad bad clean content (subst (λ (d : Database). OpensAs (begun_contents made
+    d.trees) content) (sym fresh.committed) (subst (λ n. OpensAs (begun_contents n s.committed.trees)
+    content) same it.2))
+
+pub returns-in-Ok-None-clause-missing : goal.returns-in-Ok-None-clause-missing
+returns-in-Ok-None-clause-missing g c = λ bad clean made declared.
+    let s = state g.S.Store c.args.conn.now in
+    let fresh = c.requires.fresh clean in
+    let sound = (fresh.live fresh.is_open).0 in
+    let told = subst (λ (d : Database). IsDatabase (record {
+      schema = s.now.schema;
+      trees = d.trees;
+    })) fresh.committed sound in
+    c.in-Ok-None.ensures.missing c.in-Ok-None.field-0-is made declared.0 (lists_once (s.committed.trees catalog_tree)
+    s.now.schema (schema_of_first made) told.lists declared.1.lists)

@@ -1,7 +1,9 @@
-use Rattle.std.proofs.Common.{refl, [], ◌∷◌, ◌++◌, arith, subst}
+use Rattle.std.proofs.Common.{refl, [], ◌∷◌, ◌++◌, ◌∙◌, arith, subst, sym}
 use Rattle.std.proofs.lemmas.List.{take_all}
-use Rattle.store_rows.specs.Inner.Books.{IsSaid}
+use Rattle.std.proofs.lemmas.Result.{err_from_is_err_and}
+use Rattle.store_rows.specs.Inner.Books.{IsSaid, SaysRequest}
 use Rattle.store_rows.proofs.BookGains.{last-more}
+use Rattle.store_rows.proofs.BookOpens.{said_at, same_hour, spells_likewise}
 use Rattle.store_rows.proofs.BookRows.{none_said, said_more}
 use Rattle.store_rows.proofs.books.judge_in_order.Goals as goal
 
@@ -26,3 +28,22 @@ returns c = (
       (take_all c.loop-place.place c.args.rows.now (omega arith)) c.loop-place.invariant.1,
   c.loop-place.invariant.2,
 )
+
+pub returns-in_err-entry : goal.returns-in_err-entry
+returns-in_err-entry c =
+    let inv = c.loop-place.invariant in
+    let p = err_from_is_err_and c.from_residual.result c.from_residual.ensures.1 in
+    rw (p.1, p.2) (spells_likewise (SaysRequest c.loop-place.place c.index-rows-place.result) _
+    c.in_err-entry.field-0.0 c.in_err-entry.ensures (λ hour said. let at = said_at c.args.rows.now
+    said.0 inv.0 c.loop-place.place c.index-rows-place.result said.1 inv.1 c.loop-place-test.true
+    c.index-rows-place.is in (at.0, at.1)))
+
+pub returns-then-entry-hour : goal.returns-then-entry-hour
+returns-then-entry-hour c = λ hour said.
+    let inv = c.loop-place.invariant in
+    let e = c.in_ok-entry.entry in
+    let at = said_at c.args.rows.now said.0 inv.0 c.loop-place.place c.index-rows-place.result said.1
+    inv.1 c.loop-place-test.true c.index-rows-place.is in
+    let hours = same_hour c.loop-place.place c.loop-place.place e at.0 (sym c.in_ok-entry.ensures.0 ∙
+    at.1.0) in
+    absurd (omega (arith, hours, inv.2, at.2, c.if-entry-hour.true))

@@ -1,7 +1,7 @@
 use Rattle.std.proofs.Common.{Err, ap, arith, inl, inr, subst, sym}
 use Rattle.sqlite.specs.Held.{state}
 use Rattle.sqlite.specs.State.{HasCleanDisk}
-use Rattle.builder_store.specs.Opening.{IsMadeOf, IsOpenedAs, KeepsRows}
+use Rattle.builder_store.specs.Opening.{AreDeclared, IsMadeOf, IsOpenedAs, KeepsRows}
 use Rattle.builder_store.specs.Standing.{StandsAlone}
 use Rattle.builder_store.specs.Inner.Known.{told_is}
 use Rattle.builder_store.proofs.Gained.{alone_from}
@@ -59,3 +59,17 @@ returns-in-Err-open_tables-clause-crash g c = λ clean db left.
       | inl was ↦ inl (c.in-Ok.ensures.crash before db was)
       | inr made ↦ inr (subst (λ t. IsMadeOf t db) (c.in-Ok.ensures.same before) made)
     ]
+
+pub returns-in-Err-open_tables-clause-bad : goal.returns-in-Err-open_tables-clause-bad
+returns-in-Err-open_tables-clause-bad g c = λ failed clean content it.
+    let mid = state g.S.Store c.in-Ok.conn in
+    let before : HasCleanDisk mid = omega (arith, c.open_tables.ensures.survives.clean, clean) in
+    c.in-Err-open_tables.ensures.bad (ap Err failed) clean content (subst (λ t. IsOpenedAs t content)
+    (sym (c.in-Ok.ensures.same before)) it)
+
+pub returns-in-Err-open_tables-clause-missing : goal.returns-in-Err-open_tables-clause-missing
+returns-in-Err-open_tables-clause-missing g c = λ failed clean made declared.
+    let mid = state g.S.Store c.in-Ok.conn in
+    let before : HasCleanDisk mid = omega (arith, c.open_tables.ensures.survives.clean, clean) in
+    c.in-Err-open_tables.ensures.missing (ap Err failed) clean made (subst (AreDeclared made)
+    (sym (c.in-Ok.ensures.same before)) declared)
