@@ -234,13 +234,18 @@ def free_port():
         return probe.getsockname()[1]
 
 
+HERE, EVERYWHERE = "0100007F", "00000000"
+
+
+def addresses_of(port):
+    """The addresses of this machine, as the kernel writes them, at which somebody listens on a port. No connection is made."""
+    rows = [line.split() for line in Path("/proc/net/tcp").read_text().splitlines()[1:]]
+    return {row[1][:8] for row in rows if row[3] == "0A" and row[1].endswith(f":{port:04X}")}
+
+
 def is_listening(port):
-    """Whether somebody listens on this port of 127.0.0.1. No connection is made."""
-    for line in Path("/proc/net/tcp").read_text().splitlines()[1:]:
-        fields = line.split()
-        if fields[3] == "0A" and fields[1] in (f"0100007F:{port:04X}", f"00000000:{port:04X}"):
-            return True
-    return False
+    """Whether somebody listens on this port of 127.0.0.1."""
+    return bool(addresses_of(port) & {HERE, EVERYWHERE})
 
 
 def wait_until(holds, seconds=10):

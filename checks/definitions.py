@@ -6,7 +6,8 @@ know what is proved has to read these words, and no others. This script finds th
 its crate's lib.rt lets others name it, or name the type or trait that it belongs to. The script compares the words with
 docs/definitions.md and fails where that page isn't up to date, where a word has no sentence before it, where two words or
 two types have one name, and where a word stands among those of the other kind: one that no public contract rests on has its
-place in specs/Inner, and no other word stands there. The page begins with the words that the headline rests on, each before
+place in specs/Inner, and no other word stands there. It also fails where the number of a limit stands bare in code, in a
+contract or in a word, and not as the limit's word or constant. The page begins with the words that the headline rests on, each before
 those that it rests on itself; the rest follows by crate. --write writes the page anew, and --inner lists the words that no
 public contract rests on.
 """
@@ -27,6 +28,23 @@ PARTS = {TOP_WORD: "what operators are promised of a run", ("request_book", "Run
 LAWS = {"laws", "settled"}
 WORD = re.compile(r"[A-Za-z_][A-Za-z0-9_]*(?:['-][A-Za-z0-9_]+)*")
 DEFINED = re.compile(r"^\s*(?:abbrev |unfoldable )?pub (?:record |data )?([A-Za-z_][\w'-]*)")
+# Where limits stand: each word there that is a number.
+LIMITS = [("ring_words", "Limits"), ("store_rows", "Inner/Lacking"), ("store_tables", "Tables")]
+# A number that is no more than this is a limit only where something is compared with it.
+SMALL = 15
+# Where the number of a limit stands for something else.
+NO_LIMITS = {
+    "the octets of an address": {"ring_words/src/address.rt": {256}, "ring_words/specs/Texts.antt": {256, 65536},
+                                 "ring_reads/src/devices.rt": {256, 65536}},
+    "the two bytes that a seat is in a row": {"store_rows/src/ring_reading.rt": {256}, "store_rows/src/ring_rows.rt": {256},
+                                              "store_rows/specs/RingRows.antt": {256}},
+    "the bytes of MD5": {"path_lookup/src/hash.rt": {16}},
+    "the longest name of an account or a container": {"path_lookup/src/path.rt": {256}, "path_lookup/specs/Names.antt": {256}},
+    "the greatest port, as the bound of its type": {"ring_words/src/bounded.rt": {65535}},
+    "the spaces of a text that is cut": {"ring_reads/src/cells.rt": {16}},
+    "a count of 32 bits, below which no crate has the limits": {"byte_streams/specs/Serving.antt": {2 ** 32}},
+    "a place in the text of a route": {"http_routes/specs/Inner/Table.antt": {16}},
+}
 HEAD = """# The words of the contracts
 
 Contracts of public calls cite these words, or words that these rest on. Each stands once, in the lowest crate that needs
@@ -200,6 +218,51 @@ def of_one_name(words):
     return [f"the {kind} {name} is defined in {' and in '.join(found)}" for (kind, name), found in places.items() if len(found) > 1]
 
 
+def limits():
+    """The numbers of the limits, each with its word."""
+    values, found = {}, {}
+    for crate, module in LIMITS:
+        text = (TOP / "crates" / crate / "specs" / f"{module}.antt").read_text()
+        for name, value in re.findall(r"(?m)^abbrev pub \w+ : ℕ\n(\w+) = ([\w ^*]+)$", text):
+            values[name] = eval(value.replace("^", "**"), {"__builtins__": {}}, values)
+    for name, value in values.items():
+        found.setdefault(value, name)
+    return found
+
+
+def bare(text, found):
+    """The numbers of limits that stand in a text and aren't all of a word's body or of a constant, each with its line."""
+    text = text.split("#[cfg(test)]\nmod tests {")[0]
+    text = re.sub(r'(?s)"(?:[^"\\]|\\.)*"', lambda match: '"' + "\n" * match[0].count("\n") + '"', text)
+    text = re.sub(r"(?m)(?://|--).*$", "", text)
+    text = re.sub(r"(?m)^\w+ = (?:2 \^ )?[\d_]+$|^[ \t]*(?:pub )?const \w+: \w+ = [\d_]+;$", "", text)
+    for match in re.finditer(r"(?P<sign>(?<!=)[≤<≥>]=? *)?(?<![\w.])(?:2 \^ (?P<power>\d+)|(?P<plain>\d[\d_]*))(?![\w.])", text):
+        value = 2 ** int(match["power"]) if match["power"] else int(match["plain"].replace("_", ""))
+        if value in found and (value > SMALL or match["sign"]):
+            yield text.count("\n", 0, match.start()) + 1, value
+
+
+def bare_limits():
+    """Where the number of a limit stands for it, and exceptions that nothing needs."""
+    found, faults, met = limits(), [], set()
+    for crate in crates():
+        for path in sorted((TOP / "crates" / crate).rglob("*.*t*")):
+            file = str(path.relative_to(TOP / "crates"))
+            if path.suffix not in (".rt", ".antt") or not re.match(r"\w+/(?:src|specs)/", file):
+                continue
+            if "tests" in path.parts or path.stem == "tests":
+                continue
+            for line, value in bare(path.read_text(), found):
+                why = [why for why, files in NO_LIMITS.items() if value in files.get(file, ())]
+                met.update((each, file, value) for each in why)
+                if not why:
+                    faults.append(f"{file}:{line}: {value} stands bare, where {found[value]} is its word")
+    for why, files in NO_LIMITS.items():
+        faults.extend(f"{file}: no {value} is {why}" for file, values in files.items() for value in values
+                      if (why, file, value) not in met)
+    return faults
+
+
 def gather():
     names = crates()
     words = read_specs(names)
@@ -302,7 +365,7 @@ def main():
     text = page(names, words, users, reached)
     if "--write" in sys.argv:
         PAGE.write_text(text)
-    faults = [f"no sentence before {name}" for name in untold] + of_one_name(words)
+    faults = [f"no sentence before {name}" for name in untold] + of_one_name(words) + bare_limits()
     for key, word in words.items():
         place = f"{word.crate}/specs/{word.file.replace('.', '/')}.antt"
         if key not in reached and not word.file.startswith("Inner"):

@@ -130,6 +130,7 @@ def routes(checks):
         with Server(file) as server:
             if not checks.show("serve listens", server.is_up and server.process.poll() is None, server.process.poll()):
                 return
+            checks.same("and on 127.0.0.1 alone", common.addresses_of(server.port), {common.HERE})
             partition = hashlib.md5(b"/a").digest()[0] >> 7
             for what, given, want in [
                 ("the device table", request("GET", "/v1/rings/object/devices"), answer(200, "OK", FIRST_DEVICES, "text/plain")),
@@ -269,6 +270,11 @@ def words(checks):
         checks.same("loop without INPUT", run("loop", file, f"{room}/none"), fault("NoFile", 27))
         Path(given).write_bytes(b"x" * 32769)
         checks.same("an INPUT of 32769 bytes", run("loop", file, given), fault("TooLong", 29))
+        length = 32768 - len(request("POST", "/v1/requests", None, HEAD + "Content-Length: 32000\r\n"))
+        whole = request("POST", "/v1/requests", None, HEAD + f"Content-Length: {length}\r\n") + CREATE.encode().ljust(length)
+        Path(given).write_bytes(whole)
+        told = run("loop", f"{room}/whole.db", given, "--hour", "0")
+        checks.same("one of 32768 bytes", (len(whole), told), (32768, (0, answer(200, "OK", FIRST_REPLIES[0]), b"")))
         stream = request("POST", "/v1/requests", CREATE) * 2 + request("GET", "/v1/rings/object/devices") + request("GET", "/v2", fields=HEAD + LAST)
         Path(given).write_bytes(stream)
         os.remove(file) if os.path.exists(file) else None
@@ -281,6 +287,40 @@ def words(checks):
         checks.show("a second loop finds the ring", told[0] == 0 and told[1].startswith(b"HTTP/1.1 200 OK"), told)
         Path(given).write_bytes(b"")
         checks.same("an empty INPUT", run("loop", file, given), (0, b"", b""))
+
+
+def at_full_size(checks):
+    """The largest of each: a published text, a CSV table, the name of an object, a list of devices."""
+    with scratch() as room:
+        file = f"{room}/rings.db"
+        head = "region,zone,address,port,name,weight\n"
+        table = head + "".join(f"{1 + place % 3},{place // 24},10.0.{place // 4}.1,6200,disk{place},100.00\n" for place in range(256))
+        with Server(file) as server:
+            server.post(message(1, "create", power=14, replicas=5, min_hours=0))
+            told = server.ask("POST", "/v1/import/object?caller=ops&number=2", table.encode())
+            checks.same("256 devices", told, (200, b'{"added":256,"done":"import","reweighted":0,"version":1}'))
+            one_more = head + "1,1,10.9.9.9,6200,one,1.00\n"
+            full = b'{"cause":7,"refused":"RowRefused","row":1,"rule":13}'
+            checks.same("one more", server.ask("POST", "/v1/import/object?caller=ops&number=3", one_more.encode()), (422, full))
+            again = table + "1,1,10.9.9.9,6200,one,1.00\n"
+            full = full.replace(b'"row":1', b'"row":257')
+            checks.same("257 rows", server.ask("POST", "/v1/import/object?caller=ops&number=4", again.encode()), (422, full))
+            row = "1,0,10.0.0.1,6200,disk0,"
+            filled = (table + (row + "50.00\n") * 3000)[:65536 - len(row) - 12].rpartition("\n")[0] + "\n"
+            filled += row + "7" * (65536 - len(filled) - len(row) - 4) + ".00\n"
+            long_weight = server.ask("POST", "/v1/import/object?caller=ops&number=5", filled.encode())
+            rows = filled.count("\n") - 1
+            bad = f'{{"column":6,"fault":"BadField","row":{rows},"rule":42}}'.encode()
+            checks.same("a table of 65536 bytes is read to its last field", (len(filled), *long_weight), (65536, 400, bad))
+            checks.show("a rebalance", server.post(message(6, "rebalance", seed=1))[0] == 200)
+            checks.same("its text", server.post(message(7, "publish")), (200, b'{"done":"publish","version":2}'))
+            status, text = server.ask("GET", "/v1/rings/object/text/2")
+            checks.show("a text of power 14 with 5 replicas", status == 200 and len(text.splitlines()) > 16384, (status, len(text)))
+            name = "x" * 1024
+            spelt = server.ask("GET", "/v1/rings/object/nodes?account=a&container=c&object=" + "%78" * 1024)
+        checks.same("the same text by export", run("export", file, "object", "2")[1], text)
+        nodes = run("nodes", file, "object", "a", "--container", "c", "--object", name)[1]
+        checks.same("a name of 1024 bytes, all percent-encoded", (spelt[0], spelt[1] + b"\n"), (200, nodes))
 
 
 def stopped_and_started(checks):
@@ -546,7 +586,7 @@ def main():
         print("0 passed, 0 failed")
         return 0
     return checks.run(
-        words, routes, refusals, by_curl, by_http_client, stopped_and_started, broken_off, thousand_connections,
+        words, routes, refusals, at_full_size, by_curl, by_http_client, stopped_and_started, broken_off, thousand_connections,
         random_requests, slow_ones)
 
 

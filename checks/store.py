@@ -13,6 +13,7 @@ import signal
 import sqlite3
 import subprocess
 import sys
+import time
 import tty
 from pathlib import Path
 
@@ -113,6 +114,15 @@ def csv_import(checks):
         checks.same("no file", run("import", file, "object", "ops", "7", f"{room}/none"), fault("NoFile", 27))
         Path(table).write_bytes(head.encode() + b"x" * 65536)
         checks.same("a file of over 65536 bytes", run("import", file, "object", "ops", "7", table), fault("TooLong", 29))
+        filled = head + "1,1,10.0.0.1,6200,d0,"
+        Path(table).write_text(filled.ljust(65536, "7"))
+        checks.same("one of 65536 bytes", run("import", file, "object", "ops", "7", table), (1, field.replace(b'"column":3', b'"column":6'), b""))
+        Path(table).write_text(head + "1,1,10.0.0.1,6200,d0,60.00\n")
+        begun = int(time.time()) // 3600
+        done = b'200 {"added":0,"done":"import","reweighted":1,"version":5}\n'
+        checks.same("number 7 is new after all of them", run("import", file, "object", "ops", "7", table), (0, done, b""))
+        hour = rows_of(file)["meta"][0][2]
+        checks.show("and decided at the hour of this machine's clock", begun <= hour <= int(time.time()) // 3600, hour)
 
 
 def renewal(checks):
@@ -252,7 +262,7 @@ def other_words(checks):
 # form, a table that is missing; an input that is missing, a folder, which can be opened and not read, and the program itself, which is
 # longer than an input may be.
 AWAY = "/no/folder/f"
-TOLD_BEFORE = [(["table", AWAY, "a b"], "Unreadable", 20), (["nodes", AWAY, "", "a"], "Unreadable", 20),
+TOLD_BEFORE = [(["table", AWAY, "a b"], "Unreadable", 20), (["nodes", AWAY, "a b", "a/b"], "Unreadable", 20), (["nodes", AWAY, "", "a"], "Unreadable", 20),
                (["export", AWAY, "r", "01"], "Unreadable", 20), (["nodes", AWAY, "r", "a/b"], "BadPath", 30),
                (["nodes", AWAY, "r", "a", "--object", "o"], "BadPath", 30), (["import", AWAY, "r", "ops", "1", "/no/folder/c"], "NoFile", 27),
                (["loop", AWAY, "/no/folder/i"], "NoFile", 27), (["loop", AWAY, "/"], "ReadFailed", 50),

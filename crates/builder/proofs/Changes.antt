@@ -19,7 +19,6 @@ use Rattle.ring_words.specs.declared.command.Command.{Command}
 use Rattle.ring_words.specs.declared.command.Act.{Act}
 use Rattle.ring_words.specs.declared.command.Act.TheVariants as act
 use Rattle.ring_words.specs.declared.command.Done.{Done}
-use Rattle.ring_words.specs.declared.command.Done.TheVariants as done
 use Rattle.ring_words.specs.declared.command.Reply.{Reply}
 use Rattle.ring_words.specs.declared.command.Reply.TheVariants as reply
 use Rattle.request_book.specs.declared.entry.Entry.{Entry}
@@ -98,7 +97,7 @@ change_of act.PretendPassed answer name old new hour effect =
     PretendPassed refl (ap (λ (r : RingRecord). r.min_hours) effect.0)
 change_of act.RaisePower answer name old new hour effect =
     Raise effect.0
-change_of (act.Import rows) (done.Import added reweighted version) name old new hour effect =
+change_of (act.Import rows) answer name old new hour effect =
     let rest = alike_rows old rows in
     alike_as _ hour old _ new effect.0
     (record { power = rest.power; min_hours = rest.min_hours; moved = rest.moved })

@@ -53,17 +53,6 @@ row_fits limits ring row none free =
           both.1,
     )
 
-numbers_if : (b : Bool) (ring : RingRecord) (row : Row) (devices : List Device) →
-    let new : RingRecord = cond b (record ring { devices = devices }) (added ring row) in
-    (ring.next_id ≤ new.next_id) × (new.next_id ≤ ring.next_id + 1)
-numbers_if true ring row devices = (omega arith, omega arith)
-numbers_if false ring row devices = (omega arith, omega arith)
-
--- a row takes one number at most
-row_numbers : (ring : RingRecord) (row : Row) → (ring.next_id ≤ (after_row ring row).next_id) ×
-    ((after_row ring row).next_id ≤ ring.next_id + 1)
-row_numbers ring row = numbers_if (has_place row ring.devices) ring row _
-
 -- ---- the rows so far
 
 -- The first n rows were put into the old ring, and none of them was refused.
@@ -82,57 +71,3 @@ none_put limits old rows = record {
   most =
       omega arith;
 }
-
-next_rows : (rows : List Row) (n : ℕ) (row : Row) → n < length rows → row ≡ get_or rows n row →
-    drop n rows ≡ row ∷ drop (n + 1) rows
-next_rows rows n row within is = drop_more rows n row within ∙ ap (λ (x : Row). x ∷
-    drop (n + 1) rows) (sym is)
-
-next_taken : (old : RingRecord) (rows : List Row) (n : ℕ) (row : Row) → n < length rows →
-    row ≡ get_or rows n row → after_rows old (take (n + 1) rows) ≡ after_row
-    (after_rows old (take n rows)) row
-next_taken old rows n row within is =
-    ap (after_rows old) (take_more rows n row within) ∙ fold-append after_row old (take n rows)
-    (get_or rows n row ∷ []) ∙ ap (after_row (after_rows old (take n rows))) (sym is)
-
-pub one_more_put : (limits : Limits) (old now : RingRecord) (rows : List Row) (n : ℕ) (row : Row) →
-    n < length rows → row ≡ get_or rows n row → IsPut limits old rows n now →
-    row_refusal limits now row ≡ None
-    → IsPut limits old rows (n + 1) (after_row now row)
-one_more_put limits old now rows n row within is put none =
-    let numbers = row_numbers now row in
-    record {
-      after = ap (λ (r : RingRecord). after_row r row) put.after ∙ sym (next_taken old rows n row
-          within is);
-      causes = put.causes ∙ ap (λ (rs : List Row). stood (of_rows limits (n + 1) now rs))
-          (next_rows rows n row within is)
-          ∙ ap (λ o. stood (of_row (n + 1) o ++ of_rows limits (n + 1 + 1) (after_row now row)
-          (drop (n + 1) rows))) none;
-      least = omega (arith, put.least, numbers.0);
-      most = omega (arith, put.most, numbers.1);
-    }
-
--- a row that is refused is the first
-pub refused_next : (limits : Limits) (old now : RingRecord) (rows : List Row) (n : ℕ) (row : Row)
-    (why : RowCause) → n < length rows → row ≡ get_or rows n row → IsPut limits old rows n now →
-    row_refusal limits now row ≡ Some why
-    → option_map (λ cause. cause.refused) (stood (of_rows limits 1 old rows)) ≡ Some
-    (RowRefused (n + 1) why)
-refused_next limits old now rows n row why within is put some =
-    ap (option_map (λ cause. cause.refused))
-    (put.causes ∙ ap (λ (rs : List Row). stood (of_rows limits (n + 1) now rs))
-    (next_rows rows n row within is)
-    ∙ ap (λ o. stood (of_row (n + 1) o ++ of_rows limits (n + 1 + 1) (after_row now row)
-    (drop (n + 1) rows))) some)
-
--- at the end none is
-pub none_refused : (limits : Limits) (old now : RingRecord) (rows : List Row) (n : ℕ) →
-    length rows ≤ n → IsPut limits old rows n now
-    → (option_map (λ cause. cause.refused) (stood (of_rows limits 1 old rows)) ≡ None) ×
-    (now ≡ after_rows old rows)
-none_refused limits old now rows n end put = (
-  ap (option_map (λ cause. cause.refused))
-      (put.causes ∙ ap (λ (rs : List Row). stood (of_rows limits (n + 1) now rs))
-      (drop_all n rows end)),
-  put.after ∙ ap (after_rows old) (take_all n rows end),
-)

@@ -11,4 +11,8 @@ pub mod ValidRings
 pub mod Safe
 pub mod Proper
 pub mod Joined
+pub mod Lives
+pub mod KeptReplies
 pub mod Previews
+pub mod Functions
+pub mod OneBook

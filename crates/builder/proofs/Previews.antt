@@ -2,7 +2,7 @@
 use Rattle.std.proofs.Common.{◌≡◌, ◌∙◌, ℕ, List, Option, Some, None, ap, refl, subst, sym}
 use Rattle.std.proofs.lemmas.Option.{same_Some}
 use Rattle.builder.specs.Preview.{IsOnly, rebalance_of}
-use Rattle.builder.specs.Step.{Effect, State, Step, causes, first_cause, first_refusal}
+use Rattle.builder.specs.Step.{Effect, State, Step, answer_at, causes, first_cause, first_refusal}
 use Rattle.builder.proofs.RingAt.{ring_at-with}
 use Rattle.ring_model.specs.Ring.{RingRecord}
 use Rattle.ring_model.specs.Rings.{ring_at}
@@ -12,19 +12,19 @@ use Rattle.ring_share.specs.Figures.{ring_balance, ring_dispersion}
 use Rattle.ring_words.specs.declared.request.Limits.{Limits}
 use Rattle.ring_words.specs.declared.command.Act.TheVariants as act
 use Rattle.ring_words.specs.declared.command.Done.{Done}
-use Rattle.ring_words.specs.declared.command.Done.TheVariants as done
+use Rattle.ring_words.specs.declared.command.Deed.TheVariants as deed
 use Rattle.ring_words.specs.declared.command.Reply.{Reply}
 use Rattle.ring_words.specs.declared.command.Reply.TheVariants as reply
 
-one_effect : (name : List ℕ) (hour seed : ℕ) (o : Option RingRecord) (answer also : Done)
+pub one_rebalance : (name : List ℕ) (hour seed : ℕ) (o : Option RingRecord) (answer also : Done)
     (new other : RingRecord) → Effect name hour o (act.Rebalance seed) answer new
     → Effect name hour o (act.Rebalance seed) also other → (answer ≡ also) × (new ≡ other)
-one_effect name hour seed None answer also new other e f = absurd e
-one_effect name hour seed (Some old) answer also new other e f =
+one_rebalance name hour seed None answer also new other e f = absurd e
+one_rebalance name hour seed (Some old) answer also new other e f =
     let same = one_seeded old new other hour seed e.2 f.2 in (
       e.1
-          ∙ ap (λ (r : RingRecord). done.Rebalance (ring_balance r) (changed_seats old r)
-          (ring_dispersion r) r.version) same
+          ∙ ap (λ (r : RingRecord). answer_at r (deed.Rebalance (ring_balance r)
+          (changed_seats old r) (ring_dispersion r))) same
           ∙ sym f.1,
       same,
     )
@@ -59,7 +59,7 @@ one_step limits rings hour name seed (reply.Done a) left step others (reply.Refu
     absurd (cc (step.0, other.0, same_refusal limits rings others name seed same))
 one_step limits rings hour name seed (reply.Done a) left step others (reply.Done b) after same
     other =
-    let one = one_effect name hour seed (ring_at name rings) b a other.1.0 step.1.0
+    let one = one_rebalance name hour seed (ring_at name rings) b a other.1.0 step.1.0
     (subst (λ o. Effect name hour o (act.Rebalance seed) b other.1.0) same other.1.1) step.1.1 in (
       ap reply.Done one.0,
       ap (ring_at name) other.1.2 ∙ ring_at-with others name other.1.0 ∙ ap Some one.1

@@ -1,7 +1,7 @@
 -- The commands of a run's entries are those of its calls.
 use Rattle.std.proofs.Common.{◌≡◌, ℕ, ◌≤◌, ◌++◌, Bool, true, false, cond, List, [], ◌∷◌, length}
 use Rattle.std.proofs.Common.{Option, Some, None, refl, sym, subst, ◌∙◌, max}
-use Rattle.std.specs.Prelude.{All, Err, MatchOption, Ok, ⊤}
+use Rattle.std.specs.Prelude.{All, Err, MatchOption, Ok}
 use Rattle.std.specs.List.{AllByRecursion, flat_map}
 use Rattle.std.specs.Option.{option_to_list}
 use Rattle.std.proofs.lemmas.Bool.{cond_both}
@@ -17,15 +17,11 @@ use Rattle.request_book.specs.Content.{Content, is_known}
 use Rattle.request_book.specs.Once.{decision, firsts, once}
 use Rattle.request_book.specs.Run.{IsInDoubt, Run, kept}
 use Rattle.request_book.specs.declared.entry.Entry.{Entry}
+use Rattle.builder.specs.Life.{IsProperCall}
 use Rattle.builder.specs.Safety.{AreValid, Entries, IsSafeRun}
 use Rattle.builder.specs.Step.{State, Step}
 
--- What a call delivers, if it does, is proper.
-abbrev pub IsProperCall : Call Command Reply → Type 0
-IsProperCall (Deliver delivery answer) = IsProperCommand delivery.command
-IsProperCall (Load answer) = ⊤
-
-abbrev IsProperEntry : Entry Command Reply → Type 0
+abbrev pub IsProperEntry : Entry Command Reply → Type 0
 IsProperEntry entry = IsProperCommand entry.command
 
 abbrev AreProper : Entries → Type 0

@@ -31,7 +31,6 @@ use Rattle.ring_words.specs.declared.command.Command.{Command}
 use Rattle.ring_words.specs.declared.command.Act.{Act}
 use Rattle.ring_words.specs.declared.command.Act.TheVariants as act
 use Rattle.ring_words.specs.declared.command.Done.{Done}
-use Rattle.ring_words.specs.declared.command.Done.TheVariants as done
 use Rattle.ring_words.specs.declared.command.Reply.{Reply}
 use Rattle.ring_words.specs.declared.command.Reply.TheVariants as reply
 use Rattle.ring_words.specs.declared.command.RowCause.{RowCause}
@@ -178,7 +177,7 @@ new_valid act.RaisePower answer limits name old new hour clear proper valid effe
     let below : old.power ≡ greatest_power → ⊥ = eqb-false old.power greatest_power clear.0 in
     raised_valid old new valid effect.0 (let up = effect.0.power in let most = valid.power.1 in
     omega arith)
-new_valid (act.Import rows) (done.Import added reweighted version) limits name old new hour clear
+new_valid (act.Import rows) answer limits name old new hour clear
     proper valid effect =
     subst IsValid (sym effect.0) (changed_valid _ (rows_valid limits 1 old rows clear valid))
 new_valid (act.Rebalance seed) answer limits name old new hour clear proper valid effect =
@@ -199,7 +198,7 @@ found_if : (b : Bool) (first : List ℕ × RingRecord) (rest : Option (List ℕ 
 found_if true first rest ring found valid others = subst IsValid (one_ring first.1 ring found) valid
 found_if false first rest ring found valid others = others found
 
-valid_at : (rings : State) (name : List ℕ) (ring : RingRecord)
+pub valid_at : (rings : State) (name : List ℕ) (ring : RingRecord)
     → All (λ named. IsValid named.1) rings → ring_at name rings ≡ Some ring → IsValid ring
 valid_at [] name ring valid found = cc
 valid_at (first ∷ rest) name ring valid found =
@@ -271,13 +270,3 @@ stay_valid limits rings after hour command (reply.Done answer) step proper valid
     clear proper.act valid step.1.1 in
     subst AreValid (sym step.1.2) (put_valid rings command.ring new valid proper.ring is.ring
     is.room)
-
-pub none_valid : AreValid []
-none_valid =
-    record {
-      count = omega arith;
-      by_name = λ i j d less low. absurd (omega arith);
-      named =
-          All-nil _;
-      each = All-nil _;
-    }

@@ -1,6 +1,7 @@
 pub mod Preview
 pub mod Step
 pub mod Safety
+pub mod Life
 pub use Rattle.ring_model.specs.Ring
 pub use Rattle.ring_model.specs.Rings
 pub use Rattle.ring_model.specs.Valid

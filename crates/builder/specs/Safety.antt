@@ -2,7 +2,8 @@
 -- remain, how long those of a moved partition stay, and that the rings stay valid.
 use Rattle.std.specs.Prelude.{◌≡◌, ◌+◌, ◌-◌, ◌/◌, ◌^◌, ◌<◌, ◌≤◌, ◌++◌, ℕ, IsTrue, true, false, List}
 use Rattle.std.specs.Prelude.{length, slice_get, Some, All, AllPairs}
-use Rattle.ring_model.specs.Ring.{RingRecord}
+use Rattle.ring_words.specs.Limits.{most_rings}
+use Rattle.ring_model.specs.Ring.{RingRecord, partition_count}
 use Rattle.ring_model.specs.Rings.{AreByName, ring_at, with_ring}
 use Rattle.ring_model.specs.Valid.{IsValid}
 use Rattle.ring_messages.specs.Commands.{IsProperCommand}
@@ -37,9 +38,10 @@ pub record FewLeft (rings : State) (name : List ℕ) (hour : ℕ) (after : State
 
 -- ---- valid rings
 
--- There are at most 16 rings, by rising name. Each name is a ring's name, and each ring is valid.
+-- There are no more rings than may be kept, by rising name. Each name is a ring's name, and each
+-- ring is valid.
 pub record AreValid (rings : State) : Type 0 where
-  pub count : length rings ≤ 16
+  pub count : length rings ≤ most_rings
   pub by_name : AreByName rings
   pub named : All (λ named. IsTrue (is_label named.0)) rings
   pub each : All (λ named. IsValid named.1) rings
@@ -91,6 +93,25 @@ pub record RebalanceAt (entries : Entries) (rings : ℕ → State) (name : List 
 -- from which a partition of the later ring came.
 abbrev pub origin : RingRecord → RingRecord → ℕ → ℕ
 origin earlier later partition = partition / 2 ^ (later.power - earlier.power)
+
+-- A rebalance of a ring at a place changed a seat of a partition. Where the ring stands at another
+-- place, what came of that partition is locked until as many hours have passed since as the ring
+-- then says.
+abbrev pub LockStays : Entries → (ℕ → State) → List ℕ → ℕ → ℕ → Type 0
+LockStays entries rings name i j = (move : RebalanceAt entries rings name i) (now : RingRecord)
+    → ring_at name (rings j) ≡ Some now → (partition hour : ℕ) → partition < partition_count now
+    → has_changed move.old move.new (origin move.old now partition) ≡ true
+    → hour < move.entry.hour + now.min_hours → is_locked now hour partition ≡ true
+
+-- A rebalance of a ring at a place, which then had at least so many hours, changed a seat of a
+-- partition. One at another place takes a replica of what came of it off a device that remains only
+-- once so many hours have passed.
+abbrev pub RestsFor : ℕ → Entries → (ℕ → State) → List ℕ → ℕ → ℕ → Type 0
+RestsFor hours entries rings name i j = (move : RebalanceAt entries rings name i)
+    (later : RebalanceAt entries rings name j) → hours ≤ move.old.min_hours
+    → (partition replica : ℕ)
+    → has_changed move.old move.new (origin move.old later.old partition) ≡ true
+    → Leaves later.old later.new partition replica → move.entry.hour + hours ≤ later.entry.hour
 
 -- ---- what is promised
 

@@ -20,7 +20,8 @@ use Rattle.ring_words.specs.declared.command.Command.{Command}
 use Rattle.ring_words.specs.declared.command.Act.{Act}
 use Rattle.ring_words.specs.declared.command.Act.TheVariants as act
 use Rattle.ring_words.specs.declared.command.Done.{Done}
-use Rattle.ring_words.specs.declared.command.Done.TheVariants as done
+use Rattle.ring_words.specs.declared.command.Deed.{Deed}
+use Rattle.ring_words.specs.declared.command.Deed.TheVariants as deed
 use Rattle.ring_words.specs.declared.command.Refusal.{Refusal}
 use Rattle.ring_words.specs.declared.command.Refusal.TheVariants as refusal
 use Rattle.ring_words.specs.declared.command.RowCause.{RowCause}
@@ -184,56 +185,65 @@ first_refusal limits rings command = first_cause (causes limits rings (ring_at c
 
 -- Each effect says how a command is answered, and which ring it leaves under the name.
 
+-- The answer where this was done and left this ring: it tells the ring's version.
+abbrev pub answer_at : RingRecord → Deed → Done
+answer_at new what = record { version = new.version; deed = what }
+
 -- A ring is made.
 abbrev pub MakesRing : NewRing → Done → RingRecord → Type 0
 MakesRing made answer new = (new ≡ new_ring made.power made.replicas made.min_hours) ×
-    (answer ≡ done.Create new.version)
+    (answer ≡ answer_at new deed.Create)
 
 -- A device is added. Told is its number.
 abbrev pub AddsDevice : Row → RingRecord → Done → RingRecord → Type 0
 AddsDevice row old answer new = (new ≡ with_device old row) ×
-    (answer ≡ done.Add old.next_id new.version)
+    (answer ≡ answer_at new (deed.Add old.next_id))
 
 -- A device gets a weight.
 abbrev pub SetsWeight : NewWeight → RingRecord → Done → RingRecord → Type 0
 SetsWeight to old answer new = (new ≡ with_weight old to.id to.weight) ×
-    (answer ≡ done.SetWeight new.version)
+    (answer ≡ answer_at new deed.SetWeight)
 
 -- A device is marked to be removed.
 abbrev pub RemovesDevice : ℕ → RingRecord → Done → RingRecord → Type 0
-RemovesDevice id old answer new = (new ≡ with_mark old id) × (answer ≡ done.Remove new.version)
+RemovesDevice id old answer new = (new ≡ with_mark old id) × (answer ≡ answer_at new deed.Remove)
 
 -- A partition that was moved stays for so many hours from now on.
 abbrev pub SetsHours : ℕ → RingRecord → Done → RingRecord → Type 0
 SetsHours hours old answer new = (new ≡ with_min_hours old hours) ×
-    (answer ≡ done.SetHours new.version)
+    (answer ≡ answer_at new deed.SetHours)
 
 -- Each partition is as if it never had been moved.
 abbrev pub PretendsPassed : RingRecord → Done → RingRecord → Type 0
 PretendsPassed old answer new = (new ≡ with_hours_passed old) ×
-    (answer ≡ done.PretendPassed new.version)
+    (answer ≡ answer_at new deed.PretendPassed)
 
 -- Each partition is split into two.
 abbrev pub RaisesPower : RingRecord → Done → RingRecord → Type 0
-RaisesPower old answer new = IsRaised old new × (answer ≡ done.RaisePower new.version)
+RaisesPower old answer new = IsRaised old new × (answer ≡ answer_at new deed.RaisePower)
+
+-- Told is how many of the rows took a number, and how many did not.
+abbrev pub CountsRows : List Row → RingRecord → RingRecord → Deed → Type 0
+CountsRows rows old new (deed.Import added reweighted) =
+    (new.next_id ≡ old.next_id + added) × (added + reweighted ≡ length rows)
+CountsRows rows old new other = ⊥
 
 -- Rows are put in. Each that found no device took a number, and every other found one.
 abbrev pub ImportsRows : List Row → RingRecord → Done → RingRecord → Type 0
-ImportsRows rows old (done.Import added reweighted version) new =
-    (new ≡ changed (after_rows old rows)) × (new.next_id ≡ old.next_id + added) ×
-    (added + reweighted ≡ length rows) × (version ≡ new.version)
-ImportsRows rows old other new = ⊥
+ImportsRows rows old answer new =
+    (new ≡ changed (after_rows old rows)) × (answer ≡ answer_at new answer.deed) ×
+    CountsRows rows old new answer.deed
 
 -- The rebalance of the seed. Told are how many seats differ, and the figures of the new ring.
 abbrev pub MovesSeats : ℕ → ℕ → RingRecord → Done → RingRecord → Type 0
 MovesSeats hour seed old answer new =
-    IsRebalance old hour new × (answer ≡ done.Rebalance (ring_balance new) (changed_seats old new)
-    (ring_dispersion new) new.version) × IsSeeded old hour seed new
+    IsRebalance old hour new × (answer ≡ answer_at new (deed.Rebalance (ring_balance new)
+    (changed_seats old new) (ring_dispersion new))) × IsSeeded old hour seed new
 
 -- The text of the ring as it is, under its name, is published.
 abbrev pub PublishesText : List ℕ → RingRecord → Done → RingRecord → Type 0
 PublishesText name old answer new = (new ≡ with_published old (spelling (snapshot_of name old))) ×
-    (answer ≡ done.Publish new.version)
+    (answer ≡ answer_at new deed.Publish)
 
 -- the effect of an act on this ring of this name at an hour
 abbrev pub RingEffect : List ℕ → ℕ → RingRecord → Act → Done → RingRecord → Type 0

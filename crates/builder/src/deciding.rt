@@ -11,7 +11,8 @@ use crate::rebalancing::move_seats;
 use ring_model::{RaiseFault, Ring, Rings};
 use ring_text::{snapshot, write_ring};
 use ring_words::{
-    Act, Command, DeviceId, Done, Hour, Limits, NewRing, NewWeight, Refusal, Reply, RingName, Row,
+    Act, Command, Deed, DeviceId, Done, Hour, Limits, NewRing, NewWeight, Refusal, Reply, RingName,
+    Row,
 };
 use std::alloc::{AllocError, Global};
 
@@ -20,8 +21,8 @@ use std::alloc::{AllocError, Global};
 pub(crate) enum Outcome {
     /// It is refused.
     Refused(Refusal),
-    /// It is done, and the named ring is this one from now on.
-    Done(Done, Ring),
+    /// This is done, and the named ring is this one from now on.
+    Done(Deed, Ring),
 }
 
 /// Adds a device, unless its place is taken, there are too many, or the numbers are used up.
@@ -39,11 +40,8 @@ fn add(ring: &Ring, row: &Row, limits: &Limits) -> Result<Outcome, AllocError>
         return Ok(Outcome::Refused(Refusal::IdsUsedUp));
     }
     let added = ring.with_device(row)?;
-    let done = Done::Add {
-        id: ring.next_id() as u16,
-        version: added.version(),
-    };
-    Ok(Outcome::Done(done, added))
+    let id = ring.next_id() as u16;
+    Ok(Outcome::Done(Deed::Add { id }, added))
 }
 
 /// Sets a device's weight, unless there is no such device or it is marked to be removed.
@@ -57,10 +55,7 @@ fn set_weight(ring: &Ring, to: &NewWeight) -> Result<Outcome, AllocError>
         return Ok(Outcome::Refused(Refusal::DeviceRemoved));
     }
     let reweighed = ring.with_weight(to.id, to.weight)?;
-    let done = Done::SetWeight {
-        version: reweighed.version(),
-    };
-    Ok(Outcome::Done(done, reweighed))
+    Ok(Outcome::Done(Deed::SetWeight, reweighed))
 }
 
 /// Marks a device to be removed, unless there is no such device or it is marked already.
@@ -74,10 +69,7 @@ fn remove(ring: &Ring, id: DeviceId) -> Result<Outcome, AllocError>
         return Ok(Outcome::Refused(Refusal::DeviceRemoved));
     }
     let marked = ring.with_mark(id)?;
-    let done = Done::Remove {
-        version: marked.version(),
-    };
-    Ok(Outcome::Done(done, marked))
+    Ok(Outcome::Done(Deed::Remove, marked))
 }
 
 /// Sets for how many hours a partition that was moved stays where it is.
@@ -85,10 +77,7 @@ fn set_hours(ring: &Ring, hours: u16) -> Result<Outcome, AllocError>
     ensures { IfOk result (IsFirstOr [] (SetsHours hours ring.now)) }
 {
     let set = ring.with_min_hours(hours)?;
-    let done = Done::SetHours {
-        version: set.version(),
-    };
-    Ok(Outcome::Done(done, set))
+    Ok(Outcome::Done(Deed::SetHours, set))
 }
 
 /// Lets each partition be moved as if it never had been.
@@ -96,10 +85,7 @@ fn pretend_passed(ring: &Ring) -> Result<Outcome, AllocError>
     ensures { IfOk result (IsFirstOr [] (PretendsPassed ring.now)) }
 {
     let passed = ring.with_hours_passed()?;
-    let done = Done::PretendPassed {
-        version: passed.version(),
-    };
-    Ok(Outcome::Done(done, passed))
+    Ok(Outcome::Done(Deed::PretendPassed, passed))
 }
 
 /// Splits each partition into two, unless the ring has the greatest power.
@@ -111,10 +97,7 @@ fn raise_power(ring: &Ring) -> Result<Outcome, AllocError>
         Err(RaiseFault::PowerLimit) => return Ok(Outcome::Refused(Refusal::PowerLimit)),
         Err(RaiseFault::NoMemory) => return Err(AllocError),
     };
-    let done = Done::RaisePower {
-        version: raised.version(),
-    };
-    Ok(Outcome::Done(done, raised))
+    Ok(Outcome::Done(Deed::RaisePower, raised))
 }
 
 /// Publishes the text of the ring as it is under its version, unless the seats are empty, or as
@@ -136,10 +119,7 @@ fn publish(
     }
     let text = write_ring(alloc, &snapshot(alloc, name, ring)?)?;
     let published = ring.with_published(alloc, text.as_str())?;
-    let done = Done::Publish {
-        version: published.version(),
-    };
-    Ok(Outcome::Done(done, published))
+    Ok(Outcome::Done(Deed::Publish, published))
 }
 
 /// What an act on a ring that is there comes to.
@@ -185,7 +165,7 @@ fn on_no_ring(
         return Ok(Outcome::Refused(Refusal::TooManyRings));
     }
     let ring = Ring::new(alloc, new.power, new.replicas, new.min_hours)?;
-    Ok(Outcome::Done(Done::Create { version: 0 }, ring))
+    Ok(Outcome::Done(Deed::Create, ring))
 }
 
 /// What a command comes to.
@@ -218,7 +198,9 @@ pub fn decide(
 {
     match outcome_of(alloc, rings, hour, command, limits)? {
         Outcome::Refused(refusal) => Ok((rings.clone()?, Reply::Refused(refusal))),
-        Outcome::Done(done, ring) => {
+        Outcome::Done(deed, ring) => {
+            let version = ring.version();
+            let done = Done { version, deed };
             let name = command.ring.clone()?;
             Ok((rings.with(name, ring)?, Reply::Done(done)))
         }

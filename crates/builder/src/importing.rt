@@ -7,7 +7,7 @@ ghost use Rattle.builder.specs.Inner.Outcome.{IsFirstOr};
 
 use crate::deciding::Outcome;
 use ring_model::{Draft, Ring};
-use ring_words::{Device, Done, Limits, Refusal, Row, RowCause, Rows};
+use ring_words::{Deed, Device, Limits, Refusal, Row, RowCause, Rows};
 use std::alloc::AllocError;
 
 /// Why a row isn't taken as a new weight of this device, if it isn't.
@@ -76,11 +76,6 @@ pub(crate) fn import(ring: &Ring, rows: &Rows, limits: &Limits) -> Result<Outcom
     }
     let added = u64::from(draft.next_id() - ring.next_id());
     let reweighted = rows.as_slice().len() as u64 - added;
-    let imported = draft.finish();
-    let done = Done::Import {
-        added,
-        reweighted,
-        version: imported.version(),
-    };
-    Ok(Outcome::Done(done, imported))
+    let deed = Deed::Import { added, reweighted };
+    Ok(Outcome::Done(deed, draft.finish()))
 }

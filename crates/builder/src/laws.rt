@@ -1,18 +1,21 @@
 //! What follows from the definitions alone.
 ghost use Rattle.std.specs.Prelude.{◌≡◌, ◌≢◌, ◌+◌, ◌<◌, ◌≤◌, ℕ, Bool, List, length, slice_get};
-ghost use Rattle.std.specs.Prelude.{Some, true};
+ghost use Rattle.std.specs.Prelude.{All, Result, Some, true};
+ghost use Rattle.builder.specs.Life.{IsProperCall, IsSureRun, KeepsReply, Lives};
 ghost use Rattle.builder.specs.Preview.{rebalance_of};
 ghost use Rattle.builder.specs.Safety.{AreValid, DoNotFall, Entries, FewLeft, IsDone, IsSafeRun};
-ghost use Rattle.builder.specs.Safety.{IsWay, NeverBetween, RebalanceAt, origin};
+ghost use Rattle.builder.specs.Safety.{IsWay, LockStays, NeverBetween, RestsFor};
 ghost use Rattle.builder.specs.Step.{State, Step};
 ghost use Rattle.request_book.specs.Call.{Call};
 ghost use Rattle.request_book.specs.Content.{Content};
 ghost use Rattle.request_book.specs.Run.{Run};
+ghost use Rattle.request_book.specs.declared.book.Fault.{Fault};
 ghost use Rattle.request_book.specs.declared.entry.Entry.{Entry};
 ghost use Rattle.ring_messages.specs.Commands.{IsProperCommand};
 ghost use Rattle.ring_model.specs.Ring.{RingRecord, partition_count};
 ghost use Rattle.ring_model.specs.Rings.{ring_at};
-ghost use Rattle.ring_place.specs.Rebalance.{IsRebalance, Leaves, has_changed, is_locked};
+ghost use Rattle.ring_place.specs.Rebalance.{IsRebalance, has_changed, is_locked};
+ghost use Rattle.ring_words.specs.declared.request.Delivery.{Delivery};
 ghost use Rattle.ring_words.specs.declared.request.Limits.{Limits};
 ghost use Rattle.ring_words.specs.declared.command.Command.{Command};
 ghost use Rattle.ring_words.specs.declared.command.Act.TheVariants as act;
@@ -67,12 +70,7 @@ pub fn a_lock_stays()
     ensures { (limits : Limits) (old new : State) (entries : Entries) (rings : ℕ → State)
         → IsWay limits old entries new rings → DoNotFall entries
         → (name : List ℕ) (i j : ℕ) → i < j → j ≤ length entries
-        → NeverBetween entries i j name act.PretendPassed
-        → (move : RebalanceAt entries rings name i)
-        → (now : RingRecord) → ring_at name (rings j) ≡ Some now
-        → (partition hour : ℕ) → partition < partition_count now
-        → has_changed move.old move.new (origin move.old now partition) ≡ true
-        → hour < move.entry.hour + now.min_hours → is_locked now hour partition ≡ true }
+        → NeverBetween entries i j name act.PretendPassed → LockStays entries rings name i j }
 {}
 
 /// So, if a rebalance changed a seat of a partition, no later one takes a replica of it off a
@@ -84,12 +82,7 @@ pub fn moved_partitions_rest()
         → (name : List ℕ) (hours i j : ℕ) → i < j
         → NeverBetween entries i j name act.PretendPassed
         → ((fewer : ℕ) → fewer < hours → NeverBetween entries i j name (act.SetHours fewer))
-        → (move : RebalanceAt entries rings name i) (later : RebalanceAt entries rings name j)
-        → hours ≤ move.old.min_hours
-        → (partition replica : ℕ)
-        → has_changed move.old move.new (origin move.old later.old partition) ≡ true
-        → Leaves later.old later.new partition replica
-        → move.entry.hour + hours ≤ later.entry.hour }
+        → RestsFor hours entries rings name i j }
 {}
 
 /// A seed decides a rebalance: at the same hour and with the same seed, one ring is given one reply
@@ -109,4 +102,67 @@ pub fn a_run_is_safe()
     ensures { (limits : Limits) (limit : ℕ) (closed : Bool) (old new : Content State Command Reply)
         (calls : List (Call Command Reply))
         → Run (Step limits) limit closed old calls new → IsSafeRun limits old new }
+{}
+
+/// Where the old rings are valid and each command is proper, all rings on the way of a run are
+/// valid.
+pub fn a_run_stays_valid()
+    ensures { (limits : Limits) (limit : ℕ) (closed : Bool) (old new : Content State Command Reply)
+        (calls : List (Call Command Reply))
+        → Run (Step limits) limit closed old calls new → All IsProperCall calls
+        → AreValid old.state → (safe : IsSafeRun limits old new) → (n : ℕ) → n ≤ length safe.entries
+        → AreValid (safe.rings n) }
+{}
+
+/// Two runs, of which the one begins with what the other left, are one safe run.
+pub fn runs_are_safe_together()
+    ensures { (limits : Limits) (limit more : ℕ) (closed later : Bool)
+        (old mid new : Content State Command Reply) (first second : List (Call Command Reply))
+        → Run (Step limits) limit closed old first mid → Run (Step limits) more later mid second new
+        → IsSafeRun limits old new }
+{}
+
+/// The life of a store is one safe run, however often a program is started over it: on its way few
+/// replicas leave in each rebalance, and moved partitions rest, also from one start to the next.
+pub fn a_life_is_safe()
+    ensures { (limits : Limits) (limit : ℕ) (old new : Content State Command Reply)
+        (runs : List (List (Call Command Reply)))
+        → Lives limits limit old runs new → IsSafeRun limits old new }
+{}
+
+/// And where the rings were valid at first and each command is proper, they are at each place.
+pub fn a_life_stays_valid()
+    ensures { (limits : Limits) (limit : ℕ) (old new : Content State Command Reply)
+        (runs : List (List (Call Command Reply)))
+        → Lives limits limit old runs new → All (All IsProperCall) runs → AreValid old.state
+        → (safe : IsSafeRun limits old new) → (n : ℕ) → n ≤ length safe.entries
+        → AreValid (safe.rings n) }
+{}
+
+/// Each reply that was given in any run of a life is the one that the book of its end keeps under
+/// that key and for that command. So a repeat gets the reply of the first, however often the
+/// program was started in between.
+pub fn a_life_keeps_its_replies()
+    ensures { (limits : Limits) (limit : ℕ) (old new : Content State Command Reply)
+        (runs : List (List (Call Command Reply)))
+        → Lives limits limit old runs new → All (All (KeepsReply new.book)) runs }
+{}
+
+/// Each step is a function: of the same valid rings, at the same hour, one command is given one
+/// reply and leaves one list of rings.
+pub fn a_step_is_one()
+    ensures { (limits : Limits) (rings left after : State) (hour : ℕ) (command : Command)
+        (told other : Reply) → AreValid rings → Step limits rings hour command told left
+        → Step limits rings hour command other after → (told ≡ other) × (left ≡ after) }
+{}
+
+/// One list of deliveries, which come at the same hours, leaves one content: where two runs of it
+/// begin with one content, and nothing failed in either, they give the same answers and end with
+/// the same content.
+pub fn one_list_one_book()
+    ensures { (limits : Limits) (limit : ℕ) (old new after : Content State Command Reply)
+        (deliveries : List (Delivery Command)) (answers others : List (Result Reply Fault))
+        → All (λ delivery. IsProperCommand delivery.command) deliveries → AreValid old.state
+        → IsSureRun limits limit old deliveries answers new
+        → IsSureRun limits limit old deliveries others after → (answers ≡ others) × (new ≡ after) }
 {}

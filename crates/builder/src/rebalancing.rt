@@ -7,7 +7,7 @@ use crate::deciding::Outcome;
 use ring_model::Ring;
 use ring_place::{PlaceError, rebalance};
 use ring_share::{balance, dispersion};
-use ring_words::{Done, Hour, Refusal};
+use ring_words::{Deed, Hour, Refusal};
 use std::alloc::{AllocError, Global};
 
 /// Rebalances a ring at an hour, unless fewer of its devices are open than each partition has
@@ -25,11 +25,10 @@ pub(crate) fn move_seats(
         Err(PlaceError::TooFewDevices) => return Ok(Outcome::Refused(Refusal::TooFewDevices)),
         Err(PlaceError::NoMemory) => return Err(AllocError),
     };
-    let done = Done::Rebalance {
+    let deed = Deed::Rebalance {
         balance: balance(&rebalanced.ring),
         changed: rebalanced.changed,
         dispersion: dispersion(&rebalanced.ring),
-        version: rebalanced.ring.version(),
     };
-    Ok(Outcome::Done(done, rebalanced.ring))
+    Ok(Outcome::Done(deed, rebalanced.ring))
 }

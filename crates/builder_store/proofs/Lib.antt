@@ -1,5 +1,6 @@
 pub mod Settled
 pub mod Finds
+pub mod Closes
 pub mod Nothing
 pub mod Opens
 pub mod Declared

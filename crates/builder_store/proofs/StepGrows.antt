@@ -20,7 +20,6 @@ use Rattle.ring_words.specs.declared.command.Command.{Command}
 use Rattle.ring_words.specs.declared.command.Act.{Act}
 use Rattle.ring_words.specs.declared.command.Act.TheVariants as act
 use Rattle.ring_words.specs.declared.command.Done.{Done}
-use Rattle.ring_words.specs.declared.command.Done.TheVariants as done
 use Rattle.ring_words.specs.declared.command.Reply.{Reply}
 use Rattle.ring_words.specs.declared.command.Reply.TheVariants as reply
 use Rattle.builder.specs.Step.{Effect, RingEffect, State, Step}
@@ -159,7 +158,7 @@ effect_keeps act.RaisePower answer name old new hour effect =
       omega (arith, effect.0.power),
       λ version there. subst (λ ts. IsTrue (has version ts)) (sym same) there,
     )
-effect_keeps (act.Import rows) (done.Import added reweighted version) name old new hour effect =
+effect_keeps (act.Import rows) answer name old new hour effect =
     let rest = rows_same old rows in
     kept_as old new (ap (λ (r : RingRecord). r.power) effect.0 ∙ rest.power)
     (ap (λ (r : RingRecord). r.published) effect.0 ∙ rest.published)

@@ -8,7 +8,10 @@ use Rattle.sqlite.specs.Files.{AreFoundIn, HoldsDatabase}
 use Rattle.store_model.specs.Contents.{Contents}
 use Rattle.store_tables.specs.Contents.{contents_of}
 use Rattle.store_tables.specs.Store.{begun_contents}
-use Rattle.store_tables.specs.Tables.{schema_of_first}
+use Rattle.store_tables.specs.Tables.{schema_of_first, table_count}
+use Rattle.builder_store.specs.declared.fault.FileFault.{FileFault}
+use Rattle.builder_store.specs.declared.fault.FileFault.TheVariants as file
+use Rattle.builder_store.specs.declared.fault.OpenFault.TheVariants.{BadRows, BadTables}
 use Rattle.store_rows.specs.Stands.{IsHoldable, RingContent, contents_for, first_contents_for}
 
 -- Tables without a row.
@@ -37,7 +40,8 @@ pub record OpensAs (c : Contents) (content : RingContent) : Type 0 where
 
 -- The first so many tables of the store are there, declared as in the store, and nothing else.
 abbrev pub AreDeclared : ℕ → Trees → Type 0
-AreDeclared made db = (made ≤ 8) × IsDatabase (record { schema = schema_of_first made; trees = db })
+AreDeclared made db =
+    (made ≤ table_count) × IsDatabase (record { schema = schema_of_first made; trees = db })
 
 -- An opening of these trees finds this content.
 abbrev pub IsOpenedAs : Trees → RingContent → Type 0
@@ -50,6 +54,17 @@ pub record IsOpenedFrom (image : Image) (content : RingContent) : Type 0 where
   pub holds : (db : Trees) → HoldsDatabase image db → trees ≡ db
   pub reads : AreFoundIn image trees
   pub opens : IsOpenedAs trees content
+
+-- The fault tells that what files hold stands for nothing.
+abbrev pub IsBadStore : FileFault → Type 0
+IsBadStore (file.Opening why) = (why ≡ BadRows) ⊎ (why ≡ BadTables)
+IsBadStore _ = ⊥
+
+-- Files that held this hold no store: an opening of their database finds nothing for which it
+-- stands.
+abbrev pub HoldsNoStore : Image → Type 0
+HoldsNoStore image = (db : Trees) → HoldsDatabase image db → (content : RingContent)
+    → IsOpenedAs db content → ⊥
 
 -- The tables that were missing are there, and no row is another.
 abbrev pub KeepsRows : Trees → Trees → Type 0

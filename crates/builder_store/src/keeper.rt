@@ -130,18 +130,19 @@ impl<S: Alter + Drop> SqlKeeper<S> {
 }
 
 impl<S: Alter + Drop> SqlKeeper<S> {
-    ghost use Rattle.std.specs.Prelude.{IfOk};
-    ghost use Rattle.builder_store.specs.Inner.Begins.{BeginsOver, IsJustMade};
+    ghost use Rattle.std.specs.Prelude.{IfErr, IfOk};
+    ghost use Rattle.builder_store.specs.Inner.Begins.{BeginsOver, IsJustMade, IsRefused};
 
     /// Opens what a connection holds that was just made over its store, as `adopt` does, but
-    /// without reading the store a second time. A refused opening drops the connection.
+    /// without reading the store a second time. A refused opening gives the connection back.
     pub(crate) fn over(
         alloc: Global,
         conn: Connection<S>,
         limits: Limits,
-    ) -> Result<SqlKeeper<S>, OpenFault>
+    ) -> Result<SqlKeeper<S>, (OpenFault, Connection<S>)>
         requires { IsJustMade S.Store conn }
-        ensures { IfOk result (BeginsOver S.Store conn limits.numbers) }
+        ensures begins { IfOk result (BeginsOver S.Store conn limits.numbers) }
+        ensures refused { IfErr result (λ e. IsRefused S.Store conn e.0 e.1) }
     {
         one_content();
         let mut conn = conn;
@@ -156,7 +157,7 @@ impl<S: Alter + Drop> SqlKeeper<S> {
                 limit: limits.numbers,
                 faults: 0,
             }),
-            Err(fault) => Err(fault),
+            Err(fault) => Err((fault, conn)),
         }
     }
 }

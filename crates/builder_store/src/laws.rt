@@ -1,5 +1,6 @@
 //! What follows from the definitions alone.
 ghost use Rattle.std.specs.Prelude.{◌≡◌, ℕ};
+ghost use Rattle.store_tables.specs.Tables.{table_count};
 ghost use Rattle.sqlite_trees.specs.Tree.{Trees};
 ghost use Rattle.ring_words.specs.declared.command.Command.{Command};
 ghost use Rattle.ring_words.specs.declared.command.Reply.{Reply};
@@ -16,9 +17,9 @@ use store_rows::laws::one_content;
 /// content and no other. So what a crash leaves of a keeper is opened as the content that may be
 /// left.
 pub fn opening_finds_what_is_left()
-    ensures opens { (db : Trees) (content : RingContent) → AreDeclared 8 db → Stands db content
-        → IsOpenedAs db content }
-    ensures only { (db : Trees) (content other : RingContent) → AreDeclared 8 db
+    ensures opens { (db : Trees) (content : RingContent) → AreDeclared table_count db
+        → Stands db content → IsOpenedAs db content }
+    ensures only { (db : Trees) (content other : RingContent) → AreDeclared table_count db
         → Stands db content → IsOpenedAs db other
         → other ≡ content }
 {

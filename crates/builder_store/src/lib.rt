@@ -4,6 +4,7 @@
 
 mod adopting;
 mod calls;
+mod closing;
 mod fault;
 mod keeper;
 pub mod laws;
@@ -15,6 +16,7 @@ mod reading;
 mod starting;
 
 pub use adopting::Left;
+pub use closing::close_keeper;
 pub use fault::{FileFault, MakeFault, OpenFault};
 pub use keeper::SqlKeeper;
-pub use over::{make_at, open_from, open_memory};
+pub use over::{FileConnection, make_at, open_from, open_memory};

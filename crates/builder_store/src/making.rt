@@ -1,5 +1,6 @@
 //! Writing a store of given rings where nothing is.
-ghost use Rattle.std.specs.Prelude.{◌≡◌, ◌≢◌, ◌<◌, ◌^◌, ℕ, false, Err, IfOk, OnOk};
+ghost use Rattle.std.specs.Prelude.{◌≡◌, ◌≢◌, ◌<◌, ℕ, false, Err, IfOk, OnOk};
+ghost use Rattle.ring_words.specs.Limits.{long_count};
 ghost use Rattle.sqlite.specs.Held.{state};
 ghost use Rattle.sqlite.specs.State.{HasCleanDisk, Survives};
 ghost use Rattle.store_model.specs.Changes.{prepared};
@@ -25,7 +26,7 @@ use store_tables::{is_blank, prepare_store};
 
 /// The rows that are written for these rings where there is none.
 fn rows_alone(alloc: Global, rings: &Rings) -> Result<Change, AllocError>
-    ensures { IfOk result (λ change. (hour : ℕ) → hour < 2 ^ 32
+    ensures { IfOk result (λ change. (hour : ℕ) → hour < long_count
         → (prepared no_contents change.0 (meta_now hour) ≡ contents_for (rings_alone rings.now hour))
         × IsHoldable (rings_alone rings.now hour)) }
 {

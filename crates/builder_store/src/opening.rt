@@ -1,5 +1,6 @@
 //! Opening a store.
 ghost use Rattle.std.specs.Prelude.{◌≡◌, ◌≢◌, ◌≤◌, false, Err, IfOk, OnOk};
+ghost use Rattle.store_tables.specs.Tables.{table_count};
 ghost use Rattle.sqlite.specs.Held.{state};
 ghost use Rattle.sqlite.specs.State.{HasCleanDisk, Survives};
 ghost use Rattle.store_tables.specs.Contents.{contents_of};
@@ -27,7 +28,7 @@ use store_tables::{TABLE_COUNT, create_missing, prepare_store};
 /// its own. No row is changed.
 pub(crate) fn make_missing<S: Alter>(conn: &mut Connection<S>, made: usize) -> Result<(), Error>
     requires mode { conn.old.in_transaction ≡ false }
-    requires within { made ≤ 8 }
+    requires within { made ≤ table_count }
     requires begun { HasCleanDisk (state S.Store conn.old)
         → HasMadeTables made (state S.Store conn.old).now }
     ensures mode { conn.new.in_transaction ≡ false }
@@ -60,7 +61,7 @@ pub(crate) fn begin<S: Alter>(
     made: usize,
 ) -> Result<Opened, OpenFault>
     requires mode { conn.old.in_transaction ≡ false }
-    requires within { made ≤ 8 }
+    requires within { made ≤ table_count }
     requires begun { HasCleanDisk (state S.Store conn.old)
         → HasMadeTables made (state S.Store conn.old).now }
     ensures mode { conn.new.in_transaction ≡ false }

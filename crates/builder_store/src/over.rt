@@ -1,5 +1,5 @@
 //! Opening and making over memory and over the files at a path.
-ghost use Rattle.std.specs.Prelude.{◌≡◌, IfOk};
+ghost use Rattle.std.specs.Prelude.{◌≡◌, IfErr, IfOk, IsSomeAnd};
 ghost use Rattle.sqlite.specs.Files.{file_state};
 ghost use Rattle.sqlite.specs.Held.{state};
 ghost use Rattle.sqlite.specs.State.{HasCleanDisk};
@@ -7,7 +7,7 @@ ghost use Rattle.sqlite.specs.Steps.{over_memory};
 ghost use Rattle.sqlite_wal.specs.Files.{image_at};
 ghost use Rattle.builder_store.specs.Keepers.{content_of_keeper};
 ghost use Rattle.builder_store.specs.Making.{rings_alone};
-ghost use Rattle.builder_store.specs.Opening.{IsOpenedFrom, nothing};
+ghost use Rattle.builder_store.specs.Opening.{HoldsNoStore, IsBadStore, IsOpenedFrom, nothing};
 ghost use Rattle.builder_store.specs.Inner.Begins.{BeginsWith, IsMadeOver};
 
 use crate::fault::{FileFault, MakeFault, OpenFault};
@@ -37,7 +37,9 @@ pub fn open_memory(alloc: Global, limits: Limits) -> Result<SqlKeeper<MemStore>,
 }
 
 /// Why a connection over files isn't made.
-fn file_fault(error: &Error) -> FileFault {
+fn file_fault(error: &Error) -> FileFault
+    ensures { IsBadStore result → ⊥ }
+{
     match error {
         Error::SqliteFailure(ErrorCode::DatabaseBusy) => FileFault::Busy,
         Error::SqliteFailure(ErrorCode::CannotOpen) => FileFault::CannotOpen,
@@ -54,7 +56,8 @@ fn open_files<S: Start>(
     path: &str,
     start: S,
 ) -> Result<Connection<FileStore<FileFrom<S>>>, FileFault>
-    ensures { IfOk result (IsMadeOver (image_at S.Start)) }
+    ensures made { IfOk result (IsMadeOver (image_at S.Start)) }
+    ensures fault { IfErr result (λ fault. IsBadStore fault → ⊥) }
 {
     match Connection::open_from(rt, path, false, start) {
         Ok(conn) => Ok(conn),
@@ -62,28 +65,35 @@ fn open_files<S: Start>(
     }
 }
 
+/// A connection over the files of a store.
+pub type FileConnection<S> = Connection<FileStore<FileFrom<S>>>;
+
 /// Opens the database file at a path and the log beside it, and makes them where they are missing.
-/// Keeps at most `limits.numbers` requests. A refused opening drops the connection.
+/// Keeps at most `limits.numbers` requests. A refused opening gives the connection back, if there
+/// was one.
 ///
-/// `start` stands for what the files hold: the keeper has the content for which they stand.
+/// `start` stands for what the files hold: the keeper has the content for which they stand. What
+/// they hold is told as bad only where it stands for nothing.
 pub fn open_from<S: Start>(
     rt: &HostRuntime,
     path: &str,
     limits: Limits,
     start: S,
-) -> Result<SqlKeeper<FileStore<FileFrom<S>>>, FileFault>
+) -> Result<SqlKeeper<FileStore<FileFrom<S>>>, (FileFault, Option<FileConnection<S>>)>
     ensures limit { IfOk result (λ k. k.limit ≡ limits.numbers) }
     ensures faults { IfOk result (λ k. k.faults ≡ 0) }
     ensures found { IfOk result (λ k. HasCleanDisk (file_state k.conn) → IsOpenedFrom
         (image_at S.Start) (content_of_keeper k)) }
+    ensures bad { IfErr result (λ e. IsBadStore e.0 → IsSomeAnd e.1 (λ conn.
+        HasCleanDisk (file_state conn) → HoldsNoStore (image_at S.Start))) }
 {
     let conn = match open_files(rt, path, start) {
         Ok(conn) => conn,
-        Err(fault) => return Err(fault),
+        Err(fault) => return Err((fault, None)),
     };
     match SqlKeeper::over(rt.alloc(), conn, limits) {
         Ok(keeper) => Ok(keeper),
-        Err(fault) => Err(FileFault::Opening(fault)),
+        Err((fault, conn)) => Err((FileFault::Opening(fault), Some(conn))),
     }
 }
 

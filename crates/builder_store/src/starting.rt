@@ -1,5 +1,6 @@
 //! From what tables are there to what they hold.
 ghost use Rattle.std.specs.Prelude.{◌≡◌, ◌≢◌, ◌⊎◌, ◌≤◌, ℕ, false, Err, IfOk, OnOk};
+ghost use Rattle.store_tables.specs.Tables.{table_count};
 ghost use Rattle.sqlite.specs.Held.{state};
 ghost use Rattle.sqlite.specs.State.{HasCleanDisk, Survives};
 ghost use Rattle.store_tables.specs.Contents.{contents_of};
@@ -25,7 +26,7 @@ fn open_begun<S: Alter>(
     made: usize,
 ) -> Result<Opened, OpenFault>
     requires mode { conn.old.in_transaction ≡ false }
-    requires within { made ≤ 8 }
+    requires within { made ≤ table_count }
     requires fresh { HasCleanDisk (state S.Store conn.old) → IsFresh (state S.Store conn.old) }
     requires begun { HasCleanDisk (state S.Store conn.old)
         → HasMadeTables made (state S.Store conn.old).now }

@@ -11,13 +11,17 @@ abbrev pub Tells : Option (List ℕ) → List ℕ → Type 0
 Tells None bytes = ⊤
 Tells (Some known) bytes = known ≡ bytes
 
+-- Answers are counted up to this number, which then stays.
+abbrev pub greatest_count : ℕ
+greatest_count = 2 ^ 32 - 1
+
 -- A protocol says which items the bytes of a whole stream are, which items are whole in the bytes
 -- that came so far, and what answers are written as. That these items may get these texts, while
 -- one state becomes the other, is what the server of the protocol promises.
 module _ {I S : Type 0} (AreItems : List ℕ → List I → Type 0) (HaveCome : List ℕ → List I → Type 0)
     (written_as : List (List ℕ) → List ℕ) (Get : S → List I → List (List ℕ) → S → Type 0) where
   -- Each item of the bytes that the reader gave was answered, and what was written is the answers
-  -- in order and nothing else. The count is that of the items, or 4294967295 where they are more.
+  -- in order and nothing else. The count is that of the items, or the greatest where they are more.
   pub record Served (known before after : Option (List ℕ)) (old new : S) (count : ℕ) : Type 0 where
     pub bytes : List ℕ
     pub told : Tells known bytes
@@ -26,7 +30,7 @@ module _ {I S : Type 0} (AreItems : List ℕ → List I → Type 0) (HaveCome : 
     pub texts : List (List ℕ)
     pub get : Get old items texts new
     pub written : Appends before after (written_as texts)
-    pub count_is : count ≡ min (length items) (2 ^ 32 - 1)
+    pub count_is : count ≡ min (length items) greatest_count
 
   -- Each item that was whole in the bytes that came was answered, and the answers were written.
   pub record ServedSoFar (known left before after : Option (List ℕ)) (old new : S) : Type 0 where

@@ -14,6 +14,12 @@ pub record IsKept {K : Type 0} (g : Keeping K) (image : Image) (keeper : K) : Ty
   pub faults : g.fault_count keeper ≡ 0
   pub found : g.sound keeper → IsOpenedFrom image (g.content keeper)
 
+-- A keeper was closed. Where its disk returned what was written and its store had not failed, a
+-- crash leaves what it held and nothing else.
+pub record EndsSettled {K : Type 0} (g : Keeping K) (keeper : K) : Type 0 where
+  pub left : g.sound keeper → g.fault_count keeper ≡ 0 →
+      LeavesOnly (g.may_leave keeper) (g.content keeper)
+
 -- A keeper was made that has this content and keeps 100,000 requests. Its store has not failed, and
 -- a crash leaves this content and nothing else.
 pub record IsMade {K : Type 0} (g : Keeping K) (content : RingContent) : Type 0 where

@@ -1,9 +1,8 @@
 //! Making the store in a file.
-ghost use Rattle.std.specs.Prelude.{◌≡◌, IfErr, OnOk};
+ghost use Rattle.std.specs.Prelude.{IfErr, OnOk};
 ghost use Rattle.builder_store.specs.Making.{rings_alone};
 ghost use Rattle.programs.specs.Begun.{IsStoreFault};
 ghost use Rattle.file_stores.specs.Opened.{IsMade};
-ghost use Rattle.file_stores.specs.Inner.Left.{IsLeftToClose};
 
 use crate::opening::{FileKeeper, close_store, open_fault};
 use builder::RingMachine;
@@ -47,16 +46,6 @@ fn make_fault(fault: MakeFault) -> ProgramFault
     }
 }
 
-/// The keeper as it is. A crash leaves what it holds, as its store has not failed.
-fn stands<K: Keeper<RingMachine>>(keeper: K) -> K
-    requires { K.fault_count keeper ≡ 0 }
-    ensures same { result ≡ keeper }
-    ensures left { IsLeftToClose K.Keeper keeper }
-{
-    let _faults = keeper.faults();
-    keeper
-}
-
 /// Makes a store of these rings in a file that is not there, and closes it. It has no request, and
 /// goes on from this hour.
 pub(crate) fn make_store<S: Start>(
@@ -74,5 +63,5 @@ pub(crate) fn make_store<S: Start>(
         Ok(keeper) => keeper,
         Err(fault) => return Err(make_fault(fault)),
     };
-    close_store(stands(keeper))
+    close_store(keeper)
 }

@@ -2,12 +2,12 @@
 ghost use Rattle.std.specs.Prelude.{◌≡◌, IfErr, IfOk};
 ghost use Rattle.sqlite_wal.specs.Files.{image_at};
 ghost use Rattle.programs.specs.Begun.{IsStoreFault};
-ghost use Rattle.file_stores.specs.Opened.{IsKept};
+ghost use Rattle.file_stores.specs.Opened.{EndsSettled, IsKept};
 ghost use Rattle.file_stores.specs.Inner.Unopened.{open_fault};
 ghost use Rattle.programs.specs.declared.faults.ProgramFault.TheVariants.{StoreFault};
 
 use builder::RingMachine;
-use builder_store::{FileFault, OpenFault, SqlKeeper, open_from};
+use builder_store::{FileFault, OpenFault, SqlKeeper, close_keeper, open_from};
 use programs::ProgramFault;
 use request_book::Keeper;
 use ring_words::Limits;
@@ -42,16 +42,32 @@ pub(crate) fn open_store<S: Start>(
 {
     match open_from(rt, file, Limits::full(), start) {
         Ok(keeper) => Ok(keeper),
-        Err(fault) => Err(open_fault(fault)),
+        Err((fault, left)) => {
+            drop(left);
+            Err(open_fault(fault))
+        }
     }
+}
+
+/// The keeper as it is, and what a crash leaves of it.
+fn stands<K: Keeper<RingMachine>>(keeper: K) -> K
+    ensures same { result ≡ keeper }
+    ensures left { EndsSettled K.Keeper keeper }
+{
+    let _faults = keeper.faults();
+    keeper
 }
 
 /// Closes a store, so that all that it holds is in its file.
 pub(crate) fn close_store<S: Start>(keeper: FileKeeper<S>) -> Result<(), ProgramFault>
-    ensures { IfErr result (λ why. why ≡ StoreFault) }
+    ensures ended { EndsSettled ⟦<FileKeeper<S> as Keeper<RingMachine>>⟧ keeper }
+    ensures fault { IfErr result (λ why. why ≡ StoreFault) }
 {
-    match keeper.close().close() {
-        Ok(()) => Ok(()),
+    match close_keeper(stands(keeper)) {
+        Ok(files) => {
+            drop(files);
+            Ok(())
+        }
         Err(_) => Err(ProgramFault::StoreFault),
     }
 }

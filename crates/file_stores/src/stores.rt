@@ -1,7 +1,8 @@
 //! The stores in files.
 ghost use Rattle.sqlite_wal.specs.Files.{image_at};
 ghost use Rattle.builder_store.specs.Making.{rings_alone};
-ghost use Rattle.file_stores.specs.Opened.{IsKept, IsMade};
+ghost use Rattle.file_stores.specs.Opened.{EndsSettled, IsKept, IsMade};
+ghost use Rattle.programs.specs.Begun.{IsStoreFault};
 
 use crate::making::{NewFiles, make_store};
 use crate::opening::{FileKeeper, close_store, open_store};
@@ -21,10 +22,16 @@ pub(crate) struct StoreFiles<S: Start> {
 impl<S: Start> Stores for StoreFiles<S> {
     type Kept = FileKeeper<S>;
 
-    ghost begins = { IsKept ⟦<FileKeeper<S> as Keeper<RingMachine>>⟧ (image_at S.Start) };
+    ghost begins = { λ name. IsKept ⟦<FileKeeper<S> as Keeper<RingMachine>>⟧ (image_at S.Start) };
 
-    ghost is_made = { λ rings hour. IsMade ⟦<FileKeeper<NewFiles<S>> as Keeper<RingMachine>>⟧
+    ghost refuses = { λ name why. IsStoreFault why };
+
+    ghost ends = { λ keeper answer. EndsSettled ⟦<FileKeeper<S> as Keeper<RingMachine>>⟧ keeper };
+
+    ghost is_made = { λ name rings hour. IsMade ⟦<FileKeeper<NewFiles<S>> as Keeper<RingMachine>>⟧
         (rings_alone rings hour) };
+
+    ghost is_unmade = { λ name rings hour why. IsStoreFault why };
 
     fn open(self, rt: &HostRuntime, name: &str) -> Result<FileKeeper<S>, ProgramFault> {
         let StoreFiles { start } = self;

@@ -1,7 +1,7 @@
 -- Requests that are answered one after another are one run.
 use Rattle.std.proofs.Common.{◌≡◌, Err, List, None, Ok, Option, Result, [], ap, inl, inr, refl}
 use Rattle.std.proofs.Common.{subst, sym, ℕ}
-use Rattle.std.specs.Prelude.{IfErr, IfOk}
+use Rattle.std.specs.Prelude.{IfErr, IfOk, ⊤}
 use Rattle.byte_streams.specs.InTurn.{InTurn}
 use Rattle.byte_streams.specs.declared.fault.StreamFault.{StreamFault}
 use Rattle.byte_streams.specs.declared.fault.StreamFault.TheVariants.{NoMemory, ReadFailed}
@@ -15,6 +15,7 @@ use Rattle.request_book.proofs.Fronts.{in_turn_serves, none_made, starts}
 use Rattle.builder.proofs.Safe.{safe_run}
 use Rattle.builder.specs.Safety.{IsSafeRun}
 use Rattle.http_stream.specs.Answers.{ItemAnswered, joined}
+use Rattle.http_stream.specs.declared.service.Service.{Ghosts}
 use Rattle.http_stream.specs.Serving.{RequestsServed, RequestsStopped}
 use Rattle.http_stream.specs.Streams.{AreRequests, BeginWith, Calls, Item, Refuses}
 use Rattle.ring_book.specs.Book.{Asked, Found, Keeping, Made, RingBook, steps_of}
@@ -27,11 +28,16 @@ module _ {K C : Type 0} (kept : Keeping K)
   abbrev Front : Type 0
   Front = HttpFront {C = C} kept tells prefix suffix
 
+  -- what contracts see of a service that hashes paths between these names
+  abbrev ghosts : Ghosts ⊤ C (RingBook kept)
+  ghosts = record {
+    answers = λ service. HttpAnswers kept tells prefix suffix;
+    loses = λ service. HttpLoses kept tells prefix suffix;
+  }
+
   -- what the service gives
   abbrev Gives : Front → Item → List ℕ → Front → Type 0
-  Gives old item text new =
-      ItemAnswered (HttpAnswers kept tells prefix suffix)
-      (HttpLoses kept tells prefix suffix) old item text new
+  Gives = ItemAnswered ghosts tt
 
   abbrev Gets : Front → Item → Asked → List ℕ → Front → Type 0
   Gets before item asks answer after =

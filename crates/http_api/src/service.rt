@@ -1,12 +1,12 @@
 //! The service.
-ghost use Rattle.std.specs.Prelude.{◌≡◌, IfErr, IfOk};
+ghost use Rattle.std.specs.Prelude.{IfErr, IfOk};
 ghost use Rattle.builder.specs.Safety.{IsSafeRun};
-ghost use Rattle.byte_streams.specs.Counted.{FailsWithCause, LeavesFlushed, reader_of, writer_of};
+ghost use Rattle.byte_streams.specs.Counted.{FailsWithCause, LeavesFlushed};
 ghost use Rattle.http_api.specs.Http.{IsFaultAnswer};
 ghost use Rattle.http_api.specs.Inner.Telling.{DeliversAt, IsImportTold, IsMessageTold};
 ghost use Rattle.http_api.specs.Served.{ServesHttp};
 ghost use Rattle.http_api.specs.Inner.Answering.{HttpAnswers, HttpLoses};
-ghost use Rattle.http_stream.specs.Serving.{RequestsServed, RequestsStopped};
+ghost use Rattle.http_stream.specs.Serving.{RequestsServedOn, RequestsStoppedOn};
 ghost use Rattle.ring_book.specs.Book.{Asked, Made};
 
 use crate::answers::{told_answer, told_csv};
@@ -170,18 +170,12 @@ pub fn serve_stream<R: Read, W: Write, C: Clock, K: Keeper<RingMachine>>(
     book: &mut Book<RingMachine, K>,
     names: HashNames<'_>,
 ) -> Result<u32, StreamFault>
-    ensures served { IfOk result (RequestsServed
+    ensures served { IfOk result (RequestsServedOn R.remaining W.contents
         (ServesHttp K.Keeper C.tells names.entry.prefix.now names.entry.suffix.now)
-        (R.remaining (reader_of reader.old)) (W.contents (writer_of writer.old))
-        (W.contents (writer_of writer.new))
-        (clock.old, book.old) (clock.new, book.new)) }
-    ensures stopped { IfErr result (RequestsStopped
+        reader.old writer.old writer.new (clock.old, book.old) (clock.new, book.new)) }
+    ensures stopped { IfErr result (RequestsStoppedOn R.remaining W.contents
         (ServesHttp K.Keeper C.tells names.entry.prefix.now names.entry.suffix.now)
-        (R.remaining (reader_of reader.old)) (R.remaining (reader_of reader.new))
-        (W.contents (writer_of writer.old)) (W.contents (writer_of writer.new))
-        (clock.old, book.old) (clock.new, book.new)
-        ((reader.new ≡ reader.old) × (writer.new ≡ writer.old) × (clock.new ≡ clock.old)
-        × (book.new ≡ book.old))) }
+        reader.old reader.new writer.old writer.new (clock.old, book.old) (clock.new, book.new)) }
     ensures cause { FailsWithCause reader.old reader.new writer.old writer.new result }
     ensures flushed { LeavesFlushed writer.new result }
 

@@ -1,5 +1,6 @@
 //! The hour of the machine.
-ghost use Rattle.std.specs.Prelude.{◌≡◌, ◌/◌, ◌≤◌, ◌<◌, ◌^◌, SomeIff};
+ghost use Rattle.std.specs.Prelude.{◌≡◌, ◌/◌, ◌≤◌, ◌<◌, SomeIff};
+ghost use Rattle.ring_words.specs.Limits.{long_count};
 
 use http_api::Clock;
 use ring_words::Hour;
@@ -10,7 +11,7 @@ const SECONDS_OF_HOUR: u64 = 3600;
 
 /// The whole hours in so many seconds, and `None` past the greatest hour, 4294967295.
 fn whole_hours(seconds: u64) -> Option<Hour>
-    ensures { SomeIff result (seconds / 3600 < 2 ^ 32) (seconds / 3600) }
+    ensures { SomeIff result (seconds / 3600 < long_count) (seconds / 3600) }
 {
     Hour::try_from(seconds / SECONDS_OF_HOUR).ok()
 }

@@ -20,7 +20,8 @@ use Rattle.http_stream.specs.Streams.{Item, Calls, Refuses, Follow, BeginWith}
 use Rattle.http_stream.specs.Answers.{joined}
 use Rattle.http_stream.specs.Serving.{RequestsServed, RequestsStopped}
 use Rattle.http_stream.specs.Inner.SoFar.{RequestsServedInPart, RequestsServedSoFar}
-use Rattle.http_stream.specs.Inner.Midstream.{FailedToRead, LeadTo, IsMidstream, IsOver, IsBroken}
+use Rattle.http_stream.specs.Inner.Midstream.{FailedToRead, IsBroken, IsMidstream, IsOver, LeadTo}
+use Rattle.http_stream.specs.Inner.Midstream.{StreamPlace}
 use Rattle.http_stream.proofs.Follows.{LeadTo-more, LeadTo-push, Follow-stop, Follow-last}
 use Rattle.http_stream.proofs.Follows.{Follow-refused, Follow-more, Follow-weaker}
 
@@ -31,25 +32,25 @@ joined-push texts text = flat_map-append (λ (t : List ℕ). t) texts (text ∷ 
     (λ (t : List ℕ). joined texts ++ t) (append-nil text)
 
 module _ {S : Type 0} (gives : S → Item → List ℕ → S → Type 0) where
-  pub starts : (before : Option (List ℕ)) (old : S) → IsMidstream gives [] before before old old []
-      [] 0
-  starts before old = record {
+  pub starts : (now : StreamPlace S) → now.rest ≡ [] → now.waiting ≡ [] → now.answered ≡ 0 →
+      IsMidstream gives [] now.written now.state now
+  starts now no_bytes none no_answers = record {
     items = [];
-    leads = refl;
+    leads = no_bytes;
     texts = [];
     in_turn = (refl, refl);
-    forwards = Forwards-none before [];
-    count_is = refl;
+    forwards = rw none (Forwards-none now.written []);
+    count_is = no_answers;
   }
 
   -- more bytes came
-  pub more_came : (bytes more : List ℕ) (before now : Option (List ℕ)) (old new : S)
-      (rest waiting : List ℕ) (count : ℕ)
-      → IsMidstream gives bytes before now old new rest waiting count → IsMidstream gives (bytes ++
-      more) before now old new (rest ++ more) waiting count
-  more_came bytes more before now old new rest waiting count m = record {
+  pub more_came : (bytes more : List ℕ) (before : Option (List ℕ)) (origin : S)
+      (now : StreamPlace S)
+      → IsMidstream gives bytes before origin now
+      → IsMidstream gives (bytes ++ more) before origin (record now { rest = now.rest ++ more })
+  more_came bytes more before origin now m = record {
     items = m.items;
-    leads = LeadTo-more bytes m.items rest more m.leads;
+    leads = LeadTo-more bytes m.items now.rest more m.leads;
     texts = m.texts;
     in_turn = m.in_turn;
     forwards = m.forwards;
@@ -57,78 +58,81 @@ module _ {S : Type 0} (gives : S → Item → List ℕ → S → Type 0) where
   }
 
   -- a request that is not the last is answered
-  pub answered_more : (bytes : List ℕ) (before now next : Option (List ℕ)) (old mid new : S)
-      (rest left waiting kept text : List ℕ) (ask : Ask) (count counted : ℕ)
-      → IsMidstream gives bytes before now old mid rest waiting count → HasAsk rest ask left →
-      ask.is_last ≡ false → gives mid (Calls ask) text new
-      → Forwards now next (waiting ++ text) kept → counted ≡ min (count + 1) (2 ^ 32 - 1)
-      → IsMidstream gives bytes before next old new left kept counted
-  answered_more bytes before now next old mid new rest left waiting kept text ask count counted m
-      asks more gave wrote is = record {
-        items = m.items ++ Calls ask ∷ [];
-        leads = LeadTo-push bytes m.items rest ask left m.leads asks more;
-        texts = m.texts ++ text ∷ [];
-        in_turn = InTurn-push gives old mid new m.items m.texts (Calls ask) text m.in_turn gave;
-        forwards = rw (joined-push m.texts text) (Forwards-then before now next (joined m.texts) text
-            waiting kept m.forwards wrote);
-        count_is = omega (arith, is, m.count_is, length_push m.items (Calls ask));
-      }
+  pub answered_more : (bytes : List ℕ) (before : Option (List ℕ)) (origin : S)
+      (now next : StreamPlace S) (text : List ℕ) (ask : Ask)
+      → IsMidstream gives bytes before origin now → HasAsk now.rest ask next.rest →
+      ask.is_last ≡ false → gives now.state (Calls ask) text next.state
+      → Forwards now.written next.written (now.waiting ++ text) next.waiting
+      → next.answered ≡ min (now.answered + 1) (2 ^ 32 - 1)
+      → IsMidstream gives bytes before origin next
+  answered_more bytes before origin now next text ask m asks more gave wrote is = record {
+    items = m.items ++ Calls ask ∷ [];
+    leads = LeadTo-push bytes m.items now.rest ask next.rest m.leads asks more;
+    texts = m.texts ++ text ∷ [];
+    in_turn = InTurn-push gives origin now.state next.state m.items m.texts (Calls ask) text
+        m.in_turn gave;
+    forwards = rw (joined-push m.texts text) (Forwards-then before now.written next.written
+        (joined m.texts) text now.waiting next.waiting m.forwards wrote);
+    count_is = omega (arith, is, m.count_is, length_push m.items (Calls ask));
+  }
 
   -- the last item is answered
-  over_by : (bytes : List ℕ) (before now next : Option (List ℕ)) (old mid new : S)
-      (rest waiting kept text : List ℕ) (item : Item) (count counted : ℕ)
-      → (m : IsMidstream gives bytes before now old mid rest waiting count) →
-      Follow (λ rest. ⊥) bytes (m.items ++ item ∷ []) → gives mid item text new
-      → Forwards now next (waiting ++ text) kept → counted ≡ min (count + 1) (2 ^ 32 - 1)
-      → IsOver gives bytes before next old new kept counted
-  over_by bytes before now next old mid new rest waiting kept text item count counted m follow gave
-      wrote is = record {
-        items = m.items ++ item ∷ [];
-        follow = follow;
-        texts = m.texts ++ text ∷ [];
-        in_turn = InTurn-push gives old mid new m.items m.texts item text m.in_turn gave;
-        forwards = rw (joined-push m.texts text) (Forwards-then before now next (joined m.texts) text
-            waiting kept m.forwards wrote);
-        count_is = omega (arith, is, m.count_is, length_push m.items item);
-      }
+  over_by : (bytes : List ℕ) (before : Option (List ℕ)) (origin : S) (now next : StreamPlace S)
+      (text : List ℕ) (item : Item)
+      → (m : IsMidstream gives bytes before origin now) →
+      Follow (λ rest. ⊥) bytes (m.items ++ item ∷ []) → gives now.state item text next.state
+      → Forwards now.written next.written (now.waiting ++ text) next.waiting
+      → next.answered ≡ min (now.answered + 1) (2 ^ 32 - 1)
+      → IsOver gives bytes before origin next
+  over_by bytes before origin now next text item m follow gave wrote is = record {
+    items = m.items ++ item ∷ [];
+    follow = follow;
+    texts = m.texts ++ text ∷ [];
+    in_turn = InTurn-push gives origin now.state next.state m.items m.texts item text m.in_turn
+        gave;
+    forwards = rw (joined-push m.texts text) (Forwards-then before now.written next.written
+        (joined m.texts) text now.waiting next.waiting m.forwards wrote);
+    count_is = omega (arith, is, m.count_is, length_push m.items item);
+  }
 
-  pub answered_last : (bytes : List ℕ) (before now next : Option (List ℕ)) (old mid new : S)
-      (rest left waiting kept text : List ℕ) (ask : Ask) (count counted : ℕ)
-      → IsMidstream gives bytes before now old mid rest waiting count → HasAsk rest ask left →
-      ask.is_last ≡ true → gives mid (Calls ask) text new
-      → Forwards now next (waiting ++ text) kept → counted ≡ min (count + 1) (2 ^ 32 - 1)
-      → IsOver gives bytes before next old new kept counted
-  answered_last bytes before now next old mid new rest left waiting kept text ask count counted m
-      asks last gave wrote is =
-      over_by bytes before now next old mid new rest waiting kept text (Calls ask) count counted m
-      (Follow-last (λ rest. ⊥) bytes m.items rest ask left m.leads asks last) gave wrote is
+  pub answered_last : (bytes : List ℕ) (before : Option (List ℕ)) (origin : S)
+      (now next : StreamPlace S) (left text : List ℕ) (ask : Ask)
+      → IsMidstream gives bytes before origin now → HasAsk now.rest ask left →
+      ask.is_last ≡ true → gives now.state (Calls ask) text next.state
+      → Forwards now.written next.written (now.waiting ++ text) next.waiting
+      → next.answered ≡ min (now.answered + 1) (2 ^ 32 - 1)
+      → IsOver gives bytes before origin next
+  answered_last bytes before origin now next left text ask m asks last gave wrote is =
+      over_by bytes before origin now next text (Calls ask) m
+      (Follow-last (λ rest. ⊥) bytes m.items now.rest ask left m.leads asks last) gave wrote is
 
-  pub refused_last : (bytes : List ℕ) (before now next : Option (List ℕ)) (old mid new : S)
-      (rest waiting kept text : List ℕ) (why : HeadFault) (count counted : ℕ)
-      → IsMidstream gives bytes before now old mid rest waiting count → IsFaulty rest why →
-      gives mid (Refuses why) text new
-      → Forwards now next (waiting ++ text) kept → counted ≡ min (count + 1) (2 ^ 32 - 1)
-      → IsOver gives bytes before next old new kept counted
-  refused_last bytes before now next old mid new rest waiting kept text why count counted m faulty
-      gave wrote is =
-      over_by bytes before now next old mid new rest waiting kept text (Refuses why) count counted m
-      (Follow-refused (λ rest. ⊥) bytes m.items rest why m.leads faulty) gave wrote is
+  pub refused_last : (bytes : List ℕ) (before : Option (List ℕ)) (origin : S)
+      (now next : StreamPlace S) (text : List ℕ) (why : HeadFault)
+      → IsMidstream gives bytes before origin now → IsFaulty now.rest why →
+      gives now.state (Refuses why) text next.state
+      → Forwards now.written next.written (now.waiting ++ text) next.waiting
+      → next.answered ≡ min (now.answered + 1) (2 ^ 32 - 1)
+      → IsOver gives bytes before origin next
+  refused_last bytes before origin now next text why m faulty gave wrote is =
+      over_by bytes before origin now next text (Refuses why) m
+      (Follow-refused (λ rest. ⊥) bytes m.items now.rest why m.leads faulty) gave wrote is
 
   -- an answer that is not wholly written
-  broken_by : (bytes : List ℕ) (before now next : Option (List ℕ)) (old mid new : S)
-      (rest waiting text : List ℕ) (item : Item) (count : ℕ)
-      → (m : IsMidstream gives bytes before now old mid rest waiting count) →
-      BeginWith bytes (m.items ++ item ∷ []) → gives mid item text new
-      → WritesBeginning now next (waiting ++ text) → IsBroken gives bytes before next old new
-  broken_by bytes before now next old mid new rest waiting text item count m begin gave wrote =
-      record {
-        items = m.items ++ item ∷ [];
-        begin = begin;
-        texts = m.texts ++ text ∷ [];
-        in_turn = InTurn-push gives old mid new m.items m.texts item text m.in_turn gave;
-        written = rw (joined-push m.texts text) (beginning_then before now next (joined m.texts) text
-            waiting m.forwards wrote);
-      }
+  broken_by : (bytes : List ℕ) (before : Option (List ℕ)) (origin : S) (now next : StreamPlace S)
+      (text : List ℕ) (item : Item)
+      → (m : IsMidstream gives bytes before origin now) →
+      BeginWith bytes (m.items ++ item ∷ []) → gives now.state item text next.state
+      → WritesBeginning now.written next.written (now.waiting ++ text)
+      → IsBroken gives bytes before origin next
+  broken_by bytes before origin now next text item m begin gave wrote = record {
+    items = m.items ++ item ∷ [];
+    begin = begin;
+    texts = m.texts ++ text ∷ [];
+    in_turn = InTurn-push gives origin now.state next.state m.items m.texts item text m.in_turn
+        gave;
+    written = rw (joined-push m.texts text) (beginning_then before now.written next.written
+        (joined m.texts) text now.waiting m.forwards wrote);
+  }
 
   begins_on : (bytes : List ℕ) (items : List Item) (mid : List ℕ) (ask : Ask) (rest : List ℕ)
       (last : Bool) → LeadTo bytes items mid → HasAsk mid ask rest → ask.is_last ≡ last →
@@ -138,63 +142,65 @@ module _ {S : Type 0} (gives : S → Item → List ℕ → S → Type 0) where
   begins_on bytes items mid ask rest false l a e = Follow-stop (λ rest. ⊤) bytes (items ++
       Calls ask ∷ []) rest (LeadTo-push bytes items mid ask rest l a e) tt
 
-  pub broken_answer : (bytes : List ℕ) (before now next : Option (List ℕ)) (old mid new : S)
-      (rest left waiting text : List ℕ) (ask : Ask) (count : ℕ)
-      → IsMidstream gives bytes before now old mid rest waiting count → HasAsk rest ask left →
-      gives mid (Calls ask) text new
-      → WritesBeginning now next (waiting ++ text) → IsBroken gives bytes before next old new
-  broken_answer bytes before now next old mid new rest left waiting text ask count m asks gave wrote
-      =
-      broken_by bytes before now next old mid new rest waiting text (Calls ask) count m
-      (begins_on bytes m.items rest ask left ask.is_last m.leads asks refl) gave wrote
+  pub broken_answer : (bytes : List ℕ) (before : Option (List ℕ)) (origin : S)
+      (now next : StreamPlace S) (left text : List ℕ) (ask : Ask)
+      → IsMidstream gives bytes before origin now → HasAsk now.rest ask left →
+      gives now.state (Calls ask) text next.state
+      → WritesBeginning now.written next.written (now.waiting ++ text)
+      → IsBroken gives bytes before origin next
+  broken_answer bytes before origin now next left text ask m asks gave wrote =
+      broken_by bytes before origin now next text (Calls ask) m
+      (begins_on bytes m.items now.rest ask left ask.is_last m.leads asks refl) gave wrote
 
-  pub broken_refusal : (bytes : List ℕ) (before now next : Option (List ℕ)) (old mid new : S)
-      (rest waiting text : List ℕ) (why : HeadFault) (count : ℕ)
-      → IsMidstream gives bytes before now old mid rest waiting count → IsFaulty rest why →
-      gives mid (Refuses why) text new
-      → WritesBeginning now next (waiting ++ text) → IsBroken gives bytes before next old new
-  broken_refusal bytes before now next old mid new rest waiting text why count m faulty gave wrote =
-      broken_by bytes before now next old mid new rest waiting text (Refuses why) count m
-      (Follow-refused (λ rest. ⊤) bytes m.items rest why m.leads faulty) gave wrote
+  pub broken_refusal : (bytes : List ℕ) (before : Option (List ℕ)) (origin : S)
+      (now next : StreamPlace S) (text : List ℕ) (why : HeadFault)
+      → IsMidstream gives bytes before origin now → IsFaulty now.rest why →
+      gives now.state (Refuses why) text next.state
+      → WritesBeginning now.written next.written (now.waiting ++ text)
+      → IsBroken gives bytes before origin next
+  broken_refusal bytes before origin now next text why m faulty gave wrote =
+      broken_by bytes before origin now next text (Refuses why) m
+      (Follow-refused (λ rest. ⊤) bytes m.items now.rest why m.leads faulty) gave wrote
 
   -- what waits is written
-  pub flushed : (bytes : List ℕ) (before now next : Option (List ℕ)) (old new : S)
-      (rest waiting left : List ℕ) (count : ℕ)
-      → IsMidstream gives bytes before now old new rest waiting count → left ≡ [] →
-      Appends now next waiting → IsMidstream gives bytes before next old new rest left count
-  flushed bytes before now next old new rest waiting left count m none more = record {
+  pub flushed : (bytes : List ℕ) (before next : Option (List ℕ)) (origin : S) (now : StreamPlace S)
+      → IsMidstream gives bytes before origin now → Appends now.written next now.waiting
+      → IsMidstream gives bytes before origin (record now { written = next; waiting = [] })
+  flushed bytes before next origin now m more = record {
     items = m.items;
     leads = m.leads;
     texts = m.texts;
     in_turn = m.in_turn;
-    forwards = rw none (Forwards-all before next (joined m.texts) (Forwards-whole before now next
-        (joined m.texts) waiting m.forwards more));
+    forwards = Forwards-all before next (joined m.texts) (Forwards-whole before now.written next
+        (joined m.texts) now.waiting m.forwards more);
     count_is = m.count_is;
   }
 
   -- a write fails while what waits is written
-  pub broken_flush : (bytes : List ℕ) (before now next : Option (List ℕ)) (old new : S)
-      (rest waiting : List ℕ) (count : ℕ)
-      → IsMidstream gives bytes before now old new rest waiting count →
-      WritesBeginning now next waiting → IsBroken gives bytes before next old new
-  broken_flush bytes before now next old new rest waiting count m more = record {
+  pub broken_flush : (bytes : List ℕ) (before next : Option (List ℕ)) (origin : S)
+      (now : StreamPlace S)
+      → IsMidstream gives bytes before origin now → WritesBeginning now.written next now.waiting
+      → IsBroken gives bytes before origin (record now { written = next })
+  broken_flush bytes before next origin now m more = record {
     items = m.items;
-    begin = Follow-stop (λ rest. ⊤) bytes m.items rest m.leads tt;
+    begin = Follow-stop (λ rest. ⊤) bytes m.items now.rest m.leads tt;
     texts = m.texts;
     in_turn = m.in_turn;
-    written = beginning_of_left before now next (joined m.texts) waiting m.forwards more;
+    written = beginning_of_left before now.written next (joined m.texts) now.waiting m.forwards
+        more;
   }
 
-  pub broken_end : (bytes : List ℕ) (before now next : Option (List ℕ)) (old new : S)
-      (waiting : List ℕ) (count : ℕ)
-      → IsOver gives bytes before now old new waiting count → WritesBeginning now next waiting →
-      IsBroken gives bytes before next old new
-  broken_end bytes before now next old new waiting count o more = record {
+  pub broken_end : (bytes : List ℕ) (before next : Option (List ℕ)) (origin : S)
+      (now : StreamPlace S)
+      → IsOver gives bytes before origin now → WritesBeginning now.written next now.waiting
+      → IsBroken gives bytes before origin (record now { written = next })
+  broken_end bytes before next origin now o more = record {
     items = o.items;
     begin = Follow-weaker (λ rest. ⊥) (λ rest. ⊤) bytes o.items (λ rest e. tt) o.follow;
     texts = o.texts;
     in_turn = o.in_turn;
-    written = beginning_of_left before now next (joined o.texts) waiting o.forwards more;
+    written = beginning_of_left before now.written next (joined o.texts) now.waiting o.forwards
+        more;
   }
 
   -- all of the answers, where nothing waits
@@ -204,35 +210,35 @@ module _ {S : Type 0} (gives : S → Item → List ℕ → S → Type 0) where
       rw (f.1 ∙ ap (λ (t : List ℕ). f.0 ++ t) none ∙ append-nil f.0) f.2
 
   -- a read fails where nothing waits
-  pub so_far : (known left : Option (List ℕ)) (bytes : List ℕ) (before now : Option (List ℕ))
-      (old new : S) (rest waiting : List ℕ) (count : ℕ)
-      → Consumes known left bytes → IsMidstream gives bytes before now old new rest waiting count →
-      waiting ≡ [] → StopsShort rest → RequestsServedSoFar (InTurn gives) known left before now
-      old new
-  so_far known left bytes before now old new rest waiting count came m none short = record {
+  pub so_far : (known left : Option (List ℕ)) (bytes : List ℕ) (before : Option (List ℕ))
+      (origin : S) (now : StreamPlace S)
+      → Consumes known left bytes → IsMidstream gives bytes before origin now →
+      now.waiting ≡ [] → StopsShort now.rest
+      → RequestsServedSoFar (InTurn gives) known left before now.written origin now.state
+  so_far known left bytes before origin now came m none short = record {
     bytes = bytes;
     came = came;
     items = m.items;
-    have_come = Follow-stop StopsShort bytes m.items rest m.leads short;
+    have_come = Follow-stop StopsShort bytes m.items now.rest m.leads short;
     texts = m.texts;
     get = m.in_turn;
-    written = written_all before now (joined m.texts) waiting m.forwards none;
+    written = written_all before now.written (joined m.texts) now.waiting m.forwards none;
   }
 
   -- the input ends where nothing waits
-  pub served_end : (known left : Option (List ℕ)) (bytes : List ℕ) (before now : Option (List ℕ))
-      (old new : S) (rest waiting : List ℕ) (count : ℕ)
-      → Consumes known left bytes → IsAtEnd left → IsMidstream gives bytes before now old new rest
-      waiting count → waiting ≡ [] → StopsShort rest
-      → RequestsServed (InTurn gives) known before now old new count
-  served_end known left bytes before now old new rest waiting count came end m none short = record {
+  pub served_end : (known left : Option (List ℕ)) (bytes : List ℕ) (before : Option (List ℕ))
+      (origin : S) (now : StreamPlace S)
+      → Consumes known left bytes → IsAtEnd left → IsMidstream gives bytes before origin now →
+      now.waiting ≡ [] → StopsShort now.rest
+      → RequestsServed (InTurn gives) known before now.written origin now.state now.answered
+  served_end known left bytes before origin now came end m none short = record {
     bytes = bytes;
     told = told_whole known left came end;
     items = m.items;
-    are_items = Follow-stop StopsShort bytes m.items rest m.leads short;
+    are_items = Follow-stop StopsShort bytes m.items now.rest m.leads short;
     texts = m.texts;
     get = m.in_turn;
-    written = written_all before now (joined m.texts) waiting m.forwards none;
+    written = written_all before now.written (joined m.texts) now.waiting m.forwards none;
     count_is = m.count_is;
   } where
     told_whole : (known left : Option (List ℕ)) → Consumes known left bytes → IsAtEnd left →
@@ -243,39 +249,39 @@ module _ {S : Type 0} (gives : S → Item → List ℕ → S → Type 0) where
         append-nil bytes
 
   -- the last request is answered, whatever the reader still has
-  pub served_over : (known left : Option (List ℕ)) (bytes : List ℕ) (before now next : Option
-      (List ℕ)) (old new : S) (waiting : List ℕ) (count : ℕ)
-      → Consumes known left bytes → IsOver gives bytes before now old new waiting count →
-      Appends now next waiting
-      → RequestsServed (InTurn gives) known before next old new count
-  served_over None left bytes before now next old new waiting count came o more = record {
+  pub served_over : (known left : Option (List ℕ)) (bytes : List ℕ) (before next : Option (List ℕ))
+      (origin : S) (now : StreamPlace S)
+      → Consumes known left bytes → IsOver gives bytes before origin now →
+      Appends now.written next now.waiting
+      → RequestsServed (InTurn gives) known before next origin now.state now.answered
+  served_over None left bytes before next origin now came o more = record {
     bytes = bytes;
     told = tt;
     items = o.items;
     are_items = Follow-weaker (λ rest. ⊥) StopsShort bytes o.items (λ rest e. absurd e) o.follow;
     texts = o.texts;
     get = o.in_turn;
-    written = Forwards-whole before now next (joined o.texts) waiting o.forwards more;
+    written = Forwards-whole before now.written next (joined o.texts) now.waiting o.forwards more;
     count_is = o.count_is;
   }
-  served_over (Some xs) None bytes before now next old new waiting count came o more = absurd came
-  served_over (Some xs) (Some ys) bytes before now next old new waiting count came o more = record {
+  served_over (Some xs) None bytes before next origin now came o more = absurd came
+  served_over (Some xs) (Some ys) bytes before next origin now came o more = record {
     bytes = bytes ++ ys;
     told = came;
     items = o.items;
     are_items = Follow-more (λ rest. ⊥) StopsShort bytes o.items ys (λ rest e. absurd e) o.follow;
     texts = o.texts;
     get = o.in_turn;
-    written = Forwards-whole before now next (joined o.texts) waiting o.forwards more;
+    written = Forwards-whole before now.written next (joined o.texts) now.waiting o.forwards more;
     count_is = o.count_is;
   }
 
   -- what is broken off, of all that the reader told
-  pub in_part : (known left : Option (List ℕ)) (bytes : List ℕ) (before now : Option (List ℕ))
-      (old new : S)
-      → Consumes known left bytes → IsBroken gives bytes before now old new →
-      RequestsServedInPart (InTurn gives) known before now old new
-  in_part None left bytes before now old new came x = record {
+  pub in_part : (known left : Option (List ℕ)) (bytes : List ℕ) (before : Option (List ℕ))
+      (origin : S) (now : StreamPlace S)
+      → Consumes known left bytes → IsBroken gives bytes before origin now
+      → RequestsServedInPart (InTurn gives) known before now.written origin now.state
+  in_part None left bytes before origin now came x = record {
     bytes = bytes;
     told = tt;
     answered = x.items;
@@ -285,8 +291,8 @@ module _ {S : Type 0} (gives : S → Item → List ℕ → S → Type 0) where
     get = x.in_turn;
     written = x.written;
   }
-  in_part (Some xs) None bytes before now old new came x = absurd came
-  in_part (Some xs) (Some ys) bytes before now old new came x = record {
+  in_part (Some xs) None bytes before origin now came x = absurd came
+  in_part (Some xs) (Some ys) bytes before origin now came x = record {
     bytes = bytes ++ ys;
     told = came;
     answered = x.items;
@@ -300,22 +306,20 @@ module _ {S : Type 0} (gives : S → Item → List ℕ → S → Type 0) where
 
   -- a fault of a read, or of what was written before it
   pub failed_to_read : (known left : Option (List ℕ)) (bytes more : List ℕ)
-      (before now next : Option (List ℕ)) (old new : S) (rest waiting : List ℕ) (count wanted : ℕ)
+      (before next : Option (List ℕ)) (origin : S) (now : StreamPlace S) (wanted : ℕ)
       (untouched : Type 0) (fault : StreamFault)
-      → Consumes known left (bytes ++ more) → IsMidstream gives bytes before now old new rest
-      waiting count
-      → ((extra : List ℕ) → length (rest ++ extra) < wanted → StopsShort (rest ++ extra))
-      → FailedToRead fault wanted (length (rest ++ more)) now next waiting
-      → RequestsStopped (InTurn gives) known left before next old new untouched fault
-  failed_to_read known left bytes more before now next old new rest waiting count wanted untouched
-      ReadFailed came m short f =
-      so_far known left (bytes ++ more) before next old new (rest ++ more) [] count came
-      (more_came bytes more before next old new rest [] count (flushed bytes before now next old new
-      rest waiting [] count m refl f.1)) refl (short more f.0)
-  failed_to_read known left bytes more before now next old new rest waiting count wanted untouched
-      WriteFailed came m short f =
-      in_part known left (bytes ++ more) before next old new came
-      (broken_flush (bytes ++ more) before now next old new (rest ++ more) waiting count
-      (more_came bytes more before now old new rest waiting count m) f)
-  failed_to_read known left bytes more before now next old new rest waiting count wanted untouched
-      NoMemory came m short f = absurd f
+      → Consumes known left (bytes ++ more) → IsMidstream gives bytes before origin now
+      → ((extra : List ℕ) → length (now.rest ++ extra) < wanted → StopsShort (now.rest ++ extra))
+      → FailedToRead fault wanted (length (now.rest ++ more)) now.written next now.waiting
+      → RequestsStopped (InTurn gives) known left before next origin now.state untouched fault
+  failed_to_read known left bytes more before next origin now wanted untouched ReadFailed came m
+      short f =
+      so_far known left (bytes ++ more) before origin _ came (more_came bytes more before origin _
+      (flushed bytes before next origin now m f.1)) refl (short more f.0)
+  failed_to_read known left bytes more before next origin now wanted untouched WriteFailed came m
+      short f =
+      in_part known left (bytes ++ more) before origin _ came
+      (broken_flush (bytes ++ more) before next origin _ (more_came bytes more before origin now m)
+      f)
+  failed_to_read known left bytes more before next origin now wanted untouched NoMemory came m short
+      f = absurd f

@@ -1,5 +1,8 @@
 -- What serving the requests of a stream does.
-use Rattle.std.specs.Prelude.{ℕ, List, Option}
+use Rattle.std.specs.Prelude.{◌≡◌, ℕ, List, Option}
+use Rattle.byte_streams.specs.Counted.{reader_of, writer_of}
+use Rattle.byte_streams.specs.declared.counted.CountedReader.{CountedReader}
+use Rattle.byte_streams.specs.declared.counted.CountedWriter.{CountedWriter}
 use Rattle.byte_streams.specs.declared.fault.StreamFault.{StreamFault}
 use Rattle.byte_streams.specs.Serving.{Served, Stopped}
 use Rattle.http_stream.specs.Streams.{Item, AreRequests, BeginWith}
@@ -19,3 +22,21 @@ module _ {S : Type 0} (Get : S → List Item → List (List ℕ) → S → Type 
       Option (List ℕ) → S → S → Type 0
       → StreamFault → Type 0
   RequestsStopped = Stopped BeginWith AreRequests joined Get
+
+module _ {R W C S : Type 0} (remaining : R → Option (List ℕ)) (contents : W → Option (List ℕ))
+    (Get : C × S → List Item → List (List ℕ) → C × S → Type 0) where
+  -- Each request of the bytes that a counted reader gave was answered, and what was written on a
+  -- counted writer is the answers, as far as the two tell of their bytes.
+  abbrev pub RequestsServedOn : CountedReader R → CountedWriter W → CountedWriter W → C × S → C × S
+      → ℕ → Type 0
+  RequestsServedOn reader before after = RequestsServed Get (remaining (reader_of reader))
+      (contents (writer_of before)) (contents (writer_of after))
+
+  -- What a fault leaves of a counted reader, a counted writer, a clock and a state. Where no memory
+  -- was there, these are as they were.
+  abbrev pub RequestsStoppedOn : CountedReader R → CountedReader R → CountedWriter W →
+      CountedWriter W → C × S → C × S → StreamFault → Type 0
+  RequestsStoppedOn reader left before after old new = RequestsStopped Get
+      (remaining (reader_of reader)) (remaining (reader_of left)) (contents (writer_of before))
+      (contents (writer_of after)) old new
+      ((left ≡ reader) × (after ≡ before) × (new.0 ≡ old.0) × (new.1 ≡ old.1))

@@ -1,8 +1,19 @@
 -- The requests of a whole stream of bytes.
-use Rattle.std.specs.Prelude.{◌≡◌, ◌⊎◌, ℕ, true, false, List, [], ◌∷◌, ◌++◌, ⊤}
+use Rattle.std.specs.Prelude.{◌≡◌, ◌⊎◌, ℕ, Bool, true, false, List, [], ◌∷◌, ◌++◌, ⊤}
 use Rattle.http_messages.specs.declared.request.HeadFault.{HeadFault}
 use Rattle.http_messages.specs.declared.request.HeadFault.TheVariants.{BadHead}
+use Rattle.http_messages.specs.declared.request.Method.{Method}
 use Rattle.http_messages.specs.Requests.{Ask, HasAsk, IsFaulty, StopsShort}
+
+-- what a request asks by its method, its target and its body, and whether its answer is to be the
+-- last of the stream
+abbrev pub ask_of : Method → List ℕ → List ℕ → Bool → Ask
+ask_of method target body is_last = record {
+  method = method;
+  target = target;
+  body = body;
+  is_last = is_last;
+}
 
 -- What gets one answer: a whole request, or one that is refused by its head.
 pub data Item : Type 0 where

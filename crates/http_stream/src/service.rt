@@ -1,6 +1,7 @@
 //! What answers requests.
 ghost use Rattle.std.specs.Prelude.{ℕ, List, MatchResult};
 ghost use Rattle.http_messages.specs.Requests.{Ask};
+ghost use Rattle.http_stream.specs.Streams.{ask_of};
 
 use http_messages::Method;
 use std::alloc::AllocError;
@@ -34,13 +35,7 @@ pub trait Service {
         body: &[u8],
         is_last: bool,
     ) -> Result<Vec<u8>, AllocError>
-        ensures { let ask : Ask = record {
-          method = method;
-          target = target.now;
-          body = body.now;
-          is_last = is_last;
-        } in
-            MatchResult result
+        ensures { let ask = ask_of method target.now body.now is_last in MatchResult result
             (λ text. answers self.now (clock.old, state.old) ask text.items (clock.new, state.new))
             (λ _. loses self.now (clock.old, state.old) ask (clock.new, state.new)) };
 }

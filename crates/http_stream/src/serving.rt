@@ -1,26 +1,19 @@
 //! The requests of a stream are answered.
-ghost use Rattle.std.specs.Prelude.{◌≡◌, ◌≤◌, ◌<◌, ◌++◌, ℕ, List, [], Option, ◌+◌, ◌-◌, ◌^◌, min};
-ghost use Rattle.http_messages.specs.Requests.{longest_body};
+ghost use Rattle.std.specs.Prelude.{◌≡◌, ◌≤◌, ◌<◌, ◌+◌, ℕ, min, List, [], length, drop};
+ghost use Rattle.std.specs.Prelude.{IfOk, IfErr, IfSome, OnOk};
 ghost use Rattle.byte_streams.specs.Pieces.{chunk_size};
-ghost use Rattle.std.specs.Prelude.{IfSome, OnOk, IfOk, IfErr, MatchOption, MatchResult, true};
-ghost use Rattle.std.specs.Prelude.{false, length, drop, vec_len};
-ghost use Rattle.std.specs.Io.KnownBytes.{Appends, Consumes, IsAtEnd};
-ghost use Rattle.byte_streams.specs.Counted.{Counts, FailsWithCause, IsFlushed, LeavesFlushed};
-ghost use Rattle.byte_streams.specs.Counted.{read_faults, reader_of, reads_left, write_faults};
-ghost use Rattle.byte_streams.specs.Counted.{writer_of};
+ghost use Rattle.byte_streams.specs.Counted.{Counts, FailsWithCause, LeavesFlushed, reads_left};
+ghost use Rattle.byte_streams.specs.Counted.{write_faults};
 ghost use Rattle.byte_streams.specs.InTurn.{InTurn};
-ghost use Rattle.byte_streams.specs.Writing.{Forwards, WritesBeginning};
-ghost use Rattle.byte_streams.specs.declared.fault.StreamFault.TheVariants.{ReadFailed};
-ghost use Rattle.byte_streams.specs.declared.fault.StreamFault.TheVariants.{WriteFailed};
+ghost use Rattle.byte_streams.specs.Serving.{greatest_count};
 ghost use Rattle.httparse.specs.Spans.{IsWithin};
 ghost use Rattle.http_messages.specs.Answers.{refusal_answer};
-ghost use Rattle.http_messages.specs.Requests.{HasAsk, IsFaulty, IsLook, ask_at, longest_head};
+ghost use Rattle.http_messages.specs.Requests.{HasAsk, IsLook, ask_at, longest_body, longest_head};
 ghost use Rattle.http_messages.specs.declared.request.Look.TheVariants.{More};
-ghost use Rattle.http_stream.specs.Streams.{Item, Calls};
 ghost use Rattle.http_stream.specs.Answers.{ItemAnswered};
-ghost use Rattle.http_stream.specs.Serving.{RequestsServed, RequestsStopped};
-ghost use Rattle.http_stream.specs.Inner.Midstream.{FailedToRead, IsFilledUp, IsMidstream, IsOver};
-ghost use Rattle.http_stream.specs.Inner.Midstream.{IsBroken};
+ghost use Rattle.http_stream.specs.Serving.{RequestsServedOn, RequestsStoppedOn};
+ghost use Rattle.http_stream.specs.Inner.Steps.{AnswersAsk, AnswersNext, AnswersWhole};
+ghost use Rattle.http_stream.specs.Inner.Steps.{PutsText, ReadsUpTo, stream_place};
 
 use crate::buffer::Buffer;
 use crate::service::Service;
@@ -50,15 +43,9 @@ fn answer_request<W: Write, H: Service>(
 ) -> Result<(), StreamFault>
     requires target { IsWithin (length buffer.now) parts.target }
     requires body { IsWithin (length buffer.now) parts.body }
-    ensures answered { (text : List ℕ)
-        × ItemAnswered (H.answers service.now) (H.loses service.now) (clock.old, state.old)
-        (Calls (ask_at buffer.now parts)) text (clock.new, state.new)
-        × MatchResult result
-        (λ _. Forwards (W.contents (writer_of writer.old)) (W.contents (writer_of writer.new))
-        (outbox.old ++ text) outbox.new)
-        (λ fault. (fault ≡ WriteFailed)
-        × WritesBeginning (W.contents (writer_of writer.old)) (W.contents (writer_of writer.new))
-        (outbox.old ++ text)) }
+    ensures answered { AnswersAsk H.Service service.now (ask_at buffer.now parts)
+        (clock.old, state.old) (clock.new, state.new)
+        W.contents writer.old writer.new outbox.old outbox.new result }
     ensures cause { Counts (write_faults writer.old) (write_faults writer.new) result }
 {
     let target = buffer.part(parts.target);
@@ -95,19 +82,9 @@ impl StreamProgress {
         requires body { IsWithin (length self.old.buffer) parts.body }
         requires asks { HasAsk self.old.buffer (ask_at self.old.buffer parts)
             (drop parts.body.end self.old.buffer) }
-        ensures answered { let gives = ItemAnswered (H.answers service.now) (H.loses service.now) in
-            (origin : H.Clock × H.State) (before : Option (List ℕ)) (came : List ℕ)
-            → IsMidstream gives came before (W.contents (writer_of writer.old)) origin (clock.old, state.old)
-            self.old.buffer self.old.outbox self.old.answered
-            → MatchResult result
-            (λ _. ((parts.is_last ≡ false)
-            → IsMidstream gives came before (W.contents (writer_of writer.new)) origin (clock.new, state.new)
-            self.new.buffer self.new.outbox self.new.answered)
-            × ((parts.is_last ≡ true)
-            → IsOver gives came before (W.contents (writer_of writer.new)) origin (clock.new, state.new)
-            self.new.outbox self.new.answered))
-            (λ fault. (fault ≡ WriteFailed)
-            × IsBroken gives came before (W.contents (writer_of writer.new)) origin (clock.new, state.new)) }
+        ensures answered { AnswersNext H.Service service.now parts.is_last
+            (stream_place W.contents self.old (clock.old, state.old) writer.old)
+            (stream_place W.contents self.new (clock.new, state.new) writer.new) result }
         ensures shorter { OnOk result (self.new.buffer ≡ drop parts.body.end self.old.buffer) }
         ensures cause { Counts (write_faults writer.old) (write_faults writer.new) result }
     {
@@ -132,12 +109,10 @@ impl StreamProgress {
         writer: &mut CountedWriter<W>,
     ) -> Result<(), StreamFault>
         ensures kept { self.new.buffer ≡ self.old.buffer }
-        ensures ok { OnOk result ((self.new.answered ≡ min (self.old.answered + 1) (2 ^ 32 - 1))
-            × Forwards (W.contents (writer_of writer.old)) (W.contents (writer_of writer.new))
-            (self.old.outbox ++ refusal_answer why) self.new.outbox) }
-        ensures failed { IfErr result (λ fault. (fault ≡ WriteFailed)
-            × WritesBeginning (W.contents (writer_of writer.old)) (W.contents (writer_of writer.new))
-            (self.old.outbox ++ refusal_answer why)) }
+        ensures count { OnOk result
+            (self.new.answered ≡ min (self.old.answered + 1) greatest_count) }
+        ensures told { PutsText W.contents writer.old writer.new
+            self.old.outbox (refusal_answer why) self.new.outbox result }
         ensures cause { Counts (write_faults writer.old) (write_faults writer.new) result }
     {
         self.outbox.push(refusal_text(why).as_bytes(), writer)?;
@@ -154,18 +129,9 @@ impl StreamProgress {
         state: &mut H::State,
         writer: &mut CountedWriter<W>,
     ) -> Result<Option<usize>, StreamFault>
-        ensures answered { let gives = ItemAnswered (H.answers service.now) (H.loses service.now) in
-            (origin : H.Clock × H.State) (before : Option (List ℕ)) (came : List ℕ)
-            → IsMidstream gives came before (W.contents (writer_of writer.old)) origin (clock.old, state.old)
-            self.old.buffer self.old.outbox self.old.answered
-            → MatchResult result
-            (λ next. MatchOption next
-            (IsOver gives came before (W.contents (writer_of writer.new)) origin (clock.new, state.new)
-            self.new.outbox self.new.answered)
-            (λ wanted. IsMidstream gives came before (W.contents (writer_of writer.new)) origin
-            (clock.new, state.new) self.new.buffer self.new.outbox self.new.answered))
-            (λ fault. (fault ≡ WriteFailed)
-            × IsBroken gives came before (W.contents (writer_of writer.new)) origin (clock.new, state.new)) }
+        ensures answered { AnswersWhole H.Service service.now
+            (stream_place W.contents self.old (clock.old, state.old) writer.old)
+            (stream_place W.contents self.new (clock.new, state.new) writer.new) result }
         ensures wanted { IfOk result (λ next. IfSome next (λ count. IsLook self.new.buffer
             (More count))) }
         ensures cause { Counts (write_faults writer.old) (write_faults writer.new) result }
@@ -200,14 +166,8 @@ impl StreamProgress {
         requires most { wanted ≤ (longest_head + longest_body) }
         requires room { length chunk.old ≡ chunk_size }
         ensures count { self.new.answered ≡ self.old.answered }
-        ensures read { (more : List ℕ)
-            × Consumes (R.remaining (reader_of reader.old)) (R.remaining (reader_of reader.new)) more
-            × MatchResult result
-            (λ is_there. (self.new.buffer ≡ self.old.buffer ++ more) × (self.new.outbox ≡ [])
-            × Appends (W.contents (writer_of writer.old)) (W.contents (writer_of writer.new)) self.old.outbox
-            × IsFilledUp is_there wanted (length self.new.buffer) (IsAtEnd (R.remaining (reader_of reader.new))))
-            (λ fault. FailedToRead fault wanted (length (self.old.buffer ++ more)) (W.contents (writer_of writer.old))
-            (W.contents (writer_of writer.new)) self.old.outbox) }
+        ensures read { ReadsUpTo R.remaining W.contents wanted reader.old reader.new
+            writer.old writer.new self.old self.new result }
         ensures cause { FailsWithCause reader.old reader.new writer.old writer.new result }
         ensures flushed { LeavesFlushed writer.new result }
         ensures fewer { OnOk result (reads_left reader.new < reads_left reader.old) }
@@ -247,16 +207,12 @@ pub fn serve_requests<R: Read, W: Write, H: Service>(
     clock: &mut H::Clock,
     state: &mut H::State,
 ) -> Result<u32, StreamFault>
-    ensures served { IfOk result (RequestsServed
-        (InTurn (ItemAnswered (H.answers service.now) (H.loses service.now)))
-        (R.remaining (reader_of reader.old)) (W.contents (writer_of writer.old)) (W.contents (writer_of writer.new))
+    ensures served { IfOk result (RequestsServedOn R.remaining W.contents
+        (InTurn (ItemAnswered H.Service service.now)) reader.old writer.old writer.new
         (clock.old, state.old) (clock.new, state.new)) }
-    ensures stopped { IfErr result
-        (RequestsStopped (InTurn (ItemAnswered (H.answers service.now) (H.loses service.now)))
-        (R.remaining (reader_of reader.old)) (R.remaining (reader_of reader.new))
-        (W.contents (writer_of writer.old)) (W.contents (writer_of writer.new))
-        (clock.old, state.old) (clock.new, state.new)
-        ((reader.new ≡ reader.old) × (writer.new ≡ writer.old) × (clock.new ≡ clock.old) × (state.new ≡ state.old))) }
+    ensures stopped { IfErr result (RequestsStoppedOn R.remaining W.contents
+        (InTurn (ItemAnswered H.Service service.now)) reader.old reader.new writer.old writer.new
+        (clock.old, state.old) (clock.new, state.new)) }
     ensures cause { FailsWithCause reader.old reader.new writer.old writer.new result }
     ensures flushed { LeavesFlushed writer.new result }
 {

@@ -70,11 +70,6 @@ first_word : (plain : Plain) (rest : List ℕ) →
 first_word Devices rest = refl
 first_word Balance rest = refl
 
-first_rest : (plain : Plain) (rest : List ℕ) →
-    after_first (λ b. b == 32) (asked_text plain rest) ≡ rest
-first_rest Devices rest = refl
-first_rest Balance rest = refl
-
 first_place : (plain : Plain) (rest : List ℕ) →
     position_or_len (λ b. b == 32) (asked_text plain rest) ≡ length (plain_word plain)
 first_place Devices rest = refl

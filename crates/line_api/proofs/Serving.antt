@@ -17,21 +17,31 @@ use Rattle.builder.proofs.Safe.{safe_run}
 use Rattle.builder.specs.Safety.{IsSafeRun}
 use Rattle.ring_messages.specs.declared.told.Told.TheVariants as told
 use Rattle.line_stream.specs.Answers.{Answered}
+use Rattle.line_stream.specs.declared.handler.Handler.{Ghosts}
 use Rattle.line_stream.specs.Lines.{AreLines, HaveEnded, ended}
 use Rattle.line_stream.specs.Serving.{LinesServed, LinesStopped}
 use Rattle.ring_book.specs.Book.{Asked, Found, Keeping, Made, RingBook, steps_of}
 use Rattle.line_api.specs.Lines.{Gets, answer_line}
 use Rattle.line_api.specs.Served.{ServesLines}
 use Rattle.line_api.specs.Inner.Answering.{Answers, Loses}
+use Rattle.line_api.specs.declared.lines.RingLines.{RingLines}
 
 module _ {K : Type 0} (kept : Keeping K) where
   abbrev Book : Type 0
   Book = RingBook kept
 
+  -- what contracts see of the handler of lines
+  abbrev handler : Ghosts (RingLines K) Book
+  handler = record {
+    answers = Answers kept;
+    loses = Loses kept;
+    no_memory = answer_line told.NoMemory;
+    too_long = answer_line told.Unreadable;
+  }
+
   -- what the handler of lines gives
   abbrev Gives : Book → List ℕ → List ℕ → Book → Type 0
-  Gives old line text new = Answered (Answers kept) (Loses kept) (answer_line told.NoMemory)
-      (answer_line told.Unreadable) old line text new
+  Gives = Answered handler
 
   abbrev IsTurn : Book → List ℕ → Asked → List ℕ → Book → Type 0
   IsTurn old line asked text new = Turn steps_of kept.content kept.sound kept.limit kept.fault_count

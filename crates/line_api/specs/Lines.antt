@@ -1,6 +1,7 @@
 -- What `ringd run` answers to its lines.
-use Rattle.std.specs.Prelude.{◌≡◌, ◌⊎◌, ℕ, ◌^◌, ◌<◌, ◌≤◌, ◌++◌, ◌∷◌, [], List, IsTrue}
+use Rattle.std.specs.Prelude.{◌≡◌, ◌⊎◌, ℕ, ◌<◌, ◌≤◌, ◌++◌, ◌∷◌, [], List, IsTrue}
 use Rattle.std.specs.Prelude.{Some, None, Result, ⊤, codes, decimal, length}
+use Rattle.ring_words.specs.Limits.{long_count}
 use Rattle.line_stream.specs.Lines.{longest_line}
 use Rattle.ring_words.specs.Texts.{is_label}
 use Rattle.ring_words.specs.declared.command.Command.{Command}
@@ -29,7 +30,7 @@ use Rattle.line_api.specs.declared.lines.Request.TheVariants as request
 pub record Asks (line : List ℕ) (delivery : Delivery Command) : Type 0 where
   pub message : List ℕ
   pub is : line ≡ decimal delivery.hour ++ 32 ∷ message
-  pub hour : delivery.hour < 2 ^ 32
+  pub hour : delivery.hour < long_count
   pub reads : IsMessage message delivery.key delivery.command
 
 -- The line is a question for what a word alone asks of a ring: a question mark, the word, and a name

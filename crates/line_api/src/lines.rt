@@ -4,7 +4,7 @@ ghost use Rattle.std.specs.Prelude.{Result, Some, string_bytes};
 ghost use Rattle.std.specs.Io.KnownBytes.{IsAtEnd};
 ghost use Rattle.ring_words.specs.Spelling.{Reads};
 ghost use Rattle.builder.specs.Safety.{IsSafeRun};
-ghost use Rattle.byte_streams.specs.Counted.{FailsWithCause, LeavesFlushed, reader_of, writer_of};
+ghost use Rattle.byte_streams.specs.Counted.{FailsWithCause, LeavesFlushed, reader_of};
 ghost use Rattle.request_book.specs.Call.{Load};
 ghost use Rattle.request_book.specs.declared.book.Fault.{Fault};
 ghost use Rattle.line_api.specs.Lines.{Asks, AsksFor, IsTold, answer_line};
@@ -13,7 +13,7 @@ ghost use Rattle.line_api.specs.Inner.Answering.{Answers, Loses};
 ghost use Rattle.ring_book.specs.Book.{Found, Made};
 ghost use Rattle.ring_reads.specs.declared.plain.Plain.{Plain};
 ghost use Rattle.ring_reads.specs.declared.reads.Read.TheVariants as reads;
-ghost use Rattle.line_stream.specs.Serving.{LinesServed, LinesStopped};
+ghost use Rattle.line_stream.specs.Serving.{LinesServedOn, LinesStoppedOn};
 ghost use Rattle.ring_messages.specs.declared.told.Told.TheVariants as told;
 
 use crate::questions::read_question;
@@ -173,15 +173,11 @@ pub fn run_lines<R: Read, W: Write, K: Keeper<RingMachine>>(
     writer: &mut CountedWriter<W>,
     book: &mut Book<RingMachine, K>,
 ) -> Result<u32, StreamFault>
-    ensures served { IfOk result (LinesServed (ServesLines K.Keeper)
-        (R.remaining (reader_of reader.old)) (W.contents (writer_of writer.old))
-        (W.contents (writer_of writer.new))
-        book.old book.new) }
+    ensures served { IfOk result (LinesServedOn R.remaining W.contents (ServesLines K.Keeper)
+        reader.old writer.old writer.new book.old book.new) }
     ensures at_end { OnOk result (IsAtEnd (R.remaining (reader_of reader.new))) }
-    ensures stopped { IfErr result (LinesStopped (ServesLines K.Keeper)
-        (R.remaining (reader_of reader.old)) (R.remaining (reader_of reader.new))
-        (W.contents (writer_of writer.old)) (W.contents (writer_of writer.new)) book.old book.new
-        ((reader.new ≡ reader.old) × (writer.new ≡ writer.old) × (book.new ≡ book.old))) }
+    ensures stopped { IfErr result (LinesStoppedOn R.remaining W.contents (ServesLines K.Keeper)
+        reader.old reader.new writer.old writer.new book.old book.new) }
     ensures cause { FailsWithCause reader.old reader.new writer.old writer.new result }
     ensures flushed { LeavesFlushed writer.new result }
 

@@ -12,7 +12,8 @@ use Rattle.byte_streams.specs.Serving.{Tells}
 use Rattle.byte_streams.specs.Writing.{Forwards, WritesBeginning}
 use Rattle.line_stream.specs.Serving.{LinesServed}
 use Rattle.line_stream.specs.Inner.Lines.{LinesServedInPart, LinesServedSoFar}
-use Rattle.line_stream.specs.Inner.Midway.{line_kept, IsMidway, IsEnded, IsCutOff}
+use Rattle.line_stream.specs.Inner.Midway.{GivesKept, IsCutOff, IsEnded, IsMidway, LinePlace}
+use Rattle.line_stream.specs.Inner.Midway.{line_kept}
 use Rattle.byte_streams.proofs.KnownLemmas.{Forwards-then, Forwards-none, Forwards-all}
 use Rattle.byte_streams.proofs.KnownLemmas.{Forwards-whole, beginning_of_left, beginning_then}
 use Rattle.line_stream.proofs.LineLemmas.{Divides-nil, Divides-byte, Divides-feed, ended-push}
@@ -38,26 +39,26 @@ all_taken came bytes i = append_assoc came (take i bytes) (drop i bytes) ∙ ap
     (λ (t : List ℕ). came ++ t) (take-append-drop i bytes)
 
 module _ {S : Type 0} (gives : S → List ℕ → List ℕ → S → Type 0) where
-  pub midway_starts : (before : Option (List ℕ)) (old : S) → IsMidway gives [] before before old old
-      (Some []) [] 0
-  midway_starts before old = record {
+  pub midway_starts : (now : LinePlace S) → now.line ≡ Some [] → now.waiting ≡ [] → now.answered ≡ 0
+      → IsMidway gives [] now.written now.state now
+  midway_starts now no_line none no_answers = record {
     lines = [];
     rest = [];
     divides = Divides-nil;
-    kept_is = refl;
+    kept_is = no_line;
     texts = [];
     in_turn = (refl, refl);
-    forwards = Forwards-none before [];
-    count_is = refl;
+    forwards = rw none (Forwards-none now.written []);
+    count_is = no_answers;
   }
 
   -- a byte of a line
-  pub midway_byte : (bytes : List ℕ) (before now : Option (List ℕ)) (old new : S)
-      (kept next : Option (List ℕ)) (waiting : List ℕ) (count byte : ℕ)
-      → IsMidway gives bytes before now old new kept waiting count → byte ≢ 10 →
-      next ≡ option_and_then (λ (line : List ℕ). line_kept (line ++ byte ∷ [])) kept
-      → IsMidway gives (bytes ++ byte ∷ []) before now old new next waiting count
-  midway_byte bytes before now old new kept next waiting count byte m other is = record {
+  pub midway_byte : (bytes : List ℕ) (before : Option (List ℕ)) (origin : S) (now : LinePlace S)
+      (next : Option (List ℕ)) (byte : ℕ)
+      → IsMidway gives bytes before origin now → byte ≢ 10 →
+      next ≡ option_and_then (λ (line : List ℕ). line_kept (line ++ byte ∷ [])) now.line
+      → IsMidway gives (bytes ++ byte ∷ []) before origin (record now { line = next })
+  midway_byte bytes before origin now next byte m other is = record {
     lines = m.lines;
     rest = m.rest ++ byte ∷ [];
     divides = Divides-byte bytes m.lines m.rest byte m.divides other;
@@ -71,36 +72,32 @@ module _ {S : Type 0} (gives : S → List ℕ → List ℕ → S → Type 0) whe
   }
 
   -- a line feed, whose line is answered
-  pub midway_feed : (bytes : List ℕ) (before now next : Option (List ℕ)) (old mid new : S)
-      (kept : Option (List ℕ)) (waiting left text : List ℕ) (count counted : ℕ)
-      → IsMidway gives bytes before now old mid kept waiting count →
-      ((line : List ℕ) → kept ≡ line_kept line → gives mid line text new)
-      → Forwards now next (waiting ++ (text ++ 10 ∷ [])) left →
-      counted ≡ min (count + 1) (2 ^ 32 - 1)
-      → IsMidway gives (bytes ++ 10 ∷ []) before next old new (Some []) left counted
-  midway_feed bytes before now next old mid new kept waiting left text count counted m given more is
-      = record {
-        lines = m.lines ++ m.rest ∷ [];
-        rest = [];
-        divides = Divides-feed bytes m.lines m.rest m.divides;
-        kept_is = refl;
-        texts = m.texts ++ text ∷ [];
-        in_turn = InTurn-push gives old mid new m.lines m.texts m.rest text m.in_turn
-            (given m.rest m.kept_is);
-        forwards = rw (ended-push m.texts text) (Forwards-then before now next (ended m.texts)
-            (text ++
-            10 ∷ []) waiting left m.forwards more);
-        count_is = omega (arith, is, m.count_is, length_push m.lines m.rest);
-      }
+  pub midway_feed : (bytes : List ℕ) (before : Option (List ℕ)) (origin : S)
+      (now next : LinePlace S) (text : List ℕ)
+      → IsMidway gives bytes before origin now → GivesKept gives now.line now.state text next.state
+      → next.line ≡ Some [] → next.answered ≡ min (now.answered + 1) (2 ^ 32 - 1)
+      → Forwards now.written next.written (now.waiting ++ (text ++ 10 ∷ [])) next.waiting
+      → IsMidway gives (bytes ++ 10 ∷ []) before origin next
+  midway_feed bytes before origin now next text m given no_line is more = record {
+    lines = m.lines ++ m.rest ∷ [];
+    rest = [];
+    divides = Divides-feed bytes m.lines m.rest m.divides;
+    kept_is = no_line;
+    texts = m.texts ++ text ∷ [];
+    in_turn = InTurn-push gives origin now.state next.state m.lines m.texts m.rest text m.in_turn
+        (given m.rest m.kept_is);
+    forwards = rw (ended-push m.texts text) (Forwards-then before now.written next.written
+        (ended m.texts) (text ++ 10 ∷ []) now.waiting next.waiting m.forwards more);
+    count_is = omega (arith, is, m.count_is, length_push m.lines m.rest);
+  }
 
   -- a line feed whose answer is not written
-  pub cut_at_feed : (bytes : List ℕ) (before now next : Option (List ℕ)) (old mid new : S)
-      (kept : Option (List ℕ)) (waiting text : List ℕ) (count : ℕ)
-      → IsMidway gives bytes before now old mid kept waiting count →
-      ((line : List ℕ) → kept ≡ line_kept line → gives mid line text new)
-      → WritesBeginning now next (waiting ++ (text ++ 10 ∷ []))
-      → IsCutOff gives (bytes ++ 10 ∷ []) before next old new
-  cut_at_feed bytes before now next old mid new kept waiting text count m given more =
+  pub cut_at_feed : (bytes : List ℕ) (before : Option (List ℕ)) (origin : S)
+      (now next : LinePlace S) (text : List ℕ)
+      → IsMidway gives bytes before origin now → GivesKept gives now.line now.state text next.state
+      → WritesBeginning now.written next.written (now.waiting ++ (text ++ 10 ∷ []))
+      → IsCutOff gives (bytes ++ 10 ∷ []) before origin next
+  cut_at_feed bytes before origin now next text m given more =
       let d = Divides-feed bytes m.lines m.rest m.divides in
       record {
         answered = m.lines ++ m.rest ∷ [];
@@ -108,15 +105,15 @@ module _ {S : Type 0} (gives : S → List ℕ → List ℕ → S → Type 0) whe
         begins = d.whole;
         are_lines = d.are_lines;
         texts = m.texts ++ text ∷ [];
-        in_turn = InTurn-push gives old mid new m.lines m.texts m.rest text m.in_turn
-            (given m.rest m.kept_is);
-        written = rw (ended-push m.texts text) (beginning_then before now next (ended m.texts)
-            (text ++ 10 ∷ []) waiting m.forwards more);
+        in_turn = InTurn-push gives origin now.state next.state m.lines m.texts m.rest text
+            m.in_turn (given m.rest m.kept_is);
+        written = rw (ended-push m.texts text) (beginning_then before now.written next.written
+            (ended m.texts) (text ++ 10 ∷ []) now.waiting m.forwards more);
       }
 
-  pub cut_longer : (bytes more : List ℕ) (before now : Option (List ℕ)) (old new : S) →
-      IsCutOff gives bytes before now old new → IsCutOff gives (bytes ++ more) before now old new
-  cut_longer bytes more before now old new x = record {
+  pub cut_longer : (bytes more : List ℕ) (before : Option (List ℕ)) (origin : S) (now : LinePlace S)
+      → IsCutOff gives bytes before origin now → IsCutOff gives (bytes ++ more) before origin now
+  cut_longer bytes more before origin now x = record {
     answered = x.answered;
     tail = x.tail ++ more;
     begins = ap (λ (t : List ℕ). t ++ more) x.begins ∙ append_assoc (ended x.answered) x.tail more;
@@ -127,42 +124,42 @@ module _ {S : Type 0} (gives : S → List ℕ → List ℕ → S → Type 0) whe
   }
 
   -- what waits is written
-  pub midway_flushed : (bytes : List ℕ) (before now next : Option (List ℕ)) (old new : S)
-      (kept : Option (List ℕ)) (waiting left : List ℕ) (count : ℕ)
-      → IsMidway gives bytes before now old new kept waiting count → left ≡ [] →
-      Appends now next waiting → IsMidway gives bytes before next old new kept left count
-  midway_flushed bytes before now next old new kept waiting left count m none more = record {
+  pub midway_flushed : (bytes : List ℕ) (before next : Option (List ℕ)) (origin : S)
+      (now : LinePlace S) (left : List ℕ)
+      → IsMidway gives bytes before origin now → left ≡ [] → Appends now.written next now.waiting
+      → IsMidway gives bytes before origin (record now { written = next; waiting = left })
+  midway_flushed bytes before next origin now left m none more = record {
     lines = m.lines;
     rest = m.rest;
     divides = m.divides;
     kept_is = m.kept_is;
     texts = m.texts;
     in_turn = m.in_turn;
-    forwards = rw none (Forwards-all before next (ended m.texts) (Forwards-whole before now next
-        (ended m.texts) waiting m.forwards more));
+    forwards = rw none (Forwards-all before next (ended m.texts) (Forwards-whole before now.written
+        next (ended m.texts) now.waiting m.forwards more));
     count_is = m.count_is;
   }
 
-  pub cut_at_flush : (bytes : List ℕ) (before now next : Option (List ℕ)) (old new : S)
-      (kept : Option (List ℕ)) (waiting : List ℕ) (count : ℕ)
-      → IsMidway gives bytes before now old new kept waiting count →
-      WritesBeginning now next waiting → IsCutOff gives bytes before next old new
-  cut_at_flush bytes before now next old new kept waiting count m more = record {
+  pub cut_at_flush : (bytes : List ℕ) (before next : Option (List ℕ)) (origin : S)
+      (now : LinePlace S)
+      → IsMidway gives bytes before origin now → WritesBeginning now.written next now.waiting
+      → IsCutOff gives bytes before origin (record now { written = next })
+  cut_at_flush bytes before next origin now m more = record {
     answered = m.lines;
     tail = m.rest;
     begins = m.divides.whole;
     are_lines = m.divides.are_lines;
     texts = m.texts;
     in_turn = m.in_turn;
-    written = beginning_of_left before now next (ended m.texts) waiting m.forwards more;
+    written = beginning_of_left before now.written next (ended m.texts) now.waiting m.forwards more;
   }
 
   -- a read fails where nothing waits
-  pub so_far_midway : (known left : Option (List ℕ)) (bytes : List ℕ) (before now : Option (List ℕ))
-      (old new : S) (kept : Option (List ℕ)) (waiting : List ℕ) (count : ℕ)
-      → Consumes known left bytes → IsMidway gives bytes before now old new kept waiting count →
-      waiting ≡ [] → LinesServedSoFar (InTurn gives) known left before now old new
-  so_far_midway known left bytes before now old new kept waiting count came m none = record {
+  pub so_far_midway : (known left : Option (List ℕ)) (bytes : List ℕ) (before : Option (List ℕ))
+      (origin : S) (now : LinePlace S)
+      → Consumes known left bytes → IsMidway gives bytes before origin now → now.waiting ≡ []
+      → LinesServedSoFar (InTurn gives) known left before now.written origin now.state
+  so_far_midway known left bytes before origin now came m none = record {
     bytes = bytes;
     came = came;
     items = m.lines;
@@ -174,11 +171,11 @@ module _ {S : Type 0} (gives : S → List ℕ → List ℕ → S → Type 0) whe
   }
 
   -- what is cut off, of all that the reader told
-  pub in_part_cut : (known left : Option (List ℕ)) (bytes : List ℕ) (before now : Option (List ℕ))
-      (old new : S)
-      → Consumes known left bytes → IsCutOff gives bytes before now old new →
-      LinesServedInPart (InTurn gives) known before now old new
-  in_part_cut None left bytes before now old new came x =
+  pub in_part_cut : (known left : Option (List ℕ)) (bytes : List ℕ) (before : Option (List ℕ))
+      (origin : S) (now : LinePlace S)
+      → Consumes known left bytes → IsCutOff gives bytes before origin now
+      → LinesServedInPart (InTurn gives) known before now.written origin now.state
+  in_part_cut None left bytes before origin now came x =
       let l = lines_after x.answered x.tail x.are_lines in
       record {
         bytes = ended x.answered ++ x.tail;
@@ -191,8 +188,8 @@ module _ {S : Type 0} (gives : S → List ℕ → List ℕ → S → Type 0) whe
         get = x.in_turn;
         written = x.written;
       }
-  in_part_cut (Some xs) None bytes before now old new came x = absurd came
-  in_part_cut (Some xs) (Some ys) bytes before now old new came x =
+  in_part_cut (Some xs) None bytes before origin now came x = absurd came
+  in_part_cut (Some xs) (Some ys) bytes before origin now came x =
       let l = lines_after x.answered (x.tail ++ ys) x.are_lines in
       record {
         bytes = ended x.answered ++ (x.tail ++ ys);
@@ -207,11 +204,10 @@ module _ {S : Type 0} (gives : S → List ℕ → List ℕ → S → Type 0) whe
       }
 
   -- the end of the input, with no byte after the last line feed
-  pub ends_empty : (bytes : List ℕ) (before now : Option (List ℕ)) (old new : S)
-      (kept : Option (List ℕ)) (waiting : List ℕ) (count : ℕ)
-      → IsMidway gives bytes before now old new kept waiting count → kept ≡ Some [] →
-      IsEnded gives bytes before now old new waiting count
-  ends_empty bytes before now old new kept waiting count m is =
+  pub ends_empty : (bytes : List ℕ) (before : Option (List ℕ)) (origin : S) (now : LinePlace S)
+      → IsMidway gives bytes before origin now → now.line ≡ Some []
+      → IsEnded gives bytes before origin now
+  ends_empty bytes before origin now m is =
       let none : m.rest ≡ [] = elim (kept_cases m.rest) [
         | inl fits ↦ let same : Some m.rest ≡ Some [] = sym fits.1 ∙ sym m.kept_is ∙ is in cc
         | inr long ↦ let same : None ≡ Some [] = sym long.1 ∙ sym m.kept_is ∙ is in cc
@@ -237,18 +233,16 @@ module _ {S : Type 0} (gives : S → List ℕ → List ℕ → S → Type 0) whe
   some_rest lines (byte ∷ rest) some = refl
 
   -- the end of the input, with a last line that has no line feed
-  pub ends_line : (bytes : List ℕ) (before now next : Option (List ℕ)) (old mid new : S)
-      (kept : Option (List ℕ)) (waiting left text : List ℕ) (count counted : ℕ)
-      → IsMidway gives bytes before now old mid kept waiting count → kept ≢ Some [] →
-      ((line : List ℕ) → kept ≡ line_kept line → gives mid line text new)
-      → Forwards now next (waiting ++ (text ++ 10 ∷ [])) left →
-      counted ≡ min (count + 1) (2 ^ 32 - 1)
-      → IsEnded gives bytes before next old new left counted
+  pub ends_line : (bytes : List ℕ) (before : Option (List ℕ)) (origin : S) (now next : LinePlace S)
+      (text : List ℕ)
+      → IsMidway gives bytes before origin now → now.line ≢ Some []
+      → GivesKept gives now.line now.state text next.state
+      → next.line ≡ Some [] → next.answered ≡ min (now.answered + 1) (2 ^ 32 - 1)
+      → Forwards now.written next.written (now.waiting ++ (text ++ 10 ∷ [])) next.waiting
+      → IsEnded gives bytes before origin next
   unfolding midway_feed
-  ends_line bytes before now next old mid new kept waiting left text count counted m other given
-      more is =
-      let f = midway_feed bytes before now next old mid new kept waiting left text count counted m
-      given more is in
+  ends_line bytes before origin now next text m other given no_line is more =
+      let f = midway_feed bytes before origin now next text m given no_line is more in
       record {
         lines = m.lines ++ m.rest ∷ [];
         are_lines = record {
@@ -265,15 +259,15 @@ module _ {S : Type 0} (gives : S → List ℕ → List ℕ → S → Type 0) whe
       }
 
   -- the same, where the answer is not written
-  pub in_part_line : (bytes : List ℕ) (before now next : Option (List ℕ)) (old mid new : S)
-      (kept : Option (List ℕ)) (waiting text : List ℕ) (count : ℕ)
-      → IsMidway gives bytes before now old mid kept waiting count → kept ≢ Some [] →
-      ((line : List ℕ) → kept ≡ line_kept line → gives mid line text new)
-      → WritesBeginning now next (waiting ++ (text ++ 10 ∷ []))
-      → LinesServedInPart (InTurn gives) (Some bytes) before next old new
+  pub in_part_line : (bytes : List ℕ) (before : Option (List ℕ)) (origin : S)
+      (now next : LinePlace S) (text : List ℕ)
+      → IsMidway gives bytes before origin now → now.line ≢ Some []
+      → GivesKept gives now.line now.state text next.state
+      → WritesBeginning now.written next.written (now.waiting ++ (text ++ 10 ∷ []))
+      → LinesServedInPart (InTurn gives) (Some bytes) before next.written origin next.state
   unfolding cut_at_feed
-  in_part_line bytes before now next old mid new kept waiting text count m other given more =
-      let x = cut_at_feed bytes before now next old mid new kept waiting text count m given more in
+  in_part_line bytes before origin now next text m other given more =
+      let x = cut_at_feed bytes before origin now next text m given more in
       record {
         bytes = bytes;
         told = refl;
@@ -293,26 +287,26 @@ module _ {S : Type 0} (gives : S → List ℕ → List ℕ → S → Type 0) whe
       }
 
   -- at the end what waits is written, or a beginning of it
-  pub served_ended : (bytes : List ℕ) (before now next : Option (List ℕ)) (old new : S)
-      (waiting : List ℕ) (count : ℕ)
-      → IsEnded gives bytes before now old new waiting count → Appends now next waiting →
-      LinesServed (InTurn gives) (Some bytes) before next old new count
-  served_ended bytes before now next old new waiting count e more = record {
+  pub served_ended : (bytes : List ℕ) (before next : Option (List ℕ)) (origin : S)
+      (now : LinePlace S)
+      → IsEnded gives bytes before origin now → Appends now.written next now.waiting
+      → LinesServed (InTurn gives) (Some bytes) before next origin now.state now.answered
+  served_ended bytes before next origin now e more = record {
     bytes = bytes;
     told = refl;
     items = e.lines;
     are_items = e.are_lines;
     texts = e.texts;
     get = e.in_turn;
-    written = Forwards-whole before now next (ended e.texts) waiting e.forwards more;
+    written = Forwards-whole before now.written next (ended e.texts) now.waiting e.forwards more;
     count_is = e.count_is;
   }
 
-  pub in_part_ended : (bytes : List ℕ) (before now next : Option (List ℕ)) (old new : S)
-      (waiting : List ℕ) (count : ℕ)
-      → IsEnded gives bytes before now old new waiting count → WritesBeginning now next waiting →
-      LinesServedInPart (InTurn gives) (Some bytes) before next old new
-  in_part_ended bytes before now next old new waiting count e more = record {
+  pub in_part_ended : (bytes : List ℕ) (before next : Option (List ℕ)) (origin : S)
+      (now : LinePlace S)
+      → IsEnded gives bytes before origin now → WritesBeginning now.written next now.waiting
+      → LinesServedInPart (InTurn gives) (Some bytes) before next origin now.state
+  in_part_ended bytes before next origin now e more = record {
     bytes = bytes;
     told = refl;
     answered = e.lines;
@@ -320,7 +314,7 @@ module _ {S : Type 0} (gives : S → List ℕ → List ℕ → S → Type 0) whe
     are_items = rw (append-nil e.lines) e.are_lines;
     texts = e.texts;
     get = e.in_turn;
-    written = beginning_of_left before now next (ended e.texts) waiting e.forwards more;
+    written = beginning_of_left before now.written next (ended e.texts) now.waiting e.forwards more;
   }
 
   told_whole : (known left : Option (List ℕ)) (bytes read : List ℕ) → Consumes known left bytes →

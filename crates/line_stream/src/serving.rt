@@ -1,16 +1,14 @@
 //! The lines of a stream are answered.
-ghost use Rattle.std.specs.Prelude.{◌≡◌, ◌+◌, ◌-◌, ◌^◌, ◌++◌, min, ℕ, List, [], ◌∷◌, Some, OnOk};
-ghost use Rattle.std.specs.Prelude.{IfOk, IfErr, MatchResult, Option};
+ghost use Rattle.std.specs.Prelude.{◌≡◌, ℕ, List, [], Some, OnOk, IfOk, IfErr};
 ghost use Rattle.std.specs.Io.KnownBytes.{IsAtEnd};
 ghost use Rattle.byte_streams.specs.Counted.{Counts, FailsWithCause, IsFlushed, LeavesFlushed};
-ghost use Rattle.byte_streams.specs.Counted.{reader_of, write_faults, writer_of};
+ghost use Rattle.byte_streams.specs.Counted.{reader_of, write_faults};
 ghost use Rattle.byte_streams.specs.InTurn.{InTurn};
-ghost use Rattle.byte_streams.specs.Writing.{Forwards, WritesBeginning};
-ghost use Rattle.byte_streams.specs.declared.fault.StreamFault.TheVariants.{WriteFailed};
 ghost use Rattle.line_stream.specs.Answers.{Answered};
-ghost use Rattle.line_stream.specs.Serving.{LinesServed, LinesStopped};
-ghost use Rattle.line_stream.specs.Inner.Lines.{LinesServedInPart};
-ghost use Rattle.line_stream.specs.Inner.Midway.{line_kept, IsMidway, IsEnded, IsCutOff};
+ghost use Rattle.line_stream.specs.Serving.{LinesServedOn, LinesStoppedOn};
+ghost use Rattle.line_stream.specs.Inner.Midway.{GivesKept};
+ghost use Rattle.line_stream.specs.Inner.Steps.{AnswersRest, EndsLine, FinishesLines, PutsLine};
+ghost use Rattle.line_stream.specs.Inner.Steps.{TakesBytes, line_place};
 
 use crate::handler::Handler;
 use crate::line::LineBuffer;
@@ -37,14 +35,8 @@ fn answer_line<W: Write, H: Handler>(
     writer: &mut CountedWriter<W>,
 ) -> Result<(), StreamFault>
     ensures answered { (text : List ℕ)
-        × ((whole : List ℕ) → line.now ≡ line_kept whole
-        → Answered H.answers H.loses H.no_memory H.too_long state.old whole text state.new)
-        × MatchResult result
-        (λ _. Forwards (W.contents (writer_of writer.old)) (W.contents (writer_of writer.new))
-        (outbox.old ++ (text ++ 10 ∷ [])) outbox.new)
-        (λ fault. (fault ≡ WriteFailed)
-        × WritesBeginning (W.contents (writer_of writer.old)) (W.contents (writer_of writer.new))
-        (outbox.old ++ (text ++ 10 ∷ []))) }
+        × GivesKept (Answered H.Handler) line.now state.old text state.new
+        × PutsLine W.contents writer.old writer.new outbox.old text outbox.new result }
     ensures cause { Counts (write_faults writer.old) (write_faults writer.new) result }
 {
     let Some(bytes) = line.get() else {
@@ -76,16 +68,9 @@ impl Progress {
         state: &mut H::State,
         writer: &mut CountedWriter<W>,
     ) -> Result<(), StreamFault>
-        ensures answered { (text : List ℕ)
-            × ((whole : List ℕ) → self.old.line ≡ line_kept whole
-            → Answered H.answers H.loses H.no_memory H.too_long state.old whole text state.new)
-            × MatchResult result
-            (λ _. (self.new.line ≡ Some []) × (self.new.answered ≡ min (self.old.answered + 1) (2 ^ 32 - 1))
-            × Forwards (W.contents (writer_of writer.old)) (W.contents (writer_of writer.new))
-            (self.old.outbox ++ (text ++ 10 ∷ [])) self.new.outbox)
-            (λ fault. (fault ≡ WriteFailed)
-            × WritesBeginning (W.contents (writer_of writer.old)) (W.contents (writer_of writer.new))
-            (self.old.outbox ++ (text ++ 10 ∷ []))) }
+        ensures answered { EndsLine H.Handler
+            (line_place W.contents self.old state.old writer.old)
+            (line_place W.contents self.new state.new writer.new) result }
         ensures cause { Counts (write_faults writer.old) (write_faults writer.new) result }
     {
         answer_line::<W, H>(self.alloc, &self.line, &mut self.outbox, state, writer)?;
@@ -101,15 +86,9 @@ impl Progress {
         state: &mut H::State,
         writer: &mut CountedWriter<W>,
     ) -> Result<(), StreamFault>
-        ensures answered { let gives = Answered H.answers H.loses H.no_memory H.too_long in
-            (origin : H.State) (before : Option (List ℕ)) (came : List ℕ)
-            → IsMidway gives came before (W.contents (writer_of writer.old)) origin state.old
-            self.old.line self.old.outbox self.old.answered
-            → MatchResult result
-            (λ _. IsMidway gives (came ++ bytes.now) before (W.contents (writer_of writer.new)) origin state.new
-            self.new.line self.new.outbox self.new.answered)
-            (λ fault. (fault ≡ WriteFailed)
-            × IsCutOff gives (came ++ bytes.now) before (W.contents (writer_of writer.new)) origin state.new) }
+        ensures answered { TakesBytes H.Handler bytes.now
+            (line_place W.contents self.old state.old writer.old)
+            (line_place W.contents self.new state.new writer.new) result }
         ensures cause { Counts (write_faults writer.old) (write_faults writer.new) result }
     {
         for byte in bytes {
@@ -128,15 +107,9 @@ impl Progress {
         state: &mut H::State,
         writer: &mut CountedWriter<W>,
     ) -> Result<(), StreamFault>
-        ensures answered { let gives = Answered H.answers H.loses H.no_memory H.too_long in
-            (origin : H.State) (before : Option (List ℕ)) (came : List ℕ)
-            → IsMidway gives came before (W.contents (writer_of writer.old)) origin state.old
-            self.old.line self.old.outbox self.old.answered
-            → MatchResult result
-            (λ _. IsEnded gives came before (W.contents (writer_of writer.new)) origin state.new
-            self.new.outbox self.new.answered)
-            (λ fault. (fault ≡ WriteFailed)
-            × LinesServedInPart (InTurn gives) (Some came) before (W.contents (writer_of writer.new)) origin state.new) }
+        ensures answered { AnswersRest H.Handler
+            (line_place W.contents self.old state.old writer.old)
+            (line_place W.contents self.new state.new writer.new) result }
         ensures cause { Counts (write_faults writer.old) (write_faults writer.new) result }
     {
         if self.line.is_empty() {
@@ -152,14 +125,9 @@ impl Progress {
         state: &mut H::State,
         writer: &mut CountedWriter<W>,
     ) -> Result<u32, StreamFault>
-        ensures answered { let gives = Answered H.answers H.loses H.no_memory H.too_long in
-            (origin : H.State) (before : Option (List ℕ)) (came : List ℕ)
-            → IsMidway gives came before (W.contents (writer_of writer.old)) origin state.old
-            self.old.line self.old.outbox self.old.answered
-            → MatchResult result
-            (LinesServed (InTurn gives) (Some came) before (W.contents (writer_of writer.new)) origin state.new)
-            (λ fault. (fault ≡ WriteFailed)
-            × LinesServedInPart (InTurn gives) (Some came) before (W.contents (writer_of writer.new)) origin state.new) }
+        ensures answered { FinishesLines H.Handler
+            (line_place W.contents self.old state.old writer.old)
+            (line_place W.contents self.new state.new writer.new) result }
         ensures cause { Counts (write_faults writer.old) (write_faults writer.new) result }
         ensures flushed { OnOk result (IsFlushed writer.new) }
     {
@@ -190,15 +158,12 @@ pub fn serve_lines<R: Read, W: Write, H: Handler>(
     writer: &mut CountedWriter<W>,
     state: &mut H::State,
 ) -> Result<u32, StreamFault>
-    ensures served { IfOk result (LinesServed (InTurn (Answered H.answers H.loses H.no_memory
-        H.too_long))
-        (R.remaining (reader_of reader.old)) (W.contents (writer_of writer.old)) (W.contents (writer_of writer.new)) state.old state.new) }
+    ensures served { IfOk result (LinesServedOn R.remaining W.contents (InTurn (Answered H.Handler))
+        reader.old writer.old writer.new state.old state.new) }
     ensures at_end { OnOk result (IsAtEnd (R.remaining (reader_of reader.new))) }
-    ensures stopped { IfErr result
-        (LinesStopped (InTurn (Answered H.answers H.loses H.no_memory H.too_long))
-        (R.remaining (reader_of reader.old)) (R.remaining (reader_of reader.new)) (W.contents (writer_of writer.old)) (W.contents (writer_of writer.new))
-        state.old state.new
-        ((reader.new ≡ reader.old) × (writer.new ≡ writer.old) × (state.new ≡ state.old))) }
+    ensures stopped { IfErr result (LinesStoppedOn R.remaining W.contents
+        (InTurn (Answered H.Handler)) reader.old reader.new writer.old writer.new
+        state.old state.new) }
     ensures cause { FailsWithCause reader.old reader.new writer.old writer.new result }
     ensures flushed { LeavesFlushed writer.new result }
 {

@@ -9,7 +9,7 @@ use byte_streams::{CountedReader, CountedWriter, StreamFault};
 use line_api::run_lines;
 use request_book::{Book, Keeper, MemKeeper};
 use ring_model::Rings;
-use ring_words::{Command, Delivery, Done, Hour, Limits, Refusal, Reply};
+use ring_words::{Command, Deed, Delivery, Done, Hour, Limits, Refusal, Reply};
 use std::alloc::{AllocError, Global};
 use std::test::Fail;
 use test_fixtures::{Giver, Taker};
@@ -102,9 +102,15 @@ fn deliveries_in_one_call_are_answered_alike(rt: HostRuntime) -> Result<(), Fail
     let answers = answers_in_one_call(rt.alloc(), &[EARLY_ADD, CREATE, EARLY_ADD, ADD])?;
     let want = [
         Ok(Reply::Refused(Refusal::NoRing)),
-        Ok(Reply::Done(Done::Create { version: 0 })),
+        Ok(Reply::Done(Done {
+            version: 0,
+            deed: Deed::Create,
+        })),
         Ok(Reply::Refused(Refusal::NoRing)),
-        Ok(Reply::Done(Done::Add { id: 0, version: 1 })),
+        Ok(Reply::Done(Done {
+            version: 1,
+            deed: Deed::Add { id: 0 },
+        })),
     ];
     assert!(rt; answers.as_slice() == want.as_slice());
     Ok(())

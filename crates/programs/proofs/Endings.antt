@@ -5,6 +5,7 @@ use Rattle.byte_streams.specs.declared.counted.CountedReader.{CountedReader}
 use Rattle.byte_streams.specs.declared.counted.CountedWriter.{CountedWriter}
 use Rattle.command_line.specs.declared.task.Task.{Task}
 use Rattle.builder.specs.Step.{State}
+use Rattle.programs.specs.Begun.{Closing}
 use Rattle.programs.specs.Performed.{EndsSo, FailsSo, ShowsStore}
 use Rattle.programs.specs.declared.faults.ProgramFault.{ProgramFault}
 use Rattle.programs.specs.declared.performing.Ending.{Ending}
@@ -22,19 +23,21 @@ read_ill : {A E : Type 0} (read : Result A E) (Fails : E → Type 0) (why : E) �
     → read ≡ Err why → Fails why
 read_ill read Fails why fails is = subst (λ r. IfErr r Fails) is fails
 
-module _ {K W : Type 0} (stores : Keeping K) (Begins : K → Type 0) (contents : W → Option (List ℕ))
+module _ {K W : Type 0} (stores : Keeping K) (Begins : K → Type 0)
+    (Ends : K → Closing → Type 0) (contents : W → Option (List ℕ))
     (writer later : CountedWriter W) where
   -- what was asked for was shown
   pub ended_shown : (result : Result Ending ProgramFault) (read : Result Question ProgramFault)
-      (prefix suffix : List ℕ) (Asks : Question → Type 0) (Ends : Ending → Type 0) → IfOk read Asks
-      → (ShowsStore stores Begins contents writer later prefix suffix Asks → Ends Done)
+      (prefix suffix : List ℕ) (Asks : Question → Type 0) (Whole : Ending → Type 0) → IfOk read Asks
+      → (ShowsStore stores Begins Ends contents writer later prefix suffix Asks → Whole Done)
       → IfOk result (λ ending. (ending ≡ Done)
-      × ShowsStore stores Begins contents writer later prefix suffix (λ question. read ≡ Ok question))
-      → IfOk result Ends
-  ended_shown (Ok ending) read prefix suffix Asks Ends asks make done =
+      × ShowsStore stores Begins Ends contents writer later prefix suffix
+      (λ question. read ≡ Ok question))
+      → IfOk result Whole
+  ended_shown (Ok ending) read prefix suffix Asks Whole asks make done =
       let shown = done.1 in
-      subst Ends (sym done.0) (make (shown.0, read_well read Asks shown.0 asks shown.1, shown.2))
-  ended_shown (Err why) read prefix suffix Asks Ends asks make done = tt
+      subst Whole (sym done.0) (make (shown.0, read_well read Asks shown.0 asks shown.1, shown.2))
+  ended_shown (Err why) read prefix suffix Asks Whole asks make done = tt
 
 -- what was asked for failed: its words were not of their form, or the work did
 pub failed_asked : {A W : Type 0} (writer later : CountedWriter W)
@@ -53,33 +56,39 @@ failed_asked writer later (Err why) read Asks Forms Fails Work asks forms ill wo
       | inr done ↦ work why (done.0, read_well read Asks done.0 asks done.1, done.2)
     ]
 
-module _ {M K R W : Type 0} (memory : Keeping M) (stores : Keeping K) (Begins : K → Type 0)
-    (remaining : R → Option (List ℕ)) (contents : W → Option (List ℕ))
-    (reader late_reader : CountedReader R) (writer later : CountedWriter W)
-    (IsMade : State → ℕ → Type 0) where
+module _ {M K R W : Type 0} (memory : Keeping M) (stores : Keeping K)
+    (Begins : List ℕ → K → Type 0) (Ends : K → Closing → Type 0) (remaining : R → Option (List ℕ))
+    (contents : W → Option (List ℕ)) (reader late_reader : CountedReader R)
+    (writer later : CountedWriter W) (IsMade : List ℕ → State → ℕ → Type 0) where
   -- a task ended as the one that it is
   pub ends_as : (ending : Ending) (task asked : Task) → task ≡ asked
-      → EndsSo memory stores Begins remaining contents reader late_reader writer later IsMade asked
-      ending
-      → EndsSo memory stores Begins remaining contents reader late_reader writer later IsMade task
-      ending
-  ends_as ending task asked is = subst (λ t. EndsSo memory stores Begins remaining contents reader
-      late_reader writer later IsMade t ending) (sym is)
+      → EndsSo memory stores Begins Ends remaining contents reader late_reader writer later IsMade
+      asked ending
+      → EndsSo memory stores Begins Ends remaining contents reader late_reader writer later IsMade
+      task ending
+  ends_as ending task asked is = subst (λ t. EndsSo memory stores Begins Ends remaining contents
+      reader late_reader writer later IsMade t ending) (sym is)
 
   -- and so it is refused
   pub refused_as : (task : Task) (ending asked : Ending) → ending ≡ asked
-      → EndsSo memory stores Begins remaining contents reader late_reader writer later IsMade task
-      ending
-      → EndsSo memory stores Begins remaining contents reader late_reader writer later IsMade task asked
-  refused_as task ending asked is = subst (EndsSo memory stores Begins remaining contents reader
+      → EndsSo memory stores Begins Ends remaining contents reader late_reader writer later IsMade
+      task ending
+      → EndsSo memory stores Begins Ends remaining contents reader late_reader writer later IsMade
+      task asked
+  refused_as task ending asked is = subst (EndsSo memory stores Begins Ends remaining contents reader
       late_reader writer later IsMade task) is
 
-module _ {M K R W : Type 0} (memory : Keeping M) (stores : Keeping K) (Begins : K → Type 0)
-    (remaining : R → Option (List ℕ)) (contents : W → Option (List ℕ))
-    (reader late_reader : CountedReader R) (writer later : CountedWriter W) where
+module _ {M K R W : Type 0} (memory : Keeping M) (stores : Keeping K)
+    (Begins : List ℕ → K → Type 0) (Ends : K → Closing → Type 0) (remaining : R → Option (List ℕ))
+    (contents : W → Option (List ℕ)) (reader late_reader : CountedReader R)
+    (writer later : CountedWriter W) where
   -- a task failed as the one that it is
-  pub fails_as : (why : ProgramFault) (task asked : Task) → task ≡ asked
-      → FailsSo memory stores Begins remaining contents reader late_reader writer later asked why
-      → FailsSo memory stores Begins remaining contents reader late_reader writer later task why
-  fails_as why task asked is = subst (λ t. FailsSo memory stores Begins remaining contents reader
-      late_reader writer later t why) (sym is)
+  pub fails_as : (Refuses : List ℕ → ProgramFault → Type 0)
+      (IsUnmade : List ℕ → State → ℕ → ProgramFault → Type 0) (why : ProgramFault)
+      (task asked : Task) → task ≡ asked
+      → FailsSo memory stores Begins Ends remaining contents reader late_reader writer later
+      Refuses IsUnmade asked why
+      → FailsSo memory stores Begins Ends remaining contents reader late_reader writer later
+      Refuses IsUnmade task why
+  fails_as Refuses IsUnmade why task asked is = subst (λ t. FailsSo memory stores Begins Ends
+      remaining contents reader late_reader writer later Refuses IsUnmade t why) (sym is)

@@ -1,58 +1,108 @@
--- What was done over the keeper of a store.
-use Rattle.std.proofs.Common.{◌≡◌, List, Option, ℕ, subst, sym}
+-- What was done over the keeper of a store that was closed.
+use Rattle.std.proofs.Common.{◌≡◌, inl, inr, List, Option, Ok, Err, ℕ, subst, sym}
+use Rattle.std.specs.Prelude.{OnOk, ⊤}
 use Rattle.byte_streams.specs.declared.counted.CountedReader.{CountedReader}
 use Rattle.byte_streams.specs.declared.counted.CountedWriter.{CountedWriter}
 use Rattle.byte_streams.specs.declared.fault.StreamFault.{StreamFault}
 use Rattle.builder.specs.Step.{State}
 use Rattle.ring_messages.specs.declared.told.Told.{Told}
 use Rattle.ring_words.specs.declared.device.Row.{Row}
-use Rattle.programs.specs.Importing.{Imports}
-use Rattle.programs.specs.Begun.{IsAny}
+use Rattle.programs.specs.Importing.{Imports, TellsImport}
+use Rattle.programs.specs.Begun.{Closing, IsClosed, WasClosed, IsStoreFault}
 use Rattle.programs.specs.Running.{AnswersLines, StopsLines}
-use Rattle.programs.specs.Showing.{FailsToShow, IsAsked, ShowsRead}
+use Rattle.programs.specs.Showing.{IsAsked}
 use Rattle.programs.specs.declared.faults.ProgramFault.{ProgramFault}
+use Rattle.programs.specs.declared.faults.ProgramFault.TheVariants.{StoreFault}
 use Rattle.programs.specs.declared.importing.ImportAsk.{ImportAsk}
-use Rattle.ring_reads.specs.declared.reads.Question.{Question}
-use Rattle.programs.proofs.Runs.{answers, asked, fails_to_show, imports, shows, stops}
+use Rattle.programs.proofs.Runs.{answers, asked, imports, stops}
 use Rattle.ring_book.specs.Book.{Keeping}
 
-module _ {K : Type 0} (g : Keeping K) (Begins : K → Type 0) (kept : K) (is : Begins kept)
-    (Ends : K → Type 0) where
+-- what holds of a keeper that was closed well
+pub on_closed : (closed : Closing) (Ends : Closing → Type 0) (whole : Type 0)
+    → (Ends (Ok tt) → whole) → Ends closed → OnOk closed whole
+on_closed (Ok value) Ends whole make ended = make ended
+on_closed (Err why) Ends whole make ended = tt
+
+-- and where it is known to have been
+pub at_end : (closed : Closing) (Ends : Closing → Type 0) → closed ≡ Ok tt → Ends closed
+    → Ends (Ok tt)
+at_end closed Ends is = subst Ends is
+
+-- a store that was closed well was left
+pub closed_left : {K : Type 0} (Ends : K → Closing → Type 0) (keeper : K) → IsClosed Ends keeper
+    → WasClosed Ends keeper
+closed_left Ends keeper ended = (Ok tt, ended)
+
+-- The keeper of a store begins so, and another one, which was made of it, is left so.
+module _ {K : Type 0} (g : Keeping K) (Begins Ends : K → Type 0) (kept left : K)
+    (is : Begins kept) (ends : Ends left) where
   same_kept : (keeper : K) → keeper ≡ kept → Begins keeper
   same_kept keeper same = subst Begins (sym same) is
 
+  same_left : (keeper : K) → keeper ≡ left → Ends keeper
+  same_left keeper same = subst Ends (sym same) ends
+
   module _ {R W : Type 0} (remaining : R → Option (List ℕ)) (contents : W → Option (List ℕ))
       (reader late_reader : CountedReader R) (writer late_writer : CountedWriter W) where
-    pub answers_kept : AnswersLines g (λ k. k ≡ kept) Ends remaining contents reader late_reader writer
-        late_writer
-        → AnswersLines g Begins IsAny remaining contents reader late_reader writer late_writer
-    answers_kept all = answers g (λ k. k ≡ kept) Begins Ends same_kept remaining contents
-        reader late_reader writer late_writer all
+    pub answers_kept : AnswersLines g (λ k. k ≡ kept) (λ k. k ≡ left) remaining contents reader
+        late_reader writer late_writer
+        → AnswersLines g Begins Ends remaining contents reader late_reader writer late_writer
+    answers_kept all = answers g (λ k. k ≡ kept) Begins (λ k. k ≡ left) Ends same_kept same_left
+        remaining contents reader late_reader writer late_writer all
 
     pub stops_kept : (why : StreamFault)
-        → StopsLines g (λ k. k ≡ kept) Ends remaining contents reader late_reader writer late_writer why
-        → StopsLines g Begins IsAny remaining contents reader late_reader writer late_writer why
-    stops_kept why all = stops g (λ k. k ≡ kept) Begins Ends same_kept remaining contents
-        reader late_reader writer late_writer why all
-
-  module _ {W : Type 0} (contents : W → Option (List ℕ)) (writer later : CountedWriter W)
-      (prefix suffix : List ℕ) (question : Question) where
-    pub shows_kept : ShowsRead g (λ k. k ≡ kept) Ends contents writer later prefix
-        suffix question → ShowsRead g Begins IsAny contents writer later prefix suffix question
-    shows_kept s = shows g (λ k. k ≡ kept) Begins Ends same_kept contents writer later
-        prefix suffix question s
-
-    pub fails_kept : (why : ProgramFault)
-        → FailsToShow g (λ k. k ≡ kept) Ends contents writer later prefix suffix
-        question why → FailsToShow g Begins IsAny contents writer later prefix suffix question why
-    fails_kept why f = fails_to_show g (λ k. k ≡ kept) Begins Ends same_kept contents writer
-        later prefix suffix question why f
+        → StopsLines g (λ k. k ≡ kept) (λ k. k ≡ left) remaining contents reader late_reader writer
+        late_writer why
+        → StopsLines g Begins Ends remaining contents reader late_reader writer late_writer why
+    stops_kept why all = stops g (λ k. k ≡ kept) Begins (λ k. k ≡ left) Ends same_kept same_left
+        remaining contents reader late_reader writer late_writer why all
 
   pub asked_kept : (Tells : State → ℕ → Type 0)
-      → IsAsked g (λ k. k ≡ kept) Ends Tells → IsAsked g Begins IsAny Tells
-  asked_kept Tells a = asked g (λ k. k ≡ kept) Begins Ends same_kept Tells a
+      → IsAsked g (λ k. k ≡ kept) (λ k. k ≡ left) Tells → IsAsked g Begins Ends Tells
+  asked_kept Tells a = asked g (λ k. k ≡ kept) Begins (λ k. k ≡ left) Ends same_kept same_left Tells a
 
   pub imports_kept : (ask : ImportAsk) (rows : List Row) (hour : ℕ) (t : Told)
-      → Imports g (λ k. k ≡ kept) Ends ask rows hour t → Imports g Begins IsAny ask rows hour t
-  imports_kept ask rows hour t i = imports g (λ k. k ≡ kept) Begins Ends same_kept ask rows
-      hour t i
+      → Imports g (λ k. k ≡ kept) (λ k. k ≡ left) ask rows hour t
+      → Imports g Begins Ends ask rows hour t
+  imports_kept ask rows hour t i = imports g (λ k. k ≡ kept) Begins (λ k. k ≡ left) Ends same_kept
+      same_left ask rows hour t i
+
+-- what was asked of a store that was closed well was asked of one that was left
+pub asked_left : {K : Type 0} (g : Keeping K) (Begins : K → Type 0) (Ends : K → Closing → Type 0)
+    (Tells : State → ℕ → Type 0) → IsAsked g Begins (IsClosed Ends) Tells
+    → IsAsked g Begins (WasClosed Ends) Tells
+asked_left g Begins Ends Tells a = asked g Begins Begins (IsClosed Ends) (WasClosed Ends)
+    (λ keeper is. is) (closed_left Ends) Tells a
+
+-- and so it is with what an import is told
+pub tells_left : {K : Type 0} (g : Keeping K) (Begins : K → Type 0) (Ends : K → Closing → Type 0)
+    (known : Option (List ℕ)) (ask : ImportAsk) (hour : ℕ) (t : Told)
+    → TellsImport g Begins (IsClosed Ends) known ask hour t
+    → TellsImport g Begins (WasClosed Ends) known ask hour t
+tells_left g Begins Ends known ask hour t told = elim told [
+  | inl done ↦ inl (
+    done.0,
+    done.1,
+    imports g Begins Begins (IsClosed Ends) (WasClosed Ends)
+        (λ keeper is. is) (closed_left Ends) ask done.0 hour t done.2,
+  )
+  | inr bad ↦ inr bad
+]
+
+-- a store that was asked keeps its content, whatever was told
+pub asked_anyhow : {K : Type 0} (g : Keeping K) (Begins Ends : K → Type 0)
+    (Tells : State → ℕ → Type 0) → IsAsked g Begins Ends Tells
+    → IsAsked g Begins Ends (λ rings hour. ⊤)
+asked_anyhow g Begins Ends Tells a = record {
+  keeper = a.keeper;
+  later = a.later;
+  opened = a.opened;
+  left = a.left;
+  stays_sound = a.stays_sound;
+  stays = a.stays;
+  tells = λ sound. tt;
+}
+
+-- a fault of closing is the store's
+pub closing_fault : (why : ProgramFault) → why ≡ StoreFault → IsStoreFault why
+closing_fault why is = subst IsStoreFault (sym is) tt

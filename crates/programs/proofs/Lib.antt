@@ -4,3 +4,4 @@ pub mod Kept
 pub mod Renewals
 pub mod Runs
 pub mod Services
+pub mod Lives

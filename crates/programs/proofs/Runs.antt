@@ -1,5 +1,5 @@
 -- What was done over a keeper of which less is known, and over a new one.
-use Rattle.std.proofs.Common.{◌≡◌, inl, inr, List, Option, Result, Ok, Err, ℕ, subst, sym}
+use Rattle.std.proofs.Common.{◌≡◌, List, Option, Result, Ok, Err, ℕ, subst, sym}
 use Rattle.std.specs.Prelude.{IfErr, IfOk, MatchResult, OnOk}
 use Rattle.byte_streams.specs.declared.counted.CountedReader.{CountedReader}
 use Rattle.byte_streams.specs.declared.counted.CountedWriter.{CountedWriter}
@@ -12,10 +12,8 @@ use Rattle.ring_words.specs.declared.device.Row.{Row}
 use Rattle.programs.specs.Begun.{IsAny, IsBegun, IsNew}
 use Rattle.programs.specs.Importing.{Imports}
 use Rattle.programs.specs.Running.{AnswersLines, StopsLines}
-use Rattle.programs.specs.Showing.{FailsToShow, IsAsked, ShowsRead}
-use Rattle.programs.specs.declared.faults.ProgramFault.{ProgramFault}
+use Rattle.programs.specs.Showing.{IsAsked}
 use Rattle.programs.specs.declared.importing.ImportAsk.{ImportAsk}
-use Rattle.ring_reads.specs.declared.reads.Question.{Question}
 use Rattle.ring_book.specs.Book.{Keeping}
 
 -- what three facts on a result make where it is well
@@ -51,77 +49,60 @@ pub at_err : {A E : Type 0} (result : Result A E) (why : E) (Whole : E → Type 
     → result ≡ Err why → IfErr result Whole → Whole why
 at_err result why Whole is holds = subst (λ r. IfErr r Whole) is holds
 
-module _ {K : Type 0} (g : Keeping K) (Begins Early Ends : K → Type 0)
+module _ {K : Type 0} (g : Keeping K) (Begins Early : K → Type 0)
     (weaken : (keeper : K) → Begins keeper → Early keeper) where
   -- a book over a keeper that begins so is one over a keeper of which less is known
   pub begun : (book : Parts RingMachine K) → IsBegun Begins book → IsBegun Early book
   begun book is = record {
-    rings = is.rings;
-    devices = is.devices;
-    ids = is.ids;
-    versions = is.versions;
+    full = is.full;
     keeper = weaken book.keeper is.keeper;
   }
+
+-- and so is what was done over one, of whose end less is known
+module _ {K : Type 0} (g : Keeping K) (Begins Early Ends Late : K → Type 0)
+    (weaken : (keeper : K) → Begins keeper → Early keeper)
+    (leave : (keeper : K) → Ends keeper → Late keeper) where
+  early : (book : Parts RingMachine K) → IsBegun Begins book → IsBegun Early book
+  early = begun g Begins Early weaken
 
   module _ {R W : Type 0} (remaining : R → Option (List ℕ)) (contents : W → Option (List ℕ))
       (reader late_reader : CountedReader R) (writer late_writer : CountedWriter W) where
     pub answers : AnswersLines g Begins Ends remaining contents reader late_reader writer late_writer
-        → AnswersLines g Early IsAny remaining contents reader late_reader writer late_writer
-    answers all = let run = all.0.1 in
-        ((all.0.0, (run.0, run.1, begun run.0 run.2, tt, run.4, run.5)), all.1, all.2)
+        → AnswersLines g Early Late remaining contents reader late_reader writer late_writer
+    answers all = let run = all.0.1 in (
+      (all.0.0, (run.0, run.1, early run.0 run.2, leave run.1.keeper run.3, run.4, run.5)),
+      all.1,
+      all.2,
+    )
 
     pub stops : (why : StreamFault)
         → StopsLines g Begins Ends remaining contents reader late_reader writer late_writer why
-        → StopsLines g Early IsAny remaining contents reader late_reader writer late_writer why
+        → StopsLines g Early Late remaining contents reader late_reader writer late_writer why
     stops why all = let run = all.0 in
-        ((run.0, run.1, begun run.0 run.2, tt, run.4, run.5), all.1, all.2)
+        ((run.0, run.1, early run.0 run.2, leave run.1.keeper run.3, run.4, run.5), all.1, all.2)
 
-  pub asked : (Tells : State → ℕ → Type 0) → IsAsked g Begins Ends Tells → IsAsked g Early IsAny Tells
+  pub asked : (Tells : State → ℕ → Type 0) → IsAsked g Begins Ends Tells → IsAsked g Early Late Tells
   asked Tells a = record {
     keeper = a.keeper;
     later = a.later;
     opened = weaken a.keeper a.opened;
-    left = tt;
+    left = leave a.later a.left;
     stays_sound = a.stays_sound;
     stays = a.stays;
     tells = a.tells;
   }
 
   pub imports : (ask : ImportAsk) (rows : List Row) (hour : ℕ) (t : Told)
-      → Imports g Begins Ends ask rows hour t → Imports g Early IsAny ask rows hour t
+      → Imports g Begins Ends ask rows hour t → Imports g Early Late ask rows hour t
   imports ask rows hour t i = record {
     book = i.book;
     later = i.later;
-    opened = begun i.book i.opened;
-    left = tt;
+    opened = early i.book i.opened;
+    left = leave i.later.keeper i.left;
     answer = i.answer;
     made = i.made;
     told_is = i.told_is;
   }
-
-  module _ {W : Type 0} (contents : W → Option (List ℕ)) (writer later : CountedWriter W)
-      (prefix suffix : List ℕ) (question : Question) where
-    pub shows : ShowsRead g Begins Ends contents writer later prefix suffix question
-        → ShowsRead g Early IsAny contents writer later prefix suffix question
-    shows s = (s.0, asked _ s.1, s.2, s.3, s.4)
-
-    pub fails_to_show : (why : ProgramFault) → FailsToShow g Begins Ends contents writer later prefix
-        suffix question why → FailsToShow g Early IsAny contents writer later prefix suffix question why
-    fails_to_show why f = elim f [
-      | inl store ↦ inl store
-      | inr other ↦ elim other [
-        | inl hidden ↦ inr (inl (asked _ hidden.0, hidden.1))
-        | inr written ↦ inr (inr (
-          written.0,
-          (
-            written.1.0,
-            asked _ written.1.1,
-            written.1.2,
-            written.1.3,
-          ),
-        ))
-      ]
-    ]
 
 -- over a keeper that holds nothing
 module _ {K : Type 0} (g : Keeping K) (kept : K) (is : IsNew g kept) (Ends : K → Type 0) where
@@ -133,11 +114,13 @@ module _ {K : Type 0} (g : Keeping K) (kept : K) (is : IsNew g kept) (Ends : K �
     pub answers_new : AnswersLines g (λ k. k ≡ kept) Ends remaining contents reader late_reader writer
         late_writer
         → AnswersLines g (IsNew g) IsAny remaining contents reader late_reader writer late_writer
-    answers_new all = answers g (λ k. k ≡ kept) (IsNew g) Ends same_new remaining contents reader
+    answers_new all = answers g (λ k. k ≡ kept) (IsNew g) Ends IsAny same_new
+        (λ keeper left. tt) remaining contents reader
         late_reader writer late_writer all
 
     pub stops_new : (why : StreamFault)
         → StopsLines g (λ k. k ≡ kept) Ends remaining contents reader late_reader writer late_writer why
         → StopsLines g (IsNew g) IsAny remaining contents reader late_reader writer late_writer why
-    stops_new why all = stops g (λ k. k ≡ kept) (IsNew g) Ends same_new remaining contents reader
+    stops_new why all = stops g (λ k. k ≡ kept) (IsNew g) Ends IsAny same_new
+        (λ keeper left. tt) remaining contents reader
         late_reader writer late_writer why all

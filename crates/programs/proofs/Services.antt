@@ -10,7 +10,7 @@ use Rattle.http_sockets.specs.Hours.{TellsGiven}
 use Rattle.http_sockets.specs.declared.fault.ServeFault.{ServeFault}
 use Rattle.http_sockets.specs.declared.fault.ServeFault.TheVariants.{NetFailed, Stream}
 use Rattle.path_lookup.specs.declared.hash.HashNames.{HashNames}
-use Rattle.programs.specs.Begun.{IsAny, IsBegun}
+use Rattle.programs.specs.Begun.{IsBegun}
 use Rattle.programs.specs.Serving.{IsServed, IsSet, LoopsOnce, Service, ServesAtMost}
 use Rattle.programs.specs.Serving.{ServesConnections, StopsLoop, TakesFew}
 use Rattle.programs.proofs.Runs.{begun}
@@ -24,11 +24,6 @@ match_ok result value Well Ill is holds = subst (λ r. MatchResult r Well Ill) i
 pub match_err : {A E : Type 0} (result : Result A E) (why : E) (Well : A → Type 0)
     (Ill : E → Type 0) → result ≡ Err why → MatchResult result Well Ill → Ill why
 match_err result why Well Ill is holds = subst (λ r. MatchResult r Well Ill) is holds
-
--- what holds anyway holds where a result is well
-pub on_ok : {A E : Type 0} (result : Result A E) (whole : Type 0) → whole → OnOk result whole
-on_ok (Ok value) whole holds = holds
-on_ok (Err why) whole holds = tt
 
 module _ {K : Type 0} (g : Keeping K) (Begins Ends : K → Type 0) (given : Option ℕ)
     (names : HashNames) (first last : Service K) (clock : IsSet given first.0)
@@ -78,29 +73,31 @@ module _ {K : Type 0} (g : Keeping K) (Begins Ends : K → Type 0) (given : Opti
   input_served contents writer later (Err why) served few cause flushed =
       (is_served _ served, few, cause)
 
-module _ {K : Type 0} (g : Keeping K) (Begins : K → Type 0) (kept : K) (is : Begins kept)
-    (Ends : K → Type 0) (given : Option ℕ) (names : HashNames) where
-  -- what was served over the keeper of a store was served over one that begins as a store that is opened
+module _ {K : Type 0} (g : Keeping K) (Begins Ends : K → Type 0) (kept left : K)
+    (is : Begins kept) (ends : Ends left) (given : Option ℕ) (names : HashNames) where
+  -- what was served over the keeper of a store that was closed was served over one that begins as a
+  -- store that is opened, and was left so
   pub kept_served : (Leads : Service K → Service K → Type 0)
-      → IsServed g (λ k. k ≡ kept) Ends given names Leads
-      → IsServed g Begins IsAny given names Leads
+      → IsServed g (λ k. k ≡ kept) (λ k. k ≡ left) given names Leads
+      → IsServed g Begins Ends given names Leads
   kept_served Leads s = record {
     first = s.first;
     last = s.last;
     clock = s.clock;
-    opened = begun g (λ k. k ≡ kept) Begins Ends
+    opened = begun g (λ k. k ≡ kept) Begins
         (λ keeper same. subst Begins (sym same) is) s.first.1 s.opened;
-    left = tt;
+    left = subst Ends (sym s.left) ends;
     led = s.led;
     safe = s.safe;
   }
 
   pub kept_loops : {W : Type 0} (contents : W → Option (List ℕ)) (writer later : CountedWriter W)
-      → LoopsOnce g (λ k. k ≡ kept) Ends given names contents writer later
-      → LoopsOnce g Begins IsAny given names contents writer later
+      → LoopsOnce g (λ k. k ≡ kept) (λ k. k ≡ left) given names contents writer later
+      → LoopsOnce g Begins Ends given names contents writer later
   kept_loops contents writer later all = (kept_served _ all.0, all.1, all.2, all.3)
 
   pub kept_stops : {W : Type 0} (contents : W → Option (List ℕ)) (writer later : CountedWriter W)
-      (cause : ServeFault) → StopsLoop g (λ k. k ≡ kept) Ends given names contents writer later cause
-      → StopsLoop g Begins IsAny given names contents writer later cause
+      (cause : ServeFault) → StopsLoop g (λ k. k ≡ kept) (λ k. k ≡ left) given names contents writer
+      later cause
+      → StopsLoop g Begins Ends given names contents writer later cause
   kept_stops contents writer later cause all = (kept_served _ all.0, all.1, all.2)

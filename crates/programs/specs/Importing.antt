@@ -82,17 +82,31 @@ module _ {K : Type 0} (g : Keeping K) (Begins Ends : K → Type 0) where
       ((rows : List Row) × ReadsTable known rows × Imports ask rows hour t)
       ⊎ ((why : CsvFault) × IsBadTable known (Csv why) × (t ≡ told_csv why))
 
+  -- This fault of the store came of delivering rows: it wasn't opened, for that fault; or they were
+  -- delivered, and it couldn't be closed.
+  abbrev pub FailsToDeliver : (ProgramFault → Type 0) → ImportAsk → List Row → ℕ → ProgramFault
+      → Type 0
+  FailsToDeliver Refuses ask rows hour why = (Refuses why × IsStoreFault why)
+      ⊎ ((why ≡ fault.StoreFault) × ((t : Told) × Imports ask rows hour t))
+
+  -- For this fault the import of the table that a reader gives is told nothing: the table is too
+  -- long, or the fault is one of the store, and came of delivering the table's rows.
+  abbrev pub TellsNothing : (ProgramFault → Type 0) → Option (List ℕ) → ImportAsk → ℕ → ProgramFault
+      → Type 0
+  TellsNothing Refuses known ask hour why = ((why ≡ fault.TooLong) × IsLong longest_table known)
+      ⊎ ((rows : List Row) × ReadsTable known rows × FailsToDeliver Refuses ask rows hour why)
+
   module _ {W : Type 0} (contents : W → Option (List ℕ)) (writer later : CountedWriter W) where
     -- What the import is told was written, and this is its status.
     abbrev pub AnswersImport : Option (List ℕ) → ImportAsk → ℕ → ℕ → Type 0
     AnswersImport known ask hour status =
         (t : Told) × TellsImport known ask hour t × WritesTold contents writer later t status
 
-    -- This fault came of it: the table is too long, the store wasn't opened or closed, or the
-    -- writer failed and took a beginning of what the import is told. Else it wasn't touched.
-    abbrev pub FailsToImport : Option (List ℕ) → ImportAsk → ℕ → ProgramFault → Type 0
-    FailsToImport known ask hour why =
-        ((why ≡ fault.TooLong) × IsLong longest_table known × (later ≡ writer))
-        ⊎ (IsStoreFault why × (later ≡ writer))
+    -- This fault came of it: the import is told nothing, for that fault, and the writer wasn't
+    -- touched; or the writer failed and took a beginning of what the import is told.
+    abbrev pub FailsToImport : (ProgramFault → Type 0) → Option (List ℕ) → ImportAsk → ℕ
+        → ProgramFault → Type 0
+    FailsToImport Refuses known ask hour why =
+        (TellsNothing Refuses known ask hour why × (later ≡ writer))
         ⊎ ((why ≡ fault.WriteFailed) × ((t : Told) × TellsImport known ask hour t
         × FailsTold contents writer later t))

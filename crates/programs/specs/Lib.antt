@@ -7,4 +7,5 @@ pub mod Showing
 pub mod Tables
 pub mod Renewing
 pub mod Performed
+pub mod Life
 pub mod Inner

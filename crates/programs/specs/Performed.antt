@@ -10,9 +10,9 @@ use Rattle.command_line.specs.declared.task.Task.{Task}
 use Rattle.command_line.specs.declared.task.Task.TheVariants as task
 use Rattle.programs.specs.Faults.{GetsText, fault_line, stream_fault}
 use Rattle.programs.specs.Importing.{AnswersImport, AsksImport, FailsToImport}
-use Rattle.programs.specs.Begun.{IsAny, IsNew, IsStoreFault}
+use Rattle.programs.specs.Begun.{Closing, IsAny, IsClosed, WasClosed, IsNew}
 use Rattle.builder.specs.Step.{State}
-use Rattle.programs.specs.Renewing.{Renews}
+use Rattle.programs.specs.Renewing.{FailsToRenew, Renews}
 use Rattle.programs.specs.Running.{AnswersLines, FailsLines, StopsLines}
 use Rattle.programs.specs.Serving.{FailsToLoopInput, FailsToServe, LoopsInput}
 use Rattle.programs.specs.Serving.{ServesConnections}
@@ -26,134 +26,152 @@ use Rattle.programs.specs.declared.performing.Ending.TheVariants.{Done, Refused}
 use Rattle.ring_reads.specs.declared.reads.Question.{Question}
 use Rattle.ring_book.specs.Book.{Keeping}
 
--- Keepers of stores are these, and begin so, and the writer is this, before and after.
-module _ {K W : Type 0} (stores : Keeping K) (Begins : K → Type 0) (contents : W → Option (List ℕ))
-    (writer later : CountedWriter W) where
-  -- What is asked for was shown of the rings in a store.
+-- Keepers of stores are these, begin so, and end so with what closing them answers, and the writer is
+-- this, before and after.
+module _ {K W : Type 0} (stores : Keeping K) (Begins : K → Type 0) (Ends : K → Closing → Type 0)
+    (contents : W → Option (List ℕ)) (writer later : CountedWriter W) where
+  -- What is asked for was shown of the rings in a store, which was closed.
   abbrev pub ShowsStore : List ℕ → List ℕ → (Question → Type 0) → Type 0
   ShowsStore prefix suffix Asks = (question : Question) × Asks question
-      × ShowsRead stores Begins IsAny contents writer later prefix suffix question
+      × ShowsRead stores Begins (IsClosed Ends) contents writer later prefix suffix question
 
-  -- This fault came of it.
-  abbrev pub FailsToShowStore : List ℕ → List ℕ → (Question → Type 0) → ProgramFault → Type 0
-  FailsToShowStore prefix suffix Asks why = (question : Question) × Asks question
-      × FailsToShow stores Begins IsAny contents writer later prefix suffix question why
+  -- This fault came of it, or of opening the store.
+  abbrev pub FailsToShowStore : (ProgramFault → Type 0) → List ℕ → List ℕ → (Question → Type 0)
+      → ProgramFault → Type 0
+  FailsToShowStore Refuses prefix suffix Asks why = (question : Question) × Asks question
+      × FailsToShow stores Begins (WasClosed Ends) contents writer later prefix suffix Refuses question why
 
   -- The table in a CSV file was imported as one request, at the hour that was given or any other,
-  -- and the status that was written ends it so.
+  -- into a store that was closed, and this is so of the status that was written.
   abbrev pub ImportsFile : (ImportAsk → Type 0) → Option ℕ → (ℕ → Type 0) → Type 0
-  ImportsFile Asks given Ends = (ask : ImportAsk) × (hour : ℕ) × (status : ℕ) × Asks ask
-      × IfSome given (λ h. hour ≡ h) × Ends status
-      × AnswersImport stores Begins IsAny contents writer later None ask hour status
+  ImportsFile Asks given IsStatus = (ask : ImportAsk) × (hour : ℕ) × (status : ℕ) × Asks ask
+      × IfSome given (λ h. hour ≡ h) × IsStatus status
+      × AnswersImport stores Begins (IsClosed Ends) contents writer later None ask hour status
 
   -- This fault came of it: the CSV file can't be opened, or it is one of the import.
-  abbrev pub FailsToImportFile : (ImportAsk → Type 0) → Option ℕ → ProgramFault → Type 0
-  FailsToImportFile Asks given why = (ask : ImportAsk) × Asks ask
+  abbrev pub FailsToImportFile : (ProgramFault → Type 0) → (ImportAsk → Type 0) → Option ℕ
+      → ProgramFault → Type 0
+  FailsToImportFile Refuses Asks given why = (ask : ImportAsk) × Asks ask
       × (((why ≡ fault.NoFile) × (later ≡ writer))
       ⊎ ((hour : ℕ) × IfSome given (λ h. hour ≡ h)
-      × FailsToImport stores Begins IsAny contents writer later None ask hour why))
+      × FailsToImport stores Begins (WasClosed Ends) contents writer later Refuses None ask hour why))
 
-  -- This fault came of a loop over the bytes of a file: it can't be opened, or one of the loop.
-  abbrev pub FailsToLoopFile : Option ℕ → HashNames → ProgramFault → Type 0
-  FailsToLoopFile given names why = ((why ≡ fault.NoFile) × (later ≡ writer))
-      ⊎ FailsToLoopInput stores Begins IsAny given names contents writer later None why
+  -- This fault came of a loop over the bytes of a file: it can't be opened, or one of the loop, or of
+  -- opening the store.
+  abbrev pub FailsToLoopFile : (ProgramFault → Type 0) → Option ℕ → HashNames → ProgramFault → Type 0
+  FailsToLoopFile Refuses given names why = ((why ≡ fault.NoFile) × (later ≡ writer))
+      ⊎ FailsToLoopInput stores Begins (WasClosed Ends) given names contents writer later Refuses None why
 
 -- The status of an import ends it so: 200 where it was done.
 abbrev pub EndsBy : Ending → ℕ → Type 0
 EndsBy Done status = status ≡ 200
 EndsBy Refused status = status ≢ 200
 
--- Keepers over memory and of stores are these, those of stores begin so, and the streams are these,
--- before and after.
-module _ {M K R W : Type 0} (memory : Keeping M) (stores : Keeping K) (Begins : K → Type 0)
-    (remaining : R → Option (List ℕ)) (contents : W → Option (List ℕ))
-    (reader late_reader : CountedReader R) (writer later : CountedWriter W) where
-  -- The lines of the reader were answered, over memory or over a store.
+-- Keepers over memory and of stores are these. That of a store of a name begins so, and ends so with
+-- what closing it answers. The streams are these, before and after.
+module _ {M K R W : Type 0} (memory : Keeping M) (stores : Keeping K)
+    (Begins : List ℕ → K → Type 0) (Ends : K → Closing → Type 0) (remaining : R → Option (List ℕ))
+    (contents : W → Option (List ℕ)) (reader late_reader : CountedReader R)
+    (writer later : CountedWriter W) where
+  -- The lines of the reader were answered, over memory or over a store, which was closed.
   abbrev pub Runs : Option (Bor (List ℕ)) → Type 0
   Runs None = AnswersLines memory (IsNew memory) IsAny remaining contents reader late_reader writer
       later
-  Runs (Some file) = AnswersLines stores Begins IsAny remaining contents reader late_reader
-      writer later
+  Runs (Some file) = AnswersLines stores (Begins file.now) (IsClosed Ends) remaining contents reader
+      late_reader writer later
 
-  -- This fault came of it.
-  abbrev pub FailsToRun : Option (Bor (List ℕ)) → ProgramFault → Type 0
-  FailsToRun None why = (cause : StreamFault) × (why ≡ stream_fault cause)
+  -- This fault came of it, or of opening the store.
+  abbrev pub FailsToRun : (List ℕ → ProgramFault → Type 0) → Option (Bor (List ℕ)) → ProgramFault
+      → Type 0
+  FailsToRun Refuses None why = (cause : StreamFault) × (why ≡ stream_fault cause)
       × StopsLines memory (IsNew memory) IsAny remaining contents reader late_reader writer later cause
-  FailsToRun (Some file) why = FailsLines stores Begins IsAny remaining contents reader
-      late_reader writer later why
+  FailsToRun Refuses (Some file) why = FailsLines stores (Begins file.now) (WasClosed Ends) remaining
+      contents reader late_reader writer later (Refuses file.now) why
 
-  -- This is so where a store was made of these rings and this hour.
-  module _ (IsMade : State → ℕ → Type 0) where
+  -- This is so where a store of a name was made of these rings and this hour.
+  module _ (IsMade : List ℕ → State → ℕ → Type 0) where
     -- A task had no fault and ended so: what it asks for was done, or an import was refused. Only
     -- `run` touches the reader.
     abbrev pub EndsSo : Task → Ending → Type 0
     EndsSo (task.Run file) Done = Runs file
     EndsSo (task.Serve file port count given names) Done = (late_reader ≡ reader) × (later ≡ writer)
-        × ServesConnections stores Begins IsAny given names count
+        × ServesConnections stores (Begins file.now) (IsClosed Ends) given names count
     EndsSo (task.Loop file input given names) Done = (late_reader ≡ reader)
-        × LoopsInput stores Begins IsAny given names contents writer later None
+        × LoopsInput stores (Begins file.now) (IsClosed Ends) given names contents writer later None
     EndsSo (task.Table file ring) Done = (late_reader ≡ reader)
-        × ShowsStore stores Begins contents writer later [] [] (AsksShown (task.Table file ring))
+        × ShowsStore stores (Begins file.now) Ends contents writer later [] []
+        (AsksShown (task.Table file ring))
     EndsSo (task.Export file ring version written) Done = (late_reader ≡ reader)
-        × ShowsStore stores Begins contents writer later [] []
+        × ShowsStore stores (Begins file.now) Ends contents writer later [] []
         (AsksShown (task.Export file ring version written))
     EndsSo (task.Nodes file ring account container object names) Done = (late_reader ≡ reader)
-        × ShowsStore stores Begins contents writer later names.prefix.now names.suffix.now
+        × ShowsStore stores (Begins file.now) Ends contents writer later
+        names.prefix.now names.suffix.now
         (AsksShown (task.Nodes file ring account container object names))
     EndsSo (task.Import file ring caller number csv given) ending = (late_reader ≡ reader)
-        × ImportsFile stores Begins contents writer later (AsksImport ring.now caller.now number.now)
-        given (EndsBy ending)
+        × ImportsFile stores (Begins file.now) Ends contents writer later
+        (AsksImport ring.now caller.now number.now) given (EndsBy ending)
     EndsSo (task.Renew file fresh) Done = (late_reader ≡ reader) × (later ≡ writer)
-        × Renews stores Begins IsMade
+        × Renews stores (Begins file.now) (IsClosed Ends) (IsMade fresh.now)
     EndsSo _ _ = ⊥
 
-  -- This fault came of the work of a task.
-  abbrev pub FailsToDo : Task → ProgramFault → Type 0
-  FailsToDo (task.Run file) why = FailsToRun file why
-  FailsToDo (task.Serve file port count given names) why = (late_reader ≡ reader)
-      × (later ≡ writer) × FailsToServe stores Begins IsAny given names count why
-  FailsToDo (task.Loop file input given names) why = (late_reader ≡ reader)
-      × FailsToLoopFile stores Begins contents writer later given names why
-  FailsToDo (task.Table file ring) why = (late_reader ≡ reader)
-      × FailsToShowStore stores Begins contents writer later [] [] (AsksShown (task.Table file ring))
-      why
-  FailsToDo (task.Export file ring version written) why = (late_reader ≡ reader)
-      × FailsToShowStore stores Begins contents writer later [] []
-      (AsksShown (task.Export file ring version written)) why
-  FailsToDo (task.Renew file fresh) why = (late_reader ≡ reader) × (later ≡ writer)
-      × IsStoreFault why
-  FailsToDo (task.Nodes file ring account container object names) why = (late_reader ≡ reader)
-      × FailsToShowStore stores Begins contents writer later names.prefix.now names.suffix.now
-      (AsksShown (task.Nodes file ring account container object names)) why
-  FailsToDo (task.Import file ring caller number csv given) why = (late_reader ≡ reader)
-      × FailsToImportFile stores Begins contents writer later (AsksImport ring.now caller.now
-      number.now) given why
+  -- For such a fault a store of a name isn't opened, or isn't made of these rings and this hour.
+  module _ (Refuses : List ℕ → ProgramFault → Type 0)
+      (IsUnmade : List ℕ → State → ℕ → ProgramFault → Type 0) where
+    -- This fault came of the work of a task, or of opening its store.
+    abbrev pub FailsToDo : Task → ProgramFault → Type 0
+    FailsToDo (task.Run file) why = FailsToRun Refuses file why
+    FailsToDo (task.Serve file port count given names) why = (late_reader ≡ reader)
+        × (later ≡ writer) × FailsToServe stores (Begins file.now) (WasClosed Ends) given names
+        (Refuses file.now) count why
+    FailsToDo (task.Loop file input given names) why = (late_reader ≡ reader)
+        × FailsToLoopFile stores (Begins file.now) Ends contents writer later (Refuses file.now) given
+        names why
+    FailsToDo (task.Table file ring) why = (late_reader ≡ reader)
+        × FailsToShowStore stores (Begins file.now) Ends contents writer later (Refuses file.now) [] []
+        (AsksShown (task.Table file ring)) why
+    FailsToDo (task.Export file ring version written) why = (late_reader ≡ reader)
+        × FailsToShowStore stores (Begins file.now) Ends contents writer later (Refuses file.now) [] []
+        (AsksShown (task.Export file ring version written)) why
+    FailsToDo (task.Renew file fresh) why = (late_reader ≡ reader) × (later ≡ writer)
+        × FailsToRenew stores (Begins file.now) Ends (Refuses file.now) (IsUnmade fresh.now) why
+    FailsToDo (task.Nodes file ring account container object names) why = (late_reader ≡ reader)
+        × FailsToShowStore stores (Begins file.now) Ends contents writer later (Refuses file.now)
+        names.prefix.now names.suffix.now
+        (AsksShown (task.Nodes file ring account container object names)) why
+    FailsToDo (task.Import file ring caller number csv given) why = (late_reader ≡ reader)
+        × FailsToImportFile stores (Begins file.now) Ends contents writer later (Refuses file.now)
+        (AsksImport ring.now caller.now number.now) given why
 
-  -- This fault came of a task: of its words, and then neither stream was touched, or of its work.
-  abbrev pub FailsSo : Task → ProgramFault → Type 0
-  FailsSo t why =
-      (IsFormFault (HasBadWord t) (IsPathless t) why × (late_reader ≡ reader) × (later ≡ writer))
-      ⊎ FailsToDo t why
+    -- This fault came of a task: of its words, and then neither stream was touched, or of its work.
+    abbrev pub FailsSo : Task → ProgramFault → Type 0
+    FailsSo t why =
+        (IsFormFault (HasBadWord t) (IsPathless t) why × (late_reader ≡ reader) × (later ≡ writer))
+        ⊎ FailsToDo t why
 
 -- The words of a command line are these, and a third stream tells of faults, before and after.
-module _ {M K R W E : Type 0} (memory : Keeping M) (stores : Keeping K) (Begins : K → Type 0)
-    (IsMade : State → ℕ → Type 0) (remaining : R → Option (List ℕ)) (contents : W → Option (List ℕ))
-    (told : E → Option (List ℕ)) (words : List (List ℕ)) (reader late_reader : CountedReader R)
+module _ {M K R W E : Type 0} (memory : Keeping M) (stores : Keeping K)
+    (Begins : List ℕ → K → Type 0) (Ends : K → Closing → Type 0)
+    (IsMade : List ℕ → State → ℕ → Type 0) (remaining : R → Option (List ℕ))
+    (contents : W → Option (List ℕ)) (told : E → Option (List ℕ)) (words : List (List ℕ))
+    (reader late_reader : CountedReader R)
     (writer later : CountedWriter W) (errors late_errors : CountedWriter E) where
   -- The words ask for a task, which was done, and no fault was told.
   abbrev pub DoesAsked : Type 0
   DoesAsked = (t : Task) × AskFor words t
-      × EndsSo memory stores Begins remaining contents reader late_reader writer later IsMade t Done
-      × (late_errors ≡ errors)
+      × EndsSo memory stores Begins Ends remaining contents reader late_reader writer later IsMade t
+      Done × (late_errors ≡ errors)
 
   -- The words ask for a task, which had a fault that was told, or was an import that was refused,
   -- and then no fault was told. Or there was no memory to read the words: that was told, and the
   -- other streams were not touched.
-  abbrev pub FailsAsked : Type 0
-  FailsAsked = ((t : Task) × AskFor words t × (((why : ProgramFault)
-      × FailsSo memory stores Begins remaining contents reader late_reader writer later t why
+  abbrev pub FailsAsked : (List ℕ → ProgramFault → Type 0)
+      → (List ℕ → State → ℕ → ProgramFault → Type 0) → Type 0
+  FailsAsked Refuses IsUnmade = ((t : Task) × AskFor words t × (((why : ProgramFault)
+      × FailsSo memory stores Begins Ends remaining contents reader late_reader writer later Refuses
+      IsUnmade t why
       × GetsText told errors late_errors (fault_line why))
-      ⊎ (EndsSo memory stores Begins remaining contents reader late_reader writer later IsMade t
+      ⊎ (EndsSo memory stores Begins Ends remaining contents reader late_reader writer later IsMade t
       Refused × (late_errors ≡ errors))))
       ⊎ ((late_reader ≡ reader) × (later ≡ writer)
       × GetsText told errors late_errors (fault_line fault.NoMemory))

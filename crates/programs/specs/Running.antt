@@ -54,9 +54,9 @@ module _ {K : Type 0} (g : Keeping K) (Begins Ends : K → Type 0) where
         × IsCaused reader late_reader writer late_writer why × (why ≡ stream.ReadFailed
         → IsFlushed late_writer)
 
-    -- This fault ended it: one of a stream; or the store wasn't opened, and neither stream was
-    -- touched; or every line was answered, and the store couldn't be closed.
-    abbrev pub FailsLines : ProgramFault → Type 0
-    FailsLines why = ((cause : StreamFault) × (why ≡ stream_fault cause) × StopsLines cause)
-        ⊎ (IsStoreFault why × (late_reader ≡ reader) × (late_writer ≡ writer))
+    -- This fault ended it: one of a stream; or the store wasn't opened, for that fault, and neither
+    -- stream was touched; or every line was answered, and the store couldn't be closed.
+    abbrev pub FailsLines : (ProgramFault → Type 0) → ProgramFault → Type 0
+    FailsLines Refuses why = ((cause : StreamFault) × (why ≡ stream_fault cause) × StopsLines cause)
+        ⊎ (Refuses why × IsStoreFault why × (late_reader ≡ reader) × (late_writer ≡ writer))
         ⊎ ((why ≡ fault.StoreFault) × AnswersLines)

@@ -67,10 +67,12 @@ module _ {K : Type 0} (g : Keeping K) (Begins Ends : K → Type 0) (given : Opti
   ServesAtMost count = IsServed (ServedAtMost g TellsGiven
       names.prefix.now names.suffix.now count)
 
-  -- This fault ended it: the store wasn't opened or closed; or the port can't be had, or no
-  -- connection can be accepted any more.
-  abbrev pub FailsToServe : ℕ → ProgramFault → Type 0
-  FailsToServe count why = IsStoreFault why ⊎ ((why ≡ fault.NetFailed) × ServesAtMost count)
+  -- This fault ended it: the store wasn't opened, for that fault; or all were served, and the store
+  -- couldn't be closed; or the port can't be had, or no connection can be accepted any more.
+  abbrev pub FailsToServe : (ProgramFault → Type 0) → ℕ → ProgramFault → Type 0
+  FailsToServe Refuses count why = (Refuses why × IsStoreFault why)
+      ⊎ ((why ≡ fault.StoreFault) × ServesConnections count)
+      ⊎ ((why ≡ fault.NetFailed) × ServesAtMost count)
 
   module _ {W : Type 0} (contents : W → Option (List ℕ)) (writer later : CountedWriter W) where
     -- One connection was served, and its answers were written and flushed.
@@ -86,10 +88,10 @@ module _ {K : Type 0} (g : Keeping K) (Begins Ends : K → Type 0) (given : Opti
         × ((write_faults later ≡ write_faults writer)
         ⊎ ((cause ≡ Stream WriteFailed) × (write_faults later ≡ one_more (write_faults writer))))
 
-    -- This fault ended it: the store wasn't opened, and the writer wasn't touched; or one of the
-    -- service; or all was written, and the store couldn't be closed.
-    abbrev pub FailsToLoop : ProgramFault → Type 0
-    FailsToLoop why = (IsStoreFault why × (later ≡ writer))
+    -- This fault ended it: the store wasn't opened, for that fault, and the writer wasn't touched;
+    -- or one of the service; or all was written, and the store couldn't be closed.
+    abbrev pub FailsToLoop : (ProgramFault → Type 0) → ProgramFault → Type 0
+    FailsToLoop Refuses why = (Refuses why × IsStoreFault why × (later ≡ writer))
         ⊎ ((cause : ServeFault) × (why ≡ serve_fault cause) × StopsLoop cause)
         ⊎ ((why ≡ fault.StoreFault) × LoopsOnce)
 
@@ -99,6 +101,6 @@ module _ {K : Type 0} (g : Keeping K) (Begins Ends : K → Type 0) (given : Opti
     LoopsInput known = (input : List ℕ) × IsShort most_looped known input × LoopsOnce
 
     -- This fault ended it: the input wasn't read, and the writer wasn't touched; or one of the rest.
-    abbrev pub FailsToLoopInput : Option (List ℕ) → ProgramFault → Type 0
-    FailsToLoopInput known why = (IsUnread most_looped known why × (later ≡ writer))
-        ⊎ FailsToLoop why
+    abbrev pub FailsToLoopInput : (ProgramFault → Type 0) → Option (List ℕ) → ProgramFault → Type 0
+    FailsToLoopInput Refuses known why = (IsUnread most_looped known why × (later ≡ writer))
+        ⊎ FailsToLoop Refuses why

@@ -139,11 +139,13 @@ module _ {K : Type 0} (g : Keeping K) (Begins Ends : K → Type 0) where
         × Appends (contents (writer_of writer)) (contents (writer_of later)) text
         × (write_faults later ≡ write_faults writer) × IsFlushed later
 
-    -- This fault came of it: the store wasn't opened or failed, its rings don't show it, or the
-    -- writer failed and took a beginning of what they show. Else it wasn't touched.
-    abbrev pub FailsToShow : Question → ProgramFault → Type 0
-    FailsToShow question why =
-        (IsStoreFault why × (later ≡ writer))
+    -- This fault came of it: the store wasn't opened, for that fault; or it failed, and keeps its
+    -- content; or its rings don't show it; or the writer failed and took a beginning of what they
+    -- show. Else it wasn't touched.
+    abbrev pub FailsToShow : (ProgramFault → Type 0) → Question → ProgramFault → Type 0
+    FailsToShow Refuses question why =
+        (Refuses why × IsStoreFault why × (later ≡ writer))
+        ⊎ (IsStoreFault why × IsAsked (λ rings hour. ⊤) × (later ≡ writer))
         ⊎ (IsAsked (λ rings hour. HidesAs question why rings) × (later ≡ writer))
         ⊎ ((why ≡ fault.WriteFailed) × ((text : List ℕ) × IsAsked (ShowsAs prefix suffix question
         text)

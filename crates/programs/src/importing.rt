@@ -1,14 +1,13 @@
 //! The program `import`: one numbered import of a table.
 ghost use Rattle.std.specs.Prelude.{◌≡◌, ◌≢◌, ◌⊎◌, IfErr, IfOk, string_bytes};
 ghost use Rattle.csv_import.specs.Rows.{AreRows, IsWrong, records_of};
-ghost use Rattle.programs.specs.Tables.{IsBadTable, IsLong, ReadsTable, longest_table};
+ghost use Rattle.programs.specs.Tables.{IsBadTable, ReadsTable};
 ghost use Rattle.byte_streams.specs.declared.fault.StreamFault.TheVariants.{WriteFailed};
 ghost use Rattle.programs.specs.Importing.{AsksImport, FailsTold, Imports, WritesTold};
 ghost use Rattle.programs.specs.Importing.{AnswersImport, FailsToImport, TellsImport};
-ghost use Rattle.programs.specs.Importing.{told_line};
+ghost use Rattle.programs.specs.Importing.{FailsToDeliver, TellsNothing, told_line};
 ghost use Rattle.programs.specs.Showing.{IsFormFault, IsNoName, IsNoNumber};
-ghost use Rattle.programs.specs.Begun.{IsAny, IsStoreFault};
-ghost use Rattle.programs.specs.declared.faults.ProgramFault.TheVariants.{TooLong};
+ghost use Rattle.programs.specs.Begun.{IsClosed, WasClosed};
 
 use crate::book::open_book;
 use crate::faults::ProgramFault;
@@ -178,8 +177,10 @@ fn deliver_to_store<S: Stores>(
     hour: Hour,
     stores: S,
 ) -> Result<Told, ProgramFault>
-    ensures told { IfOk result (Imports S.Kept.Keeper S.begins IsAny ask rows.items hour) }
-    ensures fault { IfErr result IsStoreFault }
+    ensures told { IfOk result (Imports S.Kept.Keeper (S.begins file.now) (IsClosed S.ends) ask
+        rows.items hour) }
+    ensures fault { IfErr result (FailsToDeliver S.Kept.Keeper (S.begins file.now) (WasClosed S.ends)
+        (S.refuses file.now) ask rows.items hour) }
 {
     let keeper = stores.open(rt, file)?;
     let (told, keeper) = deliver_rows(rt.alloc(), keeper, ask, rows, hour);
@@ -196,11 +197,10 @@ fn tell_import<S: Stores, R: Read + Drop>(
     hour: Hour,
     stores: S,
 ) -> Result<Told, ProgramFault>
-    ensures told { IfOk result (TellsImport S.Kept.Keeper S.begins IsAny (R.remaining table) ask
-        hour) }
-    ensures fault { IfErr result (λ why. ((why ≡ TooLong)
-        × IsLong longest_table (R.remaining table))
-        ⊎ IsStoreFault why) }
+    ensures told { IfOk result (TellsImport S.Kept.Keeper (S.begins file.now) (IsClosed S.ends)
+        (R.remaining table) ask hour) }
+    ensures fault { IfErr result (TellsNothing S.Kept.Keeper (S.begins file.now) (WasClosed S.ends)
+        (S.refuses file.now) (R.remaining table) ask hour) }
 {
     match read_table(rt.alloc(), table) {
         Ok(rows) => deliver_to_store(rt, file, ask, rows, hour, stores),
@@ -220,10 +220,10 @@ pub(crate) fn import_table<S: Stores, R: Read + Drop, W: Write>(
     writer: &mut CountedWriter<W>,
     stores: S,
 ) -> Result<u16, ProgramFault>
-    ensures answered { IfOk result (AnswersImport S.Kept.Keeper S.begins IsAny W.contents writer.old
-        writer.new (R.remaining table) ask hour) }
-    ensures failed { IfErr result (FailsToImport S.Kept.Keeper S.begins IsAny W.contents writer.old
-        writer.new (R.remaining table) ask hour) }
+    ensures answered { IfOk result (AnswersImport S.Kept.Keeper (S.begins file.now) (IsClosed S.ends)
+        W.contents writer.old writer.new (R.remaining table) ask hour) }
+    ensures failed { IfErr result (FailsToImport S.Kept.Keeper (S.begins file.now) (WasClosed S.ends)
+        W.contents writer.old writer.new (S.refuses file.now) (R.remaining table) ask hour) }
 {
     let told = tell_import(rt, file, table, ask, hour, stores)?;
     Ok(write_told(rt.alloc(), writer, &told)?)

@@ -12,6 +12,7 @@ mod book;
 mod faults;
 mod hours;
 mod importing;
+pub mod laws;
 mod lines;
 mod performing;
 mod renewing;

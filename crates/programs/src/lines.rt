@@ -1,6 +1,6 @@
 //! The program `run`: numbered requests and questions, one a line.
 ghost use Rattle.std.specs.Prelude.{◌≡◌, IfErr, OnOk};
-ghost use Rattle.programs.specs.Begun.{IsAny, IsNew};
+ghost use Rattle.programs.specs.Begun.{IsAny, IsClosed, WasClosed, IsNew};
 ghost use Rattle.programs.specs.Running.{AnswersLines, StopsLines, FailsLines};
 
 use crate::book::open_book;
@@ -73,10 +73,10 @@ pub(crate) fn run_over_store<S: Stores, R: Read, W: Write>(
     writer: &mut CountedWriter<W>,
     stores: S,
 ) -> Result<(), ProgramFault>
-    ensures answered { OnOk result (AnswersLines S.Kept.Keeper S.begins IsAny R.remaining W.contents
-        reader.old reader.new writer.old writer.new) }
-    ensures failed { IfErr result (FailsLines S.Kept.Keeper S.begins IsAny R.remaining W.contents
-        reader.old reader.new writer.old writer.new) }
+    ensures answered { OnOk result (AnswersLines S.Kept.Keeper (S.begins file.now) (IsClosed S.ends)
+        R.remaining W.contents reader.old reader.new writer.old writer.new) }
+    ensures failed { IfErr result (FailsLines S.Kept.Keeper (S.begins file.now) (WasClosed S.ends)
+        R.remaining W.contents reader.old reader.new writer.old writer.new (S.refuses file.now)) }
 {
     let keeper = stores.open(rt, file)?;
     let (answered, keeper) = answer_lines(rt.alloc(), keeper, reader, writer);

@@ -2,13 +2,14 @@
 ghost use Rattle.std.specs.Prelude.{◌≡◌, ◌⊎◌, ◌≤◌, Err, IfErr, IfOk, None, Ok, OnOk, map};
 ghost use Rattle.std.specs.Prelude.{string_bytes};
 ghost use Rattle.command_line.specs.Tasks.{AskForNothing};
-ghost use Rattle.programs.specs.Begun.{IsAny};
+ghost use Rattle.programs.specs.Begun.{IsClosed};
 ghost use Rattle.programs.specs.Serving.{LoopsInput};
 ghost use Rattle.programs.specs.Showing.{AsksShown, HasBadWord, IsFormFault, IsPathless};
 ghost use Rattle.programs.specs.Performed.{DoesAsked, EndsBy, EndsSo, FailsAsked, FailsSo};
 ghost use Rattle.programs.specs.Performed.{FailsToImportFile, FailsToLoopFile, FailsToRun};
 ghost use Rattle.programs.specs.Performed.{FailsToShowStore, ImportsFile, Runs, ShowsStore};
-ghost use Rattle.programs.specs.Inner.Showing.{IsShowing, prefix_asked, suffix_asked};
+ghost use Rattle.programs.specs.Inner.Showing.{IsShowing, prefix_asked, shown_file};
+ghost use Rattle.programs.specs.Inner.Showing.{suffix_asked};
 ghost use Rattle.programs.specs.declared.performing.Ending.TheVariants.{Done};
 
 use crate::faults::{ProgramFault, tell_fault};
@@ -56,9 +57,10 @@ fn run<S: Stores, R: Read, W: Write>(
     stores: S,
 ) -> Result<(), ProgramFault>
     ensures done { OnOk result (Runs ⟦<MemoryKeeper as Keeper<RingMachine>>⟧ S.Kept.Keeper S.begins
-        R.remaining W.contents reader.old reader.new writer.old writer.new file.entry) }
+        S.ends R.remaining W.contents reader.old reader.new writer.old writer.new file.entry) }
     ensures failed { IfErr result (FailsToRun ⟦<MemoryKeeper as Keeper<RingMachine>>⟧ S.Kept.Keeper
-        S.begins R.remaining W.contents reader.old reader.new writer.old writer.new file.entry) }
+        S.begins S.ends R.remaining W.contents reader.old reader.new writer.old writer.new S.refuses
+        file.entry) }
 {
     match file {
         Some(file) => run_over_store(rt, file, reader, writer, stores),
@@ -76,11 +78,12 @@ fn show_asked<S: Stores, W: Write>(
     stores: S,
 ) -> Result<Ending, ProgramFault>
     ensures done { IfOk result (λ ending. (ending ≡ Done)
-        × ShowsStore S.Kept.Keeper S.begins W.contents writer.old writer.new
+        × ShowsStore S.Kept.Keeper (S.begins file.now) S.ends W.contents writer.old writer.new
         names.entry.prefix.now names.entry.suffix.now (λ question. asked ≡ Ok question)) }
     ensures failed { IfErr result (λ why. ((asked ≡ Err why) × (writer.new ≡ writer.old))
-        ⊎ FailsToShowStore S.Kept.Keeper S.begins W.contents writer.old writer.new
-        names.entry.prefix.now names.entry.suffix.now (λ question. asked ≡ Ok question) why) }
+        ⊎ FailsToShowStore S.Kept.Keeper (S.begins file.now) S.ends W.contents writer.old writer.new
+        (S.refuses file.now) names.entry.prefix.now names.entry.suffix.now
+        (λ question. asked ≡ Ok question) why) }
 {
     let question = asked?;
     show(rt, file, names, &question, writer, stores)?;
@@ -96,12 +99,14 @@ fn show_task<S: Stores, W: Write>(
 ) -> Result<Ending, ProgramFault>
     requires { IsShowing task.now }
     ensures done { IfOk result (λ ending. (ending ≡ Done)
-        × ShowsStore S.Kept.Keeper S.begins W.contents writer.old writer.new
+        × ShowsStore S.Kept.Keeper (S.begins (shown_file task.now)) S.ends W.contents writer.old
+        writer.new
         (prefix_asked task.now) (suffix_asked task.now) (AsksShown task.now)) }
     ensures failed { IfErr result (λ why. (IsFormFault (HasBadWord task.now) (IsPathless task.now) why
         × (writer.new ≡ writer.old))
-        ⊎ FailsToShowStore S.Kept.Keeper S.begins W.contents writer.old writer.new
-        (prefix_asked task.now) (suffix_asked task.now) (AsksShown task.now) why) }
+        ⊎ FailsToShowStore S.Kept.Keeper (S.begins (shown_file task.now)) S.ends W.contents writer.old
+        writer.new (S.refuses (shown_file task.now)) (prefix_asked task.now) (suffix_asked task.now)
+        (AsksShown task.now) why) }
 {
     let alloc = rt.alloc();
     match task {
@@ -149,11 +154,11 @@ fn import<S: Stores, W: Write>(
     writer: &mut CountedWriter<W>,
     stores: S,
 ) -> Result<Ending, ProgramFault>
-    ensures ended { IfOk result (λ ending. ImportsFile S.Kept.Keeper S.begins W.contents writer.old
-        writer.new (λ ask. asked ≡ Ok ask) given (EndsBy ending)) }
+    ensures ended { IfOk result (λ ending. ImportsFile S.Kept.Keeper (S.begins file.now) S.ends
+        W.contents writer.old writer.new (λ ask. asked ≡ Ok ask) given (EndsBy ending)) }
     ensures failed { IfErr result (λ why. ((asked ≡ Err why) × (writer.new ≡ writer.old))
-        ⊎ FailsToImportFile S.Kept.Keeper S.begins W.contents writer.old writer.new
-        (λ ask. asked ≡ Ok ask) given why) }
+        ⊎ FailsToImportFile S.Kept.Keeper (S.begins file.now) S.ends W.contents writer.old writer.new
+        (S.refuses file.now) (λ ask. asked ≡ Ok ask) given why) }
 {
     let ask = asked?;
     let Ok(table) = File::open(rt, csv) else {
@@ -177,10 +182,10 @@ fn loop_bytes<S: Stores, W: Write>(
     writer: &mut CountedWriter<W>,
     stores: S,
 ) -> Result<(), ProgramFault>
-    ensures done { OnOk result (LoopsInput S.Kept.Keeper S.begins IsAny given names.entry W.contents
-        writer.old writer.new None) }
-    ensures failed { IfErr result (FailsToLoopFile S.Kept.Keeper S.begins W.contents writer.old
-        writer.new given names.entry) }
+    ensures done { OnOk result (LoopsInput S.Kept.Keeper (S.begins file.now) (IsClosed S.ends) given
+        names.entry W.contents writer.old writer.new None) }
+    ensures failed { IfErr result (FailsToLoopFile S.Kept.Keeper (S.begins file.now) S.ends W.contents
+        writer.old writer.new (S.refuses file.now) given names.entry) }
 {
     let Ok(input) = File::open(rt, input) else {
         return Err(ProgramFault::NoFile);
@@ -197,10 +202,11 @@ fn perform_task<S: Stores, R: Read, W: Write>(
     stores: S,
 ) -> Result<Ending, ProgramFault>
     ensures ended { IfOk result (EndsSo ⟦<MemoryKeeper as Keeper<RingMachine>>⟧ S.Kept.Keeper
-        S.begins R.remaining W.contents reader.old reader.new writer.old writer.new S.is_made
+        S.begins S.ends R.remaining W.contents reader.old reader.new writer.old writer.new S.is_made
         task.now) }
     ensures failed { IfErr result (FailsSo ⟦<MemoryKeeper as Keeper<RingMachine>>⟧ S.Kept.Keeper
-        S.begins R.remaining W.contents reader.old reader.new writer.old writer.new task.now) }
+        S.begins S.ends R.remaining W.contents reader.old reader.new writer.old writer.new S.refuses
+        S.is_unmade task.now) }
 {
     let alloc = rt.alloc();
     match task {
@@ -264,11 +270,11 @@ pub fn perform<S: Stores, R: Read, W: Write, E: Write>(
 ) -> u8
     ensures status { result ≤ 2 }
     ensures done { result ≡ 0 → DoesAsked ⟦<MemoryKeeper as Keeper<RingMachine>>⟧ S.Kept.Keeper
-        S.begins S.is_made R.remaining W.contents E.contents (map string_bytes words.now)
+        S.begins S.ends S.is_made R.remaining W.contents E.contents (map string_bytes words.now)
         reader.old reader.new writer.old writer.new errors.old errors.new }
     ensures fault { result ≡ 1 → FailsAsked ⟦<MemoryKeeper as Keeper<RingMachine>>⟧ S.Kept.Keeper
-        S.begins S.is_made R.remaining W.contents E.contents (map string_bytes words.now)
-        reader.old reader.new writer.old writer.new errors.old errors.new }
+        S.begins S.ends S.is_made R.remaining W.contents E.contents (map string_bytes words.now)
+        reader.old reader.new writer.old writer.new errors.old errors.new S.refuses S.is_unmade }
     ensures nothing { result ≡ 2 → AskForNothing (map string_bytes words.now)
         × (reader.new ≡ reader.old) × (writer.new ≡ writer.old) }
 {

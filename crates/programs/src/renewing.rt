@@ -1,8 +1,8 @@
 //! The program `renew`: a new store with the rings of another one, in which numbers begin anew.
-ghost use Rattle.std.specs.Prelude.{◌≡◌, IfErr, IfOk, OnOk};
+ghost use Rattle.std.specs.Prelude.{◌≡◌, ⊤, IfErr, IfOk, OnOk};
 ghost use Rattle.request_book.specs.Keeper.{LeavesOnly};
-ghost use Rattle.programs.specs.Begun.{IsStoreFault};
-ghost use Rattle.programs.specs.Renewing.{IsRead, Renews};
+ghost use Rattle.programs.specs.Begun.{IsClosed, IsStoreFault};
+ghost use Rattle.programs.specs.Renewing.{FailsToRead, FailsToRenew, IsRead, Renews};
 
 use crate::faults::ProgramFault;
 use crate::stores::Stores;
@@ -44,9 +44,10 @@ fn rings_and_hour<K: Keeper<RingMachine>>(keeper: &mut K) -> Result<(Rings, Hour
 /// The rings and the greatest hour that a keeper holds, and the keeper as it is then.
 fn found_in<K: Keeper<RingMachine>>(keeper: K) -> (Result<(Rings, Hour), ProgramFault>, K)
     requires { K.fault_count keeper ≡ 0 }
-    ensures found { IfOk result.0 (λ found. IsRead K.Keeper (λ k. k ≡ keeper)
+    ensures found { IfOk result.0 (λ found. IsRead K.Keeper (λ k. k ≡ keeper) (λ k. k ≡ result.1)
         (λ rings hour. (rings ≡ found.0) × (hour ≡ found.1))) }
-    ensures fault { IfErr result.0 IsStoreFault }
+    ensures fault { IfErr result.0 (λ why. IsStoreFault why
+        × IsRead K.Keeper (λ k. k ≡ keeper) (λ k. k ≡ result.1) (λ rings hour. ⊤)) }
 {
     let mut keeper = keeper;
     let found = rings_and_hour(&mut keeper);
@@ -59,9 +60,10 @@ fn read_store<S: Stores>(
     file: &str,
     stores: S,
 ) -> Result<(Rings, Hour), ProgramFault>
-    ensures found { IfOk result (λ found. IsRead S.Kept.Keeper S.begins
+    ensures found { IfOk result (λ found. IsRead S.Kept.Keeper (S.begins file.now) (IsClosed S.ends)
         (λ rings hour. (rings ≡ found.0) × (hour ≡ found.1))) }
-    ensures fault { IfErr result IsStoreFault }
+    ensures fault { IfErr result (FailsToRead S.Kept.Keeper (S.begins file.now) S.ends
+        (S.refuses file.now)) }
 {
     let keeper = stores.open(rt, file)?;
     let (found, keeper) = found_in(keeper);
@@ -78,8 +80,10 @@ pub(crate) fn renew_store<S: Stores>(
     new: &str,
     stores: S,
 ) -> Result<(), ProgramFault>
-    ensures renewed { OnOk result (Renews S.Kept.Keeper S.begins S.is_made) }
-    ensures fault { IfErr result IsStoreFault }
+    ensures renewed { OnOk result (Renews S.Kept.Keeper (S.begins file.now) (IsClosed S.ends)
+        (S.is_made new.now)) }
+    ensures fault { IfErr result (FailsToRenew S.Kept.Keeper (S.begins file.now) S.ends
+        (S.refuses file.now) (S.is_unmade new.now)) }
 {
     let (rings, hour) = read_store(rt, file, stores)?;
     S::make(rt, new, rings, hour)

@@ -4,7 +4,7 @@ ghost use Rattle.http_sockets.specs.declared.fault.ServeFault.TheVariants.{NetFa
 ghost use Rattle.programs.specs.Serving.{IsSet, LoopsOnce, ServesAtMost, ServesConnections};
 ghost use Rattle.programs.specs.Serving.{StopsLoop, FailsToLoop, FailsToLoopInput};
 ghost use Rattle.programs.specs.Serving.{FailsToServe, LoopsInput};
-ghost use Rattle.programs.specs.Begun.{IsAny};
+ghost use Rattle.programs.specs.Begun.{IsClosed, WasClosed};
 
 use crate::book::open_book;
 use crate::faults::ProgramFault;
@@ -79,10 +79,10 @@ pub(crate) fn serve_store<S: Stores>(
     names: HashNames<'_>,
     stores: S,
 ) -> Result<(), ProgramFault>
-    ensures served { OnOk result (ServesConnections S.Kept.Keeper S.begins IsAny given names.entry
-        count) }
-    ensures failed { IfErr result (FailsToServe S.Kept.Keeper S.begins IsAny given names.entry
-        count) }
+    ensures served { OnOk result (ServesConnections S.Kept.Keeper (S.begins file.now)
+        (IsClosed S.ends) given names.entry count) }
+    ensures failed { IfErr result (FailsToServe S.Kept.Keeper (S.begins file.now) (WasClosed S.ends)
+        given names.entry (S.refuses file.now) count) }
 {
     let keeper = stores.open(rt, file)?;
     let (served, keeper) = serve_port(rt, keeper, port, count, given, names);
@@ -101,10 +101,10 @@ fn loop_store<S: Stores, W: Write>(
     writer: &mut CountedWriter<W>,
     stores: S,
 ) -> Result<(), ProgramFault>
-    ensures looped { OnOk result (LoopsOnce S.Kept.Keeper S.begins IsAny given names.entry
-        W.contents writer.old writer.new) }
-    ensures failed { IfErr result (FailsToLoop S.Kept.Keeper S.begins IsAny given names.entry
-        W.contents writer.old writer.new) }
+    ensures looped { OnOk result (LoopsOnce S.Kept.Keeper (S.begins file.now) (IsClosed S.ends) given
+        names.entry W.contents writer.old writer.new) }
+    ensures failed { IfErr result (FailsToLoop S.Kept.Keeper (S.begins file.now) (WasClosed S.ends) given
+        names.entry W.contents writer.old writer.new (S.refuses file.now)) }
 {
     let keeper = stores.open(rt, file)?;
     let (looped, keeper) = loop_input(rt, keeper, input, given, names, writer);
@@ -124,10 +124,10 @@ pub(crate) fn loop_reader<S: Stores, R: Read + Drop, W: Write>(
     writer: &mut CountedWriter<W>,
     stores: S,
 ) -> Result<(), ProgramFault>
-    ensures looped { OnOk result (LoopsInput S.Kept.Keeper S.begins IsAny given names.entry
-        W.contents writer.old writer.new (R.remaining input)) }
-    ensures failed { IfErr result (FailsToLoopInput S.Kept.Keeper S.begins IsAny given names.entry
-        W.contents writer.old writer.new (R.remaining input)) }
+    ensures looped { OnOk result (LoopsInput S.Kept.Keeper (S.begins file.now) (IsClosed S.ends) given
+        names.entry W.contents writer.old writer.new (R.remaining input)) }
+    ensures failed { IfErr result (FailsToLoopInput S.Kept.Keeper (S.begins file.now) (WasClosed S.ends)
+        given names.entry W.contents writer.old writer.new (S.refuses file.now) (R.remaining input)) }
 {
     let input = read_short(rt.alloc(), input, MOST_LOOPED as u32)?;
     loop_store(rt, file, &input, given, names, writer, stores)

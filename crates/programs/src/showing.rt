@@ -1,7 +1,7 @@
 //! The programs `table`, `nodes` and `export`: what a store's rings show.
-ghost use Rattle.std.specs.Prelude.{◌≡◌, ◌≢◌, ◌⊎◌, ◌++◌, ◌∷◌, [], IfErr, IfOk, OnOk, true};
+ghost use Rattle.std.specs.Prelude.{◌≡◌, ◌≢◌, ◌⊎◌, ◌++◌, ◌∷◌, [], ⊤, IfErr, IfOk, OnOk, true};
 ghost use Rattle.path_lookup.specs.Names.{is_path};
-ghost use Rattle.programs.specs.Begun.{IsStoreFault, IsAny};
+ghost use Rattle.programs.specs.Begun.{IsClosed, WasClosed, IsStoreFault};
 ghost use Rattle.programs.specs.Showing.{AsksNodes, AsksPublished, AsksTables, FailsToShow};
 ghost use Rattle.programs.specs.Showing.{HidesAs};
 ghost use Rattle.programs.specs.Showing.{IsAsked, IsFormFault, IsNoName, IsNoNumber, ShowsRead, ShowsAs};
@@ -164,7 +164,9 @@ fn told_bytes<K: Keeper<RingMachine>>(
     requires { K.fault_count keeper ≡ 0 }
     ensures shown { IfOk result.0 (λ bytes. IsAsked K.Keeper (λ k. k ≡ keeper) (λ k. k ≡ result.1)
         (ShowsAs names.entry.prefix.now names.entry.suffix.now question.now bytes.items)) }
-    ensures fault { IfErr result.0 (λ why. IsStoreFault why ⊎ IsAsked K.Keeper (λ k. k ≡ keeper) (λ k. k ≡ result.1)
+    ensures fault { IfErr result.0 (λ why. (IsStoreFault why
+        × IsAsked K.Keeper (λ k. k ≡ keeper) (λ k. k ≡ result.1) (λ rings hour. ⊤))
+        ⊎ IsAsked K.Keeper (λ k. k ≡ keeper) (λ k. k ≡ result.1)
         (λ rings hour. HidesAs question.now why rings)) }
 {
     let mut keeper = keeper;
@@ -180,9 +182,13 @@ fn store_bytes<S: Stores>(
     question: &Question,
     stores: S,
 ) -> Result<Vec<u8>, ProgramFault>
-    ensures shown { IfOk result (λ bytes. IsAsked S.Kept.Keeper S.begins IsAny
-        (ShowsAs names.entry.prefix.now names.entry.suffix.now question.now bytes.items)) }
-    ensures fault { IfErr result (λ why. IsStoreFault why ⊎ IsAsked S.Kept.Keeper S.begins IsAny
+    ensures shown { IfOk result (λ bytes. IsAsked S.Kept.Keeper (S.begins file.now)
+        (IsClosed S.ends) (ShowsAs names.entry.prefix.now names.entry.suffix.now question.now
+        bytes.items)) }
+    ensures fault { IfErr result (λ why. (S.refuses file.now why × IsStoreFault why)
+        ⊎ (IsStoreFault why
+        × IsAsked S.Kept.Keeper (S.begins file.now) (WasClosed S.ends) (λ rings hour. ⊤))
+        ⊎ IsAsked S.Kept.Keeper (S.begins file.now) (WasClosed S.ends)
         (λ rings hour. HidesAs question.now why rings)) }
 {
     let keeper = stores.open(rt, file)?;
@@ -202,10 +208,12 @@ pub(crate) fn show<S: Stores, W: Write>(
     writer: &mut CountedWriter<W>,
     stores: S,
 ) -> Result<(), ProgramFault>
-    ensures shown { OnOk result (ShowsRead S.Kept.Keeper S.begins IsAny W.contents writer.old writer.new
-        names.entry.prefix.now names.entry.suffix.now question.now) }
-    ensures fault { IfErr result (FailsToShow S.Kept.Keeper S.begins IsAny W.contents writer.old
-        writer.new names.entry.prefix.now names.entry.suffix.now question.now) }
+    ensures shown { OnOk result (ShowsRead S.Kept.Keeper (S.begins file.now)
+        (IsClosed S.ends) W.contents
+        writer.old writer.new names.entry.prefix.now names.entry.suffix.now question.now) }
+    ensures fault { IfErr result (FailsToShow S.Kept.Keeper (S.begins file.now) (WasClosed S.ends)
+        W.contents writer.old writer.new names.entry.prefix.now names.entry.suffix.now
+        (S.refuses file.now) question.now) }
 {
     let bytes = store_bytes(rt, file, names, question, stores)?;
     Ok(write_text(writer, bytes.as_slice())?)

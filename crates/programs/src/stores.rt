@@ -1,7 +1,8 @@
 //! Where the programs find the stores that words name.
-ghost use Rattle.std.specs.Prelude.{◌≡◌, ℕ, IfErr, IfOk, OnOk};
+ghost use Rattle.std.specs.Prelude.{◌≡◌, ℕ, IfErr, IfOk, List, OnOk};
 ghost use Rattle.builder.specs.Step.{State};
-ghost use Rattle.programs.specs.Begun.{IsStoreFault};
+ghost use Rattle.programs.specs.Begun.{Closing, IsStoreFault};
+ghost use Rattle.programs.specs.declared.faults.ProgramFault.{ProgramFault};
 ghost use Rattle.programs.specs.declared.faults.ProgramFault.TheVariants.{StoreFault};
 
 use crate::faults::ProgramFault;
@@ -15,25 +16,38 @@ pub trait Stores: Drop {
     /// The keeper of a store that was opened.
     type Kept: Keeper<RingMachine>;
 
-    /// The keeper of a store that is opened begins so.
-    ghost begins: { Self.Kept → Type 0 };
+    /// The keeper of a store of this name that is opened begins so.
+    ghost begins: { List ℕ → Self.Kept → Type 0 };
 
-    /// A store was made that holds these rings and no request, and goes on from this hour.
-    ghost is_made: { State → ℕ → Type 0 };
+    /// A store of this name wasn't opened, for this fault.
+    ghost refuses: { List ℕ → ProgramFault → Type 0 };
+
+    /// This keeper was closed, which answered so.
+    ghost ends: { Self.Kept → Closing → Type 0 };
+
+    /// A store of this name was made that holds these rings and no request, and goes on from this
+    /// hour.
+    ghost is_made: { List ℕ → State → ℕ → Type 0 };
+
+    /// Making a store of this name, of these rings and this hour, failed so.
+    ghost is_unmade: { List ℕ → State → ℕ → ProgramFault → Type 0 };
 
     /// Opens the store of this name, and makes it where it is missing.
     fn open(self, rt: &HostRuntime, name: &str) -> Result<Self::Kept, ProgramFault>
-        ensures begins { IfOk result begins }
+        ensures begins { IfOk result (begins name.now) }
         ensures faults { IfOk result (λ keeper. Self.Kept.fault_count keeper ≡ 0) }
+        ensures refused { IfErr result (refuses name.now) }
         ensures fault { IfErr result IsStoreFault };
 
     /// Closes a store that was opened, so that all that it holds is in its place.
     fn close(keeper: Self::Kept) -> Result<(), ProgramFault>
-        ensures { IfErr result (λ why. why ≡ StoreFault) };
+        ensures ends { ends keeper result }
+        ensures fault { IfErr result (λ why. why ≡ StoreFault) };
 
     /// Makes a store of this name, where there is none, of these rings, and closes it. It has no
     /// request, and goes on from this hour.
     fn make(rt: &HostRuntime, name: &str, rings: Rings, hour: Hour) -> Result<(), ProgramFault>
-        ensures made { OnOk result (is_made rings hour) }
+        ensures made { OnOk result (is_made name.now rings hour) }
+        ensures unmade { IfErr result (is_unmade name.now rings hour) }
         ensures fault { IfErr result IsStoreFault };
 }

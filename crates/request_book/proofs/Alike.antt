@@ -4,7 +4,7 @@ use Rattle.std.proofs.Common.{append_assoc, length, max, refl, subst, sym, ℕ}
 use Rattle.std.specs.Prelude.{Bool, MatchOption, Ok, cond, false, is_some, true}
 use Rattle.std.specs.Cmp.Lexicographic.{nat_list_eq_equiv}
 use Rattle.std.specs.List.{flat_map}
-use Rattle.std.specs.Option.{option_or}
+use Rattle.std.specs.Option.{option_or, option_to_list}
 use Rattle.std.proofs.lemmas.Cmp.{nat_eq_equiv}
 use Rattle.std.proofs.lemmas.Grind.{flat_map-append}
 use Rattle.std.proofs.lemmas.List.Folds.{find-append}
@@ -93,3 +93,35 @@ module _ {C R : Type 0} where
       kept old.hour (once old.book (before ++ Deliver d (Ok p) ∷ between))) < limit)
       (λ x. (x.command ≡ b.command) × (q ≡ x.reply))) still two.1 in
       (sym had.2 ∙ m.0, had.3 ∙ sym m.1)
+
+  -- a key's entry stays it as the book grows
+  pub kept_on : (book more : List (Entry C R)) (key : Key) (e : Entry C R) →
+      entry_of key book ≡ Some e → entry_of key (book ++ more) ≡ Some e
+  kept_on book more key e h = find-append (λ x. same_key x.key key) book more ∙ ap
+      (λ o. option_or o (entry_of key more)) h
+
+  -- every reply of a run is the one that the book keeps under its key when the run has ended
+  pub kept_reply : {S : Type 0} (step : S → ℕ → C → R → S → Type 0) (limit : ℕ) (closed : Bool)
+      (old : Content S C R) (calls : List (Call C R)) (new : Content S C R) →
+      Run step limit closed old calls new → (before : List (Call C R)) (d : Delivery C) (p : R)
+      (after : List (Call C R)) → calls ≡ before ++ Deliver d (Ok p) ∷ after → (e : Entry C R)
+      × (entry_of d.key new.book ≡ Some e) × (e.command ≡ d.command) × (p ≡ e.reply)
+  kept_reply step limit closed old calls new r before d p after is =
+      let one = r.answers before (Deliver d (Ok p)) after is in
+      let had = after_reply limit old.book old.hour before d p (entry_of d.key (old.book ++
+      kept old.hour (once old.book before))) refl one.1 in
+      let all : (before ++ Deliver d (Ok p) ∷ []) ++ after ≡ calls =
+      append_assoc before (Deliver d (Ok p) ∷ []) after ∙ sym is in
+      let still : entry_of d.key (old.book ++ kept old.hour (once old.book calls)) ≡ Some had.0 =
+      ap (λ xs. entry_of d.key (old.book ++ kept old.hour (once old.book xs))) (sym all) ∙ stays
+      old.book old.hour (before ++ Deliver d (Ok p) ∷ []) after d.key had.0 had.1 in
+      let es = once old.book calls in
+      let fs = kept (last_hour old.hour (kept old.hour es)) (option_to_list r.doubt) in
+      let book : new.book ≡ (old.book ++ kept old.hour es) ++ fs =
+      r.leads.book ∙ ap (λ xs. old.book ++ xs) (kept-append old.hour es (option_to_list r.doubt))
+      ∙ sym (append_assoc old.book (kept old.hour es) fs) in (
+        had.0,
+        ap (entry_of d.key) book ∙ kept_on (old.book ++ kept old.hour es) fs d.key had.0 still,
+        had.2,
+        had.3,
+      )

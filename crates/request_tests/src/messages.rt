@@ -3,7 +3,7 @@ use ring_messages::{
     MessageFault, NO_MEMORY_TEXT, Told, command_text, no_memory, read_command, read_delivery,
     read_reply, reply_text, status_of, told_text,
 };
-use ring_words::{Done, Refusal, Reply, RowCause};
+use ring_words::{Deed, Done, Refusal, Reply, RowCause};
 use serde_json::Value;
 use std::alloc::{AllocError, Global};
 use std::test::Fail;
@@ -300,24 +300,31 @@ fn check_replies(alloc: Global, replies: &[(Reply, &str)]) -> Result<(), Fail> {
 /// Replies to commands that were done, and their texts.
 static DONE: [(Reply, &str); 4] = [
     (
-        Reply::Done(Done::Create { version: 0 }),
+        Reply::Done(Done {
+            version: 0,
+            deed: Deed::Create,
+        }),
         "{\"done\":\"create\",\"version\":0}",
     ),
     (
-        Reply::Done(Done::Create {
+        Reply::Done(Done {
             version: 4294967295,
+            deed: Deed::Create,
         }),
         "{\"done\":\"create\",\"version\":4294967295}",
     ),
     (
-        Reply::Done(Done::Add {
-            id: 65535,
+        Reply::Done(Done {
             version: 1,
+            deed: Deed::Add { id: 65535 },
         }),
         "{\"done\":\"add\",\"id\":65535,\"version\":1}",
     ),
     (
-        Reply::Done(Done::SetWeight { version: 2 }),
+        Reply::Done(Done {
+            version: 2,
+            deed: Deed::SetWeight,
+        }),
         "{\"done\":\"set_weight\",\"version\":2}",
     ),
 ];
@@ -387,7 +394,10 @@ fn check_told(alloc: Global, answers: &[(Told, &str, u16)]) -> Result<(), Fail> 
 /// Replies, their texts and their statuses.
 static REPLIES: [(Told, &str, u16); 2] = [
     (
-        Told::Reply(Reply::Done(Done::Create { version: 0 })),
+        Told::Reply(Reply::Done(Done {
+            version: 0,
+            deed: Deed::Create,
+        })),
         "{\"done\":\"create\",\"version\":0}",
         200,
     ),
@@ -554,39 +564,58 @@ fn rows_are_read_and_written(rt: HostRuntime) -> Result<(), Fail> {
 /// Replies to the other commands, and their texts.
 static EVERY_COMMAND: [(Reply, &str); 7] = [
     (
-        Reply::Done(Done::Remove { version: 7 }),
+        Reply::Done(Done {
+            version: 7,
+            deed: Deed::Remove,
+        }),
         "{\"done\":\"remove\",\"version\":7}",
     ),
     (
-        Reply::Done(Done::SetHours { version: 7 }),
+        Reply::Done(Done {
+            version: 7,
+            deed: Deed::SetHours,
+        }),
         "{\"done\":\"set_hours\",\"version\":7}",
     ),
     (
-        Reply::Done(Done::PretendPassed { version: 7 }),
+        Reply::Done(Done {
+            version: 7,
+            deed: Deed::PretendPassed,
+        }),
         "{\"done\":\"pretend_passed\",\"version\":7}",
     ),
     (
-        Reply::Done(Done::RaisePower { version: 7 }),
+        Reply::Done(Done {
+            version: 7,
+            deed: Deed::RaisePower,
+        }),
         "{\"done\":\"raise_power\",\"version\":7}",
     ),
     (
-        Reply::Done(Done::Publish { version: 7 }),
+        Reply::Done(Done {
+            version: 7,
+            deed: Deed::Publish,
+        }),
         "{\"done\":\"publish\",\"version\":7}",
     ),
     (
-        Reply::Done(Done::Rebalance {
-            balance: 99999,
-            changed: 4,
-            dispersion: 0,
+        Reply::Done(Done {
             version: 7,
+            deed: Deed::Rebalance {
+                balance: 99999,
+                changed: 4,
+                dispersion: 0,
+            },
         }),
         "{\"balance\":99999,\"changed\":4,\"dispersion\":0,\"done\":\"rebalance\",\"version\":7}",
     ),
     (
-        Reply::Done(Done::Import {
-            added: 1,
-            reweighted: 18446744073709551615,
+        Reply::Done(Done {
             version: 7,
+            deed: Deed::Import {
+                added: 1,
+                reweighted: 18446744073709551615,
+            },
         }),
         "{\"added\":1,\"done\":\"import\",\"reweighted\":18446744073709551615,\"version\":7}",
     ),

@@ -1,16 +1,16 @@
 -- One word and one list of fields are of one act.
-use Rattle.std.proofs.Common.{◌≡◌, ℕ, true, bytes_eq, sym, ap, ◌∙◌}
-use Rattle.std.proofs.lemmas.Slice.Eq.{bytes_eq-Decides}
+use Rattle.std.proofs.Common.{◌≡◌, ℕ, ap, ◌∙◌}
 use Rattle.serde_json.specs.Data.{Data}
 use Rattle.ring_words.specs.declared.device.Row.{Row}
 use Rattle.ring_words.specs.declared.command.NewRing.{NewRing}
 use Rattle.ring_words.specs.declared.command.NewWeight.{NewWeight}
 use Rattle.ring_words.specs.declared.command.Act.{Act}
 use Rattle.ring_words.specs.declared.command.Act.TheVariants.{Create, Add, SetWeight}
-use Rattle.ring_messages.specs.Commands.{act_word, act_fields}
+use Rattle.ring_words.specs.Kinds.{act_kind}
+use Rattle.ring_messages.specs.Commands.{act_fields}
 use Rattle.ring_messages.specs.Inner.Says.{SaysAct}
 use Rattle.ring_messages.proofs.FieldKinds.{Values, kinds, same_fields, values}
-use Rattle.ring_messages.proofs.OneValue.{same_text_at}
+use Rattle.ring_messages.proofs.OneKind.{same_kind}
 use Rattle.ring_messages.proofs.RowLists.{equal_rows}
 
 -- ---- the records of an act, each made of what its fields hold
@@ -43,27 +43,25 @@ same_row r q e = equal_rows r q (cc) (cc) (cc) (cc) (cc) (cc)
 same_new_weight : (w v : NewWeight) → act_values (SetWeight w) ≡ act_values (SetWeight v) → w ≡ v
 same_new_weight w v e = equal_new_weights w v (cc) (cc)
 
--- ---- acts of one word. An act that holds no record needs no line here.
+-- ---- acts of one command. An act that holds no record needs no line here.
 
-same_kinds : (a b : Act) → bytes_eq (act_word a) (act_word b) ≡ true
+same_kinds : (a b : Act) → act_kind a ≡ act_kind b
     → kinds (act_fields a) ≡ kinds (act_fields b)
-same_kinds (Create s) (Create t) word = cc
-same_kinds a (Create t) word = cc
-same_kinds a b word = cc
+same_kinds (Create s) (Create t) is = cc
+same_kinds a (Create t) is = cc
+same_kinds a b is = cc
 
-same_values : (a b : Act) → bytes_eq (act_word a) (act_word b) ≡ true
-    → act_values a ≡ act_values b → a ≡ b
-same_values (Create s) (Create t) word e = ap Create (same_new_ring s t e)
-same_values (Add r) (Add q) word e = ap Add (same_row r q e)
-same_values (SetWeight w) (SetWeight v) word e = ap SetWeight (same_new_weight w v e)
-same_values a (Create t) word e = cc
-same_values a b word e = cc
+same_values : (a b : Act) → act_kind a ≡ act_kind b → act_values a ≡ act_values b → a ≡ b
+same_values (Create s) (Create t) is e = ap Create (same_new_ring s t e)
+same_values (Add r) (Add q) is e = ap Add (same_row r q e)
+same_values (SetWeight w) (SetWeight v) is e = ap SetWeight (same_new_weight w v e)
+same_values a (Create t) is e = cc
+same_values a b is e = cc
 
 -- one object asks for one act
 pub same_act : (d : Data) (a b : Act) → SaysAct d a → SaysAct d b → a ≡ b
 same_act d a b h k =
-    let word : bytes_eq (act_word a) (act_word b) ≡ true =
-    (bytes_eq-Decides (act_word a) (act_word b)).1 (same_text_at _ _ (sym h.word ∙ k.word)) in
-    same_values a b word
+    let is = same_kind _ (act_kind a) (act_kind b) h.word k.word in
+    same_values a b is
     (ap values
-    (same_fields d (act_fields a) (act_fields b) (same_kinds a b word) h.fields k.fields))
+    (same_fields d (act_fields a) (act_fields b) (same_kinds a b is) h.fields k.fields))

@@ -79,9 +79,9 @@ each_of P ring a word name fields =
     (put (codes "ring") (string ring) (members (act_fields a))) word
     (each_put P (codes "ring") (string ring) (members (act_fields a)) name fields)
 
-pub has_command : (further : ℕ) (d : Data) (c : Command) → SaysCommand further d c
+pub has_command : (d : Data) (c : Command) → SaysCommand d c
     → HasMembers (members_of (command_data c)) d
-has_command further d c h =
+has_command d c h =
     each_of (λ k v. get k d ≡ Some v) c.ring c.act h.act.word h.ring.is
     (has_members d (act_fields c.act) h.act.fields)
 
@@ -129,7 +129,7 @@ apart a =
       fields = names_apart fs ring.1;
     }
 
-pub is_command : (c : Command) → IsProperCommand c → SaysCommand 0 (command_data c) c
+pub is_command : (c : Command) → IsProperCommand c → SaysCommand (command_data c) c
 is_command c h =
     let fields = act_fields c.act in
     let named = put (codes "ring") (string c.ring) (members fields) in
@@ -147,21 +147,19 @@ is_command c h =
             (still_there (codes "ring") (string c.ring) (members fields) fields keys.ring
             (all_there fields keys.fields h.act));
       };
-      count = let is = count_is c.ring c.act in omega (arith, is);
     }
 
-pub command_proper : (m : ℕ) (d : Data) (c : Command) → SaysCommand m d c → IsProperCommand c
-command_proper m d c h =
+pub command_proper : (d : Data) (c : Command) → SaysCommand d c → IsProperCommand c
+command_proper d c h =
     record { ring = h.ring.valid; act = are_proper d (act_fields c.act) h.act.fields }
 
 abbrev command : List ℕ → Act → Command
 command ring act = record { ring = ring; act = act }
 
-pub same_command : (m n : ℕ) (d : Data) (a b : Command) → SaysCommand m d a
-    → SaysCommand n d b → a ≡ b
-same_command m n d a b h k =
+pub same_command : (d : Data) (a b : Command) → SaysCommand d a → SaysCommand d b → a ≡ b
+same_command d a b h k =
     ap (λ (r : List ℕ). command r a.act) (same_name _ _ _ _ h.ring k.ring)
     ∙ ap (λ (x : Act). command b.ring x) (same_act d a.act b.act h.act k.act)
 
-pub readable : IsReadable command_data IsProperCommand (SaysCommand 0)
-readable = record { back = read-canonical; own = is_command; same = same_command 0 0 }
+pub readable : IsReadable command_data IsProperCommand SaysCommand
+readable = record { back = read-canonical; own = is_command; same = same_command }

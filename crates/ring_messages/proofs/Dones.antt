@@ -1,15 +1,15 @@
 -- One word and one list of fields tell one thing that was done; it is read back from its text.
-use Rattle.std.proofs.Common.{◌≡◌, ◌≤◌, ◌∷◌, bytes_eq, true, Some, None, codes, refl, sym, ap, ◌∙◌}
-use Rattle.std.proofs.Common.{arith}
+use Rattle.std.proofs.Common.{◌≡◌, ◌≤◌, ◌∷◌, ℕ, true, Some, None, codes, refl, ap, ◌∙◌, arith}
 use Rattle.std.proofs.lemmas.Bool.{and_parts, not-true}
-use Rattle.std.proofs.lemmas.Slice.Eq.{bytes_eq-Decides}
 use Rattle.serde_json.specs.Data.{Data, string, no_members, depth}
 use Rattle.serde_json.specs.Find.{get}
 use Rattle.serde_json.specs.Read.{read, max_depth}
 use Rattle.serde_json.specs.Written.{compact_text}
 use Rattle.serde_json.proofs.Views.{get_member-put}
 use Rattle.ring_words.specs.declared.command.Done.{Done}
-use Rattle.ring_words.specs.declared.command.Done.TheVariants.{Create}
+use Rattle.ring_words.specs.declared.command.Deed.{Deed}
+use Rattle.ring_words.specs.declared.command.Deed.TheVariants.{Create}
+use Rattle.ring_words.specs.Kinds.{deed_kind}
 use Rattle.ring_messages.specs.Fields.{members, AreProper}
 use Rattle.ring_messages.specs.Replies.{done_word, done_fields, done_data}
 use Rattle.ring_messages.specs.Inner.Says.{SaysDone}
@@ -17,49 +17,75 @@ use Rattle.ring_messages.proofs.FieldKinds.{kinds, same_fields, values}
 use Rattle.ring_messages.proofs.FieldLists.{all_there, are_proper, are_short, fields_low}
 use Rattle.ring_messages.proofs.FieldLists.{fields_plain, still_there}
 use Rattle.ring_messages.proofs.Keys.{are_apart, members_of, names, names_apart, no_name}
-use Rattle.ring_messages.proofs.OneValue.{same_text_at}
+use Rattle.ring_messages.proofs.OneKind.{same_kind}
 use Rattle.ring_messages.proofs.Plain.{IsPlain, members_plain, put_each, reads_compact}
 use Rattle.ring_messages.proofs.Puts.{all_low, each_put}
 
 -- ---- what is seen of each thing done alone
 
+abbrev done : ℕ → Deed → Done
+done v x = record { version = v; deed = x }
+
+apart_at : (v : ℕ) (x : Deed) → are_apart (codes "done" ∷ names (done_fields (done v x))) ≡ true
+apart_at v Create = refl
+apart_at v other = refl
+
 fields_apart : (x : Done) → are_apart (codes "done" ∷ names (done_fields x)) ≡ true
-fields_apart (Create v) = refl
-fields_apart other = refl
+fields_apart x = apart_at x.version x.deed
+
+short_at : (v : ℕ) (x : Deed) → are_short (done_fields (done v x)) ≡ true
+short_at v Create = refl
+short_at v other = refl
 
 short : (x : Done) → are_short (done_fields x) ≡ true
-short (Create v) = refl
-short other = refl
+short x = short_at x.version x.deed
+
+ordered_at : (v : ℕ) (x : Deed) → put_each (members_of (done_data (done v x))) no_members
+    ≡ members_of (done_data (done v x))
+ordered_at v Create = refl
+ordered_at v other = refl
 
 ordered : (x : Done) → put_each (members_of (done_data x)) no_members ≡ members_of (done_data x)
-ordered (Create v) = refl
-ordered other = refl
+ordered x = ordered_at x.version x.deed
+
+no_rule_at : (v : ℕ) (x : Deed) → get (codes "rule") (done_data (done v x)) ≡ None
+no_rule_at v Create = refl
+no_rule_at v other = refl
 
 pub no_rule : (x : Done) → get (codes "rule") (done_data x) ≡ None
-no_rule (Create v) = refl
-no_rule other = refl
+no_rule x = no_rule_at x.version x.deed
 
 -- ---- one object tells one thing done
 
-same_kinds : (x y : Done) → bytes_eq (done_word x) (done_word y) ≡ true
-    → kinds (done_fields x) ≡ kinds (done_fields y)
-same_kinds (Create v) (Create w) word = cc
-same_kinds x (Create w) word = cc
-same_kinds x y word = cc
+same_kinds : (v w : ℕ) (x y : Deed) → deed_kind x ≡ deed_kind y
+    → kinds (done_fields (done v x)) ≡ kinds (done_fields (done w y))
+same_kinds v w Create Create is = cc
+same_kinds v w x Create is = cc
+same_kinds v w x y is = cc
 
-same_values : (x y : Done) → bytes_eq (done_word x) (done_word y) ≡ true
+same_deed : (v w : ℕ) (x y : Deed) → deed_kind x ≡ deed_kind y
+    → values (done_fields (done v x)) ≡ values (done_fields (done w y)) → x ≡ y
+same_deed v w Create Create is e = cc
+same_deed v w x Create is e = cc
+same_deed v w x y is e = cc
+
+same_version : (v w : ℕ) (x y : Deed)
+    → values (done_fields (done v x)) ≡ values (done_fields (done w y)) → v ≡ w
+same_version v w x y e = cc
+
+same_values : (x y : Done) → deed_kind x.deed ≡ deed_kind y.deed
     → values (done_fields x) ≡ values (done_fields y) → x ≡ y
-same_values (Create v) (Create w) word e = cc
-same_values x (Create w) word e = cc
-same_values x y word e = cc
+same_values x y is e =
+    ap (λ (v : ℕ). done v x.deed) (same_version x.version y.version x.deed y.deed e)
+    ∙ ap (done y.version) (same_deed x.version y.version x.deed y.deed is e)
 
 pub same_done : (d : Data) (x y : Done) → SaysDone d x → SaysDone d y → x ≡ y
 same_done d x y h k =
-    let word : bytes_eq (done_word x) (done_word y) ≡ true =
-    (bytes_eq-Decides (done_word x) (done_word y)).1 (same_text_at _ _ (sym h.word ∙ k.word)) in
-    same_values x y word
+    let is = same_kind _ (deed_kind x.deed) (deed_kind y.deed) h.word k.word in
+    same_values x y is
     (ap values
-    (same_fields d (done_fields x) (done_fields y) (same_kinds x y word) h.fields k.fields))
+    (same_fields d (done_fields x) (done_fields y)
+    (same_kinds x.version y.version x.deed y.deed is) h.fields k.fields))
 
 pub done_says : (x : Done) → AreProper (done_fields x) → SaysDone (done_data x) x
 done_says x h =

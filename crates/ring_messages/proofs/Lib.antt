@@ -5,6 +5,7 @@ pub mod Puts
 pub mod Plain
 pub mod FieldLists
 pub mod Keys
+pub mod OneKind
 pub mod Acts
 pub mod Putting
 pub mod OneText

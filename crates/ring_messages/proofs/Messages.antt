@@ -9,8 +9,8 @@ use Rattle.ring_words.specs.declared.request.Key.{Key}
 use Rattle.ring_words.specs.declared.command.Command.{Command}
 use Rattle.ring_messages.specs.Fields.{Fields}
 use Rattle.ring_messages.specs.Commands.{act_fields, command_data}
-use Rattle.ring_messages.specs.Message.{IsDelivery, IsMessage}
-use Rattle.ring_messages.specs.Inner.Says.{SaysDelivery}
+use Rattle.ring_messages.specs.Message.{IsDelivery, IsMessage, members_count}
+use Rattle.ring_messages.specs.Inner.Says.{SaysCommand, SaysDelivery}
 use Rattle.ring_messages.proofs.CommandObjects.{apart, command_proper, count_is, has_command}
 use Rattle.ring_messages.proofs.CommandObjects.{is_command, keys_apart, keys_count, own_keys}
 use Rattle.ring_messages.proofs.CommandObjects.{same_command}
@@ -30,12 +30,13 @@ is_delivery d k c h =
     record {
       caller = h.caller;
       number = h.number;
-      proper = command_proper 2 d c h.command;
+      proper = command_proper d c h.command;
       members =
           λ name no_caller no_number. further own_keys (members_of (command_data c)) d
-          (distinct _ (keys_apart c.ring c.act)) own (has_command 2 d c h.command)
-          (h.command.count ∙ keys_count c.ring c.act) name (out name no_caller no_number);
-      count = h.command.count ∙ ap (λ (n : ℕ). 2 + n) (sym (count_is c.ring c.act));
+          (distinct _ (keys_apart c.ring c.act)) own (has_command d c h.command)
+          (h.count ∙ ap (λ (n : ℕ). 2 + n) (count_is c.ring c.act) ∙ keys_count c.ring c.act) name
+          (out name no_caller no_number);
+      count = h.count;
     }
 
 alike : (d e : Data) (fs : Fields)
@@ -66,9 +67,16 @@ says_delivery d k c h =
               (alike d (command_data c) (act_fields c.act) h.members keys.caller keys.number)
               own.act.fields;
         };
-        count = h.count ∙ ap (λ (n : ℕ). 2 + n) (count_is c.ring c.act);
       };
+      count = h.count;
     }
+
+-- an object that says a command has as many members as its delivery, where it says one
+pub own_count : (d : Data) (k : Key) (b c : Command) → SaysDelivery d k b → SaysCommand d c
+    → members_count d ≡ 2 + members_count (command_data c)
+own_count d k b c h says =
+    h.count ∙ ap (λ (x : Command). 2 + members_count (command_data x))
+    (same_command d b c h.command says)
 
 abbrev key : List ℕ → ℕ → Key
 key c n = record { caller = c; number = n }
@@ -78,7 +86,7 @@ same_delivery : (d : Data) (k j : Key) (a b : Command) → SaysDelivery d k a �
 same_delivery d k j a b h g = (
   ap (λ (x : List ℕ). key x k.number) (same_name _ _ _ _ h.caller g.caller)
       ∙ ap (λ (x : ℕ). key j.caller x) (same_number_read _ _ _ _ _ _ _ h.number g.number),
-  same_command 2 2 d a b h.command g.command,
+  same_command d a b h.command g.command,
 )
 
 pub one_message : (bytes : List ℕ) (k j : Key) (c d : Command) → IsMessage bytes k c

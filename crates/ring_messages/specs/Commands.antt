@@ -7,23 +7,15 @@ use Rattle.ring_words.specs.Texts.{is_label}
 use Rattle.ring_words.specs.declared.command.Command.{Command}
 use Rattle.ring_words.specs.declared.command.Act.{Act}
 use Rattle.ring_words.specs.declared.command.Act.TheVariants.{Create, Add, SetWeight, Remove}
-use Rattle.ring_words.specs.declared.command.Act.TheVariants.{SetHours, PretendPassed, RaisePower}
-use Rattle.ring_words.specs.declared.command.Act.TheVariants.{Import, Publish, Rebalance}
+use Rattle.ring_words.specs.declared.command.Act.TheVariants.{SetHours, Import, Rebalance}
+use Rattle.ring_words.specs.Kinds.{act_kind}
+use Rattle.ring_messages.specs.Words.{kind_word}
 use Rattle.ring_messages.specs.Fields.{Fields, within, device_name, address, weight, rows, members}
 use Rattle.ring_messages.specs.Fields.{AreProper}
 
--- The word of a command, which stands under the key `do`.
+-- The word of what is to be done.
 abbrev pub act_word : Act → List ℕ
-act_word (Create n) = codes "create"
-act_word (Add r) = codes "add"
-act_word (SetWeight w) = codes "set_weight"
-act_word (Remove id) = codes "remove"
-act_word (SetHours hours) = codes "set_hours"
-act_word PretendPassed = codes "pretend_passed"
-act_word RaisePower = codes "raise_power"
-act_word Publish = codes "publish"
-act_word (Rebalance seed) = codes "rebalance"
-act_word (Import rs) = codes "import"
+act_word a = kind_word (act_kind a)
 
 -- What stands under its further keys, beside the ring and the word.
 abbrev pub act_fields : Act → Fields
@@ -40,11 +32,9 @@ act_fields (SetWeight w) =
     (codes "id", within 0 greatest_short w.id) ∷ (codes "weight", weight w.weight) ∷ []
 act_fields (Remove id) = (codes "id", within 0 greatest_short id) ∷ []
 act_fields (SetHours hours) = (codes "min_hours", within 0 greatest_short hours) ∷ []
-act_fields PretendPassed = []
-act_fields RaisePower = []
-act_fields Publish = []
 act_fields (Rebalance seed) = (codes "seed", within 0 greatest_long seed) ∷ []
 act_fields (Import rs) = (codes "rows", rows rs) ∷ []
+act_fields other = []
 
 -- The object of a command with this word and these fields for this ring.
 abbrev pub command_object : List ℕ → List ℕ → Fields → Data

@@ -1,6 +1,7 @@
 -- What stands under the keys of a command or a reply: its kind, its bounds, what is written of it.
-use Rattle.std.specs.Prelude.{ℕ, ◌<◌, ◌≤◌, ◌^◌, List, [], ◌∷◌, IsTrue, map}
+use Rattle.std.specs.Prelude.{ℕ, ◌<◌, ◌≤◌, List, [], ◌∷◌, IsTrue, map}
 use Rattle.std.specs.List.{AllByRecursion}
+use Rattle.ring_words.specs.Limits.{short_count}
 use Rattle.serde_json.specs.Data.{Data, number, unsigned, string, array, item, no_items, Members}
 use Rattle.serde_json.specs.Data.{no_members, put}
 use Rattle.serde_json.specs.View.{items_of}
@@ -47,10 +48,10 @@ members (f ∷ fs) = put f.0 (field_data f.1) (members fs)
 
 -- The device has a name, an address, a port and a weight such as there are.
 pub record IsProperRow (r : Row) : Type 0 where
-  pub region : r.region < 2 ^ 16
-  pub zone : r.zone < 2 ^ 16
+  pub region : r.region < short_count
+  pub zone : r.zone < short_count
   pub address : r.address < address_limit
-  pub port : (1 ≤ r.port) × (r.port < 2 ^ 16)
+  pub port : (1 ≤ r.port) × (r.port < short_count)
   pub name : IsTrue (is_device_name r.name)
   pub weight : r.weight ≤ greatest_weight
 

@@ -4,9 +4,10 @@ use Rattle.ring_words.specs.Limits.{greatest_long, greatest_short}
 use Rattle.serde_json.specs.Data.{Data, string, object, no_members, member, put}
 use Rattle.serde_json.specs.Written.{compact_text}
 use Rattle.ring_words.specs.declared.command.Done.{Done}
-use Rattle.ring_words.specs.declared.command.Done.TheVariants.{Create, Add, SetWeight, Remove}
-use Rattle.ring_words.specs.declared.command.Done.TheVariants.{SetHours, PretendPassed, RaisePower}
-use Rattle.ring_words.specs.declared.command.Done.TheVariants.{Import, Publish, Rebalance}
+use Rattle.ring_words.specs.declared.command.Deed.{Deed}
+use Rattle.ring_words.specs.declared.command.Deed.TheVariants.{Add, Import, Rebalance}
+use Rattle.ring_words.specs.Kinds.{deed_kind}
+use Rattle.ring_messages.specs.Words.{kind_word}
 use Rattle.ring_words.specs.declared.command.Refusal.{Refusal}
 use Rattle.ring_words.specs.declared.command.Refusal.TheVariants.{NoRing, RingExists, TooManyRings}
 use Rattle.ring_words.specs.declared.command.Refusal.TheVariants.{NoDevice, DeviceExists}
@@ -22,40 +23,29 @@ use Rattle.ring_messages.specs.Fields.{Field, Fields, within, whole, members, Ar
 use Rattle.ring_messages.specs.declared.told.Told.{Told}
 use Rattle.ring_messages.specs.declared.told.Told.TheVariants as told
 
--- The word of what was done, which is its command's. It stands under the key `done`.
+-- The word of what was done.
 abbrev pub done_word : Done → List ℕ
-done_word (Create version) = codes "create"
-done_word (Add id version) = codes "add"
-done_word (SetWeight version) = codes "set_weight"
-done_word (Remove version) = codes "remove"
-done_word (SetHours version) = codes "set_hours"
-done_word (PretendPassed version) = codes "pretend_passed"
-done_word (RaisePower version) = codes "raise_power"
-done_word (Publish version) = codes "publish"
-done_word (Rebalance balance changed dispersion version) = codes "rebalance"
-done_word (Import added reweighted version) = codes "import"
+done_word x = kind_word (deed_kind x.deed)
 
 -- The ring's version.
 abbrev pub version_field : ℕ → List ℕ × Field
 version_field version = (codes "version", within 0 greatest_long version)
 
--- What is told of what was done: in each case the version that the ring has now.
-abbrev pub done_fields : Done → Fields
-done_fields (Create version) = version_field version ∷ []
-done_fields (Add id version) = version_field version ∷ (codes "id", within 0 greatest_short id) ∷ []
-done_fields (SetWeight version) = version_field version ∷ []
-done_fields (Remove version) = version_field version ∷ []
-done_fields (SetHours version) = version_field version ∷ []
-done_fields (PretendPassed version) = version_field version ∷ []
-done_fields (RaisePower version) = version_field version ∷ []
-done_fields (Publish version) = version_field version ∷ []
-done_fields (Rebalance balance changed dispersion version) =
-    version_field version ∷ (codes "balance", within 0 greatest_long balance)
+-- What is told of what was done, beside the ring's version.
+abbrev pub deed_fields : Deed → Fields
+deed_fields (Add id) = (codes "id", within 0 greatest_short id) ∷ []
+deed_fields (Rebalance balance changed dispersion) =
+    (codes "balance", within 0 greatest_long balance)
     ∷ (codes "changed", within 0 greatest_long changed)
     ∷ (codes "dispersion", within 0 greatest_long dispersion) ∷ []
-done_fields (Import added reweighted version) =
-    version_field version ∷ (codes "added", within 0 18446744073709551615 added)
+deed_fields (Import added reweighted) =
+    (codes "added", within 0 18446744073709551615 added)
     ∷ (codes "reweighted", within 0 18446744073709551615 reweighted) ∷ []
+deed_fields other = []
+
+-- What is told: in each case the version that the ring has now.
+abbrev pub done_fields : Done → Fields
+done_fields x = version_field x.version ∷ deed_fields x.deed
 
 -- What is written where this was done and these fields are told.
 abbrev pub done_object : List ℕ → Fields → Data

@@ -1,10 +1,12 @@
 //! Each command: what is written of it, how it is read, and what is known of it.
-ghost use Rattle.std.specs.Prelude.{◌≡◌, [], IfOk, length, string_bytes};
+ghost use Rattle.std.specs.Prelude.{◌≡◌, [], IfOk, Some, codes, string_bytes};
+ghost use Rattle.serde_json.specs.Data.{string};
+ghost use Rattle.serde_json.specs.Find.{get};
 ghost use Rattle.serde_json.specs.View.{view};
 ghost use Rattle.ring_words.specs.Texts.{address_text, hundredths_text};
-ghost use Rattle.ring_words.specs.declared.command.Act.{Act};
 ghost use Rattle.ring_words.specs.declared.command.Act.TheVariants as act;
-ghost use Rattle.ring_messages.specs.Commands.{command_object, act_data, act_fields, act_word};
+ghost use Rattle.ring_messages.specs.Words.{kind_word};
+ghost use Rattle.ring_messages.specs.Commands.{command_object, act_fields};
 ghost use Rattle.ring_messages.specs.Commands.{canonical, command_data, IsProperAct};
 ghost use Rattle.ring_messages.specs.Commands.{IsProperCommand};
 ghost use Rattle.ring_words.specs.Spelling.{Reads};
@@ -13,19 +15,26 @@ ghost use Rattle.ring_messages.specs.Inner.Says.{HasFields, SaysAct};
 use crate::MessageFault;
 use crate::objects::Scalar::{Number, Text};
 use crate::objects::{members, object};
-use crate::parts::{self, bounded, number16, number32, text};
+use crate::parts::{self, bounded, number16, number32};
 use crate::rows::{device, import, row_is_proper, rows_are_proper, rows_value};
-use ring_words::{Act, Command, DeviceId, NewRing, NewWeight, RingName, Row, Rows};
+use crate::words::{kind_at, word_of};
+use ring_words::{Act, Command, DeviceId, Kind, NewRing, NewWeight, RingName, Row, Rows};
 use serde_json::{Value, put};
 use std::alloc::{AllocError, Global};
 
-fn create_value(alloc: Global, ring: &RingName, new: &NewRing) -> Result<Value, AllocError>
-    ensures { IfOk result (λ v. view v ≡ act_data ring.now (act.Create new.now)) }
+fn create_value<'a>(
+    alloc: Global,
+    word: &'a str,
+    ring: &'a RingName,
+    new: &'a NewRing,
+) -> Result<Value, AllocError>
+    ensures { IfOk result (λ v. view v ≡ command_object word.now ring.now
+        (act_fields (act.Create new.now))) }
 {
     object(
         alloc,
         &[
-            ("do", Text("create")),
+            ("do", Text(word)),
             ("min_hours", Number(new.min_hours.into())),
             ("power", Number(new.power.get().into())),
             ("replicas", Number(new.replicas.get().into())),
@@ -37,6 +46,7 @@ fn create_value(alloc: Global, ring: &RingName, new: &NewRing) -> Result<Value, 
 /// An addition, with the texts of the device's address and weight.
 fn add_of_texts<'a>(
     alloc: Global,
+    word: &'a str,
     ring: &'a RingName,
     row: &'a Row,
     address: &'a str,
@@ -44,13 +54,14 @@ fn add_of_texts<'a>(
 ) -> Result<Value, AllocError>
     requires address { address.now ≡ address_text row.now.address }
     requires weight { weight.now ≡ hundredths_text row.now.weight }
-    ensures { IfOk result (λ v. view v ≡ act_data ring.now (act.Add row.now)) }
+    ensures { IfOk result (λ v. view v ≡ command_object word.now ring.now
+        (act_fields (act.Add row.now))) }
 {
     object(
         alloc,
         &[
             ("address", Text(address)),
-            ("do", Text("add")),
+            ("do", Text(word)),
             ("name", Text(row.name.as_str())),
             ("port", Number(row.port.get().into())),
             ("region", Number(row.region.into())),
@@ -61,28 +72,31 @@ fn add_of_texts<'a>(
     )
 }
 
-fn add_value(alloc: Global, ring: &RingName, row: &Row) -> Result<Value, AllocError>
-    ensures { IfOk result (λ v. view v ≡ act_data ring.now (act.Add row.now)) }
+fn add_value(alloc: Global, word: &str, ring: &RingName, row: &Row) -> Result<Value, AllocError>
+    ensures { IfOk result (λ v. view v ≡ command_object word.now ring.now
+        (act_fields (act.Add row.now))) }
 {
     let address = row.address.to_string(alloc)?;
     let weight = row.weight.to_string(alloc)?;
-    add_of_texts(alloc, ring, row, address.as_str(), weight.as_str())
+    add_of_texts(alloc, word, ring, row, address.as_str(), weight.as_str())
 }
 
 /// A new weight, with its text.
 fn set_weight_of_text<'a>(
     alloc: Global,
+    word: &'a str,
     ring: &'a RingName,
     to: &'a NewWeight,
     weight: &'a str,
 ) -> Result<Value, AllocError>
     requires { weight.now ≡ hundredths_text to.now.weight }
-    ensures { IfOk result (λ v. view v ≡ act_data ring.now (act.SetWeight to.now)) }
+    ensures { IfOk result (λ v. view v ≡ command_object word.now ring.now
+        (act_fields (act.SetWeight to.now))) }
 {
     object(
         alloc,
         &[
-            ("do", Text("set_weight")),
+            ("do", Text(word)),
             ("id", Number(to.id.into())),
             ("ring", Text(ring.as_str())),
             ("weight", Text(weight)),
@@ -90,33 +104,51 @@ fn set_weight_of_text<'a>(
     )
 }
 
-fn set_weight_value(alloc: Global, ring: &RingName, to: &NewWeight) -> Result<Value, AllocError>
-    ensures { IfOk result (λ v. view v ≡ act_data ring.now (act.SetWeight to.now)) }
+fn set_weight_value(
+    alloc: Global,
+    word: &str,
+    ring: &RingName,
+    to: &NewWeight,
+) -> Result<Value, AllocError>
+    ensures { IfOk result (λ v. view v ≡ command_object word.now ring.now
+        (act_fields (act.SetWeight to.now))) }
 {
     let weight = to.weight.to_string(alloc)?;
-    set_weight_of_text(alloc, ring, to, weight.as_str())
+    set_weight_of_text(alloc, word, ring, to, weight.as_str())
 }
 
-fn remove_value(alloc: Global, ring: &RingName, id: DeviceId) -> Result<Value, AllocError>
-    ensures { IfOk result (λ v. view v ≡ act_data ring.now (act.Remove id)) }
+fn remove_value<'a>(
+    alloc: Global,
+    word: &'a str,
+    ring: &'a RingName,
+    id: DeviceId,
+) -> Result<Value, AllocError>
+    ensures { IfOk result (λ v. view v ≡ command_object word.now ring.now
+        (act_fields (act.Remove id))) }
 {
     object(
         alloc,
         &[
-            ("do", Text("remove")),
+            ("do", Text(word)),
             ("id", Number(id.into())),
             ("ring", Text(ring.as_str())),
         ],
     )
 }
 
-fn set_hours_value(alloc: Global, ring: &RingName, hours: u16) -> Result<Value, AllocError>
-    ensures { IfOk result (λ v. view v ≡ act_data ring.now (act.SetHours hours)) }
+fn set_hours_value<'a>(
+    alloc: Global,
+    word: &'a str,
+    ring: &'a RingName,
+    hours: u16,
+) -> Result<Value, AllocError>
+    ensures { IfOk result (λ v. view v ≡ command_object word.now ring.now
+        (act_fields (act.SetHours hours))) }
 {
     object(
         alloc,
         &[
-            ("do", Text("set_hours")),
+            ("do", Text(word)),
             ("min_hours", Number(hours.into())),
             ("ring", Text(ring.as_str())),
         ],
@@ -129,45 +161,54 @@ fn plain_value(alloc: Global, word: &str, ring: &RingName) -> Result<Value, Allo
     object(alloc, &[("do", Text(word)), ("ring", Text(ring.as_str()))])
 }
 
-fn import_value(alloc: Global, ring: &RingName, rows: &Rows) -> Result<Value, AllocError>
-    ensures { IfOk result (λ v. view v ≡ act_data ring.now (act.Import rows.now)) }
+fn import_value<'a>(
+    alloc: Global,
+    word: &'a str,
+    ring: &'a RingName,
+    rows: &'a Rows,
+) -> Result<Value, AllocError>
+    ensures { IfOk result (λ v. view v ≡ command_object word.now ring.now
+        (act_fields (act.Import rows.now))) }
 {
-    let mut map = members(
-        alloc,
-        &[("do", Text("import")), ("ring", Text(ring.as_str()))],
-    )?;
+    let mut map = members(alloc, &[("do", Text(word)), ("ring", Text(ring.as_str()))])?;
     put(&mut map, alloc, "rows", rows_value(alloc, rows.as_slice())?)?;
     Ok(Value::Object(map))
 }
 
-fn rebalance_value(alloc: Global, ring: &RingName, seed: u32) -> Result<Value, AllocError>
-    ensures { IfOk result (λ v. view v ≡ act_data ring.now (act.Rebalance seed)) }
+fn rebalance_value<'a>(
+    alloc: Global,
+    word: &'a str,
+    ring: &'a RingName,
+    seed: u32,
+) -> Result<Value, AllocError>
+    ensures { IfOk result (λ v. view v ≡ command_object word.now ring.now
+        (act_fields (act.Rebalance seed))) }
 {
     object(
         alloc,
         &[
-            ("do", Text("rebalance")),
+            ("do", Text(word)),
             ("ring", Text(ring.as_str())),
             ("seed", Number(seed.into())),
         ],
     )
 }
 
-fn command_value(alloc: Global, command: &Command) -> Result<Value, AllocError>
+/// The object of a command.
+pub(crate) fn command_value(alloc: Global, command: &Command) -> Result<Value, AllocError>
     ensures { IfOk result (λ v. view v ≡ command_data command.now) }
 {
+    let word = word_of(command.act.kind());
     let ring = &command.ring;
     match &command.act {
-        Act::Create(new) => create_value(alloc, ring, new),
-        Act::Add(row) => add_value(alloc, ring, row),
-        Act::SetWeight(to) => set_weight_value(alloc, ring, to),
-        Act::Remove(id) => remove_value(alloc, ring, *id),
-        Act::SetHours(hours) => set_hours_value(alloc, ring, *hours),
-        Act::PretendPassed => plain_value(alloc, "pretend_passed", ring),
-        Act::RaisePower => plain_value(alloc, "raise_power", ring),
-        Act::Publish => plain_value(alloc, "publish", ring),
-        Act::Rebalance(seed) => rebalance_value(alloc, ring, *seed),
-        Act::Import(rows) => import_value(alloc, ring, rows),
+        Act::Create(new) => create_value(alloc, word, ring, new),
+        Act::Add(row) => add_value(alloc, word, ring, row),
+        Act::SetWeight(to) => set_weight_value(alloc, word, ring, to),
+        Act::Remove(id) => remove_value(alloc, word, ring, *id),
+        Act::SetHours(hours) => set_hours_value(alloc, word, ring, *hours),
+        Act::Rebalance(seed) => rebalance_value(alloc, word, ring, *seed),
+        Act::Import(rows) => import_value(alloc, word, ring, rows),
+        Act::PretendPassed | Act::RaisePower | Act::Publish => plain_value(alloc, word, ring),
     }
 }
 
@@ -198,23 +239,22 @@ fn new_weight(value: &Value) -> Result<NewWeight, MessageFault>
     })
 }
 
-/// What an object with this word under the key `do` asks for.
-fn act_by_word(alloc: Global, value: &Value, word: &str) -> Result<Act, MessageFault>
-    ensures { Reads (λ a. (act_word a ≡ word.now)
-        × HasFields (view value.now) (act_fields a)) result }
+/// What an object with this command's word under the key `do` asks for.
+fn act_of(alloc: Global, value: &Value, kind: Kind) -> Result<Act, MessageFault>
+    requires word { get (codes "do") (view value.now) ≡ Some (string (kind_word kind)) }
+    ensures { Reads (SaysAct (view value.now)) result }
 {
-    match word {
-        "create" => Ok(Act::Create(new_ring(value)?)),
-        "add" => Ok(Act::Add(device(alloc, value)?)),
-        "set_weight" => Ok(Act::SetWeight(new_weight(value)?)),
-        "remove" => Ok(Act::Remove(number16(value.get("id"))?)),
-        "set_hours" => Ok(Act::SetHours(number16(value.get("min_hours"))?)),
-        "pretend_passed" => Ok(Act::PretendPassed),
-        "raise_power" => Ok(Act::RaisePower),
-        "publish" => Ok(Act::Publish),
-        "rebalance" => Ok(Act::Rebalance(number32(value.get("seed"))?)),
-        "import" => Ok(Act::Import(import(alloc, value)?)),
-        _ => Err(MessageFault::Bad),
+    match kind {
+        Kind::Create => Ok(Act::Create(new_ring(value)?)),
+        Kind::Add => Ok(Act::Add(device(alloc, value)?)),
+        Kind::SetWeight => Ok(Act::SetWeight(new_weight(value)?)),
+        Kind::Remove => Ok(Act::Remove(number16(value.get("id"))?)),
+        Kind::SetHours => Ok(Act::SetHours(number16(value.get("min_hours"))?)),
+        Kind::PretendPassed => Ok(Act::PretendPassed),
+        Kind::RaisePower => Ok(Act::RaisePower),
+        Kind::Publish => Ok(Act::Publish),
+        Kind::Rebalance => Ok(Act::Rebalance(number32(value.get("seed"))?)),
+        Kind::Import => Ok(Act::Import(import(alloc, value)?)),
     }
 }
 
@@ -222,21 +262,9 @@ fn act_by_word(alloc: Global, value: &Value, word: &str) -> Result<Act, MessageF
 pub(crate) fn act(alloc: Global, value: &Value) -> Result<Act, MessageFault>
     ensures { Reads (SaysAct (view value.now)) result }
 {
-    match text(value.get("do")) {
-        Some(word) => act_by_word(alloc, value, word),
+    match kind_at(value, "do") {
+        Some(kind) => act_of(alloc, value, kind),
         None => Err(MessageFault::Bad),
-    }
-}
-
-pub(crate) fn fields_count(act: &Act) -> usize
-    ensures { result ≡ length (act_fields act.now) }
-{
-    match act {
-        Act::Create(_) => 3,
-        Act::Add(_) => 6,
-        Act::SetWeight(_) => 2,
-        Act::Remove(_) | Act::SetHours(_) | Act::Import(_) | Act::Rebalance(_) => 1,
-        Act::PretendPassed | Act::RaisePower | Act::Publish => 0,
     }
 }
 

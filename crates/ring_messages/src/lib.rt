@@ -13,6 +13,7 @@ mod read;
 mod replies;
 mod rows;
 mod told;
+mod words;
 
 pub use commands::{command_is_proper, command_text};
 pub use laws::{one_message, one_reply, one_text};

@@ -1,5 +1,5 @@
 //! From the bytes of a message to what it asks for.
-ghost use Rattle.std.specs.Prelude.{◌≡◌, ◌≤◌};
+ghost use Rattle.std.specs.Prelude.{◌≡◌};
 ghost use Rattle.serde_json.specs.View.{view};
 ghost use Rattle.ring_messages.specs.Commands.{canonical, IsProperCommand};
 ghost use Rattle.ring_messages.specs.Message.{IsMessage};
@@ -7,31 +7,33 @@ ghost use Rattle.ring_words.specs.Spelling.{Reads};
 ghost use Rattle.ring_messages.specs.Inner.Says.{SaysCommand, SaysDelivery};
 
 use crate::MessageFault;
-use crate::commands::{act, command_text, fields_count};
+use crate::commands::{act, command_text, command_value};
 use crate::parts::{self, members_count, number32, value_of};
 use ring_words::{Command, Key};
 use serde_json::Value;
 use std::alloc::Global;
 
-/// The command of an object that has so many members besides.
-fn command(alloc: Global, value: &Value, further: usize) -> Result<Command, MessageFault>
-    requires { further ≤ 2 }
-    ensures { Reads (SaysCommand further (view value.now)) result }
+/// The command that an object says.
+fn command(alloc: Global, value: &Value) -> Result<Command, MessageFault>
+    ensures { Reads (SaysCommand (view value.now)) result }
 {
     let ring = parts::name(alloc, value.get("ring"))?;
     let act = act(alloc, value)?;
-    if members_count(value) != further + 2 + fields_count(&act) {
-        return Err(MessageFault::Bad);
-    }
     Ok(Command { ring, act })
 }
 
+#[tactic(auto, using(crate::proofs::Messages::own_count))]
 fn delivery(alloc: Global, value: &Value) -> Result<(Key, Command), MessageFault>
     ensures { Reads (λ m. SaysDelivery (view value.now) m.0 m.1) result }
 {
     let caller = parts::name(alloc, value.get("caller"))?;
     let number = number32(value.get("number"))?;
-    let command = command(alloc, value, 2)?;
+    let command = command(alloc, value)?;
+    let own = command_value(alloc, &command)?;
+    let members = members_count(value);
+    if members < 2 || members - 2 != members_count(&own) {
+        return Err(MessageFault::Bad);
+    }
     Ok((Key { caller, number }, command))
 }
 
@@ -48,7 +50,7 @@ pub fn read_command(alloc: Global, text: &str) -> Result<Command, MessageFault>
     ensures { Reads (λ c. IsProperCommand c × (text.now ≡ canonical c)) result }
 {
     let value = value_of(alloc, text.as_bytes())?;
-    let command = command(alloc, &value, 0)?;
+    let command = command(alloc, &value)?;
     let written = command_text(alloc, &command)?;
     if written.as_str() != text {
         return Err(MessageFault::Bad);

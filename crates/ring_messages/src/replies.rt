@@ -1,26 +1,30 @@
 //! The one text of a reply, and back.
 ghost use Rattle.std.specs.Prelude.{◌∷◌, [], ◌≡◌, ◌≢◌, IfOk, IfSome, IfNone, Some, codes};
-ghost use Rattle.ring_words.specs.Limits.{greatest_long};
 ghost use Rattle.std.specs.Prelude.{string_bytes};
 ghost use Rattle.serde_json.specs.Data.{string};
 ghost use Rattle.serde_json.specs.Find.{get};
 ghost use Rattle.serde_json.specs.View.{view};
 ghost use Rattle.ring_words.specs.declared.command.Refusal.{Refusal};
 ghost use Rattle.ring_words.specs.declared.command.RowCause.{RowCause};
-ghost use Rattle.ring_messages.specs.Reads.{IsNumber};
+ghost use Rattle.ring_words.specs.declared.command.Deed.TheVariants as deed;
+ghost use Rattle.ring_words.specs.Kinds.{deed_kind};
+ghost use Rattle.ring_messages.specs.Words.{kind_word};
 ghost use Rattle.ring_words.specs.Spelling.{Reads};
 ghost use Rattle.ring_messages.specs.Fields.{AreProper};
-ghost use Rattle.ring_messages.specs.Replies.{done_data, done_object, done_fields, version_field};
+ghost use Rattle.ring_messages.specs.Replies.{deed_fields, done_data, done_object, done_fields};
+ghost use Rattle.ring_messages.specs.Replies.{version_field};
 ghost use Rattle.ring_messages.specs.Replies.{IsProperRefusal, IsProperReply, cause_rule};
 ghost use Rattle.ring_messages.specs.Replies.{refusal_rule, refused_data, refusal_data};
 ghost use Rattle.ring_messages.specs.Replies.{row_refused_data, reply_data, reply_text};
-ghost use Rattle.ring_messages.specs.Inner.Says.{SaysDone, SaysRefusal, SaysReply, SaysWhy};
+ghost use Rattle.ring_messages.specs.Inner.Says.{HasFields, SaysDone, SaysRefusal, SaysReply};
+ghost use Rattle.ring_messages.specs.Inner.Says.{SaysWhy};
 
 use crate::MessageFault;
 use crate::objects::Scalar::{Number, Text};
 use crate::objects::object;
-use crate::parts::{number, number16, number32, text, value_of};
-use ring_words::{DeviceId, Done, Refusal, Reply, RowCause};
+use crate::parts::{number, number16, number32, value_of};
+use crate::words::{kind_at, word_of};
+use ring_words::{Deed, DeviceId, Done, Kind, Refusal, Reply, RowCause};
 use serde_json::Value;
 use std::alloc::{AllocError, Global};
 
@@ -33,13 +37,14 @@ fn version_value(alloc: Global, word: &str, version: u32) -> Result<Value, Alloc
     )
 }
 
-fn added_value(alloc: Global, id: DeviceId, version: u32) -> Result<Value, AllocError>
-    ensures { IfOk result (λ v. view v ≡ done_data (Done.Add id version)) }
+fn added_value(alloc: Global, word: &str, id: DeviceId, version: u32) -> Result<Value, AllocError>
+    ensures { IfOk result (λ v. view v ≡ done_object word.now (version_field version
+        ∷ deed_fields (deed.Add id))) }
 {
     object(
         alloc,
         &[
-            ("done", Text("add")),
+            ("done", Text(word)),
             ("id", Number(id.into())),
             ("version", Number(version.into())),
         ],
@@ -48,17 +53,19 @@ fn added_value(alloc: Global, id: DeviceId, version: u32) -> Result<Value, Alloc
 
 fn imported_value(
     alloc: Global,
+    word: &str,
     added: u64,
     reweighted: u64,
     version: u32,
 ) -> Result<Value, AllocError>
-    ensures { IfOk result (λ v. view v ≡ done_data (Done.Import added reweighted version)) }
+    ensures { IfOk result (λ v. view v ≡ done_object word.now (version_field version
+        ∷ deed_fields (deed.Import added reweighted))) }
 {
     object(
         alloc,
         &[
             ("added", Number(added)),
-            ("done", Text("import")),
+            ("done", Text(word)),
             ("reweighted", Number(reweighted)),
             ("version", Number(version.into())),
         ],
@@ -67,13 +74,14 @@ fn imported_value(
 
 fn rebalanced_value(
     alloc: Global,
+    word: &str,
     balance: u32,
     changed: u32,
     dispersion: u32,
     version: u32,
 ) -> Result<Value, AllocError>
-    ensures { IfOk result (λ v. view v
-        ≡ done_data (Done.Rebalance balance changed dispersion version)) }
+    ensures { IfOk result (λ v. view v ≡ done_object word.now (version_field version
+        ∷ deed_fields (deed.Rebalance balance changed dispersion))) }
 {
     object(
         alloc,
@@ -81,7 +89,7 @@ fn rebalanced_value(
             ("balance", Number(balance.into())),
             ("changed", Number(changed.into())),
             ("dispersion", Number(dispersion.into())),
-            ("done", Text("rebalance")),
+            ("done", Text(word)),
             ("version", Number(version.into())),
         ],
     )
@@ -90,26 +98,19 @@ fn rebalanced_value(
 fn done_value(alloc: Global, done: Done) -> Result<Value, AllocError>
     ensures { IfOk result (λ v. view v ≡ done_data done) }
 {
-    match done {
-        Done::Create { version } => version_value(alloc, "create", version),
-        Done::Add { id, version } => added_value(alloc, id, version),
-        Done::SetWeight { version } => version_value(alloc, "set_weight", version),
-        Done::Remove { version } => version_value(alloc, "remove", version),
-        Done::SetHours { version } => version_value(alloc, "set_hours", version),
-        Done::PretendPassed { version } => version_value(alloc, "pretend_passed", version),
-        Done::RaisePower { version } => version_value(alloc, "raise_power", version),
-        Done::Publish { version } => version_value(alloc, "publish", version),
-        Done::Rebalance {
+    let word = word_of(done.deed.kind());
+    let version = done.version;
+    match done.deed {
+        Deed::Add { id } => added_value(alloc, word, id, version),
+        Deed::Rebalance {
             balance,
             changed,
             dispersion,
-            version,
-        } => rebalanced_value(alloc, balance, changed, dispersion, version),
-        Done::Import {
-            added,
-            reweighted,
-            version,
-        } => imported_value(alloc, added, reweighted, version),
+        } => rebalanced_value(alloc, word, balance, changed, dispersion, version),
+        Deed::Import { added, reweighted } => {
+            imported_value(alloc, word, added, reweighted, version)
+        }
+        _ => version_value(alloc, word, version),
     }
 }
 
@@ -183,66 +184,33 @@ pub fn reply_text(alloc: Global, reply: &Reply) -> Result<String, AllocError>
     reply_value(alloc, *reply)?.to_string(alloc)
 }
 
-/// What an addition's reply tells, at this version of the ring.
-fn added(value: &Value, version: u32) -> Result<Done, MessageFault>
-    requires word { get (codes "done") (view value.now) ≡ Some (string (codes "add")) }
-    requires version { IsNumber (get (codes "version") (view value.now)) 0 greatest_long version }
-    ensures { Reads (SaysDone (view value.now)) result }
+/// What a reply with this command's word under the key `done` tells that was done.
+fn deed_of(value: &Value, kind: Kind) -> Result<Deed, MessageFault>
+    requires word { get (codes "done") (view value.now) ≡ Some (string (kind_word kind)) }
+    ensures { Reads (λ x. (get (codes "done") (view value.now)
+        ≡ Some (string (kind_word (deed_kind x))))
+        × HasFields (view value.now) (deed_fields x)) result }
 {
-    let id = number16(value.get("id"))?;
-    Ok(Done::Add { id, version })
-}
-
-/// What an import's reply tells, at this version of the ring.
-fn imported(value: &Value, version: u32) -> Result<Done, MessageFault>
-    requires word { get (codes "done") (view value.now) ≡ Some (string (codes "import")) }
-    requires version { IsNumber (get (codes "version") (view value.now)) 0 greatest_long version }
-    ensures { Reads (SaysDone (view value.now)) result }
-{
-    let added = number(value.get("added"), u64::MAX)?;
-    let reweighted = number(value.get("reweighted"), u64::MAX)?;
-    Ok(Done::Import {
-        added,
-        reweighted,
-        version,
-    })
-}
-
-/// What a rebalance's reply tells, at this version of the ring.
-fn rebalanced(value: &Value, version: u32) -> Result<Done, MessageFault>
-    requires word { get (codes "done") (view value.now) ≡ Some (string (codes "rebalance")) }
-    requires version { IsNumber (get (codes "version") (view value.now)) 0 greatest_long version }
-    ensures { Reads (SaysDone (view value.now)) result }
-{
-    let balance = number32(value.get("balance"))?;
-    let changed = number32(value.get("changed"))?;
-    let dispersion = number32(value.get("dispersion"))?;
-    Ok(Done::Rebalance {
-        balance,
-        changed,
-        dispersion,
-        version,
-    })
-}
-
-/// What a reply with this word under the key `done` tells, at this version of the ring.
-fn done_by_word(value: &Value, word: &str, version: u32) -> Result<Done, MessageFault>
-    requires word { get (codes "done") (view value.now) ≡ Some (string word.now) }
-    requires version { IsNumber (get (codes "version") (view value.now)) 0 greatest_long version }
-    ensures { Reads (SaysDone (view value.now)) result }
-{
-    match word {
-        "create" => Ok(Done::Create { version }),
-        "add" => added(value, version),
-        "set_weight" => Ok(Done::SetWeight { version }),
-        "remove" => Ok(Done::Remove { version }),
-        "set_hours" => Ok(Done::SetHours { version }),
-        "pretend_passed" => Ok(Done::PretendPassed { version }),
-        "raise_power" => Ok(Done::RaisePower { version }),
-        "publish" => Ok(Done::Publish { version }),
-        "rebalance" => rebalanced(value, version),
-        "import" => imported(value, version),
-        _ => Err(MessageFault::Bad),
+    match kind {
+        Kind::Create => Ok(Deed::Create),
+        Kind::Add => Ok(Deed::Add {
+            id: number16(value.get("id"))?,
+        }),
+        Kind::SetWeight => Ok(Deed::SetWeight),
+        Kind::Remove => Ok(Deed::Remove),
+        Kind::SetHours => Ok(Deed::SetHours),
+        Kind::PretendPassed => Ok(Deed::PretendPassed),
+        Kind::RaisePower => Ok(Deed::RaisePower),
+        Kind::Publish => Ok(Deed::Publish),
+        Kind::Rebalance => Ok(Deed::Rebalance {
+            balance: number32(value.get("balance"))?,
+            changed: number32(value.get("changed"))?,
+            dispersion: number32(value.get("dispersion"))?,
+        }),
+        Kind::Import => Ok(Deed::Import {
+            added: number(value.get("added"), u64::MAX)?,
+            reweighted: number(value.get("reweighted"), u64::MAX)?,
+        }),
     }
 }
 
@@ -250,10 +218,11 @@ fn done(value: &Value) -> Result<Done, MessageFault>
     ensures { Reads (SaysDone (view value.now)) result }
 {
     let version = number32(value.get("version"))?;
-    match text(value.get("done")) {
-        Some(word) => done_by_word(value, word, version),
-        None => Err(MessageFault::Bad),
-    }
+    let Some(kind) = kind_at(value, "done") else {
+        return Err(MessageFault::Bad);
+    };
+    let deed = deed_of(value, kind)?;
+    Ok(Done { version, deed })
 }
 
 /// The refusal by a rule that says no more than its number.
@@ -343,40 +312,25 @@ pub fn read_reply(alloc: Global, text: &str) -> Result<Reply, MessageFault>
 fn done_is_proper(done: &Done)
     ensures { AreProper (done_fields done.now) }
 {
-    match *done {
-        Done::Create { version } | Done::SetWeight { version } | Done::Remove { version } => {
-            let _version = version;
-        }
-        Done::SetHours { version }
-        | Done::PretendPassed { version }
-        | Done::RaisePower { version }
-        | Done::Publish { version } => {
-            let _version = version;
-        }
-        Done::Add { id, version } => {
+    let _version = done.version;
+    match done.deed {
+        Deed::Add { id } => {
             let _id = id;
-            let _version = version;
         }
-        Done::Rebalance {
+        Deed::Rebalance {
             balance,
             changed,
             dispersion,
-            version,
         } => {
             let _balance = balance;
             let _changed = changed;
             let _dispersion = dispersion;
-            let _version = version;
         }
-        Done::Import {
-            added,
-            reweighted,
-            version,
-        } => {
+        Deed::Import { added, reweighted } => {
             let _added = added;
             let _reweighted = reweighted;
-            let _version = version;
         }
+        _ => {}
     }
 }
 

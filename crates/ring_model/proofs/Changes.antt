@@ -204,26 +204,3 @@ pub written_all : {X : Type 0} (xs ys : List X) (n : ℕ) → n ≡ length xs �
 written_all xs ys n e f = take_at ys (drop (length ys) xs) n (f ∙ sym e)
 
 -- ---- the record of changed parts
-
-pub added_record : (parts : RingParts) (old : RingRecord) (row : Row) (id : ℕ) →
-    record_of parts ≡ old → id ≡ old.next_id →
-    record (record_of parts) {
-      next_id = parts.next_id + 1;
-      version = risen parts.version;
-      devices =
-          parts.devices.items ++ record { id = id; row = row; removed = false } ∷ [];
-    } ≡ with_device
-    old row
-added_record parts old row id same number =
-    ap (λ (n : ℕ). record (record_of parts) {
-      next_id = parts.next_id + 1;
-      version =
-          risen parts.version;
-      devices = parts.devices.items ++ record {
-        id = n;
-        row = row;
-        removed =
-            false;
-      } ∷ [];
-    }) (number ∙ ap (λ (r : RingRecord). r.next_id) (sym same))
-    ∙ ap (λ (r : RingRecord). with_device r row) same

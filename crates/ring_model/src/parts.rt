@@ -1,6 +1,6 @@
 //! The parts that a ring is made of.
-ghost use Rattle.std.specs.Prelude.{◌≡◌, ◌==◌, ◌+◌, ◌*◌, ◌%◌, ◌<◌, ◌≤◌, ◌^◌, ◌↔◌, ℕ};
-ghost use Rattle.ring_words.specs.Limits.{most_partitions, most_replicas};
+ghost use Rattle.std.specs.Prelude.{◌≡◌, ◌==◌, ◌+◌, ◌*◌, ◌%◌, ◌<◌, ◌≤◌, ◌↔◌, ℕ};
+ghost use Rattle.ring_words.specs.Limits.{long_count, most_partitions, most_replicas};
 ghost use Rattle.std.specs.Prelude.{slice_index_or};
 ghost use Rattle.std.specs.Prelude.{false, IfOk, IsTrue, All, length, map, find, true};
 ghost use Rattle.std.specs.List.{list_any};
@@ -65,7 +65,7 @@ pub(crate) fn doubled<T: Copy>(
 ) -> Result<Vec<T>, AllocError>
     requires width { 0 < width }
     requires whole { length items.now ≡ rows * width }
-    requires small { length items.now < 2 ^ 32 }
+    requires small { length items.now < long_count }
     ensures count { IfOk result (λ twice. length twice.items ≡ 2 * length items.now) }
     ensures halves { IfOk result (λ twice. IsTwice width items.now twice.items) }
 {

@@ -3,6 +3,7 @@ ghost use Rattle.std.specs.Prelude.{◌≡◌, ◌<◌, ◌≤◌, ◌++◌, ◌
 ghost use Rattle.std.specs.Prelude.{filter, find, is_some, length, nat_eq};
 ghost use Rattle.std.specs.Cmp.Lexicographic.{pointwise};
 ghost use Rattle.std.specs.Option.{option_copied, option_map};
+ghost use Rattle.ring_words.specs.Limits.{most_rings};
 ghost use Rattle.ring_model.specs.Rings.{AreByName, is_before, ring_at, seen, with_ring};
 
 use crate::ring::Ring;
@@ -11,8 +12,8 @@ use std::alloc::{AllocError, Global};
 use std::marker::Model;
 use std::rc::Rc;
 
-/// At most 16 rings, each under a name of its own. Contracts see the list of names and rings by
-/// rising name.
+/// As many rings as are kept at most, or fewer, each under a name of its own. Contracts see the list
+/// of names and rings by rising name.
 ///
 /// No call changes a value: what makes a new one leaves the old as it was, and shares the rings
 /// that stay.
@@ -23,6 +24,7 @@ pub struct Rings {
 
 impl Model for Rings {
     ghost use Rattle.std.specs.Prelude.{◌≤◌, ℕ, List, length};
+    ghost use Rattle.ring_words.specs.Limits.{most_rings};
     ghost use Rattle.ring_model.specs.Ring.{RingRecord};
     ghost use Rattle.ring_model.specs.Rings.{AreByName, seen};
 
@@ -30,7 +32,7 @@ impl Model for Rings {
 
     ghost view = { λ r. seen r.rings.items };
 
-    ghost invariant = { λ r. (length r.rings.items ≤ 16) × AreByName (seen r.rings.items) };
+    ghost invariant = { λ r. (length r.rings.items ≤ most_rings) × AreByName (seen r.rings.items) };
 }
 
 /// Whether a name comes before another, byte by byte.
@@ -133,16 +135,16 @@ impl Rings {
     /// All rings, by rising name.
     pub fn list(&self) -> &[(RingName, Rc<Ring>)]
         ensures value { seen result.now ≡ self.now }
-        ensures count { length self.now ≤ 16 }
+        ensures count { length self.now ≤ most_rings }
         ensures by_name { AreByName self.now }
     {
         self.rings.as_slice()
     }
 
-    /// The rings with one more, or with another under its name. Asks that there are fewer than 16
+    /// The rings with one more, or with another under its name. Asks that there is room for one more
     /// where the name is new.
     pub fn with(&self, name: RingName, ring: Ring) -> Result<Rings, AllocError>
-        requires { is_some (ring_at name self.now) ≡ false → length self.now < 16 }
+        requires { is_some (ring_at name self.now) ≡ false → length self.now < most_rings }
         ensures { IfOk result (λ rings. rings ≡ with_ring self.now name ring) }
     {
         let alloc = *self.rings.allocator();

@@ -1,5 +1,6 @@
 pub mod ChosenDevices
 pub mod Filling
+pub mod FullTurns
 pub mod RowSteps
 pub mod AllSteps
 pub mod Placeable

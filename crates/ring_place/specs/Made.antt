@@ -11,6 +11,7 @@ use Rattle.std.specs.Prelude.{List, [], ◌∷◌, ◌++◌, length, slice_index
 use Rattle.std.specs.Prelude.{slice_index_or, slice_set, map, nat_le, nat_lt}
 use Rattle.std.specs.Option.{option_map}
 use Rattle.std.specs.List.{flat_map, list_any, range_with_len, swap}
+use Rattle.ring_words.specs.Limits.{long_count}
 use Rattle.ring_words.specs.declared.device.Device.{Device}
 use Rattle.rand_pcg.specs.Lcg.{Lcg, increment_of, started}
 use Rattle.rand_pcg.specs.Pcg.{multiplier_64, pcg32}
@@ -81,7 +82,7 @@ draws_of seed = started 64 multiplier_64 seed (increment_of 64 0)
 
 -- a number below a bound, and the draws after it
 abbrev pub draw_below : ℕ → Lcg → ℕ × Lcg
-draw_below bound draws = ((pcg32 draws).0 * bound / 4294967296, (pcg32 draws).1)
+draw_below bound draws = ((pcg32 draws).0 * bound / long_count, (pcg32 draws).1)
 
 -- the number at a place is swapped with one that is drawn
 abbrev pub swap_at : {A : Type 0} → ℕ → List A × Lcg → List A × Lcg

@@ -1,6 +1,6 @@
 //! Which partitions keep their homes: a lifted seat whose device remains has a home there.
-ghost use Rattle.std.specs.Prelude.{◌≡◌, ◌<◌, ◌≤◌, ◌++◌, ℕ, true, All, length, map, IfOk, IfSome};
-ghost use Rattle.std.specs.Prelude.{OnOk, Some};
+ghost use Rattle.std.specs.Prelude.{◌≡◌, ◌<◌, ◌≤◌, ◌++◌, ℕ, true, false, All, length, map, IfOk, IfSome};
+ghost use Rattle.std.specs.Prelude.{OnOk, Some, slice_index_or};
 ghost use Rattle.ring_words.specs.Limits.{most_replicas};
 ghost use Rattle.std.specs.List.{flat_map, range_with_len};
 ghost use Rattle.std.specs.List.Sorted.{IsPermutation};
@@ -9,7 +9,7 @@ ghost use Rattle.ring_room.specs.Places.{seats_at};
 ghost use Rattle.ring_room.specs.Rows.{AreKnown};
 ghost use Rattle.ring_place.specs.Made.{all_kept, asking, crowd_number, heap_of, heap_rank, home_crowd, home_of};
 ghost use Rattle.ring_place.specs.Made.{is_number, keeps_home, row_at, waiting, with_empty, with_home};
-ghost use Rattle.ring_place.specs.Inner.Placing.{CanPlace, numbered};
+ghost use Rattle.ring_place.specs.Inner.Placing.{AreTold, CanPlace, numbered};
 
 use crate::seats::{Seats, first_empty, has_empty};
 use ring_room::{Crowd, Room};
@@ -37,17 +37,44 @@ fn is_number(number: u32, other: Option<u32>) -> bool
     other == Some(number)
 }
 
-/// Adds those of some partitions that have a number.
+/// Notes that a number is there, a greater one than 10 as 10.
+fn note(found: &mut [bool; 11], number: Option<u32>)
+    ensures { (other : ℕ) → other < 11 → slice_index_or found.new other false ≡ false →
+        (slice_index_or found.old other false ≡ false) × (is_number other number ≡ false) }
+{
+    if let Some(number) = number {
+        found[(number as usize).min(10)] = true;
+    }
+}
+
+/// Which numbers below 11 are there.
+fn numbers_in(numbers: &[Option<u32>]) -> [bool; 11]
+    ensures { AreTold numbers.now result }
+{
+    let mut found = [false; 11];
+    for number in numbers {
+        note(&mut found, *number);
+    }
+    found
+}
+
+/// Adds those of some partitions that have a number below 11, if it is among those that are there.
 fn add_numbered(
     list: &mut Vec<usize>,
     partitions: &[usize],
     numbers: &[Option<u32>],
+    found: &[bool; 11],
     number: u32,
 ) -> Result<(), AllocError>
-    requires { length numbers.now ≡ length partitions.now }
+    requires as_many { length numbers.now ≡ length partitions.now }
+    requires found { AreTold numbers.now found.now }
+    requires number { number < 11 }
     ensures { OnOk result (list.new.items ≡ list.old.items ++ numbered partitions.now numbers.now
         number) }
 {
+    if !found[number as usize] {
+        return Ok(());
+    }
     for (index, partition) in partitions.iter().enumerate() {
         if is_number(number, numbers[index]) {
             list.push(*partition)?;
@@ -67,8 +94,9 @@ fn by_number(
         (range_with_len 0 11)) }
 {
     let mut list = Vec::with_capacity(alloc, partitions.len())?;
+    let found = numbers_in(numbers);
     for number in 0..11 {
-        add_numbered(&mut list, partitions, numbers, number)?;
+        add_numbered(&mut list, partitions, numbers, &found, number)?;
     }
     Ok(list)
 }

@@ -1,6 +1,6 @@
 //! Where lifted seats are put.
-ghost use Rattle.std.specs.Prelude.{◌≡◌, ◌<◌, ◌≤◌, ◌==◌, ℕ, true, All, count_by, length, sum_by};
-ghost use Rattle.ring_words.specs.Limits.{most_replicas};
+ghost use Rattle.std.specs.Prelude.{◌≡◌, ◌<◌, ◌≤◌, ◌==◌, ℕ, true, false, All, count_by, length, sum_by};
+ghost use Rattle.ring_words.specs.Limits.{most_replicas, most_seats};
 ghost use Rattle.std.specs.Prelude.{slice_get, slice_index_or, slice_set, IfSome, None, OnOk, Some};
 ghost use Rattle.std.specs.Prelude.{take};
 ghost use Rattle.std.specs.List.{range_with_len};
@@ -12,7 +12,7 @@ ghost use Rattle.ring_room.specs.Rows.{AreKnown, devices_on};
 ghost use Rattle.ring_place.specs.Made.{row_at};
 ghost use Rattle.ring_room.specs.Load.{IsLeast, IsLoad, have_in, load_put, seats_of};
 ghost use Rattle.ring_place.specs.Inner.Placing.{AllPlaced, CanPlace, IsChosen, OpenWant, OwnWins};
-ghost use Rattle.ring_place.specs.Inner.Placing.{AreTurns, AreWaiting, CanPlaceAll, IsSeatPut};
+ghost use Rattle.ring_place.specs.Inner.Placing.{AreFull, AreTurns, AreWaiting, CanPlaceAll, IsSeatPut};
 ghost use Rattle.ring_place.specs.Inner.Placing.{IsTurnOf, have_on};
 ghost use Rattle.ring_room.specs.Cards.{IsCard};
 ghost use Rattle.ring_room.specs.Places.{id_at, seats_at};
@@ -26,7 +26,7 @@ use crate::homes::{asking, homes_of, waiting};
 use crate::seats::{Seats, first_empty};
 use rand_pcg::Pcg32;
 use ring_room::{Pile, Room, Taken, is_less};
-use ring_words::{DeviceId, MOST_SEATS};
+use ring_words::{DeviceId, MOST_REPLICAS};
 use std::alloc::{AllocError, Global};
 
 /// The place of the seat's own device where that is as good as the best.
@@ -108,7 +108,7 @@ fn choose(room: &Room, others: &[usize], own: Option<DeviceId>, piles: &[Pile], 
 
 /// The places of the devices of a partition's seats, in any order, and how many they are. What
 /// stands behind them is left over.
-pub(crate) fn places_on(room: &Room, row: &[Option<DeviceId>]) -> ([usize; MOST_SEATS], usize)
+pub(crate) fn places_on(room: &Room, row: &[Option<DeviceId>]) -> ([usize; MOST_REPLICAS], usize)
     requires row { AreKnown room.now.devices row.now }
     requires few { length row.now ≤ most_replicas }
     ensures long { length result.0 ≡ most_replicas }
@@ -290,7 +290,21 @@ fn place_turn(
     }
 }
 
-/// So many turns of the partitions at `waiting`, one after another.
+/// Whether one of some partitions has an empty seat.
+fn has_waiting(partitions: &[usize], seats: &Seats) -> bool
+    requires { All (λ partition. partition < length seats.now) partitions.now }
+    ensures { result ≡ false → AreFull seats.now partitions.now }
+{
+    for partition in partitions {
+        if first_empty(seats.row(*partition)).is_some() {
+            return true;
+        }
+    }
+    false
+}
+
+/// So many turns of the partitions at `waiting`, one after another. Once none of them has an empty
+/// seat a turn would change nothing, and isn't made.
 fn place_turns(
     turn: Turn,
     count: usize,
@@ -312,6 +326,9 @@ fn place_turns(
         }) }
 {
     for _turn in 0..count {
+        if !has_waiting(waiting, seats) {
+            return;
+        }
         place_turn(turn, homes, waiting, room, old, seats, deck);
     }
 }
@@ -361,7 +378,7 @@ pub(crate) fn place_all(
     requires closed { OpenWant room.old }
     requires counts { (id : ℕ) → has_device id room.old.devices ≡ true →
         have_in room.old id ≡ have_on id seats.old }
-    requires few { sum_by (λ row. length row) seats.old ≤ 81920 }
+    requires few { sum_by (λ row. length row) seats.old ≤ most_seats }
     ensures placed { OnOk result (AllPlaced room.old room.new old.now seats.old seats.new) }
     ensures by_name { OnOk result (seats.new ≡ (all_placed order.now old.now room.old seats.old
         draws).rows) }

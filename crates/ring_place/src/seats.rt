@@ -10,17 +10,17 @@ ghost use Rattle.ring_place.specs.Made.{row_at};
 ghost use Rattle.ring_room.specs.Rows.{devices_on, is_empty};
 
 use ring_model::Ring;
-use ring_words::{DeviceId, MOST_SEATS, partition_count};
+use ring_words::{DeviceId, MOST_REPLICAS, partition_count};
 use std::alloc::{AllocError, Global};
 use std::marker::Model;
 
 /// The seats of a partition, at most five, apart from all others, and how many they are.
-pub(crate) fn row_copy(row: &[Option<DeviceId>]) -> ([Option<DeviceId>; MOST_SEATS], usize)
+pub(crate) fn row_copy(row: &[Option<DeviceId>]) -> ([Option<DeviceId>; MOST_REPLICAS], usize)
     requires { length row.now ≤ most_replicas }
     ensures row { take result.1 result.0 ≡ row.now }
     ensures few { result.1 ≤ most_replicas }
 {
-    let mut copy = [None; MOST_SEATS];
+    let mut copy = [None; MOST_REPLICAS];
     copy[..row.len()].copy_from_slice(row);
     (copy, row.len())
 }

@@ -21,7 +21,7 @@ use crate::gather::{Pass, has_free};
 use crate::place::places_on;
 use crate::seats::row_copy;
 use ring_room::{Crowd, Room, is_less};
-use ring_words::{DeviceId, MOST_SEATS};
+use ring_words::{DeviceId, MOST_REPLICAS};
 
 /// A seat of a partition that may leave its device.
 #[derive(Clone, Copy)]
@@ -37,7 +37,11 @@ pub(crate) struct Gift {
 
 /// The places of the devices of a partition's seats without that of a replica, in any order, and
 /// how many they are. What stands behind them is left over.
-fn others_of(room: &Room, row: &[Option<DeviceId>], replica: usize) -> ([usize; MOST_SEATS], usize)
+fn others_of(
+    room: &Room,
+    row: &[Option<DeviceId>],
+    replica: usize,
+) -> ([usize; MOST_REPLICAS], usize)
     requires row { AreKnown room.now.devices row.now }
     requires few { length row.now ≤ most_replicas }
     requires replica { replica < length row.now }
@@ -132,7 +136,7 @@ fn is_idle(was: &Room, seat: Option<DeviceId>) -> bool
 {
     match seat {
         None => false,
-        Some(device) => was.wants(device) == 0,
+        Some(device) => was.wants_nothing(device),
     }
 }
 

@@ -4,6 +4,7 @@ pub mod BestFound
 pub mod CardsFit
 pub mod ByName
 pub mod FreeOutside
+pub mod TierCounts
 pub mod TierFloors
 pub mod RoomyPlaces
 pub mod LessCrowded

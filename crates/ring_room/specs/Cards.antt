@@ -2,6 +2,7 @@
 -- takes a card of the zone that is least crowded and has most of them left.
 use Rattle.std.specs.Prelude.{ℕ, ◌+◌, ◌-◌, ◌*◌, ◌<◌, ◌%◌, ◌&&◌, Bool, min, nat_lt, not, if◌then◌else◌}
 use Rattle.std.specs.Prelude.{List, length, take, swap_remove, slice_get, slice_index, slice_index_or, [], Option, Some, None}
+use Rattle.ring_words.specs.Limits.{greatest_long, long_count}
 use Rattle.ring_share.specs.Crowd.{is_less, tiers_of}
 use Rattle.ring_room.specs.declared.cards.Card.{Card}
 use Rattle.ring_room.specs.declared.cards.Taken.{Taken}
@@ -68,7 +69,7 @@ no_rank = 18446744073709551615
 -- equals the more cards the lower
 abbrev pub rank_of : ℕ → Option (ℕ × ℕ × ℕ) → ℕ
 rank_of cards None = no_rank
-rank_of cards (Some crowd) = (crowd.0 * 8 + crowd.1) * 4294967296 + (4294967295 - cards)
+rank_of cards (Some crowd) = (crowd.0 * 8 + crowd.1) * long_count + (greatest_long - cards)
 
 -- that of a pile for a seat
 abbrev pub pile_rank : Load → List (Option ℕ) → List ℕ → ℕ

@@ -1,3 +1,4 @@
 -- Words of contracts of private functions and of proofs. No public contract rests on them.
 pub mod Lists
 pub mod Places
+pub mod TierCounts

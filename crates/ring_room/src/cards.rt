@@ -7,10 +7,12 @@ ghost use Rattle.ring_room.specs.Cards.{IsCard, best_pile, card_for, card_in, fi
 ghost use Rattle.ring_room.specs.Cards.{pile_rank, place_on, rank_of, taken};
 ghost use Rattle.ring_room.specs.Load.{IsLeast, IsLoad, crowd_in, is_free_in};
 ghost use Rattle.ring_room.specs.Places.{id_at, seats_at};
+ghost use Rattle.ring_room.specs.Inner.TierCounts.{IsCounted};
 
 use crate::piles::Pile;
 use crate::rooms::Room;
 use crate::search::place_after;
+use crate::tier_counts::TierCounts;
 use crate::tiers::{Crowd, is_less};
 
 /// How many piles are compared at first.
@@ -58,21 +60,29 @@ fn lower_of(best: (usize, u64), pile: usize, rank: u64) -> (usize, u64)
 impl Room {
     /// Whether there is a device at a place that has room, isn't among those at `others` and is no
     /// more crowded than this.
-    fn fits(&self, others: &[usize], crowd: Crowd, place: usize) -> bool
+    fn fits(&self, others: &[usize], counts: &TierCounts, crowd: Crowd, place: usize) -> bool
         requires others { All (λ other. other < length self.now.devices) others.now }
         requires few { length others.now ≤ most_replicas }
+        requires counts { IsCounted self.now (seats_at self.now.devices others.now) counts.now }
         ensures { result ≡ fits self.now (seats_at self.now.devices others.now) crowd place }
     {
         if place >= self.count() {
             return false;
         }
-        self.is_free_at(others, place) && !is_less(crowd, self.crowd_at(others, place))
+        self.is_free_at(others, place) && !is_less(crowd, self.crowd_by(others, counts, place))
     }
 
     /// At which of these cards the first such device is.
-    fn first_fit(&self, others: &[usize], crowd: Crowd, cards: &[u8]) -> Option<usize>
+    fn first_fit(
+        &self,
+        others: &[usize],
+        counts: &TierCounts,
+        crowd: Crowd,
+        cards: &[u8],
+    ) -> Option<usize>
         requires others { All (λ other. other < length self.now.devices) others.now }
         requires few { length others.now ≤ most_replicas }
+        requires counts { IsCounted self.now (seats_at self.now.devices others.now) counts.now }
         ensures by_name { result ≡ first_fit self.now (seats_at self.now.devices others.now) crowd
             cards.now }
         ensures within { IfSome result (λ index. index < length cards.now) }
@@ -80,7 +90,7 @@ impl Room {
             crowd (slice_index cards.now index) ≡ true) }
     {
         for (index, place) in cards.iter().enumerate() {
-            if self.fits(others, crowd, usize::from(*place)) {
+            if self.fits(others, counts, crowd, usize::from(*place)) {
                 return Some(index);
             }
         }
@@ -88,9 +98,10 @@ impl Room {
     }
 
     /// The rank of a pile for a seat.
-    fn pile_rank(&self, others: &[usize], pile: &Pile) -> u64
+    fn pile_rank(&self, others: &[usize], counts: &TierCounts, pile: &Pile) -> u64
         requires others { All (λ other. other < length self.now.devices) others.now }
         requires few { length others.now ≤ most_replicas }
+        requires counts { IsCounted self.now (seats_at self.now.devices others.now) counts.now }
         ensures { result ≡ pile_rank self.now (seats_at self.now.devices others.now) pile.now }
     {
         let Some(place) = pile.first() else {
@@ -100,19 +111,21 @@ impl Room {
         if place >= self.count() {
             return NO_RANK;
         }
-        rank_of(self.crowd_at(others, place), pile.count())
+        rank_of(self.crowd_by(others, counts, place), pile.count())
     }
 
     /// The best pile so far with its rank, or another if its rank is lower.
     fn better_pile(
         &self,
         others: &[usize],
+        counts: &TierCounts,
         piles: &[Pile],
         pile: usize,
         best: (usize, u64),
     ) -> (usize, u64)
         requires others { All (λ other. other < length self.now.devices) others.now }
         requires few { length others.now ≤ most_replicas }
+        requires counts { IsCounted self.now (seats_at self.now.devices others.now) counts.now }
         requires pile { pile < length piles.now }
         ensures value { result ≡ lower_of best pile (pile_rank self.now
             (seats_at self.now.devices others.now) (slice_index_or piles.now pile [])) }
@@ -122,15 +135,23 @@ impl Room {
         if rank_of((0, 0, 0), piles[pile].count()) >= best.1 {
             return best;
         }
-        lower_of(best, pile, self.pile_rank(others, &piles[pile]))
+        lower_of(best, pile, self.pile_rank(others, counts, &piles[pile]))
     }
 
     /// The best of so many piles from one on: its zone is least crowded and, among equals, has most
     /// cards.
     #[tactic(auto, using(crate::proofs::Steps::steps_none))]
-    fn best_pile(&self, others: &[usize], piles: &[Pile], start: usize, count: usize) -> usize
+    fn best_pile(
+        &self,
+        others: &[usize],
+        counts: &TierCounts,
+        piles: &[Pile],
+        start: usize,
+        count: usize,
+    ) -> usize
         requires others { All (λ other. other < length self.now.devices) others.now }
         requires few { length others.now ≤ most_replicas }
+        requires counts { IsCounted self.now (seats_at self.now.devices others.now) counts.now }
         requires start { start < length piles.now }
         requires count { count ≤ length piles.now }
         ensures by_name { result ≡ best_pile self.now (seats_at self.now.devices others.now)
@@ -140,7 +161,7 @@ impl Room {
         let mut best = (start, NO_RANK);
         for step in 0..count {
             let pile = place_after(piles.len(), start, step);
-            best = self.better_pile(others, piles, pile, best);
+            best = self.better_pile(others, counts, piles, pile, best);
         }
         best.0
     }
@@ -150,6 +171,7 @@ impl Room {
     fn card_in(
         &self,
         others: &[usize],
+        counts: &TierCounts,
         crowd: Crowd,
         piles: &[Pile],
         start: usize,
@@ -157,6 +179,7 @@ impl Room {
     ) -> Option<Card>
         requires others { All (λ other. other < length self.now.devices) others.now }
         requires few { length others.now ≤ most_replicas }
+        requires counts { IsCounted self.now (seats_at self.now.devices others.now) counts.now }
         requires start { start < length piles.now }
         requires count { count ≤ length piles.now }
         ensures by_name { result ≡ card_in self.now (seats_at self.now.devices others.now) crowd
@@ -166,16 +189,24 @@ impl Room {
         ensures fits { IfSome result (λ card. fits self.now (seats_at self.now.devices others.now)
             crowd (place_on piles.now card) ≡ true) }
     {
-        let pile = self.best_pile(others, piles, start, count);
-        let index = self.first_fit(others, crowd, piles[pile].in_front())?;
+        let pile = self.best_pile(others, counts, piles, start, count);
+        let index = self.first_fit(others, counts, crowd, piles[pile].in_front())?;
         Some(Card { pile, index })
     }
 
     /// The card for a seat whose least crowded devices are so crowded: of the best of a few piles
     /// from a drawn one on, or else of the best of all.
-    fn card_for(&self, others: &[usize], crowd: Crowd, piles: &[Pile], draw: u32) -> Option<Card>
+    fn card_for(
+        &self,
+        others: &[usize],
+        counts: &TierCounts,
+        crowd: Crowd,
+        piles: &[Pile],
+        draw: u32,
+    ) -> Option<Card>
         requires others { All (λ other. other < length self.now.devices) others.now }
         requires few { length others.now ≤ most_replicas }
+        requires counts { IsCounted self.now (seats_at self.now.devices others.now) counts.now }
         ensures by_name { result ≡ card_for self.now (seats_at self.now.devices others.now) crowd
             piles.now draw }
         ensures stands { IfSome result (λ card. IsCard piles.now card) }
@@ -187,10 +218,10 @@ impl Room {
         }
         let start = draw as usize % piles.len();
         let few = piles.len().min(FEW_PILES);
-        if let Some(card) = self.card_in(others, crowd, piles, start, few) {
+        if let Some(card) = self.card_in(others, counts, crowd, piles, start, few) {
             return Some(card);
         }
-        self.card_in(others, crowd, piles, start, piles.len())
+        self.card_in(others, counts, crowd, piles, start, piles.len())
     }
 
     /// The device that a seat takes whose other seats are on those at `others`: a least crowded
@@ -213,13 +244,15 @@ impl Room {
             return None;
         }
         // mostly a card shows to be as good as any device
-        let floor = self.floor(others);
-        if let Some(card) = self.card_for(others, floor, piles, draw) {
+        let mut counts = TierCounts::none();
+        self.count_tiers(others, &mut counts);
+        let floor = self.floor(others, &counts);
+        if let Some(card) = self.card_for(others, &counts, floor, piles, draw) {
             return Some(taken_with(piles, card));
         }
         let best = self.least_at(others, draw)?;
-        let crowd = self.crowd_at(others, best);
-        let Some(card) = self.card_for(others, crowd, piles, draw) else {
+        let crowd = self.crowd_by(others, &counts, best);
+        let Some(card) = self.card_for(others, &counts, crowd, piles, draw) else {
             return Some(Taken {
                 place: best,
                 card: None,

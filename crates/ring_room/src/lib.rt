@@ -10,6 +10,7 @@ mod piles;
 mod rooms;
 mod rows;
 mod search;
+mod tier_counts;
 mod tiers;
 
 pub use cards::{Card, Taken};

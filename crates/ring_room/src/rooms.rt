@@ -1,7 +1,7 @@
 //! How many seats devices want and have, and where there is room for more.
-ghost use Rattle.std.specs.Prelude.{◌≡◌, ◌<◌, ◌≤◌, ◌-◌, ◌&&◌, ℕ, true, false, All, List, length, nat_lt};
+ghost use Rattle.std.specs.Prelude.{◌≡◌, ◌<◌, ◌≤◌, ◌-◌, ◌&&◌, ◌==◌, ℕ, true, false, All, List, length, nat_lt};
 ghost use Rattle.ring_words.specs.Limits.{most_devices};
-ghost use Rattle.std.specs.Prelude.{take, count_by, slice_set, IfOk, IfSome, IfNone};
+ghost use Rattle.std.specs.Prelude.{take, count_by, slice_index, slice_set, IfOk, IfSome, IfNone};
 ghost use Rattle.ring_model.specs.Ring.{has_device, has_present};
 ghost use Rattle.ring_share.specs.Crowd.{is_outside};
 ghost use Rattle.ring_share.specs.Room.{has_open, have, place_of as place_of_device};
@@ -41,6 +41,9 @@ pub struct Room {
     pub(crate) in_region: [u8; MOST_DEVICES],
     pub(crate) in_zone: [u8; MOST_DEVICES],
     pub(crate) in_server: [u8; MOST_DEVICES],
+    /// Whether no device is marked to be removed, and whether each wants a seat.
+    pub(crate) all_present: bool,
+    pub(crate) all_want: bool,
 }
 
 impl Model for Room {
@@ -62,7 +65,7 @@ impl Model for Room {
       counts = r.counts.items;
     })
         r.roomy.items r.count r.regions.items r.zones.items r.servers.items r.in_region
-        r.in_zone r.in_server };
+        r.in_zone r.in_server r.all_present r.all_want };
 }
 
 /// Whether a device that wants and has so many seats is open and has fewer than it wants.
@@ -136,6 +139,31 @@ fn tier_places(alloc: Global, devices: &[Device], tier: Tier) -> Result<Vec<usiz
     Vec::from_slice(alloc, &places[..count])
 }
 
+/// Whether no device is marked to be removed.
+fn are_present(devices: &[Device]) -> bool
+    ensures { result ≡ true → All (λ device. device.removed ≡ false) devices.now }
+{
+    for device in devices {
+        if device.removed {
+            return false;
+        }
+    }
+    true
+}
+
+/// Whether each device wants a seat.
+fn do_want(wanted: &[u32]) -> bool
+    ensures { result ≡ true → (place : ℕ) → place < length wanted.now →
+        0 < slice_index wanted.now place }
+{
+    for want in wanted {
+        if *want == 0 {
+            return false;
+        }
+    }
+    true
+}
+
 impl Room {
     /// The devices of a ring with the seats that they have. The wants are those of
     /// `ring_share::wanted`.
@@ -164,6 +192,8 @@ impl Room {
             in_region: tier_codes(devices, Tier::Region),
             in_zone: tier_codes(devices, Tier::Zone),
             in_server: tier_codes(devices, Tier::Server),
+            all_present: are_present(devices),
+            all_want: do_want(wanted),
         })
     }
 
@@ -183,6 +213,8 @@ impl Room {
             in_region: self.in_region,
             in_zone: self.in_zone,
             in_server: self.in_server,
+            all_present: self.all_present,
+            all_want: self.all_want,
         })
     }
 
@@ -274,6 +306,10 @@ impl Room {
         requires { has_device device self.now.devices ≡ true }
         ensures { result ≡ has_present device self.now.devices }
     {
+        // mostly none is marked
+        if self.all_present {
+            return true;
+        }
         !self.devices[self.place_of(device)].removed
     }
 
@@ -283,6 +319,18 @@ impl Room {
         ensures { result ≡ want_in self.now device }
     {
         self.wanted[self.place_of(device)]
+    }
+
+    /// Whether a device of the ring wants nothing.
+    pub fn wants_nothing(&self, device: DeviceId) -> bool
+        requires { has_device device self.now.devices ≡ true }
+        ensures { result ≡ (want_in self.now device == 0) }
+    {
+        // mostly each wants a seat
+        if self.all_want {
+            return false;
+        }
+        self.wants(device) == 0
     }
 
     /// Whether a device of the ring keeps more seats than it wants.

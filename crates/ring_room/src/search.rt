@@ -15,15 +15,17 @@ ghost use Rattle.ring_room.specs.Places.{seats_at};
 ghost use Rattle.ring_room.specs.Search.{best_of_all, better_of, least_place, roomy_places};
 ghost use Rattle.std.specs.Prelude.{nat_lt, take};
 ghost use Rattle.ring_room.specs.Inner.Lists.{IsFloor};
+ghost use Rattle.ring_room.specs.Inner.TierCounts.{IsCounted};
 ghost use Rattle.ring_share.specs.Crowd.{tiers_of};
 ghost use Rattle.ring_share.specs.Tiers.{AreTier};
 ghost use Rattle.ring_share.specs.declared.tiers.Tier.TheVariants.{Region};
 
 use crate::rooms::Room;
 use crate::rows::devices_on;
+use crate::tier_counts::TierCounts;
 use crate::tiers::{Crowd, cut, is_less, lesser};
 use ring_share::{Tier, stand_apart};
-use ring_words::{DeviceId, MOST_SEATS};
+use ring_words::{DeviceId, MOST_REPLICAS};
 
 /// After so many steps a search looks for a floor down to zones and servers.
 const STEPS_BY_REGIONS: usize = 3;
@@ -66,7 +68,7 @@ impl Room {
 
     /// What a seat on the device at one place adds to the crowd of the one at another: 1 for each
     /// tier that they share.
-    fn shares_at(&self, place: usize, other: usize) -> Crowd
+    pub(crate) fn shares_at(&self, place: usize, other: usize) -> Crowd
         requires place { place < length self.now.devices }
         requires other { other < length self.now.devices }
         ensures region { result.0 ≡ (if (tiers_of self.now.devices).region
@@ -111,7 +113,7 @@ impl Room {
 
     /// The places of the devices of a partition's seats that aren't empty, by replica, and how many
     /// they are. What stands behind them is left over.
-    pub fn places_on(&self, row: &[Option<DeviceId>]) -> ([usize; MOST_SEATS], usize)
+    pub fn places_on(&self, row: &[Option<DeviceId>]) -> ([usize; MOST_REPLICAS], usize)
         requires row { AreKnown self.now.devices row.now }
         requires few { length row.now ≤ most_replicas }
         ensures long { length result.0 ≡ most_replicas }
@@ -120,7 +122,7 @@ impl Room {
         ensures by_name { seats_at self.now.devices (take result.1 result.0) ≡ seats_of
             (devices_on_row row.now) }
     {
-        let mut places = [0; MOST_SEATS];
+        let mut places = [0; MOST_REPLICAS];
         let mut count = 0;
         for seat in row {
             if let Some(id) = *seat {
@@ -194,58 +196,75 @@ impl Room {
         if self.count == 0 {
             return None;
         }
-        let floor = self.floor_for(others);
+        let mut counts = TierCounts::none();
+        self.count_tiers(others, &mut counts);
+        let floor = self.floor_for(others, &counts);
         let start = (draw % self.count as u32) as usize;
-        let best = self.least_of(&self.roomy[..self.count], start, others, floor)?;
+        let best = self.least_of(&self.roomy[..self.count], start, others, &counts, floor)?;
         Some(best.0)
     }
 
     /// How crowded open devices are at the least, by their regions alone, for a seat whose other
     /// seats are on the devices at these places.
-    fn floor_for(&self, others: &[usize]) -> Crowd
+    fn floor_for(&self, others: &[usize], counts: &TierCounts) -> Crowd
         requires others { All (λ other. other < length self.now.devices) others.now }
         requires few { length others.now ≤ most_replicas }
+        requires counts { IsCounted self.now (seats_at self.now.devices others.now) counts.now }
         ensures { IsFloor self.now (seats_at self.now.devices others.now) result }
     {
         // some region has none of the others
         if others.len() < self.regions.len() {
             return (0, 0, 0);
         }
-        self.region_floor(&self.regions, others)
+        self.region_floor(&self.regions, others, counts)
     }
 
     /// How crowded open devices are at the least, by their regions alone, for a seat whose other
     /// seats are on the devices at some places. `places` has one in each region.
-    fn region_floor(&self, places: &[usize], others: &[usize]) -> Crowd
+    fn region_floor(&self, places: &[usize], others: &[usize], counts: &TierCounts) -> Crowd
         requires load { IsLoad self.now }
         requires tier { AreTier Region self.now.devices places.now }
         requires others { All (λ other. other < length self.now.devices) others.now }
         requires few { length others.now ≤ most_replicas }
+        requires counts { IsCounted self.now (seats_at self.now.devices others.now) counts.now }
         ensures { IsFloor self.now (seats_at self.now.devices others.now) result }
     {
         // more than any has: a partition has at most five other seats
         let mut least = 6;
         for place in places {
-            least = self.crowd_at(others, *place).0.min(least);
+            least = self.crowd_by(others, counts, *place).0.min(least);
         }
         (least, 0, 0)
     }
 
     /// How crowded open devices are at the least for a seat whose other seats are on the devices at
     /// these places.
-    pub(crate) fn floor(&self, others: &[usize]) -> Crowd
+    pub(crate) fn floor(&self, others: &[usize], counts: &TierCounts) -> Crowd
         requires others { All (λ other. other < length self.now.devices) others.now }
         requires few { length others.now ≤ most_replicas }
+        requires counts { IsCounted self.now (seats_at self.now.devices others.now) counts.now }
         ensures { IsFloor self.now (seats_at self.now.devices others.now) result }
     {
-        self.floor_after(STEPS_BY_REGIONS, others, self.floor_for(others))
+        self.floor_after(
+            STEPS_BY_REGIONS,
+            others,
+            counts,
+            self.floor_for(others, counts),
+        )
     }
 
     /// How crowded open devices are at the least, where it is known how crowded they are down to
     /// regions. Zones and servers are looked at once, in a search that takes some steps.
-    fn floor_after(&self, steps: usize, others: &[usize], floor: Crowd) -> Crowd
+    fn floor_after(
+        &self,
+        steps: usize,
+        others: &[usize],
+        counts: &TierCounts,
+        floor: Crowd,
+    ) -> Crowd
         requires others { All (λ other. other < length self.now.devices) others.now }
         requires few { length others.now ≤ most_replicas }
+        requires counts { IsCounted self.now (seats_at self.now.devices others.now) counts.now }
         requires floor { IsFloor self.now (seats_at self.now.devices others.now) floor }
         ensures { IsFloor self.now (seats_at self.now.devices others.now) result }
     {
@@ -253,29 +272,37 @@ impl Room {
         if steps != STEPS_BY_REGIONS || floor.0 == 0 {
             return floor;
         }
-        let floor = self.floor_by(Tier::Zone, &self.zones, others, floor);
+        let floor = self.floor_by(Tier::Zone, &self.zones, others, counts, floor);
         // in a zone that has none of the others no server has any
         if floor.1 == 0 {
             return floor;
         }
-        self.floor_by(Tier::Server, &self.servers, others, floor)
+        self.floor_by(Tier::Server, &self.servers, others, counts, floor)
     }
 
     /// How crowded open devices are at the least, down to a tier, for a seat whose other seats are
     /// on the devices at these places. `places` has one in each tier of that kind. The search ends
     /// at the floor of a wider tier.
-    fn floor_by(&self, tier: Tier, places: &[usize], others: &[usize], floor: Crowd) -> Crowd
+    fn floor_by(
+        &self,
+        tier: Tier,
+        places: &[usize],
+        others: &[usize],
+        counts: &TierCounts,
+        floor: Crowd,
+    ) -> Crowd
         requires load { IsLoad self.now }
         requires tier { AreTier tier self.now.devices places.now }
         requires others { All (λ other. other < length self.now.devices) others.now }
         requires few { length others.now ≤ most_replicas }
+        requires counts { IsCounted self.now (seats_at self.now.devices others.now) counts.now }
         requires floor { IsFloor self.now (seats_at self.now.devices others.now) floor }
         ensures { IsFloor self.now (seats_at self.now.devices others.now) result }
     {
         // more crowded than any: a partition has at most five other seats
         let mut least = (6, 6, 6);
         for place in places {
-            let crowd = self.crowd_at(others, *place);
+            let crowd = self.crowd_by(others, counts, *place);
             if !is_less(floor, crowd) {
                 return cut(tier, crowd);
             }
@@ -294,6 +321,7 @@ impl Room {
         places: &[usize],
         start: usize,
         others: &[usize],
+        counts: &TierCounts,
         floor: Crowd,
     ) -> Option<(usize, Crowd)>
         requires load { IsLoad self.now }
@@ -303,6 +331,7 @@ impl Room {
         requires start { start < length places.now }
         requires others { All (λ other. other < length self.now.devices) others.now }
         requires few { length others.now ≤ most_replicas }
+        requires counts { IsCounted self.now (seats_at self.now.devices others.now) counts.now }
         requires floor { IsFloor self.now (seats_at self.now.devices others.now) floor }
         ensures best { IsBestSoFar places.now start (length places.now) self.now
             (seats_at self.now.devices others.now) result }
@@ -313,8 +342,8 @@ impl Room {
         let mut known = floor;
         let mut best = None;
         for step in 0..places.len() {
-            known = self.floor_after(step, others, known);
-            best = self.better(places, start, step, others, best);
+            known = self.floor_after(step, others, counts, known);
+            best = self.better(places, start, step, others, counts, best);
             if is_within(best, known) {
                 return best;
             }
@@ -330,6 +359,7 @@ impl Room {
         start: usize,
         step: usize,
         others: &[usize],
+        counts: &TierCounts,
         best: Option<(usize, Crowd)>,
     ) -> Option<(usize, Crowd)>
         requires load { IsLoad self.now }
@@ -340,6 +370,7 @@ impl Room {
         requires step { step < length places.now }
         requires others { All (λ other. other < length self.now.devices) others.now }
         requires few { length others.now ≤ most_replicas }
+        requires counts { IsCounted self.now (seats_at self.now.devices others.now) counts.now }
         requires best { IsBestSoFar places.now start step self.now (seats_at self.now.devices
             others.now) best }
         ensures best { IsBestSoFar places.now start (step + 1) self.now (seats_at self.now.devices
@@ -351,7 +382,7 @@ impl Room {
         if others.contains(&place) {
             return best;
         }
-        let crowd = self.crowd_at(others, place);
+        let crowd = self.crowd_by(others, counts, place);
         match best {
             None => Some((place, crowd)),
             Some(other) => {

@@ -1,18 +1,16 @@
 -- Tiers by the numbers that tell them apart.
 use Rattle.std.proofs.Common.{◌≡◌, ◌==◌, ◌&&◌, ℕ, ◌<◌, ◌≤◌, Bool, true, List, length, get_or}
-use Rattle.std.proofs.Common.{Some, refl, sym, ap, subst, ◌∙◌, ⊎_elim, arith}
-use Rattle.std.specs.Prelude.{All, slice_get}
+use Rattle.std.proofs.Common.{Some, sym, ap, subst, ◌∙◌, ⊎_elim, arith}
+use Rattle.std.specs.Prelude.{slice_get}
 use Rattle.std.proofs.lemmas.Bool.{and_parts, cases_Bool, cases_lt, eq-eqb, eqb-true, ne_eqb}
-use Rattle.std.proofs.lemmas.Option.{get_or_from_slice_get, same_Some, slice_get-get_or}
+use Rattle.std.proofs.lemmas.Option.{same_Some, slice_get-get_or}
 use Rattle.std.proofs.lemmas.Option.{slice_get_within}
 use Rattle.ring_words.specs.declared.device.Device.{Device}
 use Rattle.ring_share.specs.Codes.{IsCode}
-use Rattle.ring_share.specs.Crowd.{in_zone, pass_both}
-use Rattle.ring_share.specs.Inner.Coded.{coded}
+use Rattle.ring_share.specs.Crowd.{in_zone}
 use Rattle.ring_share.specs.Tiers.{shares}
 use Rattle.ring_share.specs.declared.tiers.Tier.{Tier}
 use Rattle.ring_share.specs.declared.tiers.Tier.TheVariants.{Region, Zone, Server}
-use Rattle.ring_share.proofs.SeatsApart.{count_alike, sharing}
 use Rattle.ring_share.proofs.TierLists.{shares_self}
 
 -- devices of one zone are in it with the same others
@@ -70,22 +68,3 @@ code_told tier devices one other a b x y at there mine yours =
     let xy : shares tier x y ≡ true = sym (shares_same tier p x y px) ∙ py in
     cc (no, xy))))
     (cases_Bool (shares tier x y))
-
--- as many places have a device's number as devices at them share its tier
-pub coded_shared : (tier : Device → Device → Bool) (devices : List Device) (codes places : List ℕ) →
-    All (λ place. place < length devices) places → (code : ℕ) (x : Device)
-    → ((place : ℕ) (y : Device) → slice_get devices place ≡ Some y → tier x y ≡
-    (code == get_or codes place 0))
-    → sharing tier devices places x ≡ coded codes places code
-coded_shared tier devices codes places within code x told = count_alike
-    (λ place. pass_both tier (Some x) (slice_get devices place))
-    (λ place. code == get_or codes place 0) places places refl
-    (λ k place other at there.
-    let same : place ≡ other = same_Some place other (sym at ∙ there) in
-    let below : place < length devices = subst (λ n. n < length devices)
-    (get_or_from_slice_get places k place 0 at)
-    (within k 0 (slice_get_within places k place at)) in
-    let y : Device = get_or devices place x in
-    let read : slice_get devices place ≡ Some y = slice_get-get_or devices place x below in
-    ap (λ found. pass_both tier (Some x) found) read ∙ told place y read ∙ ap
-    (λ n. code == get_or codes n 0) same)

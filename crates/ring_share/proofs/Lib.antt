@@ -3,12 +3,11 @@ pub mod Sharing
 pub mod Standing
 pub mod Balances
 pub mod Determined
-pub mod NearTable
-pub mod Better
 pub mod Counting
-pub mod Bridge
 pub mod TierLists
 pub mod SeatsApart
 pub mod Coding
+pub mod Bridge
+pub mod ZoneFloor
 pub mod Assigned
 pub mod AllSeats

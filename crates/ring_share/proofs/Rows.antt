@@ -1,14 +1,19 @@
 -- The seats of a partition as a list.
 use Rattle.std.proofs.Common.{◌≡◌, ◌≢◌, ℕ, ◌+◌, ◌<◌, length, Option, None, count_by, take, ap, ◌∙◌}
-use Rattle.std.proofs.Common.{refl, arith, get_or, cond, Bool, true, false, ◌≤◌, List}
-use Rattle.std.proofs.lemmas.List.{get_or-set_other, length-set}
+use Rattle.std.proofs.Common.{refl, arith, get_or, cond, Bool, true, false, ◌≤◌, ◌*◌, List, ⊎_elim}
+use Rattle.std.proofs.Common.{inl, inr}
+use Rattle.std.specs.Prelude.{IfSome, slice_get}
+use Rattle.std.proofs.lemmas.Bool.{cases_eq}
+use Rattle.std.proofs.lemmas.Option.{slice_get_cases}
+use Rattle.std.proofs.lemmas.List.{get_or-set_other, get_or-set_same, length-set}
 use Rattle.std.proofs.lemmas.List.FromFn.{get_or-map-range_with_len, length-map-range_with_len}
 use Rattle.std.proofs.lemmas.List.FromFn.{get_or-range_with_len, length-range_with_len}
 use Rattle.std.specs.List.{list_any, range_with_len}
 use Rattle.std.proofs.lemmas.List.{take_all}
 use Rattle.std.proofs.lemmas.List.Sums.{sum_by_more}
 use Rattle.std.proofs.lemmas.List.Folds.{list_any_none, list_any_at}
-use Rattle.ring_model.specs.Ring.{RingRecord, partition_count, seat}
+use Rattle.ring_model.specs.Ring.{RingRecord, has_device, partition_count, seat}
+use Rattle.ring_model.specs.Valid.{IsValid}
 use Rattle.ring_share.specs.Crowd.{row_of, others, Tiers, is_on, crowd, rows_of}
 
 pub length-row_of : (ring : RingRecord) (partition : ℕ) → length (row_of ring partition) ≡
@@ -104,3 +109,20 @@ none_below test n none = list_any_none test (range_with_len 0 n)
     (λ k d lt. let below : k < n = omega (arith, lt, length-range_with_len 0 n) in
     ap test (get_or-range_with_len 0 n k d below) ∙ (let same : 0 + k ≡ k = omega arith in
     rw same (none k below)))
+
+-- the other seats are on devices of the ring
+pub others_known : (ring : RingRecord) → IsValid ring → (partition replica other : ℕ) →
+    other < ring.replicas → IfSome (get_or (others (row_of ring partition) replica) other None)
+    (λ id. has_device id ring.devices ≡ true)
+others_known ring valid partition replica other lt = ⊎_elim
+    (λ same. rw same (rw (get_or-set_same (row_of ring partition) replica None None
+    (let long = length-row_of ring partition in omega (arith, same, lt, long))) tt))
+    (λ ne. rw (others_at ring partition replica other lt ne)
+    (seat_known (partition * ring.replicas + other)))
+    (cases_eq other replica)
+  where
+    seat_known : (n : ℕ) → IfSome (slice_get ring.seats n) (λ id. has_device id ring.devices ≡ true)
+    seat_known n = elim (slice_get_cases ring.seats n).1 [
+      | inl found ↦ rw found.2 (rw found.3 at (valid.seats.known n found.0 found.1))
+      | inr past ↦ rw past.1 tt
+    ]

@@ -1,12 +1,13 @@
 -- Shares of seats by weight.
-use Rattle.std.proofs.Common.{◌≡◌, ◌≢◌, ◌==◌, ℕ, zero, suc, ◌+◌, ◌*◌, ◌/◌, ◌<◌, ◌≤◌, Bool, true}
-use Rattle.std.proofs.Common.{false, true≢false, ◌&&◌, replicate, List, [], ◌∷◌, length, get_or}
+use Rattle.std.proofs.Common.{◌≡◌, ◌≢◌, ◌==◌, ℕ, zero, suc, ◌+◌, ◌*◌, ◌/◌, ◌<◌, ◌≤◌, true}
+use Rattle.std.proofs.Common.{false, true≢false, replicate, List, [], ◌∷◌, length, get_or}
 use Rattle.std.proofs.Common.{set, map, sum, Option, Some, None, refl, sym, ap, ◌∙◌, subst, ⊎_elim}
 use Rattle.std.proofs.Common.{arith}
 use Rattle.std.specs.Prelude.{slice_get, slice_index, if◌then◌else◌}
 use Rattle.std.specs.List.{list_any}
 use Rattle.std.specs.List.Sorted.{IsStrictlyIncreasing}
-use Rattle.std.proofs.lemmas.Bool.{cases_lt, cases_eq, cases_Bool, eq-eqb, eqb-true}
+use Rattle.std.proofs.lemmas.Bool.{and_parts, cases_lt, cases_eq, cases_Bool, cond-false, cond-true}
+use Rattle.std.proofs.lemmas.Bool.{eq-eqb, eqb-true}
 use Rattle.std.proofs.lemmas.Bool.Decides.{nat_tests}
 use Rattle.std.proofs.lemmas.List.{get_or-set_same, get_or-set_other, get_or-map, length-map}
 use Rattle.std.proofs.lemmas.List.{length-set, length-replicate, get_or-replicate}
@@ -41,20 +42,12 @@ ids_rise devices rise i j a b lt at bt =
 
 -- ---- the sums of shares
 
-pub if_true : (b : Bool) (x y : ℕ) → b ≡ true → (if b then x else y) ≡ x
-if_true true x y h = refl
-if_true false x y h = absurd (true≢false (sym h))
-
-pub if_false : (b : Bool) (x y : ℕ) → b ≡ false → (if b then x else y) ≡ y
-if_false true x y h = absurd (true≢false h)
-if_false false x y h = refl
-
 open_weight_open : (device : Device) → is_open device ≡ true →
     open_weight device ≡ device.row.weight
-open_weight_open device h = if_true (is_open device) device.row.weight 0 h
+open_weight_open device h = cond-true (is_open device) device.row.weight 0 h
 
 open_weight_closed : (device : Device) → is_open device ≡ false → open_weight device ≡ 0
-open_weight_closed device h = if_false (is_open device) device.row.weight 0 h
+open_weight_closed device h = cond-false (is_open device) device.row.weight 0 h
 
 -- whole seats of shares are at most the seats
 pub floors_le : (seats total : ℕ) (devices : List Device)
@@ -74,10 +67,10 @@ floors_le seats total (device ∷ devices) =
         0) * total ≤ seats * open_weight device
     floor_le device = ⊎_elim
         (λ yes. rw (
-          if_true (is_open device) (seats * device.row.weight / total) 0 yes,
+          cond-true (is_open device) (seats * device.row.weight / total) 0 yes,
           open_weight_open device yes,
         ) (div-mul-le_self (seats * device.row.weight) total))
-        (λ no. rw (if_false (is_open device) (seats * device.row.weight / total) 0 no)
+        (λ no. rw (cond-false (is_open device) (seats * device.row.weight / total) 0 no)
         (omega arith))
         (cases_Bool (is_open device))
 
@@ -162,10 +155,6 @@ record Waits (ring : RingRecord) (given : List ℕ) (place : ℕ) : Type 0 where
   opened : is_open device ≡ true
   whole : slice_index given place ≡ whole_share ring device
 
-both_true : (a b : Bool) → (a && b) ≡ true → (a ≡ true) × (b ≡ true)
-both_true true b h = (refl, h)
-both_true false b h = absurd (true≢false (sym h))
-
 waits_is : (ring : RingRecord) (given : List ℕ) (place : ℕ) → is_waiting ring given place ≡ true →
     Waits ring given place
 waits_is ring given place = waits_of (slice_get ring.devices place) refl
@@ -174,7 +163,7 @@ waits_is ring given place = waits_of (slice_get ring.devices place) refl
         waits ring (slice_index given place) o ≡ true → Waits ring given place
     waits_of None at h = absurd (true≢false (sym h))
     waits_of (Some device) at h =
-        let parts = both_true (is_open device) (slice_index given place == whole_share ring device)
+        let parts = and_parts (is_open device) (slice_index given place == whole_share ring device)
         h in
         record { device = device; at = at; opened = parts.0; whole = eqb-true _ _ parts.1 }
 
@@ -301,7 +290,7 @@ floor_at ring place device at =
 
 open_floor_at : (ring : RingRecord) (place : ℕ) (device : Device) → slice_get ring.devices place ≡
     Some device → is_open device ≡ true → get_or (floors ring) place 0 ≡ whole_share ring device
-open_floor_at ring place device at opened = floor_at ring place device at ∙ if_true (is_open device)
+open_floor_at ring place device at opened = floor_at ring place device at ∙ cond-true (is_open device)
     (whole_share ring device) 0 opened
 
 pub floors_are_shares : (ring : RingRecord) → AreShares ring (floors ring)
@@ -310,7 +299,7 @@ floors_are_shares ring = record {
   shares = λ place device at opened. rw (open_floor_at ring place device at opened) (omega arith);
   order = λ one other a b at bt a_open b_open more whole. absurd (let is =
       open_floor_at ring one a at a_open in omega (arith, is, more));
-  closed = λ place device at closed. floor_at ring place device at ∙ if_false (is_open device)
+  closed = λ place device at closed. floor_at ring place device at ∙ cond-false (is_open device)
       (whole_share ring device) 0 closed;
 }
 

@@ -1,4 +1,3 @@
 -- Words of contracts of private functions and of proofs. No public contract rests on them.
 pub mod Coded
 pub mod Turns
-pub mod Nearness

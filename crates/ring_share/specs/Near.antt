@@ -1,4 +1,4 @@
--- How near devices stand, as numbers that add up: a crowd as one number.
+-- The places of devices.
 use Rattle.std.specs.Prelude.{◌≡◌, ℕ, Bool, false}
 use Rattle.std.specs.Prelude.{List, slice_get}
 use Rattle.std.specs.Prelude.{Option, Some, None}

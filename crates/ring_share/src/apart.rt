@@ -17,7 +17,7 @@ use crate::tiers::{Tier, shares};
 use ring_words::{Device, DeviceId, MOST_DEVICES};
 
 /// No codes yet.
-fn no_codes<const N: usize>() -> [u8; N]
+pub(crate) fn no_codes<const N: usize>() -> [u8; N]
     ensures zero { (k : ℕ) → slice_index result k ≡ 0 }
     ensures long { length result ≡ N }
 {
@@ -51,7 +51,11 @@ pub fn tier_codes(devices: &[Device], tier: Tier) -> [u8; MOST_DEVICES]
 }
 
 /// Counts how many of at most five places have each code.
-fn count_at(counts: &mut [u8; MOST_DEVICES], codes: &[u8; MOST_DEVICES], places: &[usize])
+pub(crate) fn count_at(
+    counts: &mut [u8; MOST_DEVICES],
+    codes: &[u8; MOST_DEVICES],
+    places: &[usize],
+)
     requires zero { (code : ℕ) → slice_index counts.old code ≡ 0 }
     requires places { All (λ place. place < most_devices) places.now }
     requires few { length places.now ≤ most_replicas }

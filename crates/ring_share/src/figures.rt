@@ -1,16 +1,14 @@
 //! Balance and dispersion.
 ghost use Rattle.std.specs.Prelude.{◌≡◌, ◌==◌, ◌<◌, ◌≤◌, ◌+◌, ◌*◌, ◌/◌, ◌^◌, ℕ, true, All, length};
-ghost use Rattle.ring_words.specs.Limits.{most_ids, most_replicas};
+ghost use Rattle.ring_words.specs.Limits.{most_replicas, most_seats};
 ghost use Rattle.std.specs.Prelude.{map, min, max, slice_get, slice_index, slice_index_or};
 ghost use Rattle.std.specs.Prelude.{count_by, Some, None};
 ghost use Rattle.std.specs.Option.{option_map};
 ghost use Rattle.std.specs.List.Sorted.{IsStrictlyIncreasing};
 ghost use Rattle.ring_model.specs.Ring.{partition_count as partitions_of, has_device, is_assigned};
-ghost use Rattle.ring_model.specs.Valid.{AreDevices};
 ghost use Rattle.ring_words.specs.declared.device.Device.{Device as DeviceModel};
 ghost use Rattle.ring_share.specs.Want.{total_weight};
 ghost use Rattle.ring_share.specs.Room.{have};
-ghost use Rattle.ring_share.specs.Inner.Nearness.{IsNearnessTable};
 ghost use Rattle.ring_share.specs.Tiers.{AreTier};
 ghost use Rattle.ring_share.specs.declared.tiers.Tier.TheVariants.{Region, Zone};
 ghost use Rattle.ring_share.specs.Codes.{AreCodes};
@@ -19,9 +17,8 @@ ghost use Rattle.ring_share.specs.Figures.{distance, greatest_balance, device_ba
 ghost use Rattle.ring_share.specs.Figures.{ring_balance, has_crowded, ring_dispersion};
 
 use crate::apart::{stand_apart, tier_codes};
-use crate::crowds::device_by_id;
-use crate::nearness::{NearnessTable, has_better_at, table_of};
-use crate::places::{place_in, places_of};
+use crate::better::{ByTier, has_crowded};
+use crate::places::{device_of, place_in};
 use crate::rooms::have;
 use crate::tiers::{Tier, one_each};
 use crate::wants::{is_open, seat_count, total_weight};
@@ -60,7 +57,7 @@ fn device_balance(ring: &Ring, total: u64, device: &Device, seats: u32) -> u32
     requires total { total ≡ total_weight ring.now.devices }
     requires light { total ≤ 2 ^ 35 }
     requires seats { seats ≡ have ring.now device.now.id }
-    requires few { seats ≤ 81920 }
+    requires few { seats ≤ most_seats }
     ensures { result ≡ device_balance ring.now device.now }
 {
     if is_open(device) {
@@ -80,9 +77,11 @@ fn device_balance(ring: &Ring, total: u64, device: &Device, seats: u32) -> u32
 pub fn balance_of(ring: &Ring, device: DeviceId) -> Option<u32>
     ensures { result ≡ option_map (device_balance ring.now) (device_by_id device ring.now.devices) }
 {
-    let found = device_by_id(ring.devices(), device)?;
-    let total = total_weight(ring.devices());
-    Some(device_balance(ring, total, found, have(ring, found.id)))
+    if !ring.has_device(device) {
+        return None;
+    }
+    let found = device_of(ring.devices(), device);
+    Some(balance_with(ring, found, have(ring, device)))
 }
 
 /// The balance of a device that has so many of a ring's seats, as `balance_of` tells it.
@@ -127,32 +126,6 @@ pub fn balance(ring: &Ring) -> u32
         greatest = greater(greatest, next);
     }
     greatest
-}
-
-/// Whether a partition with these seats has one for which an open device outside it is less crowded
-/// than the seat's own.
-fn has_crowded(
-    devices: &[Device],
-    regions: &[usize],
-    in_region: &[u8; MOST_DEVICES],
-    in_zone: &[u8; MOST_DEVICES],
-    table: &NearnessTable,
-    row: &[DeviceId],
-) -> bool
-    requires devices { AreDevices most_ids devices.now }
-    requires regions { AreTier Region devices.now regions.now }
-    requires in_region { AreCodes Region devices.now in_region.now }
-    requires in_zone { AreCodes Zone devices.now in_zone.now }
-    requires table { IsNearnessTable devices.now table.now }
-    requires known { All (λ id. has_device id devices.now ≡ true) row.now }
-    requires few { length row.now ≤ most_replicas }
-    ensures { result ≡ has_crowded devices.now (map Some row.now) }
-{
-    if stand_apart(devices, regions, in_region, in_zone, row) {
-        return false;
-    }
-    let places = places_of(devices, row);
-    has_better_at(devices, table, &places[..row.len()])
 }
 
 /// The seats of a partition of an assigned ring by replica.
@@ -205,11 +178,17 @@ fn crowded_count(ring: &Ring) -> u32
     if all_stand_apart(ring, regions, &in_region, &in_zone) {
         return 0;
     }
-    let table = table_of(devices);
+    let codes = ByTier {
+        region: in_region,
+        zone: in_zone,
+        server: tier_codes(devices, Tier::Server),
+    };
+    let (zones, count) = one_each(devices, Tier::Zone);
+    let zones = &zones[..count];
     let mut crowded = 0;
     for partition in 0..partition_count(ring.power()) {
         let row = row_in(ring, partition);
-        if has_crowded(devices, regions, &in_region, &in_zone, &table, row) {
+        if has_crowded(devices, regions, zones, &codes, row) {
             crowded += 1;
         }
     }

@@ -8,17 +8,17 @@
 #![tactic(auto)]
 
 mod apart;
+mod better;
 mod crowds;
 mod figures;
 pub mod laws;
-mod nearness;
 mod places;
 mod rooms;
 mod tiers;
 mod wants;
 
 pub use apart::{stand_apart, tier_codes};
-pub use crowds::{crowd, in_region, in_zone, on_server, shared_tiers};
+pub use crowds::crowd;
 pub use figures::{balance, balance_of, balance_with, counts_of, dispersion};
 pub use places::place_in;
 pub use rooms::{has_room, have};

@@ -4,10 +4,13 @@ ghost use Rattle.ring_words.specs.Limits.{most_replicas};
 ghost use Rattle.std.specs.Prelude.{slice_index, Some};
 ghost use Rattle.std.specs.List.Sorted.{IsStrictlyIncreasing};
 ghost use Rattle.ring_model.specs.Ring.{has_device};
+ghost use Rattle.ring_share.specs.Crowd.{device_by_id};
 ghost use Rattle.ring_share.specs.Near.{StandsAt};
+ghost use Rattle.ring_share.specs.Room.{has_open};
+ghost use Rattle.ring_share.specs.Want.{is_open};
 ghost use Rattle.ring_words.specs.declared.device.Device.{Device as DeviceModel};
 
-use ring_words::{Device, DeviceId, MOST_SEATS};
+use ring_words::{Device, DeviceId, MOST_REPLICAS};
 
 /// The places between which the device of a number stands, the second one left out: numbers rise,
 /// so no more devices stand before it than there are numbers below its own, and no more behind it
@@ -50,7 +53,18 @@ pub fn place_in(devices: &[Device], id: DeviceId) -> usize
     place_by_halving(devices, id)
 }
 
-/// The same, looked for by halving.
+/// The device of a number among the devices of a ring.
+pub(crate) fn device_of(devices: &[Device], id: DeviceId) -> &Device
+    requires rise { IsStrictlyIncreasing (map (λ device. device.id) devices.now) }
+    requires known { has_device id devices.now ≡ true }
+    ensures found { device_by_id id devices.now ≡ Some result.now }
+    ensures named { result.now.id ≡ id }
+    ensures opens { is_open result.now ≡ has_open id devices.now }
+{
+    &devices[place_in(devices, id)]
+}
+
+/// The place of the device of a number, looked for by halving.
 fn place_by_halving(devices: &[Device], id: DeviceId) -> usize
     requires rise { IsStrictlyIncreasing (map (λ device. device.id) devices.now) }
     requires known { has_device id devices.now ≡ true }
@@ -70,14 +84,14 @@ fn place_by_halving(devices: &[Device], id: DeviceId) -> usize
 }
 
 /// The places of the devices of at most five numbers.
-pub(crate) fn places_of(devices: &[Device], ids: &[DeviceId]) -> [usize; MOST_SEATS]
+pub(crate) fn places_of(devices: &[Device], ids: &[DeviceId]) -> [usize; MOST_REPLICAS]
     requires rise { IsStrictlyIncreasing (map (λ device. device.id) devices.now) }
     requires known { All (λ id. has_device id devices.now ≡ true) ids.now }
     requires few { length ids.now ≤ most_replicas }
     ensures { (replica : ℕ) → replica < length ids.now →
         StandsAt devices.now (slice_index ids.now replica) (slice_index result replica) }
 {
-    let mut places = [0; MOST_SEATS];
+    let mut places = [0; MOST_REPLICAS];
     for (replica, id) in ids.iter().enumerate() {
         places[replica] = place_in(devices, *id);
     }

@@ -1,6 +1,6 @@
 //! Seats that devices want.
 ghost use Rattle.std.specs.Prelude.{◌≡◌, ◌<◌, ◌≤◌, ◌+◌, ◌*◌, ◌^◌, ℕ, true, false, length, map};
-ghost use Rattle.ring_words.specs.Limits.{most_devices};
+ghost use Rattle.ring_words.specs.Limits.{most_devices, most_seats};
 ghost use Rattle.std.specs.Prelude.{replicate, sum, slice_get, slice_index, IfOk, IfSome, IfNone};
 ghost use Rattle.std.specs.Prelude.{Some, if◌then◌else◌};
 ghost use Rattle.std.specs.List.{list_any};
@@ -50,7 +50,7 @@ pub(crate) fn total_weight(devices: &[Device]) -> u64
 pub(crate) fn seat_count(ring: &Ring) -> u64
     ensures value { result ≡ seat_count ring.now }
     ensures some { 0 < result }
-    ensures small { result ≤ 81920 }
+    ensures small { result ≤ most_seats }
 {
     partition_count(ring.power()) as u64 * u64::from(ring.replicas().get())
 }
@@ -60,7 +60,7 @@ fn whole_share(ring: &Ring, total: u64, device: &Device) -> u64
     requires total { total ≡ total_weight ring.now.devices }
     requires some { 0 < total }
     ensures value { result ≡ whole_share ring.now device.now }
-    ensures small { device.now.row.weight ≤ total → result ≤ 81920 }
+    ensures small { device.now.row.weight ≤ total → result ≤ most_seats }
 {
     seat_count(ring) * u64::from(device.row.weight.hundredths()) / total
 }
@@ -148,7 +148,7 @@ fn give_one(ring: &Ring, total: u64, shares: &mut [u32])
     requires some { 0 < total }
     requires shares { AreShares ring.now shares.old }
     requires left { sum shares.old < seat_count ring.now }
-    requires fits { seat_count ring.now ≤ 81920 }
+    requires fits { seat_count ring.now ≤ most_seats }
     ensures shares { AreShares ring.now shares.new }
     ensures more { sum shares.new ≡ sum shares.old + 1 }
 {

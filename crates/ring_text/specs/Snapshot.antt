@@ -1,6 +1,7 @@
 -- A snapshot of a ring: what its text tells.
 use Rattle.std.specs.Prelude.{◌≡◌, ℕ, ◌*◌, ◌^◌, ◌<◌, ◌≤◌, List, length, All, IsTrue}
-use Rattle.ring_words.specs.Limits.{greatest_power, most_ids, most_replicas}
+use Rattle.ring_words.specs.Limits.{greatest_power, most_ids, most_replicas, short_count}
+use Rattle.ring_words.specs.Limits.{long_count}
 use Rattle.ring_model.specs.Ring.{RingRecord}
 use Rattle.ring_words.specs.Texts.{is_label, is_device_name, greatest_weight, address_limit}
 use Rattle.ring_model.specs.Valid.{AreDevices, AreSeats}
@@ -21,10 +22,10 @@ pub record SnapshotRecord : Type 0 where
 
 -- The device has an address, a port, a name and a weight such as there are.
 pub record IsWithinLimits (device : Device) : Type 0 where
-  pub region : device.row.region < 2 ^ 16
-  pub zone : device.row.zone < 2 ^ 16
+  pub region : device.row.region < short_count
+  pub zone : device.row.zone < short_count
   pub address : device.row.address < address_limit
-  pub port : (1 ≤ device.row.port) × (device.row.port < 2 ^ 16)
+  pub port : (1 ≤ device.row.port) × (device.row.port < short_count)
   pub name : IsTrue (is_device_name device.row.name)
   pub weight : device.row.weight ≤ greatest_weight
 
@@ -32,7 +33,7 @@ pub record IsWithinLimits (device : Device) : Type 0 where
 -- rules of a ring allow.
 pub record IsValidSnapshot (snapshot : SnapshotRecord) : Type 0 where
   pub name : IsTrue (is_label snapshot.name)
-  pub version : snapshot.version < 2 ^ 32
+  pub version : snapshot.version < long_count
   pub power : (1 ≤ snapshot.power) × (snapshot.power ≤ greatest_power)
   pub replicas : (1 ≤ snapshot.replicas) × (snapshot.replicas ≤ most_replicas)
   pub devices : AreDevices most_ids snapshot.devices

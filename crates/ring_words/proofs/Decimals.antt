@@ -153,13 +153,6 @@ pub no_number : (s : ℕ) (t front back : List ℕ) → s < 48 → IsCut s t fro
 no_number s t front back low cut none n rest lt e =
     none n lt (sym cut.before ∙ (decimal_cut s t n rest low lt e).before)
 
--- the text is its parts
-pub cut_text : (s : ℕ) (t front back : List ℕ) → IsCut s t front back → t ≡ front ++ s ∷ back
-cut_text s t front back cut =
-    let there : get_or t (position_or_len (λ b. b == s) t) 0 ≡ s =
-    eqb-true _ _ (passes_at_first (λ b. b == s) t 0 cut.inside) in
-    split_at_first (λ b. b == s) t 0 cut.inside ∙ rw (cut.before, cut.after, there) refl
-
 -- a text has one number before its first separator, and one rest
 pub separated_parts : (s : ℕ) (t : List ℕ) (n m : ℕ) (rest more : List ℕ) → s < 48 → n < 2 ^ 32 →
     m < 2 ^ 32 → t ≡ decimal n ++ s ∷ rest → t ≡ decimal m ++ s ∷ more → (n ≡ m) × (rest ≡ more)
@@ -267,20 +260,6 @@ third_octet t rest l m n a s lt e =
     let low : a / 256 % 256 < 256 = omega arith in
     let q = first_is s.between rest n (a / 256 % 256) (decimal (a % 256)) s.last low p.2 in
     (p.0, p.1, q.0, q.1)
-
--- the text of the address with these octets
-pub address_of_octets : (t rest : List ℕ) (l m n o : ℕ) → Third t rest l m n → o < 256 →
-    rest ≡ decimal o → t ≡ address_text (((l * 256 + m) * 256 + n) * 256 + o)
-address_of_octets t rest l m n o s lt e =
-    let a : ℕ = ((l * 256 + m) * 256 + n) * 256 + o in
-    let ll = s.front.front.below in
-    let lm = s.front.last.below in
-    let ln = s.last.below in
-    let first : a / 16777216 ≡ l = omega arith in
-    let second : a / 65536 % 256 ≡ m = omega arith in
-    let third : a / 256 % 256 ≡ n = omega arith in
-    let fourth : a % 256 ≡ o = omega arith in
-    rw (first, second, third, fourth, ← e, ← s.last.text, ← s.front.last.text) s.front.front.text
 
 -- ---- what `{:02}` writes of a number below 100
 

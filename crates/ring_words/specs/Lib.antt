@@ -1,4 +1,5 @@
 pub mod Limits
+pub mod Kinds
 pub mod Texts
 pub mod Rows
 pub mod Spelling

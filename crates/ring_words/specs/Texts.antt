@@ -1,7 +1,8 @@
 -- The one spelling of each word.
 use Rattle.std.specs.List.{list_all}
-use Rattle.std.specs.Prelude.{ℕ, ◌/◌, ◌%◌, ◌^◌, ◌+◌, ◌++◌, ◌&&◌, ◌||◌, ◌==◌, List, [], ◌∷◌, length}
+use Rattle.std.specs.Prelude.{ℕ, ◌/◌, ◌%◌, ◌+◌, ◌++◌, ◌&&◌, ◌||◌, ◌==◌, List, [], ◌∷◌, length}
 use Rattle.std.specs.Prelude.{slice_index, Bool, nat_lt, nat_le, decimal}
+use Rattle.ring_words.specs.Limits.{long_count}
 
 -- a byte of `0` to `9`
 abbrev pub is_digit : ℕ → Bool
@@ -21,7 +22,7 @@ greatest_weight = 100000000
 
 -- An address has four octets.
 abbrev pub address_limit : ℕ
-address_limit = 2 ^ 32
+address_limit = long_count
 
 -- the four octets in decimal, joined by points
 abbrev pub address_text : ℕ → List ℕ

@@ -15,10 +15,10 @@ pub struct Bounded<const LEAST: u16, const MOST: u16> {
 pub const GREATEST_POWER: u16 = 14;
 
 /// How many replicas a partition has at most.
-pub const MOST_REPLICAS: u16 = 5;
+pub const MOST_REPLICAS: usize = 5;
 
-/// How many seats a partition has at most: one for each replica.
-pub const MOST_SEATS: usize = MOST_REPLICAS as usize;
+/// The same as a bound of [`Replicas`].
+const GREATEST_REPLICAS: u16 = MOST_REPLICAS as u16;
 
 /// How many times two is multiplied: a ring of power `p` has `2^p` partitions. From 1 to
 /// [`GREATEST_POWER`].
@@ -26,7 +26,7 @@ pub type Power = Bounded<1, GREATEST_POWER>;
 
 /// How many replicas of each partition a ring keeps, each on a device of its own. From 1 to
 /// [`MOST_REPLICAS`].
-pub type Replicas = Bounded<1, MOST_REPLICAS>;
+pub type Replicas = Bounded<1, GREATEST_REPLICAS>;
 
 /// The port that a device's server listens on. From 1 to 65535.
 pub type Port = Bounded<1, 65535>;

@@ -1,5 +1,6 @@
 //! What is asked of the builder, and what it replies.
 ghost use Rattle.std.specs.Prelude.{◌≡◌, ◌↔◌, IsTrue};
+ghost use Rattle.ring_words.specs.Kinds.{act_kind, deed_kind};
 
 use crate::bounded::{Power, Replicas};
 use crate::device::{DeviceId, Row};
@@ -25,6 +26,21 @@ pub struct NewWeight {
     pub id: DeviceId,
     /// What it weighs from now on.
     pub weight: Weight,
+}
+
+/// Which of the commands it is, whatever it is given.
+#[derive(Clone, Copy, Debug, PartialEq, Eq)]
+pub enum Kind {
+    Create,
+    Add,
+    SetWeight,
+    Remove,
+    SetHours,
+    PretendPassed,
+    RaisePower,
+    Import,
+    Publish,
+    Rebalance,
 }
 
 /// What a command does to its ring.
@@ -54,6 +70,24 @@ pub enum Act {
 }
 
 impl Act {
+    /// Which command it is.
+    pub fn kind(&self) -> Kind
+        ensures { result ≡ act_kind self.now }
+    {
+        match self {
+            Act::Create(_) => Kind::Create,
+            Act::Add(_) => Kind::Add,
+            Act::SetWeight(_) => Kind::SetWeight,
+            Act::Remove(_) => Kind::Remove,
+            Act::SetHours(_) => Kind::SetHours,
+            Act::PretendPassed => Kind::PretendPassed,
+            Act::RaisePower => Kind::RaisePower,
+            Act::Import(_) => Kind::Import,
+            Act::Publish => Kind::Publish,
+            Act::Rebalance(_) => Kind::Rebalance,
+        }
+    }
+
     /// Whether two acts are one.
     fn is(&self, other: &Act) -> bool
         ensures { IsTrue result ↔ (self.now ≡ other.now) }
@@ -91,56 +125,68 @@ impl Command {
     }
 }
 
-/// What was done. Each has the version of the ring after the command.
+/// What was done, with what its reply tells beside the version of the ring.
 #[derive(Clone, Copy, Debug, PartialEq, Eq)]
-pub enum Done {
+pub enum Deed {
     /// The ring was made.
-    Create {
-        version: u32,
-    },
+    Create,
     /// The device was added, under this number.
     Add {
         id: DeviceId,
-        version: u32,
     },
     /// The device has its new weight.
-    SetWeight {
-        version: u32,
-    },
+    SetWeight,
     /// The device is marked to be removed.
-    Remove {
-        version: u32,
-    },
+    Remove,
     /// The hours are set.
-    SetHours {
-        version: u32,
-    },
+    SetHours,
     /// No partition counts as moved.
-    PretendPassed {
-        version: u32,
-    },
+    PretendPassed,
     /// There are twice as many partitions.
-    RaisePower {
-        version: u32,
-    },
+    RaisePower,
     /// So many rows added a device, and so many found one, whose weight is theirs now.
     Import {
         added: u64,
         reweighted: u64,
-        version: u32,
     },
-    /// The ring's text is published under this version.
-    Publish {
-        version: u32,
-    },
+    /// The ring's text is published under its version.
+    Publish,
     /// Seats are where they should be: so many of them changed. Balance and dispersion are the new
     /// ring's, in hundredths of a percent.
     Rebalance {
         balance: u32,
         changed: u32,
         dispersion: u32,
-        version: u32,
     },
+}
+
+impl Deed {
+    /// Which command did it.
+    pub fn kind(&self) -> Kind
+        ensures { result ≡ deed_kind self.now }
+    {
+        match self {
+            Deed::Create => Kind::Create,
+            Deed::Add { .. } => Kind::Add,
+            Deed::SetWeight => Kind::SetWeight,
+            Deed::Remove => Kind::Remove,
+            Deed::SetHours => Kind::SetHours,
+            Deed::PretendPassed => Kind::PretendPassed,
+            Deed::RaisePower => Kind::RaisePower,
+            Deed::Import { .. } => Kind::Import,
+            Deed::Publish => Kind::Publish,
+            Deed::Rebalance { .. } => Kind::Rebalance,
+        }
+    }
+}
+
+/// That a command was done.
+#[derive(Clone, Copy, Debug, PartialEq, Eq)]
+pub struct Done {
+    /// The version of the ring after the command.
+    pub version: u32,
+    /// What was done.
+    pub deed: Deed,
 }
 
 /// Why a row of an import is refused, on the ring that the rows before it leave.

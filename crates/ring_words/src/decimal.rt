@@ -1,5 +1,6 @@
 //! Numbers as text, each with one spelling.
-ghost use Rattle.std.specs.Prelude.{◌≡◌, ◌∷◌, ◌++◌, ◌<◌, ◌^◌, ℕ, List, IfSome, IfNone, decimal};
+ghost use Rattle.std.specs.Prelude.{◌≡◌, ◌∷◌, ◌++◌, ◌<◌, ℕ, List, IfSome, IfNone, decimal};
+ghost use Rattle.ring_words.specs.Limits.{long_count};
 ghost use Rattle.ring_words.specs.Texts.{two_digits};
 ghost use Rattle.ring_words.specs.Inner.Digits.{is_decimal};
 
@@ -13,8 +14,8 @@ fn is_decimal(text: &str) -> bool
 /// The number that a text spells in decimal: digits alone, with no leading zero unless it is `0`.
 /// `None` exactly where the text spells no number below 2^32.
 pub fn parse_decimal(text: &str) -> Option<u32>
-    ensures found { IfSome result (λ n. (n < 2 ^ 32) × (text.now ≡ decimal n)) }
-    ensures none { IfNone result ((n : ℕ) → n < 2 ^ 32 → text.now ≡ decimal n → ⊥) }
+    ensures found { IfSome result (λ n. (n < long_count) × (text.now ≡ decimal n)) }
+    ensures none { IfNone result ((n : ℕ) → n < long_count → text.now ≡ decimal n → ⊥) }
 {
     if !is_decimal(text) {
         return None;
@@ -26,9 +27,9 @@ pub fn parse_decimal(text: &str) -> Option<u32>
 /// separator. `None` exactly where the text has no such front.
 pub fn parse_decimal_up_to(text: &str, separator: char) -> Option<(u32, &str)>
     requires { separator < 48 }
-    ensures found { IfSome result (λ x. (x.0 < 2 ^ 32) × (text.now ≡ decimal x.0 ++ separator ∷
+    ensures found { IfSome result (λ x. (x.0 < long_count) × (text.now ≡ decimal x.0 ++ separator ∷
         x.1.now)) }
-    ensures none { IfNone result ((n : ℕ) (rest : List ℕ) → n < 2 ^ 32 → text.now ≡ decimal n ++
+    ensures none { IfNone result ((n : ℕ) (rest : List ℕ) → n < long_count → text.now ≡ decimal n ++
         separator ∷ rest → ⊥) }
 {
     let (number, rest) = text.split_once(separator)?;

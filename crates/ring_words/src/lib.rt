@@ -16,16 +16,16 @@ mod spelling;
 mod weight;
 
 pub use address::Address;
-pub use bounded::{
-    Bounded, GREATEST_POWER, MOST_REPLICAS, MOST_SEATS, Port, Power, Replicas, partition_count,
-};
-pub use command::{Act, Command, Done, NewRing, NewWeight, Refusal, Reply, RowCause};
+pub use bounded::{Bounded, GREATEST_POWER, MOST_REPLICAS, Port, Power, Replicas, partition_count};
+pub use command::{Act, Command, Deed, Done, Kind, NewRing, NewWeight, Refusal, Reply, RowCause};
 pub use decimal::{parse_decimal, parse_decimal_up_to};
 pub use device::{Device, DeviceId, Row};
 pub use name::{
     Caller, DeviceName, Name, NameFault, NameKind, OfCaller, OfDevice, OfRing, RingName,
 };
-pub use request::{Delivery, Hour, Key, Limits, MOST_DEVICES, MOST_IDS, MOST_VERSIONS};
+pub use request::{
+    Delivery, Hour, Key, Limits, MOST_DEVICES, MOST_IDS, MOST_NUMBERS, MOST_RINGS, MOST_VERSIONS,
+};
 pub use rows::Rows;
 pub use spelling::{
     SpellingFault, read_address, read_bounded, read_name, read_number, read_number16, read_weight,

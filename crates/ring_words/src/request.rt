@@ -28,6 +28,9 @@ pub struct Delivery<C> {
     pub command: C,
 }
 
+/// How many rings are kept at most.
+pub const MOST_RINGS: usize = 16;
+
 /// How many devices a ring has at most.
 pub const MOST_DEVICES: usize = 256;
 
@@ -37,18 +40,21 @@ pub const MOST_IDS: usize = 65536;
 /// How many published versions a ring keeps at most.
 pub const MOST_VERSIONS: usize = 1000;
 
+/// How many numbers of callers a file keeps at most, with their replies.
+pub const MOST_NUMBERS: usize = 100_000;
+
 /// How much is kept at most. Tests take small limits, a service those of [`Limits::full`].
 #[derive(Clone, Copy, Debug, PartialEq, Eq)]
 pub struct Limits {
-    /// Rings, at most 16.
+    /// Rings, at most [`MOST_RINGS`].
     pub rings: u32,
-    /// Devices of a ring, those that are marked to be removed counted, at most 256.
+    /// Devices of a ring, those that are marked to be removed counted, at most [`MOST_DEVICES`].
     pub devices: u32,
-    /// Numbers that a ring gives to devices, at most 65536.
+    /// Numbers that a ring gives to devices, at most [`MOST_IDS`].
     pub ids: u32,
-    /// Published versions of a ring, at most 1000.
+    /// Published versions of a ring, at most [`MOST_VERSIONS`].
     pub versions: u32,
-    /// Numbers of callers that are kept with their replies, at most 100000.
+    /// Numbers of callers that are kept with their replies, at most [`MOST_NUMBERS`].
     pub numbers: u32,
     pub ghost rings_within: { rings ≤ most_rings },
     pub ghost devices_within: { devices ≤ most_devices },
@@ -67,11 +73,11 @@ impl Limits {
         ensures numbers { result.numbers ≡ most_numbers }
     {
         Limits {
-            rings: 16,
+            rings: MOST_RINGS as u32,
             devices: MOST_DEVICES as u32,
             ids: MOST_IDS as u32,
             versions: MOST_VERSIONS as u32,
-            numbers: 100_000,
+            numbers: MOST_NUMBERS as u32,
         }
     }
 }

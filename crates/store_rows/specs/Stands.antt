@@ -1,6 +1,6 @@
 -- What the tables contain where the store holds rings and a book.
-use Rattle.std.specs.Prelude.{◌≡◌, ◌<◌, ◌≤◌, ◌^◌, ℕ, pos, false, List, [], ◌∷◌, ◌++◌, map, length}
-use Rattle.ring_words.specs.Limits.{most_numbers}
+use Rattle.std.specs.Prelude.{◌≡◌, ◌<◌, ◌≤◌, ℕ, pos, false, List, [], ◌∷◌, ◌++◌, map, length}
+use Rattle.ring_words.specs.Limits.{long_count, most_numbers, most_rings}
 use Rattle.std.specs.Prelude.{All, AllPairs, IsTrue}
 use Rattle.std.specs.List.{enumerate_from}
 use Rattle.std.specs.FinMap.{from_entries, empty}
@@ -98,9 +98,9 @@ pub record IsNamedRing (e : List ℕ × RingRecord) : Type 0 where
   pub moved : All IsHour e.1.moved
   pub published : All IsVersioned e.1.published
 
--- At most 16 rings, each under a name of its own.
+-- No more rings than may be kept, each under a name of its own.
 pub record AreRings (rings : NamedRings) : Type 0 where
-  pub count : length rings ≤ 16
+  pub count : length rings ≤ most_rings
   pub by_name : AreByName rings
   pub each : All IsNamedRing rings
 
@@ -108,12 +108,12 @@ pub record AreRings (rings : NamedRings) : Type 0 where
 -- there are.
 pub record IsDecision (e : DecidedRequest) : Type 0 where
   pub caller : IsTrue (is_label e.key.caller)
-  pub number : e.key.number < 2 ^ 32
-  pub hour : e.hour < 2 ^ 32
+  pub number : e.key.number < long_count
+  pub hour : e.hour < long_count
   pub command : IsProperCommand e.command
   pub reply : IsProperReply e.reply
 
--- At most 100000 requests, each under a key of its own, at hours that do not fall.
+-- No more requests than may be kept, each under a key of its own, at hours that do not fall.
 pub record IsBook (book : List DecidedRequest) : Type 0 where
   pub count : length book ≤ most_numbers
   pub apart : AllPairs (λ a b. same_key a.key b.key ≡ false) book
@@ -126,7 +126,7 @@ pub record IsHoldable (content : RingContent) : Type 0 where
   pub rings : AreRings content.state
   pub book : IsBook content.book
   pub hour : last_hour content.hour content.book ≡ content.hour
-  pub small : content.hour < 2 ^ 32
+  pub small : content.hour < long_count
 
 -- The content with one more request at the end of its book.
 abbrev pub gained : RingContent → DecidedRequest → RingContent

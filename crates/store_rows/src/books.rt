@@ -12,7 +12,7 @@ ghost use Rattle.store_rows.specs.Inner.Books.{IsSaid, SaysRequest};
 use crate::numbers::number32;
 use request_book::Entry;
 use ring_messages::{read_command, read_reply};
-use ring_words::{Command, Hour, Key, Reply, SpellingFault, read_name};
+use ring_words::{Command, Hour, Key, MOST_NUMBERS, Reply, SpellingFault, read_name};
 use std::alloc::Global;
 use store_model::RequestRow;
 
@@ -76,7 +76,7 @@ pub(crate) fn judge_book(
         × (requests ≡ from_entries (request_entries book)) × (last_hour hour book ≡ hour)
         × (length book ≡ count)) result }
 {
-    if rows.len() > 100_000 {
+    if rows.len() > MOST_NUMBERS {
         return Err(SpellingFault::Bad);
     }
     let mut rows = rows;

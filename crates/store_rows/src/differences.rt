@@ -12,7 +12,8 @@ ghost use Rattle.store_rows.specs.Differences.{has_same, is_same_device, is_same
 ghost use Rattle.store_rows.specs.Differences.{is_same_ring, is_same_text};
 ghost use Rattle.store_rows.specs.Inner.Lacking.{device_in, device_value, gone, lacking};
 ghost use Rattle.store_rows.specs.Inner.Lacking.{added_ring, part_in, part_value, ring_value};
-ghost use Rattle.store_rows.specs.Inner.Lacking.{rows_at, text_entries_of, text_in};
+ghost use Rattle.store_rows.specs.Inner.Lacking.{most_devices_in_all, rows_at, text_entries_of};
+ghost use Rattle.store_rows.specs.Inner.Lacking.{text_in};
 ghost use Rattle.store_rows.specs.RingRows.{device_entries, device_entry, part_entries};
 ghost use Rattle.store_rows.specs.RingRows.{part_entries_of, part_entry, published_entries};
 ghost use Rattle.store_rows.specs.RingRows.{published_entry, ring_entries};
@@ -225,7 +226,7 @@ fn count_gone(others: &[Device], devices: &[Device]) -> usize
 pub(crate) fn gone_devices(old: &Rings, new: &Rings) -> usize
     ensures value { result ≡ length (gone name_number_cmp (device_entries old.now)
         (device_entries new.now)) }
-    ensures small { result ≤ 4096 }
+    ensures small { result ≤ most_devices_in_all }
 {
     let _known = new.list();
     let mut count = 0;

@@ -1,10 +1,11 @@
 //! What the rows of a store that is opened say.
-ghost use Rattle.std.specs.Prelude.{◌≡◌, ◌↔◌, ◌<◌, ◌^◌, ◌∷◌, [], IfOk, IsTrue, List, MatchOption};
+ghost use Rattle.std.specs.Prelude.{◌≡◌, ◌↔◌, ◌<◌, ◌∷◌, [], IfOk, IsTrue, List, MatchOption};
 ghost use Rattle.std.specs.Prelude.{cond, false};
 ghost use Rattle.ring_words.specs.Spelling.{Reads};
 ghost use Rattle.store_rows.specs.Stands.{AreRings};
 ghost use Rattle.store_rows.specs.Inner.Found.{ReadsRow};
 ghost use Rattle.std.specs.Prelude.{map, pos, true};
+ghost use Rattle.ring_words.specs.Limits.{long_count};
 ghost use Rattle.store_model.specs.Contents.{meta_of, part_of, Contents};
 ghost use Rattle.store_model.specs.declared.change.RowChange.TheVariants.{PutPart};
 ghost use Rattle.store_model.specs.declared.rows.PartRow.{PartRow};
@@ -59,7 +60,7 @@ pub struct Judged {
 /// they say.
 fn read_meta(rows: &[MetaRow]) -> Result<(bool, Hour), SpellingFault>
     ensures { Reads (λ meta. (map meta_of rows.now ≡ (pos 1, meta_value (cond meta.0 1 2) meta.1) ∷
-        []) × (meta.1 < 2 ^ 32)) result }
+        []) × (meta.1 < long_count)) result }
 {
     let [row] = rows else {
         return Err(SpellingFault::Bad);

@@ -1,5 +1,6 @@
 //! Whole numbers of rows, read as what they stand for.
-ghost use Rattle.std.specs.Prelude.{◌≡◌, ◌<◌, ◌≤◌, ◌^◌, pos};
+ghost use Rattle.std.specs.Prelude.{◌≡◌, ◌<◌, ◌≤◌, pos};
+ghost use Rattle.ring_words.specs.Limits.{long_count, short_count};
 ghost use Rattle.ring_words.specs.Spelling.{Reads};
 ghost use Rattle.ring_words.specs.Texts.{greatest_weight};
 ghost use Rattle.store_rows.specs.RingRows.{hour_number, mark_number};
@@ -9,14 +10,14 @@ use ring_words::{Bounded, Hour, SpellingFault, Weight};
 
 /// The number of a row as one of 32 bits.
 pub(crate) fn number32(number: i64) -> Result<u32, SpellingFault>
-    ensures { Reads (λ n. (number ≡ pos n) × (n < 2 ^ 32)) result }
+    ensures { Reads (λ n. (number ≡ pos n) × (n < long_count)) result }
 {
     u32::try_from(number).map_err(|_| SpellingFault::Bad)
 }
 
 /// The number of a row as one of 16 bits.
 pub(crate) fn number16(number: i64) -> Result<u16, SpellingFault>
-    ensures { Reads (λ n. (number ≡ pos n) × (n < 2 ^ 16)) result }
+    ensures { Reads (λ n. (number ≡ pos n) × (n < short_count)) result }
 {
     u16::try_from(number).map_err(|_| SpellingFault::Bad)
 }

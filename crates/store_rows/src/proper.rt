@@ -1,5 +1,6 @@
 //! What is known of every value of rings.
-ghost use Rattle.std.specs.Prelude.{◌<◌, ◌^◌, All};
+ghost use Rattle.std.specs.Prelude.{◌<◌, All};
+ghost use Rattle.ring_words.specs.Limits.{long_count};
 ghost use Rattle.ring_messages.specs.Fields.{IsProperRow};
 ghost use Rattle.ring_model.specs.Parts.{texts_of};
 ghost use Rattle.store_rows.specs.Numbers.{IsHour, IsVersioned};
@@ -47,7 +48,7 @@ fn moves_are_proper(moves: &[Option<Hour>])
 }
 
 fn text_is_proper(text: &(u32, RcStr))
-    ensures { text.now.0 < 2 ^ 32 }
+    ensures { text.now.0 < long_count }
 {
     let _version = text.0;
 }

@@ -1,6 +1,7 @@
 //! A ring, read from its rows.
 ghost use Rattle.std.specs.Prelude.{◌≡◌, ◌++◌, ◌<◌, ◌^◌, All, List, OnOk, ℕ, map, true};
 ghost use Rattle.std.specs.List.{flat_map};
+ghost use Rattle.ring_words.specs.Limits.{short_count};
 ghost use Rattle.ring_model.specs.Parts.{record_of};
 ghost use Rattle.store_model.specs.Contents.{moved_of};
 ghost use Rattle.store_rows.specs.RingRows.{two_bytes};
@@ -25,7 +26,7 @@ struct Assignment {
 
 /// Adds the devices that bytes name, two a device, the greater first.
 fn push_seats(into: &mut Vec<DeviceId>, bytes: &[u8]) -> Result<(), AllocError>
-    ensures { (ids : List ℕ) → bytes.now ≡ flat_map two_bytes ids → All (λ id. id < 2 ^ 16) ids
+    ensures { (ids : List ℕ) → bytes.now ≡ flat_map two_bytes ids → All (λ id. id < short_count) ids
         → OnOk result (into.new.items ≡ into.old.items ++ ids) }
 {
     for place in 0..bytes.len() / 2 {

@@ -1,5 +1,6 @@
 //! All rings, read from their rows.
 ghost use Rattle.std.specs.Prelude.{◌≡◌, ◌<◌, ◌++◌, ◌∷◌, [], All, IfErr, IfOk, length, true};
+ghost use Rattle.ring_words.specs.Limits.{most_rings};
 ghost use Rattle.ring_model.specs.Rings.{is_before};
 ghost use Rattle.ring_words.specs.declared.spelling.SpellingFault.TheVariants.{NoMemory};
 ghost use Rattle.store_rows.specs.Inner.Found.{ReadsRow};
@@ -8,7 +9,7 @@ ghost use Rattle.store_rows.specs.Inner.Parted.{SayTables};
 use crate::naming::RingTables;
 use crate::ring_reading::read_ring;
 use ring_model::{Ring, Rings};
-use ring_words::{RingName, SpellingFault, read_name};
+use ring_words::{MOST_RINGS, RingName, SpellingFault, read_name};
 use std::alloc::Global;
 use store_model::RingRow;
 
@@ -22,15 +23,15 @@ fn comes_last(rings: &Rings, name: &RingName) -> bool
     }
 }
 
-/// The rings and one more behind them. Bad where there are 16, or where its name does not come
-/// last.
+/// The rings and one more behind them. Bad where there are as many as there may be, or where its
+/// name does not come last.
 fn with_last(rings: &Rings, name: RingName, ring: Ring) -> Result<Rings, SpellingFault>
     ensures last { IfOk result (λ new. All (λ e. is_before e.0 name ≡ true) rings.now
         → new ≡ rings.now ++ (name, ring) ∷ []) }
-    ensures memory { IfErr result (λ fault. length rings.now < 16
+    ensures memory { IfErr result (λ fault. length rings.now < most_rings
         → All (λ e. is_before e.0 name ≡ true) rings.now → fault ≡ NoMemory) }
 {
-    if rings.list().len() >= 16 || !comes_last(rings, &name) {
+    if rings.list().len() >= MOST_RINGS || !comes_last(rings, &name) {
         return Err(SpellingFault::Bad);
     }
     Ok(rings.with(name, ring)?)

@@ -1,454 +1,234 @@
 -- What the texts that make the tables mean, and what is then there.
-use Rattle.std.proofs.Common.{◌≡◌, ◌∙◌, ℕ, zero, suc, ◌+◌, ◌<◌, [], Ok, refl, ap, arith}
+use Rattle.std.proofs.Common.{◌≡◌, ◌∙◌, ℕ, zero, suc, ◌+◌, ◌<◌, List, [], ◌∷◌, ◌++◌, Some, Ok, map}
+use Rattle.std.proofs.Common.{take, get_or, slice_get, nat_lt, cond, inl, inr, refl, ap, sym, arith}
 use Rattle.std.specs.FinMap.{empty}
-use Rattle.sqlite.specs.Compile.{table_defined_by}
+use Rattle.std.specs.List.{AllByRecursion, range_with_len}
+use Rattle.std.proofs.lemmas.Bool.{cases_Bool, lt-ltb, ltb-true, ltb-false}
+use Rattle.std.proofs.lemmas.List.{get_or-map, map_more}
+use Rattle.std.proofs.lemmas.List.FromFn.{get_or-range_with_len}
+use Rattle.std.proofs.lemmas.Option.{get_or_from_slice_get, slice_get-get_or}
+use Rattle.sqlite_rules.specs.Lists.{Has}
+use Rattle.sqlite_rules.proofs.ListLemmas.{all_has, has_got}
 use Rattle.sqlite_tied.specs.Compute.{everything}
-use Rattle.sqlite.specs.Command.TheVariants.{CreateTable}
+use Rattle.sqlite.specs.Effect.{Database}
 use Rattle.sqlite.specs.Listing.{understood}
-use Rattle.sqlite.specs.Change.{created}
+use Rattle.sqlite.specs.Table.{Table}
 use Rattle.sqlite.specs.State.{State, Executes}
-use Rattle.sqlite.proofs.Callers.{IsPlain, command_of, statement_of}
-use Rattle.store_tables.specs.Plain.{table_of}
-use Rattle.store_tables.specs.Tables.{meta, ring, device, seat_table, moved, published, request}
-use Rattle.store_tables.specs.Tables.{part}
-use Rattle.store_tables.specs.Tables.{no_tables, schema_with_meta, with_rings, with_devices}
-use Rattle.store_tables.specs.Tables.{with_seats}
-use Rattle.store_tables.specs.Tables.{with_moved, schema_with_published, with_requests}
-use Rattle.store_tables.specs.Tables.{store_schema}
-use Rattle.store_tables.specs.Entries.{map_of, meta_rows, ring_rows, device_rows, seat_rows}
+use Rattle.store_tables.specs.Plain.{Plain, table_of}
+use Rattle.store_tables.specs.Tables.{all_tables, part, schema_of_first, store_schema}
+use Rattle.store_tables.specs.Entries.{Layout, map_of, meta_rows, ring_rows, device_rows, seat_rows}
 use Rattle.store_tables.specs.Entries.{moved_rows, published_rows, request_rows, part_rows}
 use Rattle.store_tables.specs.Store.{HasMadeTables, begun_contents}
-use Rattle.store_tables.specs.Inner.Texts.{create_meta, create_ring, create_device, create_seat}
-use Rattle.store_tables.specs.Inner.Texts.{create_moved, create_published, create_request}
-use Rattle.store_tables.specs.Inner.Texts.{create_part, create_text}
-use Rattle.store_tables.proofs.Plain.Creates.{CreateText, creates_table, made_ordered}
-use Rattle.store_tables.proofs.Living.{no_entries}
-use Rattle.store_tables.proofs.Tables.Meta.{meta_facts}
-use Rattle.store_tables.proofs.Tables.Ring.{ring_facts}
-use Rattle.store_tables.proofs.Tables.Device.{device_facts}
-use Rattle.store_tables.proofs.Tables.Seat.{seat_facts}
-use Rattle.store_tables.proofs.Tables.Moved.{moved_facts}
-use Rattle.store_tables.proofs.Tables.Published.{published_facts}
-use Rattle.store_tables.proofs.Tables.Request.{request_facts}
-use Rattle.store_tables.proofs.Tables.Part.{part_facts}
+use Rattle.store_tables.specs.Inner.Texts.{create_text}
+use Rattle.store_tables.proofs.Plain.Creates.{CreateText, IsMade, creates_table, made_ordered}
+use Rattle.store_tables.proofs.Plain.Facts.{Facts}
+use Rattle.store_tables.proofs.Plain.Maps.{no_entries}
+use Rattle.store_tables.proofs.Tables.Facts.{meta_facts, ring_facts, device_facts, seat_facts}
+use Rattle.store_tables.proofs.Tables.Facts.{moved_facts, published_facts, request_facts}
+use Rattle.store_tables.proofs.Tables.Facts.{part_facts}
 
-meta_means : (command_of (understood no_tables create_meta) ≡ CreateTable)
-    × (statement_of create_meta (understood no_tables create_meta) ≡ create_meta)
-    × (table_defined_by create_meta ≡ Ok (record (table_of meta) { tree = 0 }))
+-- the table that is made after the first so many
+abbrev next_table : ℕ → Plain
+next_table made = get_or all_tables made part
+
+-- its text makes it
+abbrev MakesNext : ℕ → Type 0
+MakesNext made = CreateText (schema_of_first made) (schema_of_first (made + 1)) (create_text made)
+    (record (table_of (next_table made)) { tree = 0 }) (next_table made).tree
+
+makes_meta : MakesNext 0
 unfolding understood everything
-meta_means = (refl, refl, refl)
-
-meta_plain : IsPlain (understood no_tables create_meta)
-unfolding understood everything
-meta_plain = (refl, refl)
-
-meta_created : created no_tables (record (table_of meta) { tree = 0 }) ≡ schema_with_meta
-unfolding understood everything
-meta_created = refl
-
-meta_text : CreateText no_tables schema_with_meta create_meta (record (table_of meta) { tree = 0 })
-    meta.tree
-meta_text = record {
-  is = meta_means.0;
-  whole = meta_means.1;
-  defined = meta_means.2;
-  plain =
-      meta_plain;
-  made = meta_created;
+makes_meta = record {
+  is = refl;
+  whole = refl;
+  defined = refl;
+  plain = (refl, refl);
+  made = refl;
   unlacking = refl;
   next = refl;
 }
 
-ring_means : (command_of (understood schema_with_meta create_ring) ≡ CreateTable)
-    × (statement_of create_ring (understood schema_with_meta create_ring) ≡ create_ring)
-    × (table_defined_by create_ring ≡ Ok (record (table_of ring) { tree = 0 }))
+makes_ring : MakesNext 1
 unfolding understood everything
-ring_means = (refl, refl, refl)
-
-ring_plain : IsPlain (understood schema_with_meta create_ring)
-unfolding understood everything
-ring_plain = (refl, refl)
-
-ring_created : created schema_with_meta (record (table_of ring) { tree = 0 }) ≡ with_rings
-unfolding understood everything
-ring_created = refl
-
-ring_text : CreateText schema_with_meta with_rings create_ring (record (table_of ring) { tree = 0 })
-    ring.tree
-ring_text = record {
-  is = ring_means.0;
-  whole = ring_means.1;
-  defined = ring_means.2;
-  plain =
-      ring_plain;
-  made = ring_created;
+makes_ring = record {
+  is = refl;
+  whole = refl;
+  defined = refl;
+  plain = (refl, refl);
+  made = refl;
   unlacking = refl;
   next = refl;
 }
 
-device_means : (command_of (understood with_rings create_device) ≡ CreateTable)
-    × (statement_of create_device (understood with_rings create_device) ≡ create_device)
-    × (table_defined_by create_device ≡ Ok (record (table_of device) { tree = 0 }))
+makes_device : MakesNext 2
 unfolding understood everything
-device_means = (refl, refl, refl)
-
-device_plain : IsPlain (understood with_rings create_device)
-unfolding understood everything
-device_plain = (refl, refl)
-
-device_created : created with_rings (record (table_of device) { tree = 0 }) ≡ with_devices
-unfolding understood everything
-device_created = refl
-
-device_text : CreateText with_rings with_devices create_device (record (table_of device) {
-  tree =
-      0;
-}) device.tree
-device_text = record {
-  is = device_means.0;
-  whole = device_means.1;
-  defined = device_means.2;
-  plain = device_plain;
-  made = device_created;
+makes_device = record {
+  is = refl;
+  whole = refl;
+  defined = refl;
+  plain = (refl, refl);
+  made = refl;
   unlacking = refl;
   next = refl;
 }
 
-seat_means : (command_of (understood with_devices create_seat) ≡ CreateTable)
-    × (statement_of create_seat (understood with_devices create_seat) ≡ create_seat)
-    × (table_defined_by create_seat ≡ Ok (record (table_of seat_table) { tree = 0 }))
+makes_seat : MakesNext 3
 unfolding understood everything
-seat_means = (refl, refl, refl)
-
-seat_plain : IsPlain (understood with_devices create_seat)
-unfolding understood everything
-seat_plain = (refl, refl)
-
-seat_created : created with_devices (record (table_of seat_table) { tree = 0 }) ≡ with_seats
-unfolding understood everything
-seat_created = refl
-
-seat_text : CreateText with_devices with_seats create_seat (record (table_of seat_table) {
-  tree = 0;
-})
-    seat_table.tree
-seat_text = record {
-  is = seat_means.0;
-  whole = seat_means.1;
-  defined = seat_means.2;
-  plain =
-      seat_plain;
-  made = seat_created;
+makes_seat = record {
+  is = refl;
+  whole = refl;
+  defined = refl;
+  plain = (refl, refl);
+  made = refl;
   unlacking = refl;
   next = refl;
 }
 
-moved_means : (command_of (understood with_seats create_moved) ≡ CreateTable)
-    × (statement_of create_moved (understood with_seats create_moved) ≡ create_moved)
-    × (table_defined_by create_moved ≡ Ok (record (table_of moved) { tree = 0 }))
+makes_moved : MakesNext 4
 unfolding understood everything
-moved_means = (refl, refl, refl)
-
-moved_plain : IsPlain (understood with_seats create_moved)
-unfolding understood everything
-moved_plain = (refl, refl)
-
-moved_created : created with_seats (record (table_of moved) { tree = 0 }) ≡ with_moved
-unfolding understood everything
-moved_created = refl
-
-moved_text : CreateText with_seats with_moved create_moved (record (table_of moved) { tree = 0 })
-    moved.tree
-moved_text = record {
-  is = moved_means.0;
-  whole = moved_means.1;
-  defined = moved_means.2;
-  plain =
-      moved_plain;
-  made = moved_created;
+makes_moved = record {
+  is = refl;
+  whole = refl;
+  defined = refl;
+  plain = (refl, refl);
+  made = refl;
   unlacking = refl;
   next = refl;
 }
 
-published_means : (command_of (understood with_moved create_published) ≡ CreateTable)
-    × (statement_of create_published (understood with_moved create_published)
-    ≡ create_published) × (table_defined_by create_published
-    ≡ Ok (record (table_of published) { tree = 0 }))
+makes_published : MakesNext 5
 unfolding understood everything
-published_means = (refl, refl, refl)
-
-published_plain : IsPlain (understood with_moved create_published)
-unfolding understood everything
-published_plain = (refl, refl)
-
-published_created : created with_moved (record (table_of published) { tree = 0 }) ≡
-    schema_with_published
-unfolding understood everything
-published_created = refl
-
-published_text : CreateText with_moved schema_with_published create_published (record (table_of
-    published)
-    { tree = 0 }) published.tree
-published_text = record {
-  is = published_means.0;
-  whole = published_means.1;
-  defined =
-      published_means.2;
-  plain = published_plain;
-  made = published_created;
-  unlacking = refl;
-  next =
-      refl;
-}
-
-request_means : (command_of (understood schema_with_published create_request) ≡ CreateTable)
-    × (statement_of create_request (understood schema_with_published create_request) ≡
-    create_request)
-    × (table_defined_by create_request ≡ Ok (record (table_of request) { tree = 0 }))
-unfolding understood everything
-request_means = (refl, refl, refl)
-
-request_plain : IsPlain (understood schema_with_published create_request)
-unfolding understood everything
-request_plain = (refl, refl)
-
-request_created : created schema_with_published (record (table_of request) { tree = 0 }) ≡
-    with_requests
-unfolding understood everything
-request_created = refl
-
-request_text : CreateText schema_with_published with_requests create_request (record (table_of
-    request)
-    { tree = 0 }) request.tree
-request_text = record {
-  is = request_means.0;
-  whole = request_means.1;
-  defined = request_means.2;
-  plain = request_plain;
-  made = request_created;
+makes_published = record {
+  is = refl;
+  whole = refl;
+  defined = refl;
+  plain = (refl, refl);
+  made = refl;
   unlacking = refl;
   next = refl;
 }
 
-part_means : (command_of (understood with_requests create_part) ≡ CreateTable)
-    × (statement_of create_part (understood with_requests create_part) ≡ create_part)
-    × (table_defined_by create_part ≡ Ok (record (table_of part) { tree = 0 }))
+makes_request : MakesNext 6
 unfolding understood everything
-part_means = (refl, refl, refl)
-
-part_plain : IsPlain (understood with_requests create_part)
-unfolding understood everything
-part_plain = (refl, refl)
-
-part_created : created with_requests (record (table_of part) { tree = 0 }) ≡ store_schema
-unfolding understood everything
-part_created = refl
-
-part_text : CreateText with_requests store_schema create_part (record (table_of part) { tree = 0 })
-    part.tree
-part_text = record {
-  is = part_means.0;
-  whole = part_means.1;
-  defined = part_means.2;
-  plain =
-      part_plain;
-  made = part_created;
+makes_request = record {
+  is = refl;
+  whole = refl;
+  defined = refl;
+  plain = (refl, refl);
+  made = refl;
   unlacking = refl;
   next = refl;
 }
+
+makes_part : MakesNext 7
+unfolding understood everything
+makes_part = record {
+  is = refl;
+  whole = refl;
+  defined = refl;
+  plain = (refl, refl);
+  made = refl;
+  unlacking = refl;
+  next = refl;
+}
+
+all_make : AllByRecursion MakesNext (range_with_len 0 8)
+all_make = (
+  makes_meta,
+  (
+    makes_ring,
+    (
+      makes_device,
+      (
+        makes_seat,
+        (
+          makes_moved,
+          (
+            makes_published,
+            (
+              makes_request,
+              (makes_part, tt),
+            ),
+          ),
+        ),
+      ),
+    ),
+  ),
+)
+
+makes_next : (made : ℕ) → made < 8 → MakesNext made
+makes_next made low =
+    let all = range_with_len 0 8 in
+    let same : 0 + made ≡ made = omega arith in
+    all_has MakesNext all made all_make (has_got all made made (slice_get-get_or all made 0 low
+    ∙ ap Some (get_or-range_with_len 0 8 made 0 low ∙ same)))
+
+-- one table more is made
+one_more : (made : ℕ) → made < 8 → (schema_of_first (made + 1)).tables
+    ≡ (schema_of_first made).tables ++ table_of (next_table made) ∷ []
+one_more made low = map_more table_of all_tables made part low
+
+-- what stands at a place is among the first so many, where these are more
+has_taken : {X Y : Type 0} (f : X → Y) (xs : List X) (at n : ℕ) (y : Y)
+    → slice_get (map f xs) at ≡ Some y → at < n → Has (map f (take n xs)) y
+has_taken f [] at n y is low = cc
+has_taken f (x ∷ xs) at zero y is low = absurd (omega (arith, low))
+has_taken f (x ∷ xs) zero (suc n) y is low = inl (let here : f x ≡ y = cc in sym here)
+has_taken f (x ∷ xs) (suc at) (suc n) y is low = inr (has_taken f xs at n y is (omega arith))
+
+-- a table that was made before contains what it did, the one that is made is empty, and the
+-- others stand for nothing
+module _ (made : ℕ) (low : made < 8) (old new : Database) (it : IsMade old new
+    (schema_of_first made) (schema_of_first (made + 1)) (next_table made).tree) where
+  made_so : (at : ℕ) {K V : Type 0} (l : Layout K V) → Facts store_schema l
+      → slice_get store_schema.tables at ≡ Some (table_of l.plain)
+      → cond (nat_lt at (made + 1)) (map_of l (new.trees l.plain.tree)) empty
+      ≡ cond (nat_lt at made) (map_of l (old.trees l.plain.tree)) empty
+  made_so at l f placed = elim (cases_Bool (nat_lt at made)) [
+    | inl before ↦ rw (before, lt-ltb at (made + 1) (omega (arith, ltb-true at made before)))
+        (ap (map_of l) (all_has _ (schema_of_first made).tables (table_of l.plain) it.others
+        (has_taken table_of all_tables at made (table_of l.plain) placed
+        (ltb-true at made before))))
+    | inr late ↦ elim (cases_Bool (nat_lt at (made + 1))) [
+      | inl now ↦
+          let same : made ≡ at = omega (arith, ltb-true at (made + 1) now, ltb-false at made late)
+          in
+          let table : table_of (next_table made) ≡ table_of l.plain =
+          sym (get_or-map table_of all_tables made part (table_of part) low)
+          ∙ ap (λ n. get_or (map table_of all_tables) n (table_of part)) same
+          ∙ get_or_from_slice_get (map table_of all_tables) at (table_of l.plain)
+          (table_of part) placed in
+          rw (now, late) (ap (map_of l) (ap (λ (t : Table). new.trees t.tree) (sym table)
+          ∙ it.empty) ∙ no_entries f.total f.exact)
+      | inr later ↦ rw (late, later) refl
+    ]
+  ]
+
+  contents_kept : begun_contents (made + 1) new.trees ≡ begun_contents made old.trees
+  contents_kept = λ j. record {
+    meta = made_so 0 meta_rows meta_facts refl j;
+    rings = made_so 1 ring_rows ring_facts refl j;
+    devices = made_so 2 device_rows device_facts refl j;
+    seats = made_so 3 seat_rows seat_facts refl j;
+    moved = made_so 4 moved_rows moved_facts refl j;
+    published = made_so 5 published_rows published_facts refl j;
+    requests = made_so 6 request_rows request_facts refl j;
+    parts = made_so 7 part_rows part_facts refl j;
+  }
 
 -- a text that makes a table keeps what the tables before it contain, and the new one is empty
-pub creates_next : (made : ℕ) → made < 8 → (old new : State) (count : ℕ) →
-    HasMadeTables made old.now
-    → Executes (create_text made) [] old new (Ok count)
+pub creates_next : (made : ℕ) → made < 8 → (old new : State) (count : ℕ)
+    → HasMadeTables made old.now → Executes (create_text made) [] old new (Ok count)
     → HasMadeTables (made + 1) new.now × (begun_contents (made + 1) new.now.trees
     ≡ begun_contents made old.now.trees)
-creates_next zero low old new count is h =
-    let it = creates_table no_tables schema_with_meta create_meta (record (table_of meta) {
-      tree = 0;
-    })
-    meta.tree meta_text old new count is.schema h in (
+creates_next made low old new count is h =
+    let it = creates_table (schema_of_first made) (schema_of_first (made + 1)) (create_text made) _
+    (next_table made).tree (makes_next made low) old new count is.schema h in (
       record {
         schema = it.schema_is;
         sound = it.sound;
-        ordered =
-            made_ordered old.now new.now no_tables schema_with_meta (table_of meta) is.ordered refl
-            it;
+        ordered = made_ordered old.now new.now (schema_of_first made) (schema_of_first (made + 1))
+            (table_of (next_table made)) is.ordered (one_more made low) it;
       },
-      λ j. record {
-        meta = (ap (map_of meta_rows) it.empty ∙ no_entries meta_facts.total meta_facts.exact) j;
-        rings = empty;
-        devices = empty;
-        seats = empty;
-        moved = empty;
-        published = empty;
-        requests = empty;
-        parts = empty;
-      },
+      contents_kept made low old.now new.now it,
     )
-creates_next (suc zero) low old new count is h =
-    let it = creates_table schema_with_meta with_rings create_ring (record (table_of ring) {
-      tree =
-          0;
-    })
-    ring.tree ring_text old new count is.schema h in (
-      record {
-        schema = it.schema_is;
-        sound = it.sound;
-        ordered =
-            made_ordered old.now new.now schema_with_meta with_rings (table_of ring) is.ordered refl
-            it;
-      },
-      λ j. record {
-        meta = map_of meta_rows (it.others.0 j);
-        rings = (ap (map_of ring_rows) it.empty ∙ no_entries ring_facts.total ring_facts.exact) j;
-        devices = empty;
-        seats = empty;
-        moved = empty;
-        published = empty;
-        requests = empty;
-        parts = empty;
-      },
-    )
-creates_next (suc (suc zero)) low old new count is h =
-    let it = creates_table with_rings with_devices create_device (record (table_of device) {
-      tree =
-          0;
-    }) device.tree device_text old new count is.schema h in (
-      record {
-        schema = it.schema_is;
-        sound = it.sound;
-        ordered =
-            made_ordered old.now new.now with_rings with_devices (table_of device) is.ordered refl
-            it;
-      },
-      λ j. record {
-        meta = map_of meta_rows (it.others.0 j);
-        rings = map_of ring_rows (it.others.1.0 j);
-        devices = (ap (map_of device_rows) it.empty ∙ no_entries device_facts.total
-            device_facts.exact) j;
-        seats = empty;
-        moved = empty;
-        published = empty;
-        requests = empty;
-        parts = empty;
-      },
-    )
-creates_next (suc (suc (suc zero))) low old new count is h =
-    let it = creates_table with_devices with_seats create_seat (record (table_of seat_table) {
-      tree
-          = 0;
-    })
-    seat_table.tree seat_text old new count is.schema h in (
-      record {
-        schema = it.schema_is;
-        sound = it.sound;
-        ordered =
-            made_ordered old.now new.now with_devices with_seats (table_of seat_table) is.ordered
-            refl it;
-      },
-      λ j. record {
-        meta = map_of meta_rows (it.others.0 j);
-        rings = map_of ring_rows (it.others.1.0 j);
-        devices = map_of device_rows (it.others.1.1.0 j);
-        seats = (ap (map_of seat_rows) it.empty ∙ no_entries seat_facts.total seat_facts.exact) j;
-        moved = empty;
-        published = empty;
-        requests = empty;
-        parts = empty;
-      },
-    )
-creates_next (suc (suc (suc (suc zero)))) low old new count is h =
-    let it = creates_table with_seats with_moved create_moved (record (table_of moved) { tree = 0 })
-    moved.tree moved_text old new count is.schema h in (
-      record {
-        schema = it.schema_is;
-        sound = it.sound;
-        ordered =
-            made_ordered old.now new.now with_seats with_moved (table_of moved) is.ordered refl it;
-      },
-      λ j. record {
-        meta = map_of meta_rows (it.others.0 j);
-        rings = map_of ring_rows (it.others.1.0 j);
-        devices = map_of device_rows (it.others.1.1.0 j);
-        seats = map_of seat_rows (it.others.1.1.1.0 j);
-        moved = (ap (map_of moved_rows) it.empty ∙ no_entries moved_facts.total moved_facts.exact)
-            j;
-        published = empty;
-        requests = empty;
-        parts = empty;
-      },
-    )
-creates_next (suc (suc (suc (suc (suc zero))))) low old new count is h =
-    let it = creates_table with_moved schema_with_published create_published (record (table_of
-    published)
-    { tree = 0 }) published.tree published_text old new count is.schema h in (
-      record {
-        schema = it.schema_is;
-        sound = it.sound;
-        ordered =
-            made_ordered old.now new.now with_moved schema_with_published (table_of published)
-            is.ordered
-            refl it;
-      },
-      λ j. record {
-        meta = map_of meta_rows (it.others.0 j);
-        rings = map_of ring_rows (it.others.1.0 j);
-        devices = map_of device_rows (it.others.1.1.0 j);
-        seats = map_of seat_rows (it.others.1.1.1.0 j);
-        moved = map_of moved_rows (it.others.1.1.1.1.0 j);
-        published = (ap (map_of published_rows) it.empty ∙ no_entries published_facts.total
-            published_facts.exact) j;
-        requests = empty;
-        parts = empty;
-      },
-    )
-creates_next (suc (suc (suc (suc (suc (suc zero)))))) low old new count is h =
-    let it = creates_table schema_with_published with_requests create_request (record (table_of
-    request)
-    { tree = 0 }) request.tree request_text old new count is.schema h in (
-      record {
-        schema = it.schema_is;
-        sound = it.sound;
-        ordered =
-            made_ordered old.now new.now schema_with_published with_requests (table_of request)
-            is.ordered
-            refl it;
-      },
-      λ j. record {
-        meta = map_of meta_rows (it.others.0 j);
-        rings = map_of ring_rows (it.others.1.0 j);
-        devices = map_of device_rows (it.others.1.1.0 j);
-        seats = map_of seat_rows (it.others.1.1.1.0 j);
-        moved = map_of moved_rows (it.others.1.1.1.1.0 j);
-        published = map_of published_rows (it.others.1.1.1.1.1.0 j);
-        requests = (ap (map_of request_rows) it.empty ∙ no_entries request_facts.total
-            request_facts.exact) j;
-        parts = empty;
-      },
-    )
-creates_next (suc (suc (suc (suc (suc (suc (suc zero))))))) low old new count is h =
-    let it = creates_table with_requests store_schema create_part (record (table_of part) {
-      tree =
-          0;
-    }) part.tree part_text old new count is.schema h in (
-      record {
-        schema = it.schema_is;
-        sound = it.sound;
-        ordered =
-            made_ordered old.now new.now with_requests store_schema (table_of part) is.ordered refl
-            it;
-      },
-      λ j. record {
-        meta = map_of meta_rows (it.others.0 j);
-        rings = map_of ring_rows (it.others.1.0 j);
-        devices = map_of device_rows (it.others.1.1.0 j);
-        seats = map_of seat_rows (it.others.1.1.1.0 j);
-        moved = map_of moved_rows (it.others.1.1.1.1.0 j);
-        published = map_of published_rows (it.others.1.1.1.1.1.0 j);
-        requests = map_of request_rows (it.others.1.1.1.1.1.1.0 j);
-        parts = (ap (map_of part_rows) it.empty ∙ no_entries part_facts.total part_facts.exact) j;
-      },
-    )
-creates_next (suc (suc (suc (suc (suc (suc (suc (suc more)))))))) low old new count is h =
-    absurd (omega (arith, low))

@@ -88,10 +88,10 @@ pub lists_so : {K V : Type 0} (l : Layout K V) (f : Facts store_schema l) (sql :
     → ((trees : Trees) → listed (contents_of trees) ≡ entries (map_of l (trees l.plain.tree)))
     → Lists sql l listed
 lists_so l f sql text listed is = record {
-  plain = text.plain;
-  of_tables = text.is.1;
+  plain = text.means.plain;
+  of_tables = text.means.unlisted;
   shows = λ db rows store h. lists_all store_schema l f sql text db rows (lives_in db store)
-      (command_reads _ db rows text.plain h) ∙ sym (is db.trees);
+      (command_reads _ db rows text.means.plain h) ∙ sym (is db.trees);
 }
 
 -- the query was answered, and each row was read from its columns

@@ -11,12 +11,12 @@ use Rattle.store_model.specs.Entries.{Meta, Ring, Device, Request, Part}
 use Rattle.store_tables.specs.Plain.{Plain}
 use Rattle.store_tables.specs.Tables as tables
 
--- How the rows of a plain table are read: the order of the keys, the row of an entry under a
--- rowid, the entry of a row, and the columns of the key.
+-- How the rows of a plain table are read: the order of the keys, the columns of an entry, the entry
+-- of a row, and the columns of the key.
 pub record Layout (K V : Type 0) : Type 0 where
   pub plain : Plain
   pub cmp : K → K → Ordering
-  pub row : ℤ → K → V → Row
+  pub values : K → V → Row
   pub entry : Row → K × V
   pub key : List ℕ
 
@@ -29,7 +29,7 @@ abbrev pub meta_rows : Layout ℤ Meta
 meta_rows = record {
   plain = tables.meta;
   cmp = int_cmp;
-  row = λ id key value. Int id ∷ Int key ∷ Int value.schema ∷ Int value.hour ∷ [];
+  values = λ key value. Int key ∷ Int value.schema ∷ Int value.hour ∷ [];
   entry = λ r. (
     id_in (column r 1),
     record {
@@ -45,9 +45,8 @@ abbrev pub ring_rows : Layout (List ℕ) Ring
 ring_rows = record {
   plain = tables.ring;
   cmp = name_cmp;
-  row = λ id key value.
-      Int id ∷ Text key ∷ Int value.power ∷ Int value.replicas ∷ Int value.min_hours ∷
-      Int value.next_id ∷
+  values = λ key value.
+      Text key ∷ Int value.power ∷ Int value.replicas ∷ Int value.min_hours ∷ Int value.next_id ∷
       Int value.version ∷ [];
   entry = λ r. (
     bytes (column r 1),
@@ -67,10 +66,9 @@ abbrev pub device_rows : Layout NameNumber Device
 device_rows = record {
   plain = tables.device;
   cmp = name_number_cmp;
-  row = λ id key value.
-      Int id ∷ Text key.0 ∷ Int key.1 ∷ Int value.region ∷ Int value.zone ∷ Text value.address ∷
-      Int value.port ∷
-      Text value.name ∷ Int value.weight ∷ Int value.removed ∷ [];
+  values = λ key value.
+      Text key.0 ∷ Int key.1 ∷ Int value.region ∷ Int value.zone ∷ Text value.address ∷
+      Int value.port ∷ Text value.name ∷ Int value.weight ∷ Int value.removed ∷ [];
   entry = λ r. (
     (bytes (column r 1), id_in (column r 2)),
     record {
@@ -91,7 +89,7 @@ abbrev pub seat_rows : Layout SeatKey ℤ
 seat_rows = record {
   plain = tables.seat_table;
   cmp = seat_cmp;
-  row = λ id key device. Int id ∷ Text key.0 ∷ Int key.1.0 ∷ Int key.1.1 ∷ Int device ∷ [];
+  values = λ key device. Text key.0 ∷ Int key.1.0 ∷ Int key.1.1 ∷ Int device ∷ [];
   entry = λ r. ((bytes (column r 1), (id_in (column r 2), id_in (column r 3))), id_in (column r 4));
   key = 1 ∷ 2 ∷ 3 ∷ [];
 }
@@ -101,7 +99,7 @@ abbrev pub moved_rows : Layout NameNumber ℤ
 moved_rows = record {
   plain = tables.moved;
   cmp = name_number_cmp;
-  row = λ id key hour. Int id ∷ Text key.0 ∷ Int key.1 ∷ Int hour ∷ [];
+  values = λ key hour. Text key.0 ∷ Int key.1 ∷ Int hour ∷ [];
   entry = λ r. ((bytes (column r 1), id_in (column r 2)), id_in (column r 3));
   key = 1 ∷ 2 ∷ [];
 }
@@ -111,7 +109,7 @@ abbrev pub published_rows : Layout NameNumber (List ℕ)
 published_rows = record {
   plain = tables.published;
   cmp = name_number_cmp;
-  row = λ id key body. Int id ∷ Text key.0 ∷ Int key.1 ∷ Text body ∷ [];
+  values = λ key body. Text key.0 ∷ Int key.1 ∷ Text body ∷ [];
   entry = λ r. ((bytes (column r 1), id_in (column r 2)), bytes (column r 3));
   key = 1 ∷ 2 ∷ [];
 }
@@ -121,8 +119,8 @@ abbrev pub request_rows : Layout NameNumber Request
 request_rows = record {
   plain = tables.request;
   cmp = name_number_cmp;
-  row = λ id key value.
-      Int id ∷ Text key.0 ∷ Int key.1 ∷ Int value.place ∷ Int value.hour ∷ Text value.command ∷
+  values = λ key value.
+      Text key.0 ∷ Int key.1 ∷ Int value.place ∷ Int value.hour ∷ Text value.command ∷
       Text value.reply ∷ [];
   entry = λ r. (
     (bytes (column r 1), id_in (column r 2)),
@@ -141,7 +139,7 @@ abbrev pub part_rows : Layout NameNumber Part
 part_rows = record {
   plain = tables.part;
   cmp = name_number_cmp;
-  row = λ id key value. Int id ∷ Text key.0 ∷ Int key.1 ∷ Blob value.devices ∷ Int value.hour ∷ [];
+  values = λ key value. Text key.0 ∷ Int key.1 ∷ Blob value.devices ∷ Int value.hour ∷ [];
   entry = λ r. (
     (bytes (column r 1), id_in (column r 2)),
     record {

@@ -1,6 +1,6 @@
 -- Plain tables: STRICT, no column NULL, texts, whole numbers and bytes alone, and no rowid that a
 -- column names.
-use Rattle.std.specs.Prelude.{true, false, [], None, List, ℕ, map}
+use Rattle.std.specs.Prelude.{◌+◌, true, false, [], ◌∷◌, ◌++◌, None, List, ℕ, codes, map}
 use Rattle.sqlite.specs.Collation.TheVariants.{Binary}
 use Rattle.sqlite.specs.declared.types.Value.TheVariants.{Null}
 use Rattle.sqlite.specs.Table.{Table}
@@ -9,7 +9,6 @@ use Rattle.sqlite.specs.Kind.TheVariants.{Integer, Text, Blob}
 use Rattle.sqlite_schema.specs.declared.schema.Column.{Column}
 use Rattle.sqlite_schema.specs.declared.schema.Reference.{Reference}
 use Rattle.sqlite_schema.specs.declared.schema.Index.{Index}
-use Rattle.sqlite_value.specs.declared.keys.Order.{Order}
 use Rattle.sqlite_value.specs.Keys.{plain}
 
 -- What a column holds.
@@ -40,14 +39,14 @@ column_of f = record {
   collation = Binary;
 }
 
--- A plain table: its name, the tree of its rows, its columns and its keys.
+-- A plain table: its name, the tree of its rows, its columns, and its keys by their columns, the
+-- primary one among them.
 pub record Plain : Type 0 where
   pub name : List ℕ
   pub tree : ℕ
   pub fields : List PlainColumn
   pub primary : List ℕ
   pub uniques : List (List ℕ)
-  pub orders : List Order
   pub references : List Reference
 
 -- The same as the schema has it.
@@ -59,7 +58,7 @@ table_of p = record {
   key = None;
   primary = p.primary;
   uniques = p.uniques;
-  orders = p.orders;
+  orders = map (λ _. plain) p.uniques;
   checks = [];
   references = p.references;
   computed = [];
@@ -67,14 +66,19 @@ table_of p = record {
   is_counted = false;
 }
 
--- The index that keeps a key of a table unique.
-abbrev pub unique : List ℕ → ℕ → ℕ → List ℕ → Index
-unique name tree table columns =
-    record {
-      name = name;
-      tree = tree;
-      table = table;
-      columns = columns;
-      order = plain;
-      is_unique = true;
-    }
+-- The indexes that keep the keys of a table unique, from the key of this number on: each is named
+-- after the table and the key, and its tree comes so many after the table's.
+abbrev pub indexes_from : ℕ → Plain → List (List ℕ) → List Index
+indexes_from key p [] = []
+indexes_from key p (columns ∷ more) = record {
+  name = codes "sqlite_autoindex_" ++ p.name ++ codes "_" ++ ((48 + key) ∷ []);
+  tree = p.tree + key;
+  table = p.tree;
+  columns = columns;
+  order = plain;
+  is_unique = true;
+} ∷ indexes_from (key + 1) p more
+
+-- The indexes on all keys of a table.
+abbrev pub indexes_of : Plain → List Index
+indexes_of p = indexes_from 1 p p.uniques

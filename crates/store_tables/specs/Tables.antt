@@ -1,12 +1,11 @@
--- The tables of the store, as the schema has them once they are made, one after another.
-use Rattle.std.specs.Prelude.{false, [], ◌∷◌, codes, List, ℕ, slice_index_or}
+-- The tables of the store, and its schema as they are made, one after another.
+use Rattle.std.specs.Prelude.{false, [], ◌∷◌, codes, List, ℕ, map, take}
+use Rattle.std.specs.List.{flat_map}
 use Rattle.sqlite.specs.Schema.{Schema}
 use Rattle.sqlite_schema.specs.declared.schema.Reference.{Reference}
 use Rattle.sqlite_schema.specs.declared.schema.Action.TheVariants.{NoAction}
-use Rattle.sqlite_schema.specs.declared.schema.Index.{Index}
-use Rattle.sqlite_value.specs.Keys.{plain}
 use Rattle.store_tables.specs.Plain.{PlainColumn, ColumnKind, Plain, text, number, bytes, table_of}
-use Rattle.store_tables.specs.Plain.{unique}
+use Rattle.store_tables.specs.Plain.{indexes_of}
 
 -- A column by its name and what it holds.
 abbrev field : List ℕ → ColumnKind → PlainColumn
@@ -23,6 +22,10 @@ names columns parent parent_columns = record {
   is_deferred = false;
 }
 
+-- The first column names a ring.
+abbrev ring_of : List Reference
+ring_of = names (1 ∷ []) (codes "ring") (codes "name" ∷ []) ∷ []
+
 -- The one row on the whole store: its schema, and the greatest hour of a request.
 abbrev pub meta : Plain
 meta = record {
@@ -34,13 +37,8 @@ meta = record {
       field (codes "hour") number ∷ [];
   primary = [];
   uniques = (1 ∷ []) ∷ [];
-  orders = plain ∷ [];
   references = [];
 }
-
--- The index on the key of `meta`.
-abbrev pub meta_key : Index
-meta_key = unique (codes "sqlite_autoindex_meta_1") 1 0 (1 ∷ [])
 
 -- The rings.
 abbrev pub ring : Plain
@@ -56,15 +54,11 @@ ring = record {
       field (codes "version") number ∷ [];
   primary = 1 ∷ [];
   uniques = (1 ∷ []) ∷ [];
-  orders = plain ∷ [];
   references = [];
 }
 
--- The index on the key of `ring`.
-abbrev pub ring_key : Index
-ring_key = unique (codes "sqlite_autoindex_ring_1") 3 2 (1 ∷ [])
-
--- The devices of the rings, with those that are marked to be removed.
+-- The devices of the rings, with those that are marked to be removed. No two devices of a ring
+-- have one address, port and name.
 abbrev pub device : Plain
 device = record {
   name = codes "device";
@@ -81,20 +75,10 @@ device = record {
       field (codes "removed") number ∷ [];
   primary = 1 ∷ 2 ∷ [];
   uniques = (1 ∷ 2 ∷ []) ∷ (1 ∷ 5 ∷ 6 ∷ 7 ∷ []) ∷ [];
-  orders = plain ∷ plain ∷ [];
-  references = names (1 ∷ []) (codes "ring") (codes "name" ∷ []) ∷ [];
+  references = ring_of;
 }
 
--- The index on the key of `device`.
-abbrev pub device_index : Index
-device_index = unique (codes "sqlite_autoindex_device_1") 5 4 (1 ∷ 2 ∷ [])
-
--- The index on the ring, address, port and name of `device`: no two devices of a ring have one
--- place.
-abbrev pub device_place : Index
-device_place = unique (codes "sqlite_autoindex_device_2") 6 4 (1 ∷ 5 ∷ 6 ∷ 7 ∷ [])
-
--- The seats, in a store of schema 1 alone.
+-- The seats, in a store of schema 1 alone. A partition has a device once.
 abbrev pub seat_table : Plain
 seat_table = record {
   name = codes "seat";
@@ -106,17 +90,8 @@ seat_table = record {
       field (codes "device") number ∷ [];
   primary = 1 ∷ 2 ∷ 3 ∷ [];
   uniques = (1 ∷ 2 ∷ 3 ∷ []) ∷ (1 ∷ 2 ∷ 4 ∷ []) ∷ [];
-  orders = plain ∷ plain ∷ [];
   references = names (1 ∷ 4 ∷ []) (codes "device") (codes "ring" ∷ codes "id" ∷ []) ∷ [];
 }
-
--- The index on the key of `seat`.
-abbrev pub seat_key : Index
-seat_key = unique (codes "sqlite_autoindex_seat_1") 8 7 (1 ∷ 2 ∷ 3 ∷ [])
-
--- The index on the ring, partition and device of `seat`: a partition has a device once.
-abbrev pub seat_device : Index
-seat_device = unique (codes "sqlite_autoindex_seat_2") 9 7 (1 ∷ 2 ∷ 4 ∷ [])
 
 -- The hours of the last moves, in a store of schema 1 alone.
 abbrev pub moved : Plain
@@ -129,13 +104,8 @@ moved = record {
       field (codes "hour") number ∷ [];
   primary = 1 ∷ 2 ∷ [];
   uniques = (1 ∷ 2 ∷ []) ∷ [];
-  orders = plain ∷ [];
-  references = names (1 ∷ []) (codes "ring") (codes "name" ∷ []) ∷ [];
+  references = ring_of;
 }
-
--- The index on the key of `moved`.
-abbrev pub moved_key : Index
-moved_key = unique (codes "sqlite_autoindex_moved_1") 11 10 (1 ∷ 2 ∷ [])
 
 -- The texts of published rings.
 abbrev pub published : Plain
@@ -148,15 +118,10 @@ published = record {
       field (codes "body") text ∷ [];
   primary = 1 ∷ 2 ∷ [];
   uniques = (1 ∷ 2 ∷ []) ∷ [];
-  orders = plain ∷ [];
-  references = names (1 ∷ []) (codes "ring") (codes "name" ∷ []) ∷ [];
+  references = ring_of;
 }
 
--- The index on the key of `published`.
-abbrev pub published_key : Index
-published_key = unique (codes "sqlite_autoindex_published_1") 13 12 (1 ∷ 2 ∷ [])
-
--- The decided requests with their replies.
+-- The decided requests with their replies. No two requests have one place.
 abbrev pub request : Plain
 request = record {
   name = codes "request";
@@ -170,17 +135,8 @@ request = record {
       field (codes "reply") text ∷ [];
   primary = 1 ∷ 2 ∷ [];
   uniques = (1 ∷ 2 ∷ []) ∷ (3 ∷ []) ∷ [];
-  orders = plain ∷ plain ∷ [];
   references = [];
 }
-
--- The index on the key of `request`.
-abbrev pub request_key : Index
-request_key = unique (codes "sqlite_autoindex_request_1") 15 14 (1 ∷ 2 ∷ [])
-
--- The index on the place of `request`: no two requests have one place.
-abbrev pub request_place : Index
-request_place = unique (codes "sqlite_autoindex_request_2") 16 14 (3 ∷ [])
 
 -- The partitions of the rings, each with the devices of its replicas and the hour of its last move.
 abbrev pub part : Plain
@@ -194,98 +150,33 @@ part = record {
       field (codes "hour") number ∷ [];
   primary = 1 ∷ 2 ∷ [];
   uniques = (1 ∷ 2 ∷ []) ∷ [];
-  orders = plain ∷ [];
-  references = names (1 ∷ []) (codes "ring") (codes "name" ∷ []) ∷ [];
+  references = ring_of;
 }
 
--- The index on the key of `part`.
-abbrev pub part_key : Index
-part_key = unique (codes "sqlite_autoindex_part_1") 18 17 (1 ∷ 2 ∷ [])
+-- The tables of the store, in the order in which they are made.
+abbrev pub all_tables : List Plain
+all_tables = meta ∷ ring ∷ device ∷ seat_table ∷ moved ∷ published ∷ request ∷ part ∷ []
 
--- The schemas on the way: no table, the first table, and so on, and at last all tables of the
--- store.
+-- The schema of these tables with the indexes on their keys, and nothing else.
+abbrev pub schema_of : List Plain → Schema
+schema_of made = record {
+  tables = map table_of made;
+  indexes = flat_map indexes_of made;
+  views = [];
+}
+
+-- The schema with nothing in it.
 abbrev pub no_tables : Schema
-no_tables = record {
-  tables = [];
-  indexes = [];
-  views = [];
-}
-
--- The schema once `meta` is made, and the tables before it.
-abbrev pub schema_with_meta : Schema
-schema_with_meta = record {
-  tables = table_of meta ∷ [];
-  indexes = meta_key ∷ [];
-  views = [];
-}
-
--- The schema once `ring` is made, and the tables before it.
-abbrev pub with_rings : Schema
-with_rings = record {
-  tables = table_of meta ∷ table_of ring ∷ [];
-  indexes = meta_key ∷ ring_key ∷ [];
-  views = [];
-}
-
--- The schema once `device` is made, and the tables before it.
-abbrev pub with_devices : Schema
-with_devices = record {
-  tables = table_of meta ∷ table_of ring ∷ table_of device ∷ [];
-  indexes = meta_key ∷ ring_key ∷ device_index ∷ device_place ∷ [];
-  views = [];
-}
-
--- The schema once `seat` is made, and the tables before it.
-abbrev pub with_seats : Schema
-with_seats = record {
-  tables = table_of meta ∷ table_of ring ∷ table_of device ∷ table_of seat_table ∷ [];
-  indexes = meta_key ∷ ring_key ∷ device_index ∷ device_place ∷ seat_key ∷ seat_device ∷ [];
-  views = [];
-}
-
--- The schema once `moved` is made, and the tables before it.
-abbrev pub with_moved : Schema
-with_moved = record {
-  tables = table_of meta ∷ table_of ring ∷ table_of device ∷ table_of seat_table
-      ∷ table_of moved ∷ [];
-  indexes = meta_key ∷ ring_key ∷ device_index ∷ device_place ∷ seat_key ∷ seat_device ∷
-      moved_key ∷ [];
-  views = [];
-}
-
--- The schema once `published` is made, and the tables before it.
-abbrev pub schema_with_published : Schema
-schema_with_published = record {
-  tables = table_of meta ∷ table_of ring ∷ table_of device ∷ table_of seat_table ∷ table_of moved ∷
-      table_of published ∷ [];
-  indexes = meta_key ∷ ring_key ∷ device_index ∷ device_place ∷ seat_key ∷ seat_device ∷
-      moved_key ∷ published_key ∷ [];
-  views = [];
-}
-
--- The schema once `request` is made, and the tables before it.
-abbrev pub with_requests : Schema
-with_requests = record {
-  tables = table_of meta ∷ table_of ring ∷ table_of device ∷ table_of seat_table ∷ table_of moved ∷
-      table_of published ∷ table_of request ∷ [];
-  indexes = meta_key ∷ ring_key ∷ device_index ∷ device_place ∷ seat_key ∷ seat_device ∷
-      moved_key ∷ published_key ∷ request_key ∷ request_place ∷ [];
-  views = [];
-}
+no_tables = schema_of []
 
 -- The eight tables with their indexes, and nothing else.
 abbrev pub store_schema : Schema
-store_schema = record {
-  tables = table_of meta ∷ table_of ring ∷ table_of device ∷ table_of seat_table ∷ table_of moved ∷
-      table_of published ∷ table_of request ∷ table_of part ∷ [];
-  indexes = meta_key ∷ ring_key ∷ device_index ∷ device_place ∷ seat_key ∷ seat_device ∷
-      moved_key ∷ published_key ∷ request_key ∷ request_place ∷ part_key ∷ [];
-  views = [];
-}
+store_schema = schema_of all_tables
+
+-- A store has so many tables.
+abbrev pub table_count : ℕ
+table_count = 8
 
 -- The schema once the first so many tables are made, in the order above.
 abbrev pub schema_of_first : ℕ → Schema
-schema_of_first made =
-    slice_index_or (no_tables ∷ schema_with_meta ∷ with_rings ∷ with_devices ∷ with_seats
-    ∷ with_moved ∷
-    schema_with_published ∷ with_requests ∷ []) made store_schema
+schema_of_first made = schema_of (take made all_tables)

@@ -1,6 +1,7 @@
 //! Changes of many rows, and the transaction that keeps a decided request.
 
 ghost use Rattle.std.specs.Prelude.{◌≡◌, ◌≤◌, false};
+ghost use Rattle.store_tables.specs.Tables.{table_count};
 ghost use Rattle.sqlite.specs.Held.{state};
 ghost use Rattle.store_model.specs.Changes.{with_change, changed_all, prepared, with_decided};
 ghost use Rattle.store_model.specs.Changes.{with_kept};
@@ -128,7 +129,7 @@ fn write_prepared<S: Alter>(
     changes: &[RowChange],
     meta: &MetaRow,
 ) -> Result<(), Error>
-    requires within { made ≤ 8 }
+    requires within { made ≤ table_count }
     requires begun { HasCleanDisk (state S.Store tx.old.conn.now)
         → HasMadeTables made (state S.Store tx.old.conn.now).now }
     ensures same_reference { tx.new.conn.ghost_name ≡ tx.old.conn.ghost_name }
@@ -154,7 +155,7 @@ pub fn prepare_store<S: Alter>(
     meta: &MetaRow,
 ) -> Result<(), Error>
     requires mode { conn.old.in_transaction ≡ false }
-    requires within { made ≤ 8 }
+    requires within { made ≤ table_count }
     requires begun { HasCleanDisk (state S.Store conn.old)
         → HasMadeTables made (state S.Store conn.old).now }
     ensures mode { conn.new.in_transaction ≡ false }

@@ -1,6 +1,7 @@
 //! Making the tables.
 
 ghost use Rattle.std.specs.Prelude.{◌≡◌, ◌<◌, ◌≤◌, ◌+◌};
+ghost use Rattle.store_tables.specs.Tables.{table_count};
 ghost use Rattle.sqlite.specs.Held.{state};
 ghost use Rattle.sqlite.specs.State.{HasCleanDisk};
 ghost use Rattle.store_tables.specs.Store.{HasMadeTables, Reaches, begun_contents};
@@ -15,7 +16,7 @@ pub const TABLE_COUNT: usize = 8;
 
 /// The text that makes a table, by how many there are before it.
 fn create_text(made: usize) -> &'static str
-    requires { made < 8 }
+    requires { made < table_count }
     ensures { result.now ≡ text_of made }
 {
     match made {
@@ -65,7 +66,7 @@ fn create_text(made: usize) -> &'static str
 
 /// Makes the table that comes after the first `made` ones.
 fn create_next<S: Alter>(tx: &mut Transaction<'_, S>, made: usize) -> Result<(), Error>
-    requires missing { made < 8 }
+    requires missing { made < table_count }
     requires begun { HasCleanDisk (state S.Store tx.old.conn.now)
         → HasMadeTables made (state S.Store tx.old.conn.now).now }
     ensures same_reference { tx.new.conn.ghost_name ≡ tx.old.conn.ghost_name }
@@ -81,7 +82,7 @@ pub(crate) fn create_range<S: Alter>(
     made: usize,
     all: usize,
 ) -> Result<(), Error>
-    requires within { (made ≤ all) × (all ≤ 8) }
+    requires within { (made ≤ all) × (all ≤ table_count) }
     requires begun { HasCleanDisk (state S.Store tx.old.conn.now)
         → HasMadeTables made (state S.Store tx.old.conn.now).now }
     ensures same_reference { tx.new.conn.ghost_name ≡ tx.old.conn.ghost_name }
@@ -97,7 +98,7 @@ pub(crate) fn create_range<S: Alter>(
 /// Makes the tables that are missing, where the first `made` ones are there. Those stay as they
 /// are, and the others are empty.
 pub fn create_missing<S: Alter>(tx: &mut Transaction<'_, S>, made: usize) -> Result<(), Error>
-    requires within { made ≤ 8 }
+    requires within { made ≤ table_count }
     requires begun { HasCleanDisk (state S.Store tx.old.conn.now)
         → HasMadeTables made (state S.Store tx.old.conn.now).now }
     ensures same_reference { tx.new.conn.ghost_name ≡ tx.old.conn.ghost_name }

@@ -4,7 +4,7 @@ ghost use Rattle.std.specs.Prelude.{◌≡◌, ◌≤◌, ◌↔◌, IfOk, IfSom
 ghost use Rattle.sqlite.specs.Held.{state};
 ghost use Rattle.sqlite.specs.State.{HasCleanDisk};
 ghost use Rattle.store_tables.specs.Store.{AreOrdered, HasMadeTables};
-ghost use Rattle.store_tables.specs.Tables.{no_tables, schema_of_first};
+ghost use Rattle.store_tables.specs.Tables.{no_tables, schema_of_first, table_count};
 
 use crate::creating::{TABLE_COUNT, create_range};
 use crate::matching::are_same;
@@ -14,7 +14,7 @@ use std::alloc::Global;
 /// Makes the first tables of the store where there is nothing.
 fn make_first<S: Alter>(conn: &mut Connection<S>, made: usize) -> Result<(), Error>
     requires mode { conn.old.in_transaction ≡ false }
-    requires within { made ≤ 8 }
+    requires within { made ≤ table_count }
     requires begun { HasCleanDisk (state S.Store conn.old)
         → HasMadeTables 0 (state S.Store conn.old).now }
     ensures schema { HasCleanDisk (state S.Store conn.new) → OnOk result (conn.new.schema
@@ -27,7 +27,7 @@ fn make_first<S: Alter>(conn: &mut Connection<S>, made: usize) -> Result<(), Err
 
 /// A database in memory that has the first tables of the store.
 fn first_tables(alloc: Global, made: usize) -> Result<Connection<MemStore>, Error>
-    requires { made ≤ 8 }
+    requires { made ≤ table_count }
     ensures { IfOk result (λ c. c.schema ≡ schema_of_first made) }
 {
     let mut conn = Connection::open_in_memory(alloc)?;
@@ -39,9 +39,9 @@ fn first_tables(alloc: Global, made: usize) -> Result<Connection<MemStore>, Erro
 /// the order in which they are made, and nothing else. None where other things are there, or the
 /// tables are declared or ordered otherwise.
 pub fn tables_made<S: Alter>(alloc: Global, conn: &Connection<S>) -> Result<Option<usize>, Error>
-    ensures declared { IfOk result (λ found. IfSome found (λ made. (made ≤ 8)
+    ensures declared { IfOk result (λ found. IfSome found (λ made. (made ≤ table_count)
         × (conn.now.schema ≡ schema_of_first made))) }
-    ensures missing { IfOk result (λ found. found ≡ None → (made : ℕ) → made ≤ 8
+    ensures missing { IfOk result (λ found. found ≡ None → (made : ℕ) → made ≤ table_count
         → conn.now.schema ≡ schema_of_first made → ⊥) }
     ensures begun { IsTrue (state S.Store conn.now).is_open
         → AreOrdered (state S.Store conn.now).now

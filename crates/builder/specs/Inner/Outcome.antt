@@ -1,6 +1,6 @@
 -- What a command comes to, before the rings are put together.
 use Rattle.std.specs.Prelude.{◌≡◌, ℕ, List, Some, None}
-use Rattle.builder.specs.Step.{Cause, Effect, State, causes, first_cause}
+use Rattle.builder.specs.Step.{Cause, Effect, State, answer_at, causes, first_cause}
 use Rattle.builder.specs.declared.deciding.Outcome.{Outcome}
 use Rattle.builder.specs.declared.deciding.Outcome.TheVariants as outcome
 use Rattle.ring_model.specs.Ring.{RingRecord}
@@ -12,7 +12,8 @@ use Rattle.ring_words.specs.declared.command.Done.{Done}
 -- The outcome is the first of the causes that stands, or, where none does, the effect.
 abbrev pub IsFirstOr : List Cause → (Done → RingRecord → Type 0) → Outcome → Type 0
 IsFirstOr causes effect (outcome.Refused refused) = first_cause causes ≡ Some refused
-IsFirstOr causes effect (outcome.Done answer new) = (first_cause causes ≡ None) × effect answer new
+IsFirstOr causes effect (outcome.Done what new) =
+    (first_cause causes ≡ None) × effect (answer_at new what) new
 
 -- what a command comes to
 abbrev pub IsOutcome : Limits → State → ℕ → Command → Outcome → Type 0

@@ -12,9 +12,12 @@ use Rattle.sqlite_wal.specs.Recovery.{Image}
 use Rattle.store_rows.specs.RingRows.{NamedRings}
 use Rattle.builder_store.specs.Keepers.{content_of_keeper}
 use Rattle.builder_store.specs.Making.{rings_alone}
-use Rattle.builder_store.specs.Opening.{IsOpenedAs}
+use Rattle.builder_store.specs.Opening.{AreDeclared, IsOpenedAs}
 use Rattle.builder_store.specs.Inner.Opened.{IsFresh}
+use Rattle.builder_store.specs.declared.fault.OpenFault.{OpenFault}
+use Rattle.builder_store.specs.declared.fault.OpenFault.TheVariants.{BadRows, BadTables}
 use Rattle.builder_store.specs.declared.keeper.SqlKeeper.{SqlKeeper}
+use Rattle.store_rows.specs.Stands.{RingContent}
 
 module _ {S : Type 0} (g : Ghosts S) where
   -- The connection is outside a transaction, and was just made over its store.
@@ -29,6 +32,15 @@ module _ {S : Type 0} (g : Ghosts S) where
     pub clean : doubt (state g conn).is_clean ≤ doubt (state g k.conn).is_clean
     pub found : HasCleanDisk (state g k.conn) → IsOpenedAs (state g conn).committed.trees
         (content_of_keeper k)
+
+  -- The connection wasn't opened, for this fault, and is left so: rows are refused only where the
+  -- tables stand for nothing, and tables only where they are not declared as a store's.
+  pub record IsRefused (conn : Held S) (why : OpenFault) (left : Held S) : Type 0 where
+    pub clean : doubt (state g conn).is_clean ≤ doubt (state g left).is_clean
+    pub rows : why ≡ BadRows → HasCleanDisk (state g left) → (content : RingContent)
+        → IsOpenedAs (state g conn).committed.trees content → ⊥
+    pub tables : why ≡ BadTables → HasCleanDisk (state g left) → (made : ℕ)
+        → AreDeclared made (state g conn).committed.trees → ⊥
 
   -- The keeper has these rings and no request, and keeps so many of them.
   pub record BeginsWith (rings : NamedRings) (hour numbers : ℕ) (k : SqlKeeper S g) : Type 0 where

@@ -1,8 +1,9 @@
 -- What the parts of the server know in mid-stream.
-use Rattle.std.specs.Prelude.{◌≡◌, ℕ, ◌+◌, ◌-◌, ◌^◌, ◌<◌, ◌≤◌, min, Bool, true, false, List, []}
+use Rattle.std.specs.Prelude.{◌≡◌, ℕ, ◌+◌, ◌<◌, ◌≤◌, min, Bool, true, false, List, []}
 use Rattle.std.specs.Prelude.{◌∷◌}
 use Rattle.std.specs.Prelude.{length, Option}
 use Rattle.std.specs.Io.KnownBytes.{Appends}
+use Rattle.byte_streams.specs.Serving.{greatest_count}
 use Rattle.byte_streams.specs.declared.fault.StreamFault.{StreamFault}
 use Rattle.byte_streams.specs.declared.fault.StreamFault.TheVariants.{ReadFailed, WriteFailed}
 use Rattle.byte_streams.specs.declared.fault.StreamFault.TheVariants.{NoMemory}
@@ -25,37 +26,46 @@ LeadTo bytes (Refuses why ∷ items) rest = ⊥
 LeadTo bytes (Calls ask ∷ items) rest =
     (mid : List ℕ) × HasAsk bytes ask mid × (ask.is_last ≡ false) × LeadTo mid items rest
 
+-- Where a server of requests stands: the state that its answers made, what the writer tells that
+-- was written, the answers that wait, the bytes that came and are not answered yet, and how many
+-- requests were answered.
+pub record StreamPlace (S : Type 0) : Type 0 where
+  pub state : S
+  pub written : Option (List ℕ)
+  pub waiting : List ℕ
+  pub rest : List ℕ
+  pub answered : ℕ
+
 module _ {S : Type 0} (gives : S → Item → List ℕ → S → Type 0) where
   -- The requests in the bytes up to the rest are answered, and none of them is the last. The
   -- answers are written or wait.
-  pub record IsMidstream (bytes : List ℕ) (before now : Option (List ℕ)) (old new : S)
-      (rest waiting : List ℕ)
-      (count : ℕ) : Type 0 where
+  pub record IsMidstream (bytes : List ℕ) (before : Option (List ℕ)) (old : S) (now : StreamPlace S)
+      : Type 0 where
     pub items : List Item
-    pub leads : LeadTo bytes items rest
+    pub leads : LeadTo bytes items now.rest
     pub texts : List (List ℕ)
-    pub in_turn : InTurn gives old items texts new
-    pub forwards : Forwards before now (joined texts) waiting
-    pub count_is : count ≡ min (length items) (2 ^ 32 - 1)
+    pub in_turn : InTurn gives old items texts now.state
+    pub forwards : Forwards before now.written (joined texts) now.waiting
+    pub count_is : now.answered ≡ min (length items) greatest_count
 
   -- The requests in the bytes are answered up to the last. The answers are written or wait.
-  pub record IsOver (bytes : List ℕ) (before now : Option (List ℕ)) (old new : S) (waiting : List ℕ)
-      (count : ℕ)
-      : Type 0 where
+  pub record IsOver (bytes : List ℕ) (before : Option (List ℕ)) (old : S) (now : StreamPlace S) :
+      Type 0 where
     pub items : List Item
     pub follow : Follow (λ rest. ⊥) bytes items
     pub texts : List (List ℕ)
-    pub in_turn : InTurn gives old items texts new
-    pub forwards : Forwards before now (joined texts) waiting
-    pub count_is : count ≡ min (length items) (2 ^ 32 - 1)
+    pub in_turn : InTurn gives old items texts now.state
+    pub forwards : Forwards before now.written (joined texts) now.waiting
+    pub count_is : now.answered ≡ min (length items) greatest_count
 
   -- Some requests in the bytes were answered, and a beginning of the answers was written.
-  pub record IsBroken (bytes : List ℕ) (before now : Option (List ℕ)) (old new : S) : Type 0 where
+  pub record IsBroken (bytes : List ℕ) (before : Option (List ℕ)) (old : S) (now : StreamPlace S) :
+      Type 0 where
     pub items : List Item
     pub begin : BeginWith bytes items
     pub texts : List (List ℕ)
-    pub in_turn : InTurn gives old items texts new
-    pub written : WritesBeginning before now (joined texts)
+    pub in_turn : InTurn gives old items texts now.state
+    pub written : WritesBeginning before now.written (joined texts)
 
 -- So many bytes are there, or fewer and the input has ended.
 abbrev pub IsFilledUp : Bool → ℕ → ℕ → Type 0 → Type 0

@@ -10,6 +10,13 @@ IsShowing (task.Nodes file ring account container object names) = ⊤
 IsShowing (task.Export file ring version written) = ⊤
 IsShowing _ = ⊥
 
+-- the name of the store of which a task shows something
+abbrev pub shown_file : Task → List ℕ
+shown_file (task.Table file ring) = file.now
+shown_file (task.Nodes file ring account container object names) = file.now
+shown_file (task.Export file ring version written) = file.now
+shown_file _ = []
+
 -- what the path of a task is hashed behind, and before; nothing for a task without one
 abbrev pub prefix_asked : Task → List ℕ
 prefix_asked (task.Nodes file ring account container object names) = names.prefix.now

@@ -1,6 +1,6 @@
 -- Words that only carry proofs: what an object says of a command or a reply, whatever else stands
 -- in it.
-use Rattle.std.specs.Prelude.{◌≡◌, ℕ, ◌+◌, ◌<◌, ◌≤◌, List, [], ◌∷◌, length, Option, Some, None}
+use Rattle.std.specs.Prelude.{◌≡◌, ℕ, ◌+◌, ◌<◌, ◌≤◌, List, [], ◌∷◌, Option, Some, None}
 use Rattle.ring_words.specs.Limits.{greatest_long, greatest_short}
 use Rattle.std.specs.Prelude.{codes, ⊤, option_map}
 use Rattle.std.specs.Borrow.{Bor}
@@ -22,7 +22,7 @@ use Rattle.ring_words.specs.declared.command.Reply.{Reply}
 use Rattle.ring_words.specs.declared.command.Reply.TheVariants as reply
 use Rattle.ring_messages.specs.Fields.{Field, Fields, within, device_name, address, weight, rows}
 use Rattle.ring_messages.specs.Fields.{field_data, IsProperRow}
-use Rattle.ring_messages.specs.Commands.{act_word, act_fields}
+use Rattle.ring_messages.specs.Commands.{act_word, act_fields, command_data}
 use Rattle.ring_messages.specs.Message.{members_count}
 use Rattle.ring_messages.specs.Reads.{IsNumber, IsName}
 use Rattle.ring_messages.specs.Replies.{cause_rule, done_word, done_fields, refusal_rule}
@@ -84,17 +84,17 @@ pub record SaysAct (d : Data) (a : Act) : Type 0 where
   pub word : get (codes "do") d ≡ Some (string (act_word a))
   pub fields : HasFields d (act_fields a)
 
--- The object is that of the command, with so many further members.
-pub record SaysCommand (further : ℕ) (d : Data) (c : Command) : Type 0 where
+-- The object says which command it is.
+pub record SaysCommand (d : Data) (c : Command) : Type 0 where
   pub ring : IsName is_label (get (codes "ring") d) c.ring
   pub act : SaysAct d c.act
-  pub count : members_count d ≡ further + (2 + length (act_fields c.act))
 
--- The object is that of the command, with the key's two members.
+-- The object says which key and which command it is, and has as many members as both.
 pub record SaysDelivery (d : Data) (k : Key) (c : Command) : Type 0 where
   pub caller : IsName is_label (get (codes "caller") d) k.caller
   pub number : IsNumber (get (codes "number") d) 0 greatest_long k.number
-  pub command : SaysCommand 2 d c
+  pub command : SaysCommand d c
+  pub count : members_count d ≡ 2 + members_count (command_data c)
 
 -- The object says that this was done.
 pub record SaysDone (d : Data) (x : Done) : Type 0 where

@@ -45,6 +45,16 @@ numbered_suc (p ∷ order) (n ∷ numbers) number (suc i) lt same =
     (numbered (take i order) (take i numbers) number)
     (cond (is_number number (get_or numbers i None)) (get_or order i 0 ∷ []) []))
 
+-- there is none of a number that none has
+pub none_numbered : (order : List ℕ) (numbers : List (Option ℕ)) (number : ℕ)
+    → ((k : ℕ) → k < length numbers → is_number number (get_or numbers k None) ≡ false)
+    → numbered order numbers number ≡ []
+none_numbered [] numbers number none = refl
+none_numbered (p ∷ order) [] number none = refl
+none_numbered (p ∷ order) (n ∷ numbers) number none =
+    ap (λ b. cond b (p ∷ []) [] ++ numbered order numbers number) (none zero (omega arith))
+    ∙ none_numbered order numbers number (λ k lt. none (suc k) (omega (arith, lt)))
+
 -- one more partition with its number
 numbered_more : (order : List ℕ) (numbers : List (Option ℕ)) (number i : ℕ) (passes : Bool)
     → i < length order → length numbers ≡ length order

@@ -89,10 +89,6 @@ drawn_less devices less free x (before ∷ old) (up ∷ lifted) (to ∷ row) h =
     (draws_more devices less free x before up to h) (drawn_less devices less free x old lifted
     row h)
 
-first_true : (a b : Bool) → (a && b) ≡ true → a ≡ true
-first_true true b h = refl
-first_true false b h = h
-
 at_most_one : (b : Bool) → cond b 1 0 ≤ 1
 at_most_one true = omega arith
 at_most_one false = omega arith

@@ -1,7 +1,7 @@
 -- What putting the lifted seats of partitions keeps: `old` is a partition before a rebalance,
 -- `lifted` is it without its gathered seats, and `row` is it later.
 use Rattle.std.specs.Prelude.{◌≡◌, ◌≢◌, ◌==◌, ℕ, ◌+◌, ◌-◌, ◌<◌, ◌≤◌, Bool, true, false, ◌&&◌, ◌||◌}
-use Rattle.ring_words.specs.Limits.{most_replicas}
+use Rattle.ring_words.specs.Limits.{most_replicas, most_seats}
 use Rattle.std.specs.Prelude.{◌⊎◌, ◌++◌, if◌then◌else◌, All, List, [], ◌∷◌, length, Option, Some, None, IfSome}
 use Rattle.std.specs.Prelude.{slice_get, slice_index_or, slice_set, count_by, sum_by}
 use Rattle.ring_model.specs.Ring.{has_device, has_present}
@@ -14,7 +14,7 @@ use Rattle.ring_place.specs.declared.place.Turn.{Turn}
 use Rattle.ring_place.specs.declared.place.Turn.TheVariants.{Homeless, Home, Rest}
 use Rattle.ring_place.specs.Rebalance.{differs}
 use Rattle.ring_place.specs.Inner.Gathering.{is_among}
-use Rattle.ring_place.specs.Made.{is_number, row_at}
+use Rattle.ring_place.specs.Made.{first_empty, is_number, row_at}
 use Rattle.ring_room.specs.Free.{has_free_in}
 use Rattle.ring_room.specs.Rows.{AreKnown, is_empty}
 
@@ -63,6 +63,11 @@ abbrev pub numbered : List ℕ → List (Option ℕ) → ℕ → List ℕ
 numbered (partition ∷ order) (other ∷ numbers) number = (if is_number number other then
     partition ∷ [] else []) ++ numbered order numbers number
 numbered order numbers number = []
+
+-- Of a number below 11 that isn't told as found none is there.
+abbrev pub AreTold : List (Option ℕ) → List Bool → Type 0
+AreTold numbers found = (number : ℕ) → number < 11 → slice_index_or found number false ≡ false →
+    (index : ℕ) → index < length numbers → is_number number (slice_index_or numbers index None) ≡ false
 
 -- ---- one partition
 
@@ -196,7 +201,7 @@ pub record CanPlaceAll (load : Load) (old rows : List (List (Option ℕ))) : Typ
   pub is_load : IsLoad load
   pub closed : OpenWant load
   pub counts : (id : ℕ) → has_device id load.devices ≡ true → have_in load id ≡ have_on id rows
-  pub few : sum_by (λ row. length row) rows ≤ 81920
+  pub few : sum_by (λ row. length row) rows ≤ most_seats
 
 -- An empty seat of a partition is put on a device that is chosen for it.
 pub record IsSeatPut (load after : Load) (old rows next : List (List (Option ℕ)))
@@ -248,3 +253,12 @@ pub record AreWaiting (homes : List Bool) (order : List ℕ) (rows : List (List 
     pub below : All (λ partition. partition < length rows) order
     pub full : (partition : ℕ) → partition < length rows → is_among order partition ≡ false →
         count_by is_empty (row_at rows partition) ≡ 0
+
+-- No seat of the partition is empty.
+pub record IsFull (row : List (Option ℕ)) : Type 0 where
+  pub first : first_empty row ≡ None
+  pub none : count_by is_empty row ≡ 0
+
+-- So it is with these partitions.
+abbrev pub AreFull : List (List (Option ℕ)) → List ℕ → Type 0
+AreFull rows order = All (λ partition. IsFull (row_at rows partition)) order

@@ -1,5 +1,5 @@
 -- Cards that fit, and what a seat takes.
-use Rattle.std.proofs.Common.{◌≡◌, ◌∙◌, ℕ, zero, suc, ◌+◌, ◌-◌, ◌%◌, [], ◌∷◌, ◌<◌, ◌≤◌, ◌&&◌, Bool, true, false, cond, not, refl}
+use Rattle.std.proofs.Common.{◌≡◌, ◌∙◌, ℕ, zero, suc, ◌+◌, ◌%◌, [], ◌∷◌, ◌<◌, ◌&&◌, Bool, true, false, cond, not, refl}
 use Rattle.std.proofs.Common.{List, length, get_or, min, Option, Some, None, ap, sym, subst, arith}
 use Rattle.std.specs.Prelude.{nat_lt, slice_get}
 use Rattle.std.proofs.Math.Nat.{min-le_left, min-le_right}
@@ -8,7 +8,7 @@ use Rattle.std.proofs.lemmas.List.{get_or-take, length-take}
 use Rattle.ring_share.specs.Crowd.{is_less}
 use Rattle.ring_share.specs.Room.{has_open}
 use Rattle.ring_room.specs.Cards.{best_pile, card_for, card_in, card_of, crowd_on, few_piles, fits, in_front}
-use Rattle.ring_room.specs.Cards.{lower_of, or_card, pile_crowd, pile_rank, rank_of}
+use Rattle.ring_room.specs.Cards.{or_card, pile_rank, rank_of}
 use Rattle.ring_room.specs.Cards.{place_on, taken, taken_by, taken_from, window}
 use Rattle.ring_room.specs.declared.cards.Card.{Card}
 use Rattle.ring_room.specs.Inner.Lists.{AreRoomy, IsFloor}
@@ -200,17 +200,3 @@ does_fit load row crowd place less lt free told =
     let low = not (is_less crowd (crowd_in load row (id_at load.devices place))) in
     ap not told ∙ ap (λ b. b && low) (sym free)
     ∙ ap (λ b. b && (is_free_in load row (id_at load.devices place) && low)) (sym within)
-
--- no rank is lower than that of as many cards in a zone with none of the others
-rank_above : (cards : ℕ) (crowd : Option (ℕ × ℕ × ℕ)) → 4294967295 - cards ≤ rank_of cards crowd
-rank_above cards None = omega arith
-rank_above cards (Some crowd) = omega arith
-
--- so a pile with too few cards isn't better
-pub too_few : (load : Load) (row : List (Option ℕ)) (cards : List ℕ) (best : ℕ × ℕ) (pile least : ℕ)
-    → least ≡ 4294967295 - length cards → best.1 ≤ least
-    → best ≡ lower_of best pile (pile_rank load row cards)
-too_few load row cards best pile least is le =
-    let above = rank_above (length cards) (pile_crowd load row cards) in
-    let not_lower : nat_lt (pile_rank load row cards) best.1 ≡ false = grind (arith, nat_tests) in
-    ap (λ b. cond b (pile, pile_rank load row cards) best) (sym not_lower)

@@ -1,16 +1,16 @@
 -- Devices at their places.
 use Rattle.std.proofs.Common.{◌≡◌, ◌≢◌, ◌==◌, ℕ, ◌+◌, ◌<◌, ◌≤◌, Bool, true, false, not, cond, ◌&&◌}
-use Rattle.std.proofs.Common.{List, length, get_or, take, map, count_by, Some, None, refl, sym, ap}
+use Rattle.std.proofs.Common.{All, List, length, get_or, take, map, count_by, Some, None, refl, sym, ap}
 use Rattle.std.proofs.Common.{subst, ◌∙◌, ⊎_elim, arith}
 use Rattle.std.specs.Prelude.{slice_get, slice_index, nat_lt, if◌then◌else◌}
 use Rattle.std.specs.List.{list_any}
 use Rattle.std.specs.List.Sorted.{IsStrictlyIncreasing}
-use Rattle.std.proofs.lemmas.Bool.{cases_eq, eq-eqb, ne_eqb}
-use Rattle.std.proofs.lemmas.List.Folds.{list_any_at, list_any_none}
+use Rattle.std.proofs.lemmas.Bool.{cases_eq, eq-eqb, eqb-true, ne_eqb}
+use Rattle.std.proofs.lemmas.List.Folds.{Any-from_list_any, list_any_at, list_any_none}
 use Rattle.std.proofs.lemmas.List.{get_or-map, length-map}
 use Rattle.std.proofs.lemmas.List.Sums.{position_or_len_is, sum_by_more}
 use Rattle.std.proofs.lemmas.Option.{slice_get_within, get_or_from_slice_get, slice_get-get_or}
-use Rattle.ring_model.specs.Ring.{has_present}
+use Rattle.ring_model.specs.Ring.{has_device, has_present}
 use Rattle.ring_words.specs.declared.device.Device.{Device}
 use Rattle.ring_share.specs.Crowd.{device_by_id, is_on, pass_both}
 use Rattle.ring_share.specs.Near.{StandsAt}
@@ -19,7 +19,8 @@ use Rattle.ring_share.specs.Want.{is_open}
 use Rattle.ring_share.proofs.Bridge.{device_of_at}
 use Rattle.ring_share.proofs.Counting.{apart}
 use Rattle.ring_share.proofs.Standing.{read_at}
-use Rattle.ring_room.specs.Load.{Load, IsLoad, has_room_in}
+use Rattle.ring_share.proofs.TierLists.{both_true}
+use Rattle.ring_room.specs.Load.{Load, IsLoad, has_room_in, want_in}
 use Rattle.ring_room.specs.Places.{id_at, number_of, seats_at}
 
 -- a device stands at the place of its number
@@ -157,3 +158,32 @@ seats_more test devices others i b lt is =
 pub at_most_one : (b : Bool) → (if b then 1 else 0) ≤ 1
 at_most_one true = omega arith
 at_most_one false = omega arith
+
+-- a device of the ring remains where none is marked
+pub all_present : (devices : List Device) (id : ℕ) → All (λ device. device.removed ≡ false) devices →
+    has_device id devices ≡ true → has_present id devices ≡ true
+all_present devices id present known =
+    let found = Any-from_list_any (λ (device : Device). device.id == id) devices known in
+    let here : ((get_or devices found.0 found.1).id == id) ≡ true =
+    ap (λ (device : Device). device.id == id) found.3 ∙ found.4 in
+    let stays : not (get_or devices found.0 found.1).removed ≡ true =
+    ap not (present found.0 found.1 found.2) in
+    list_any_at (λ (device : Device). (device.id == id) && not device.removed) devices found.0
+    found.1 found.2 (both_true _ _ here stays)
+
+-- and wants a seat where each does
+pub all_want : (load : Load) → IsLoad load → (id : ℕ) →
+    ((place : ℕ) → place < length load.wanted → 0 < get_or load.wanted place 0) →
+    has_device id load.devices ≡ true → false ≡ (want_in load id == 0)
+all_want load is id want known =
+    let found = Any-from_list_any (λ (device : Device). device.id == id) load.devices known in
+    let at : slice_get load.devices found.0 ≡ Some found.1 =
+    slice_get-get_or load.devices found.0 found.1 found.2 ∙ ap Some found.3 in
+    let place : place_of id load.devices ≡ found.0 =
+    ap (λ n. place_of n load.devices) (sym (eqb-true found.1.id id found.4))
+    ∙ place_is load.devices is.rise found.0 found.1 at in
+    let long = is.wants in
+    let below = found.2 in
+    let some : 0 < get_or load.wanted found.0 0 = want found.0 (omega (arith, long, below)) in
+    let other : get_or load.wanted found.0 0 ≢ 0 = omega (arith, some) in
+    sym (ap (λ k. get_or load.wanted k 0 == 0) place ∙ ne_eqb _ _ other)

@@ -1,6 +1,5 @@
 -- The lists of a room, as the counts of seats change.
-use Rattle.std.proofs.Common.{◌≡◌, ◌≢◌, ◌&&◌, ◌<◌, ◌≤◌, ℕ, Bool, true, false, not, All, List}
-use Rattle.ring_words.specs.Limits.{most_replicas}
+use Rattle.std.proofs.Common.{◌≡◌, ◌≢◌, ◌&&◌, ◌<◌, ◌≤◌, ℕ, Bool, true, false, not, List}
 use Rattle.std.proofs.Common.{length, get_or, set, take, refl, sym, ap, subst, ◌∙◌, ⊎_elim, arith}
 use Rattle.std.proofs.Math.Bool.{beq}
 use Rattle.std.specs.Prelude.{nat_lt}
@@ -8,7 +7,6 @@ use Rattle.std.proofs.lemmas.Bool.{cases_eq}
 use Rattle.std.proofs.lemmas.Grind.{get_or_default_zero}
 use Rattle.std.proofs.lemmas.List.{length-set, length-take-le, get_or-set_other, get_or-set_same}
 use Rattle.std.proofs.lemmas.List.{get_or-take}
-use Rattle.ring_words.specs.declared.device.Device.{Device}
 use Rattle.ring_share.specs.Room.{has_open, place_of}
 use Rattle.ring_room.specs.Load.{Load, IsLoad, has_room_in, want_in}
 use Rattle.ring_room.specs.Inner.Lists.{AreRoomy, IsRoom}
@@ -75,15 +73,15 @@ room_same load is place want have count lt wants counts same =
     rw (here, has, had, wants_it, same) refl
 
 pub room_kept : (load : Load) (roomy : List ℕ) (listed : ℕ)
-    (regions zones servers in_region in_zone in_server : List ℕ) →
-    IsRoom load roomy listed regions zones servers in_region in_zone in_server →
+    (regions zones servers in_region in_zone in_server : List ℕ) (all_present all_want : Bool) →
+    IsRoom load roomy listed regions zones servers in_region in_zone in_server all_present all_want →
     (changed count : ℕ)
     → has_room_in (with_count_at load changed count) (id_at load.devices changed) ≡ has_room_in load
     (id_at load.devices changed)
     → IsRoom (with_count_at load changed count) roomy listed regions zones servers in_region in_zone
-    in_server
-room_kept load roomy listed regions zones servers in_region in_zone in_server is changed count
-    same =
+    in_server all_present all_want
+room_kept load roomy listed regions zones servers in_region in_zone in_server all_present all_want is
+    changed count same =
     let before = is.counted in
     record {
       counted = record {
@@ -110,23 +108,9 @@ room_kept load roomy listed regions zones servers in_region in_zone in_server is
       regions_told = is.regions_told;
       zones_told = is.zones_told;
       servers_told = is.servers_told;
+      present = is.present;
+      want = is.want;
     }
-
--- the first of some places are places of devices
-pub places_within : (devices : List Device) (ids places : List ℕ) → length ids ≤ most_replicas →
-    length places ≡ most_replicas
-    → ((k : ℕ) → k < length ids → (get_or places k 0 < length devices) ×
-    (id_at devices (get_or places k 0) ≡ get_or ids k 0)) →
-    All (λ place. place < length devices) (take (length ids) places)
-places_within devices ids places few long all k d lt =
-    let first : length (take (length ids) places) ≡ length ids = length-take-le (length ids) places
-    (omega (arith, few, long)) in
-    let below : k < length ids = omega (arith, lt, first) in
-    let read : get_or (take (length ids) places) k d ≡ get_or places k 0 =
-    get_or_default_zero (take (length ids) places) k d lt ∙ get_or-take (length ids) places k 0
-    below in
-    let there = (all k below).0 in
-    omega (arith, there, read)
 
 -- the first places of an array are roomy
 pub roomy_first : (load : Load) (places : List ℕ) (count : ℕ) → count ≤ length places →

@@ -1,6 +1,6 @@
 -- The parts of a text, as they are read one after another.
-use Rattle.std.specs.Prelude.{◌≡◌, ℕ, ◌*◌, ◌≤◌, ◌<◌, ◌^◌, ◌++◌, List, [], ◌∷◌, length, map}
-use Rattle.ring_words.specs.Limits.{greatest_long, greatest_power, greatest_short}
+use Rattle.std.specs.Prelude.{◌≡◌, ℕ, ◌*◌, ◌≤◌, ◌<◌, ◌++◌, List, [], ◌∷◌, length, map}
+use Rattle.ring_words.specs.Limits.{greatest_long, greatest_power, greatest_short, short_count}
 use Rattle.ring_words.specs.Limits.{most_replicas}
 use Rattle.std.specs.Prelude.{slice_index_or, IsTrue, All, codes, decimal}
 use Rattle.std.specs.List.{join_with_byte}
@@ -51,31 +51,31 @@ pub record IsDevice (words : List (List ℕ)) (device : Device) : Type 0 where
 -- The line, without its line feed, is that of this device.
 pub record IsDeviceLine (text : List ℕ) (device : Device) : Type 0 where
   pub is : text ≡ join_with_byte 32 (device_line device)
-  pub id : device.id < 2 ^ 16
+  pub id : device.id < short_count
   pub limits : IsWithinLimits device
 
 -- These are the lines of these devices.
 pub record AreDeviceLines (texts : List (List ℕ)) (devices : List Device) : Type 0 where
   pub are : texts ≡ map (join_with_byte 32) (map device_line devices)
-  pub ids : All (λ device. device.id < 2 ^ 16) devices
+  pub ids : All (λ device. device.id < short_count) devices
   pub limits : All IsWithinLimits devices
 
 -- The words are these numbers of devices.
 pub record AreNumbers (words : List (List ℕ)) (numbers : List ℕ) : Type 0 where
   pub are : words ≡ map decimal numbers
-  pub limits : All (λ n. n < 2 ^ 16) numbers
+  pub limits : All (λ n. n < short_count) numbers
 
 -- The line is that of a partition with so many replicas on these devices.
 pub record IsPartitionLine (replicas : ℕ) (text : List ℕ) (numbers : List ℕ) : Type 0 where
   pub is : text ≡ join_with_byte 32 (map decimal numbers)
   pub count : length numbers ≡ replicas
-  pub limits : All (λ n. n < 2 ^ 16) numbers
+  pub limits : All (λ n. n < short_count) numbers
 
 -- These are the lines of partitions with so many replicas and these seats.
 pub record ArePartitionLines (replicas : ℕ) (texts : List (List ℕ)) (seats : List ℕ) : Type 0 where
   pub are : texts ≡ map (join_with_byte 32) (partition_lines (length texts) replicas seats)
   pub count : length seats ≡ length texts * replicas
-  pub limits : All (λ n. n < 2 ^ 16) seats
+  pub limits : All (λ n. n < short_count) seats
 
 -- What follows the first lines is so many lines of devices, so many lines of partitions, and what
 -- stands round these.

@@ -1,7 +1,8 @@
 -- What reading a row says where the row stands for something.
-use Rattle.std.specs.Prelude.{◌≡◌, ◌++◌, ◌+◌, ◌<◌, ◌≤◌, ◌*◌, ◌^◌, ℕ, ℤ, Bool, true, false, cond}
+use Rattle.std.specs.Prelude.{◌≡◌, ◌++◌, ◌+◌, ◌<◌, ◌≤◌, ◌*◌, ℕ, ℤ, Bool, true, false, cond}
 use Rattle.std.specs.Prelude.{List, [], All, map, length, Option, Result, Ok, Err, ⊤, pos, string_bytes}
 use Rattle.std.specs.List.{enumerate_from, flat_map}
+use Rattle.ring_words.specs.Limits.{long_count, short_count}
 use Rattle.ring_words.specs.declared.device.Device.{Device}
 use Rattle.ring_words.specs.declared.spelling.SpellingFault.{SpellingFault}
 use Rattle.ring_words.specs.declared.spelling.SpellingFault.TheVariants.{Bad, NoMemory}
@@ -34,19 +35,19 @@ ReadsRow value Holds (Err NoMemory) = ⊤
 pub record StandsForDevice (row : DeviceRow) (device : Device) : Type 0 where
   pub ring : List ℕ
   pub is : device_of row ≡ device_entry ring device
-  pub id : device.id < 2 ^ 16
+  pub id : device.id < short_count
   pub proper : IsProperRow device.row
 
 -- The row stands for this text under its version.
 pub record StandsForText (row : PublishedRow) (text : ℕ × List ℕ) : Type 0 where
   pub version : row.version ≡ pos text.0
-  pub small : text.0 < 2 ^ 32
+  pub small : text.0 < long_count
   pub body : string_bytes row.body ≡ text.1
 
 -- The row stands for a seat on this device.
 pub record StandsForSeat (row : SeatRow) (id : ℕ) : Type 0 where
   pub device : row.device ≡ pos id
-  pub small : id < 2 ^ 16
+  pub small : id < short_count
 
 -- The seats of a ring, and the hours of its partitions' last moves.
 abbrev pub Places : Type 0
@@ -58,7 +59,7 @@ pub record StandForParts (rows : List PartRow) (places : Places) : Type 0 where
   pub replicas : ℕ
   pub is : map part_of rows ≡ map (part_entry name replicas places.0) (enumerate_from 0 places.1)
   pub whole : 0 < length places.0 → length places.0 ≡ length places.1 * replicas
-  pub seats : All (λ id. id < 2 ^ 16) places.0
+  pub seats : All (λ id. id < short_count) places.0
   pub hours : All IsHour places.1
 
 -- The rows begin with that of this partition, where it was moved, at this hour, and these are the
@@ -69,7 +70,7 @@ pub record StandForMove (rows : List MovedRow) (partition : ℕ)
   pub is : map moved_of rows ≡ moved_entry name (partition, found.0) ++ found.1
   pub others : List (Option ℕ)
   pub later : found.1 ≡ flat_map (moved_entry name) (enumerate_from (partition + 1) others)
-  pub few : partition + 1 + length others ≤ 2 ^ 32
+  pub few : partition + 1 + length others ≤ long_count
   pub hour : IsHour found.0
 
 -- The rows stand for the last moves of so many partitions.
@@ -85,7 +86,7 @@ pub record StandForSeats (rows : List SeatRow) (seats : List ℕ) : Type 0 where
   pub name : List ℕ
   pub replicas : ℕ
   pub is : map seat_of rows ≡ map (seat_entry name replicas) (enumerate_from 0 seats)
-  pub small : All (λ id. id < 2 ^ 16) seats
+  pub small : All (λ id. id < short_count) seats
 
 -- The rows stand for these seats and last moves of so many partitions, in a store of schema 1 or of
 -- schema 2.

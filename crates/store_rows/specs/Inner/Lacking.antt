@@ -1,10 +1,11 @@
 -- What one list of entries lacks of another.
-use Rattle.std.specs.Prelude.{ℕ, ◌==◌, Bool, not, List, [], ◌∷◌, filter, map, Option, Some, None}
+use Rattle.std.specs.Prelude.{ℕ, ◌*◌, ◌==◌, Bool, not, List, [], ◌∷◌, filter, map, Option, Some, None}
 use Rattle.std.specs.Prelude.{is_none, slice_get}
 use Rattle.std.specs.Prelude as prelude
 use Rattle.std.specs.Option.{option_map}
 use Rattle.std.specs.declared.cmp.Ordering.{Ordering}
 use Rattle.std.specs.FinMap.{find}
+use Rattle.ring_words.specs.Limits.{most_devices, most_rings}
 use Rattle.ring_model.specs.Ring.{RingRecord, published_at}
 use Rattle.ring_words.specs.declared.device.Device.{Device}
 use Rattle.store_model.specs.Entries as rows
@@ -19,6 +20,10 @@ lacking R same old new = filter (λ e. not (has_same same (find R e.0 old) e.1))
 -- The old entries whose keys the new ones do not have.
 abbrev pub gone : {K V : Type 0} → (K → K → Ordering) → List (K × V) → List (K × V) → List (K × V)
 gone R old new = filter (λ e. is_none (find R e.0 new)) old
+
+-- All rings together have at most so many devices.
+abbrev pub most_devices_in_all : ℕ
+most_devices_in_all = most_rings * most_devices
 
 -- The rows of the ring of a name, none where there is no ring.
 abbrev pub rows_at : {E : Type 0} → (List ℕ × RingRecord → List E) → List ℕ → Option RingRecord →

@@ -3,7 +3,7 @@ use Rattle.std.proofs.Common.{◌≡◌, inl, ℕ, ℤ, true, List, [], ◌∷�
 use Rattle.std.proofs.Common.{refl, sym, ap, subst, ◌∙◌, true≢false}
 use Rattle.std.specs.List.Sorted.{IsPermutation}
 use Rattle.std.specs.Ordering.{eq_by_cmp}
-use Rattle.std.specs.FinMap.{remove}
+use Rattle.std.specs.FinMap.{empty, remove}
 use Rattle.std.proofs.lemmas.List.Sorted.{IsPermutation-sym}
 use Rattle.sqlite_value.specs.declared.value.Value.TheVariants.{Null}
 use Rattle.sqlite_value.specs.Order.{Row}
@@ -18,17 +18,20 @@ use Rattle.sqlite_sql.specs.Query.{IsAnswer, output}
 use Rattle.sqlite_sql.specs.Term.{Term}
 use Rattle.sqlite.specs.Term.{col}
 use Rattle.sqlite.specs.Command.TheVariants.{Delete}
+use Rattle.sqlite.specs.Effect.{Database}
 use Rattle.sqlite.specs.Listing.{understood}
 use Rattle.sqlite.specs.Program.{overlay}
 use Rattle.sqlite.specs.State.{State, Executes}
 use Rattle.sqlite.proofs.Callers.{IsPlain, command_of}
 use Rattle.store_tables.specs.Plain.{table_of}
 use Rattle.store_tables.specs.Entries.{Layout, map_of}
-use Rattle.store_tables.proofs.Plain.Maps.{left_out, left_in, Drops, drop_is}
+use Rattle.store_tables.specs.Inner.Rows.{table_row}
+use Rattle.store_tables.proofs.Plain.Maps.{left_out, left_in, Drops, drop_is, no_entries}
 use Rattle.store_tables.proofs.Plain.Ordered.{moved}
 use Rattle.store_tables.proofs.Plain.Writes.{IsQuiet, Spares, deletes, deleted_shaped}
-use Rattle.store_tables.proofs.Plain.Facts.{Facts, Lives, rows_in}
-use Rattle.store_tables.proofs.Plain.Queries.{of_table, env_of, passes, answer_picks, row_by_key}
+use Rattle.store_tables.proofs.Plain.Facts.{Facts, Lives, Turns, rows_in}
+use Rattle.store_tables.proofs.Plain.Queries.{Means, program_of, of_table, env_of, passes}
+use Rattle.store_tables.proofs.Plain.Queries.{answer_picks, row_by_key}
 
 module _ (schema : Schema) {K V : Type 0} (l : Layout K V) (f : Facts schema l) where
   -- the text deletes the rows that pass a test
@@ -37,9 +40,8 @@ module _ (schema : Schema) {K V : Type 0} (l : Layout K V) (f : Facts schema l) 
     pub test : List Term
     pub placed : slice_get schema.tables at ≡ Some (table_of l.plain)
     pub quiet : IsQuiet schema l.plain
-    pub is : command_of (understood schema sql)
-        ≡ Delete at (record { lets = []; body = of_table l.plain.tree test (col 1 0 ∷ []) [] })
-    pub plain : IsPlain (understood schema sql)
+    pub means : Means schema sql
+        (Delete at (program_of (of_table l.plain.tree test (col 1 0 ∷ []) [])))
     pub numbers : (params r : Row)
         → (output (of_table l.plain.tree test (col 1 0 ∷ []) []) (env_of params r)).1 ≡ rowid r ∷ []
 
@@ -74,43 +76,47 @@ module _ (schema : Schema) {K V : Type 0} (l : Layout K V) (f : Facts schema l) 
               passed)));
         }
 
+    -- the rows that pass are gone, and no others
+    pub record Clears (old new : Database) : Type 0 where
+      pub lives : Lives schema new
+      pub others : Spares schema l.plain old.trees new.trees
+      pub found : List Row
+      pub finds : Finds (old.trees l.plain.tree) found
+      pub rows : new.trees l.plain.tree ≡ without_all (old.trees l.plain.tree) (ids_of found)
+
     deleted : (old new : State) (count : ℕ) → Lives schema old.now
-        → Executes sql params old new (Ok count)
-        → Lives schema new.now × Spares schema l.plain old.now.trees new.now.trees
-        × (found : List Row) × Finds (old.now.trees l.plain.tree) found
-        × (new.now.trees l.plain.tree ≡ without_all (old.now.trees l.plain.tree) (ids_of found))
+        → Executes sql params old new (Ok count) → Clears old.now new.now
     deleted old new count lives h =
         let done = deletes schema l.plain text.at sql params _ old new count text.placed text.quiet
-        text.is text.plain lives.schema_is h in
+        text.means.is text.means.plain lives.schema_is h in
         let found = done.2 in
         let it = done.4 in
         let are = rows_in schema l f old.now lives in
-        let all = finds (overlay old.now.trees []) found (done.3.answer Null) in (
-          record {
+        let all = finds (overlay old.now.trees []) found (done.3.answer Null) in
+        record {
+          lives = record {
             schema_is = done.1;
             sound = done.0.sound;
             ordered = deleted_shaped schema l.plain old.now.trees new.now.trees found lives.ordered
                 are.shaped it;
-          },
-          it.tables,
-          found,
-          subst (λ rows. Finds rows found) (f.based old.now.trees) all,
-          it.rows,
-        )
+          };
+          others = it.tables;
+          found = found;
+          finds = subst (λ rows. Finds rows found) (f.based old.now.trees) all;
+          rows = it.rows;
+        }
 
   module _ (sql : List ℕ) (text : DropText sql) (params : K → Row) (by_key : (id : ℤ) (k key : K)
-      (v : V) → passes text.test (params key) (l.row id k v) ≡ eq_by_cmp l.cmp k key) where
+      (v : V) → passes text.test (params key) (table_row l id k v) ≡ eq_by_cmp l.cmp k key) where
     pub drops_row : (key : K) (old new : State) (count : ℕ) → Lives schema old.now
         → Executes sql (params key) old new (Ok count)
-        → Lives schema new.now × Spares schema l.plain old.now.trees new.now.trees
-        × (map_of l (new.now.trees l.plain.tree)
-        ≡ remove (map_of l (old.now.trees l.plain.tree)) key)
+        → Turns schema l old.now new.now (remove (map_of l (old.now.trees l.plain.tree)) key)
     drops_row key old new count lives h =
         let rows = old.now.trees l.plain.tree in
         let it = deleted sql text (params key) old new count lives h in
         let are = rows_in schema l f old.now lives in
-        let found = it.2 in
-        let all = it.3 in
+        let found = it.found in
+        let all = it.finds in
         let picks = passes text.test (params key) in
         let tie = row_by_key schema l f text.test params by_key rows are key in
         let less : Drops f.total f.exact l.entry rows (without_all rows (ids_of found)) key =
@@ -119,12 +125,13 @@ module _ (schema : Schema) {K V : Type 0} (l : Layout K V) (f : Facts schema l) 
               all.complete x h in (was.0, sym (tie x was.0) ∙ was.1);
           kept = λ x h other. left_in rows found are.shaped.0 are.shaped.1 picks all.sound
               all.complete x h (tie x h ∙ other);
-        } in (
-          it.0,
-          it.1,
-          drop_is f.total f.exact l.entry rows (new.now.trees l.plain.tree) key are.apart
-              (subst (λ xs. Drops f.total f.exact l.entry rows xs key) (sym it.4) less),
-        )
+        } in
+        record {
+          lives = it.lives;
+          others = it.others;
+          map = drop_is f.total f.exact l.entry rows (new.now.trees l.plain.tree) key are.apart
+              (subst (λ xs. Drops f.total f.exact l.entry rows xs key) (sym it.rows) less);
+        }
 
   none_left : (rows : List Row) → ((x : Row) → Has rows x → ⊥) → rows ≡ []
   none_left [] none = refl
@@ -134,16 +141,19 @@ module _ (schema : Schema) {K V : Type 0} (l : Layout K V) (f : Facts schema l) 
       passes text.test [] r ≡ true) where
     pub drops_all : (old new : State) (count : ℕ) → Lives schema old.now
         → Executes sql [] old new (Ok count)
-        → Lives schema new.now × Spares schema l.plain old.now.trees new.now.trees
-        × (map_of l (new.now.trees l.plain.tree) ≡ map_of l [])
+        → Turns schema l old.now new.now empty
     drops_all old new count lives h =
         let rows = old.now.trees l.plain.tree in
         let it = deleted sql text [] old new count lives h in
         let are = rows_in schema l f old.now lives in
-        let found = it.2 in
-        let all = it.3 in
+        let found = it.found in
+        let all = it.finds in
         let none = none_left (without_all rows (ids_of found)) (λ x h.
         let was = left_out rows found are.shaped.0 are.shaped.1 (passes text.test []) all.sound
         all.complete x h in
         true≢false (sym (all_pass x) ∙ was.1)) in
-        (it.0, it.1, ap (map_of l) (it.4 ∙ none))
+        record {
+          lives = it.lives;
+          others = it.others;
+          map = ap (map_of l) (it.rows ∙ none) ∙ no_entries f.total f.exact;
+        }

@@ -5,8 +5,8 @@ use Rattle.std.proofs.Common.{true≢false}
 use Rattle.std.specs.List.{AllByRecursion}
 use Rattle.std.specs.Cmp.{IsTotalOrder}
 use Rattle.std.specs.Ordering.{is_eq, eq_by_cmp}
-use Rattle.std.specs.FinMap.{FinMap, from_entries, insert, remove, get-remove, find}
-use Rattle.std.specs.FinMap.{get-from_entries, get-insert, same_map, IsAntisymmetric}
+use Rattle.std.specs.FinMap.{FinMap, empty, from_entries, insert, remove, get-remove, find}
+use Rattle.std.specs.FinMap.{get-empty, get-from_entries, get-insert, same_map, IsAntisymmetric}
 use Rattle.std.proofs.lemmas.Bool.{cases_Bool, not-true}
 use Rattle.std.proofs.lemmas.Cmp.{tied_itself}
 use Rattle.sqlite_value.specs.Order.{Row, value_cmp}
@@ -21,6 +21,12 @@ use Rattle.sqlite_rules.proofs.ProbeLemmas.{has_mapped, mapped_has}
 use Rattle.sqlite_rules.proofs.TableLemmas.{int_is, has_put, put_has, put_all_keeps}
 use Rattle.sqlite_rules.proofs.PlaceLemmas.{row_at_is, left_or_taken}
 use Rattle.store_model.proofs.Keys.{tied}
+
+-- the map of no rows is empty
+pub no_entries : {K V : Type 0} {R : K → K → Ordering} → IsTotalOrder R → IsAntisymmetric R
+    → ◌≡◌ {A = FinMap R V} (from_entries []) empty
+no_entries {R = R} o exact = same_map o exact _ _ (λ q. get-from_entries o [] q ∙ sym
+    (get-empty R q))
 
 -- a row that is left was there, and has none of the rowids
 left_from : (ids : List ℤ) (rows : List Row) (x : Row) → Has (without_all rows ids) x

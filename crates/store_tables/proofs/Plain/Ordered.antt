@@ -6,7 +6,7 @@ use Rattle.std.specs.List.{IsDistinct}
 use Rattle.std.specs.List.Sorted.{IsPermutation, IsSorted}
 use Rattle.std.specs.Cmp.{IsTotalOrder}
 use Rattle.std.specs.Ordering.{is_eq, is_lt, eq_by_cmp, ordering_reverse}
-use Rattle.std.specs.FinMap.{entries, is_sorted, IsAntisymmetric}
+use Rattle.std.specs.FinMap.{is_sorted, IsAntisymmetric}
 use Rattle.std.specs.FinMap.Entries.{below_all}
 use Rattle.std.proofs.lemmas.Bool.{cases_Bool, and_from, and_parts}
 use Rattle.std.proofs.lemmas.Cmp.{tied_itself}

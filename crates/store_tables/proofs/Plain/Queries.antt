@@ -2,7 +2,7 @@
 use Rattle.std.proofs.Common.{◌≡◌, inl, inr, ℕ, ℤ, pos, negsuc, Bool, false, if◌then◌else◌, List}
 use Rattle.std.proofs.Common.{[], ◌∷◌, map, filter, length, slice_get, option_map, Some, None, refl}
 use Rattle.std.proofs.Common.{sym, ap, subst, subst₂, ◌∙◌, arith}
-use Rattle.std.specs.List.{flat_map, list_all}
+use Rattle.std.specs.List.{flat_map, list_all, range_with_len}
 use Rattle.std.specs.List.Sorted.{IsPermutation, IsSorted}
 use Rattle.std.specs.Ordering.{eq_by_cmp}
 use Rattle.std.specs.FinMap.{get, find, get-from_entries, entries}
@@ -18,8 +18,10 @@ use Rattle.sqlite_rules.proofs.ListLemmas.{has_filtered, has_kept}
 use Rattle.sqlite_rules.proofs.ProbeLemmas.{has_mapped, mapped_has}
 use Rattle.sqlite_sql.specs.Query.{IsAnswer, Output, output, output_cmp}
 use Rattle.sqlite_sql.specs.Term.{Env, Term, holds}
-use Rattle.sqlite.specs.Term.{lit}
+use Rattle.sqlite.specs.Term.{col, lit}
 use Rattle.sqlite.specs.Query.{Query, inner, end}
+use Rattle.sqlite_schema.specs.declared.command.Command.{Command}
+use Rattle.sqlite_schema.specs.declared.program.Program.{Program}
 use Rattle.sqlite.specs.Command.TheVariants.{Select}
 use Rattle.sqlite.specs.Effect.{Database, Reads}
 use Rattle.sqlite.specs.Listing.{understood, reads_listing}
@@ -27,8 +29,12 @@ use Rattle.sqlite.specs.Program.{overlay}
 use Rattle.sqlite.specs.State.{State, Shown}
 use Rattle.sqlite.proofs.Callers.{IsPlain, command_of, reads_as}
 use Rattle.sqlite_schema.specs.declared.schema.Schema.{Schema}
+use Rattle.sqlite_value.specs.declared.keys.Collation.TheVariants.{Binary}
 use Rattle.sqlite_value.specs.declared.keys.Key.{Key}
+use Rattle.sqlite_value.specs.Keys.{ascending}
+use Rattle.store_tables.specs.Plain.{PlainColumn}
 use Rattle.store_tables.specs.Entries.{Layout, map_of}
+use Rattle.store_tables.specs.Inner.Rows.{table_row}
 use Rattle.store_model.proofs.Keys.{tied}
 use Rattle.store_tables.proofs.Plain.Maps.{found_at, missing_at}
 use Rattle.store_model.proofs.Permuted.{entries_are, keys_stay}
@@ -48,6 +54,16 @@ of_table tree filter project order = record {
   limit = lit (Int (negsuc 0));
   offset = lit (Int (pos 0));
 }
+
+-- a query as a program
+abbrev pub program_of : Query → Program
+program_of q = record { lets = []; body = q }
+
+-- the text is this command, reads no listing of the schema, and has no parameters of its own
+pub record Means (schema : Schema) (sql : List ℕ) (command : Command) : Type 0 where
+  pub is : command_of (understood schema sql) ≡ command
+  pub unlisted : reads_listing schema sql ≡ false
+  pub plain : IsPlain (understood schema sql)
 
 pub each : {A B : Type 0} (f : A → B) (xs : List A) → flat_map (λ x. f x ∷ []) xs ≡ map f xs
 each f [] = refl
@@ -97,18 +113,15 @@ module _ (schema : Schema) {K V : Type 0} (l : Layout K V) (f : Facts schema l) 
     pub test : List Term
     pub project : List Term
     pub names : List (List ℕ)
-    pub is : (command_of (understood schema sql)
-        ≡ Select (record { lets = []; body = of_table l.plain.tree test project [] }) names)
-        × (reads_listing schema sql ≡ false)
-    pub plain : IsPlain (understood schema sql)
-    pub by_key : (id : ℤ) (k key : K) (v : V) → passes test (params key) (l.row id k v)
+    pub means : Means schema sql (Select (program_of (of_table l.plain.tree test project [])) names)
+    pub by_key : (id : ℤ) (k key : K) (v : V) → passes test (params key) (table_row l id k v)
         ≡ eq_by_cmp l.cmp k key
     pub tells : (id : ℤ) (k key : K) (v : V)
         → told (output (of_table l.plain.tree test project [])
-        (env_of (params key) (l.row id k v))).1 ≡ v
+        (env_of (params key) (table_row l id k v))).1 ≡ v
 
   module _ (test : List Term) (params : K → Row) (by_key : (id : ℤ) (k key : K) (v : V) →
-      passes test (params key) (l.row id k v) ≡ eq_by_cmp l.cmp k key) where
+      passes test (params key) (table_row l id k v) ≡ eq_by_cmp l.cmp k key) where
     pub row_by_key : (rows : List Row) → AreRows l rows → (key : K) (r : Row) → Has rows r
         → passes test (params key) r ≡ eq_by_cmp l.cmp (l.entry r).0 key
     row_by_key rows are key r h =
@@ -160,8 +173,8 @@ module _ (schema : Schema) {K V : Type 0} (l : Layout K V) (f : Facts schema l) 
           → Shown sql (params key) old new rows
           → option_map told (slice_get rows 0) ≡ get (map_of l (old.now.trees l.plain.tree)) key
       shows_one old new key rows lives h =
-          let read = reads_as sql (params key) old new schema lives.schema_is _ text.is.0 text.plain
-          text.is.1 rows h in
+          let read = reads_as sql (params key) old new schema lives.schema_is _ text.means.is
+          text.means.plain text.means.unlisted rows h in
           answer_is (old.now.trees l.plain.tree) (rows_in schema l f old.now lives) key rows
           (subst (λ all. IsPermutation (map (out key) (filter (passes text.test (params key)) all))
           rows) (f.based old.now.trees) (answer_picks l.plain.tree text.test text.project
@@ -169,28 +182,25 @@ module _ (schema : Schema) {K V : Type 0} (l : Layout K V) (f : Facts schema l) 
 
   -- ---- all rows in the order of their keys
 
-  -- the text shows all columns of all rows, ordered by the key
+  -- all columns of all rows, ordered by the key
+  abbrev pub q : Query
+  q = of_table l.plain.tree [] (map (col 1) (range_with_len 1 (length l.plain.fields)))
+      (map (λ at. (col 1 at, ascending Binary)) l.key)
+
+  abbrev pub lists : Command
+  lists = Select (program_of q) (map (λ (c : PlainColumn). c.name)
+      l.plain.fields)
+
+  -- the text shows them
   pub record ListText (sql : List ℕ) : Type 0 where
-    pub project : List Term
-    pub order : List (Term × Key)
-    pub names : List (List ℕ)
-    pub is : (command_of (understood schema sql)
-        ≡ Select (record { lets = []; body = of_table l.plain.tree [] project order }) names)
-        × (reads_listing schema sql ≡ false)
-    pub plain : IsPlain (understood schema sql)
+    pub means : Means schema sql lists
     pub ordered_as : (id : ℤ) (k : K) (v : V) (id′ : ℤ) (k′ : K) (v′ : V)
-        → output_cmp (of_table l.plain.tree [] project order)
-        (output (of_table l.plain.tree [] project order) (env_of [] (l.row id k v)))
-        (output (of_table l.plain.tree [] project order) (env_of [] (l.row id′ k′ v′))) ≡ l.cmp
-        k k′
+        → output_cmp q (output q (env_of [] (table_row l id k v)))
+        (output q (env_of [] (table_row l id′ k′ v′))) ≡ l.cmp k k′
     pub shows : (id : ℤ) (k : K) (v : V)
-        → l.entry (Null ∷ (output (of_table l.plain.tree [] project order)
-        (env_of [] (l.row id k v))).1) ≡ (k, v)
+        → l.entry (Null ∷ (output q (env_of [] (table_row l id k v))).1) ≡ (k, v)
 
   module _ (sql : List ℕ) (text : ListText sql) where
-    abbrev q : Query
-    q = of_table l.plain.tree [] text.project text.order
-
     abbrev shown_of : Row → Output
     shown_of r = output q (env_of [] r)
 
@@ -210,16 +220,16 @@ module _ (schema : Schema) {K V : Type 0} (l : Layout K V) (f : Facts schema l) 
           let s = is_out y k in
           let tr = are.typed r.0 r.1 in
           let ts = are.typed s.0 s.1 in
-          let xs : x ≡ shown_of (l.row tr.0 tr.1 tr.2) = r.2 ∙ ap shown_of tr.3 in
-          let ys : y ≡ shown_of (l.row ts.0 ts.1 ts.2) = s.2 ∙ ap shown_of ts.3 in
-          let kx : tr.1 ≡ (entry (shown_of (l.row tr.0 tr.1 tr.2))).0 =
+          let xs : x ≡ shown_of (table_row l tr.0 tr.1 tr.2) = r.2 ∙ ap shown_of tr.3 in
+          let ys : y ≡ shown_of (table_row l ts.0 ts.1 ts.2) = s.2 ∙ ap shown_of ts.3 in
+          let kx : tr.1 ≡ (entry (shown_of (table_row l tr.0 tr.1 tr.2))).0 =
           sym (ap (λ (e : K × V). e.0) (text.shows tr.0 tr.1 tr.2)) in
-          let ky : ts.1 ≡ (entry (shown_of (l.row ts.0 ts.1 ts.2))).0 =
+          let ky : ts.1 ≡ (entry (shown_of (table_row l ts.0 ts.1 ts.2))).0 =
           sym (ap (λ (e : K × V). e.0) (text.shows ts.0 ts.1 ts.2)) in
           subst₂ (λ (p q′ : Output). output_cmp q p q′ ≡ l.cmp (entry p).0 (entry q′).0) (sym xs)
           (sym ys)
-          (subst₂ (λ a b. output_cmp q (shown_of (l.row tr.0 tr.1 tr.2))
-          (shown_of (l.row ts.0 ts.1 ts.2)) ≡ l.cmp a b) kx ky (text.ordered_as tr.0 tr.1 tr.2
+          (subst₂ (λ a b. output_cmp q (shown_of (table_row l tr.0 tr.1 tr.2))
+          (shown_of (table_row l ts.0 ts.1 ts.2)) ≡ l.cmp a b) kx ky (text.ordered_as tr.0 tr.1 tr.2
           ts.0 ts.1 ts.2))
 
       entries_shown : (all : List Row) → ((r : Row) → Has all r → Has rows r)
@@ -250,7 +260,7 @@ module _ (schema : Schema) {K V : Type 0} (l : Layout K V) (f : Facts schema l) 
         → Reads (command_of (understood schema sql)) db [] rows
         → map (λ r. l.entry (Null ∷ r)) rows ≡ entries (map_of l (db.trees l.plain.tree))
     lists_all db rows lives h =
-        let a = (subst (λ k. Reads k db [] rows) text.is.0 h).answer Null in
+        let a = (subst (λ k. Reads k db [] rows) text.means.is h).answer Null in
         let all = overlay db.trees [] l.plain.tree in
         let base = f.based db.trees in
         let are : AreRows l all = subst (AreRows l) (sym base) (rows_in schema l f db lives) in

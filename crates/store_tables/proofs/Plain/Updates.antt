@@ -41,14 +41,16 @@ use Rattle.sqlite.proofs.Callers.{IsPlain, command_of, statement_of, runs_as, on
 use Rattle.std.proofs.lemmas.Bool.{and_parts}
 use Rattle.store_tables.specs.Plain.{Plain, table_of}
 use Rattle.store_tables.specs.Entries.{Layout, map_of}
+use Rattle.store_tables.specs.Inner.Rows.{table_row}
 use Rattle.store_tables.proofs.Plain.Values.{left_shaped}
 use Rattle.store_model.proofs.Keys.{tied}
 use Rattle.store_tables.proofs.Plain.Maps.{left_out, left_in, Puts, put_is}
 use Rattle.store_tables.proofs.Plain.Ordered.{moved}
-use Rattle.store_tables.proofs.Plain.Writes.{AreShaped, Spares, went, same_value, concluded}
+use Rattle.store_tables.proofs.Plain.Writes.{AreShaped, Spares, spared, went, same_value, concluded}
 use Rattle.store_tables.proofs.Plain.Writes.{still_shaped}
-use Rattle.store_tables.proofs.Plain.Facts.{Facts, Lives, AreRows, rows_in, key_is}
-use Rattle.store_tables.proofs.Plain.Queries.{of_table, env_of, passes, answer_picks, nothing_left}
+use Rattle.store_tables.proofs.Plain.Facts.{Facts, Lives, AreRows, Turns, rows_in, key_is, stands}
+use Rattle.store_tables.proofs.Plain.Queries.{Means, program_of, of_table, env_of, passes}
+use Rattle.store_tables.proofs.Plain.Queries.{answer_picks, nothing_left}
 
 -- rowids that are given stay
 given_stay : (rows news : List Row) → numbered Given rows news ≡ news
@@ -120,7 +122,8 @@ module _ (schema : Schema) (p : Plain) where
           rows = ap (λ (t : Trees). t p.tree) trees ∙ it.rows ∙ ap (put_all left) news;
           fresh = ap (are_fresh left) (sym news) ∙ it.fresh;
           keyed = ap have_rowids (sym news) ∙ it.keyed;
-          tables = subst (Spares schema p old.now.trees) (sym trees) it.tables;
+          tables = subst (Spares schema p old.now.trees) (sym trees)
+              (spared schema p old.now.trees step.0 it.tables);
         },
       )
 
@@ -132,46 +135,43 @@ module _ (schema : Schema) (p : Plain) where
       (left_shaped (old p.tree) (ids_of found) here)))
 
 -- the text sets the value of the row of a key
-pub record SetText (schema : Schema) {K V : Type 0} (l : Layout K V) (sql : List ℕ) (params : K →
-    V → Row) : Type 0 where
+pub record SetText (schema : Schema) {K V : Type 0} (l : Layout K V) (sql : List ℕ) : Type 0 where
   pub at : ℕ
   pub test : List Term
   pub project : List Term
   pub placed : slice_get schema.tables at ≡ Some (table_of l.plain)
   pub still : IsStill schema l.plain
-  pub is : command_of (understood schema sql)
-      ≡ Update at (record { lets = []; body = of_table l.plain.tree test project [] })
-  pub plain : IsPlain (understood schema sql)
+  pub means : Means schema sql (Update at (program_of (of_table l.plain.tree test project [])))
   pub by_key : (id : ℤ) (k key : K) (v value : V)
-      → passes test (params key value) (l.row id k v) ≡ eq_by_cmp l.cmp k key
+      → passes test (l.values key value) (table_row l id k v) ≡ eq_by_cmp l.cmp k key
   pub numbers : (key : K) (value : V) (r : Row)
-      → rowid (output (of_table l.plain.tree test project []) (env_of (params key value) r)).1
+      → rowid (output (of_table l.plain.tree test project []) (env_of (l.values key value) r)).1
       ≡ rowid r
-  pub stored : (id : ℤ) (k key : K) (v value : V)
-      → cast_row (table_of l.plain) (drop 1 (output (of_table l.plain.tree test project [])
-      (env_of (params key value) (l.row id k v))).1) ≡ l.row id k value
+  pub over : (id : ℤ) (k key : K) (v value : V)
+      → drop 1 (output (of_table l.plain.tree test project [])
+      (env_of (l.values key value) (table_row l id k v))).1 ≡ table_row l id k value
 
 module _ (schema : Schema) {K V : Type 0} (l : Layout K V) (f : Facts schema l) (sql : List ℕ)
-    (params : K → V → Row) (text : SetText schema l sql params) where
+    (text : SetText schema l sql) where
   abbrev out : K → V → Row → Row
   out key value r = (output (of_table l.plain.tree text.test text.project [])
-      (env_of (params key value) r)).1
+      (env_of (l.values key value) r)).1
 
   -- what was found, where one row was: that row, with the value
   pub record FindsRow (rows found : List Row) (key : K) (value : V) : Type 0 where
     pub sound : (x : Row) → Has found x → (r : Row) × Has rows r
-        × (passes text.test (params key value) r ≡ true) × (x ≡ out key value r)
-    pub complete : (r : Row) → Has rows r → passes text.test (params key value) r ≡ true
+        × (passes text.test (l.values key value) r ≡ true) × (x ≡ out key value r)
+    pub complete : (r : Row) → Has rows r → passes text.test (l.values key value) r ≡ true
         → Has found (out key value r)
 
   finds : (db : Trees) (found : List Row) (key : K) (value : V)
-      → IsAnswer (of_table l.plain.tree text.test text.project []) db (params key value) found
+      → IsAnswer (of_table l.plain.tree text.test text.project []) db (l.values key value) found
       → FindsRow (db l.plain.tree) found key value
   finds db found key value a =
       let rows = db l.plain.tree in
-      let picks = passes text.test (params key value) in
+      let picks = passes text.test (l.values key value) in
       let same : IsPermutation (map (out key value) (filter picks rows)) found =
-      answer_picks l.plain.tree text.test text.project db (params key value) found a in
+      answer_picks l.plain.tree text.test text.project db (l.values key value) found a in
       record {
         sound = λ x h.
             let r = has_mapped (out key value) (filter picks rows) x
@@ -189,28 +189,29 @@ module _ (schema : Schema) {K V : Type 0} (l : Layout K V) (f : Facts schema l) 
   over key value r = cast_row (table_of l.plain) (drop 1 (out key value r))
 
   passed_key : (rows : List Row) (key : K) (value : V) (r : Row) → AreRows l rows → Has rows r
-      → passes text.test (params key value) r ≡ eq_by_cmp l.cmp (l.entry r).0 key
+      → passes text.test (l.values key value) r ≡ eq_by_cmp l.cmp (l.entry r).0 key
   passed_key rows key value r are here =
       let t = are.typed r here in
-      ap (passes text.test (params key value)) t.3 ∙ text.by_key t.0 t.1 key t.2 value ∙ ap
+      ap (passes text.test (l.values key value)) t.3 ∙ text.by_key t.0 t.1 key t.2 value ∙ ap
       (λ k. eq_by_cmp l.cmp k key) (sym (key_is schema l f r t))
 
   -- it has the key, and the value
   over_is : (rows : List Row) (key : K) (value : V) (r : Row) → AreRows l rows → Has rows r
-      → passes text.test (params key value) r ≡ true → l.entry (over key value r) ≡ (key, value)
+      → passes text.test (l.values key value) r ≡ true → l.entry (over key value r) ≡ (key, value)
   over_is rows key value r are here passed =
       let t = are.typed r here in
       let own : (l.entry r).0 ≡ key = f.exact _ _ (tied _ (sym (passed_key rows key value r are
       here) ∙ passed)) in
-      let is_row : over key value r ≡ l.row t.0 t.1 value = ap (over key value) t.3 ∙
-      text.stored t.0 t.1 key t.2 value in
+      let is_row : over key value r ≡ table_row l t.0 t.1 value = ap (over key value) t.3 ∙
+      ap (cast_row (table_of l.plain)) (text.over t.0 t.1 key t.2 value) ∙ stands schema l f t.0 t.1
+      value in
       ap l.entry is_row ∙ f.reads t.0 t.1 value ∙ ap (λ (k : K). (k, value))
       (sym (key_is schema l f r t) ∙ own)
 
   -- the row of a key, with another value
   row_put : (old new found : List Row) (key : K) (value : V) (r : Row) → AreRows l old
       → FindsRow old found key value → Has old r
-      → passes text.test (params key value) r ≡ true
+      → passes text.test (l.values key value) r ≡ true
       → are_fresh (without_all old (ids_of found)) (written schema l.plain found) ≡ true
       → new ≡ put_all (without_all old (ids_of found)) (written schema l.plain found)
       → Puts f.total f.exact l.entry old new (over key value r)
@@ -219,7 +220,7 @@ module _ (schema : Schema) {K V : Type 0} (l : Layout K V) (f : Facts schema l) 
       let news = written schema l.plain found in
       let stand : Row → Row = λ s. cast_row (table_of l.plain) (drop 1 s) in
       let row = over key value r in
-      let test = passes text.test (params key value) in
+      let test = passes text.test (l.values key value) in
       let by = λ (x : Row) (h : Has old x). passed_key old key value x are h in
       let own : (l.entry r).0 ≡ key = f.exact _ _ (tied _ (sym (by r here) ∙ passed)) in
       let row_key : (l.entry row).0 ≡ key = ap (λ (e : K × V). e.0) (over_is old key value r are
@@ -265,38 +266,43 @@ module _ (schema : Schema) {K V : Type 0} (l : Layout K V) (f : Facts schema l) 
   first_of (x ∷ found) some = (x, inl refl)
 
   pub sets_row : (key : K) (value : V) (old new : State) (count : ℕ) → Lives schema old.now
-      → Executes sql (params key value) old new (Ok count)
-      → Lives schema new.now × Spares schema l.plain old.now.trees new.now.trees
-      × (count ≡ 0 → map_of l (new.now.trees l.plain.tree)
-      ≡ map_of l (old.now.trees l.plain.tree))
-      × (0 < count → map_of l (new.now.trees l.plain.tree)
-      ≡ insert (map_of l (old.now.trees l.plain.tree)) key value)
+      → Executes sql (l.values key value) old new (Ok count)
+      → (count ≡ 0 → Turns schema l old.now new.now (map_of l (old.now.trees l.plain.tree)))
+      × (0 < count → Turns schema l old.now new.now
+      (insert (map_of l (old.now.trees l.plain.tree)) key value))
   sets_row key value old new count lives h =
       let rows = old.now.trees l.plain.tree in
       let after = new.now.trees l.plain.tree in
-      let done = updates schema l.plain text.at sql (params key value) _ old new count text.placed
-      text.still text.is text.plain lives.schema_is h in
+      let done = updates schema l.plain text.at sql (l.values key value) _ old new count text.placed
+      text.still text.means.is text.means.plain lives.schema_is h in
       let found = done.0 in
       let it = done.5 in
       let are = rows_in schema l f old.now lives in
       let all = subst (λ rows. FindsRow rows found key value) (f.based old.now.trees)
-      (finds (overlay old.now.trees []) found key value (done.3.answer Null)) in (
-        record {
-          schema_is = done.1;
-          sound = done.2;
-          ordered = updated_shaped schema l.plain old.now.trees new.now.trees found lives.ordered
-              are.shaped it;
-        },
-        it.tables,
+      (finds (overlay old.now.trees []) found key value (done.3.answer Null)) in
+      let now : Lives schema new.now = record {
+        schema_is = done.1;
+        sound = done.2;
+        ordered = updated_shaped schema l.plain old.now.trees new.now.trees found lives.ordered
+            are.shaped it;
+      } in (
         λ none.
             let nothing = nothing_left found (sym done.4 ∙ none) in
-            ap (map_of l) (it.rows ∙ ap (λ fs. put_all (without_all rows (ids_of fs))
-            (written schema l.plain fs)) nothing),
+            record {
+              lives = now;
+              others = it.tables;
+              map = ap (map_of l) (it.rows ∙ ap (λ fs. put_all (without_all rows (ids_of fs))
+                  (written schema l.plain fs)) nothing);
+            },
         λ some.
             let x = first_of found (subst (λ n. 0 < n) done.4 some) in
             let r = all.sound x.0 x.1 in
             let put = row_put rows after found key value r.0 are all r.1 r.2 it.fresh it.rows in
-            put_is f.total f.exact l.entry rows after (over key value r.0) are.apart put ∙ ap
-            (λ (e : K × V). insert (map_of l rows) e.0 e.1) (over_is rows key value r.0 are r.1
-            r.2),
+            record {
+              lives = now;
+              others = it.tables;
+              map = put_is f.total f.exact l.entry rows after (over key value r.0) are.apart put ∙
+                  ap (λ (e : K × V). insert (map_of l rows) e.0 e.1) (over_is rows key value r.0
+                  are r.1 r.2);
+            },
       )

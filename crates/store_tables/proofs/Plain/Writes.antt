@@ -22,7 +22,7 @@ use Rattle.sqlite_rules.specs.Calls.{ids_of}
 use Rattle.sqlite_rules.specs.Edit.{edit_of, taken_by, with_rowid, without_all, are_fresh}
 use Rattle.sqlite_rules.specs.Edit.{have_rowids}
 use Rattle.sqlite_rules.specs.Action.{works}
-use Rattle.sqlite_rules.proofs.ListLemmas.{all_has, all_from}
+use Rattle.sqlite_rules.proofs.ListLemmas.{all_has}
 use Rattle.sqlite_rules.proofs.ActionLemmas.{no_works}
 use Rattle.sqlite.specs.declared.error.Error.{Error}
 use Rattle.sqlite.specs.Effect.{Database, Answers, value_rows}
@@ -59,11 +59,13 @@ module _ (schema : Schema) (p : Plain) where
 
   -- each other table is as it was
   abbrev pub Spares : Trees → Trees → Type 0
-  Spares old new = AllByRecursion (λ t. t.tree ≢ p.tree → new t.tree ≡ old t.tree) schema.tables
+  Spares old new = (t : Table) → Has schema.tables t → t.tree ≢ p.tree → new t.tree ≡ old t.tree
 
-  spares_again : (a b c : Trees) → Spares a b → Spares b c → Spares a c
-  spares_again a b c h k = all_from _ schema.tables (λ t listed apart. all_has _ schema.tables t k
-      listed apart ∙ all_has _ schema.tables t h listed apart)
+  -- the same from what is said table by table
+  pub spared : (old new : Trees)
+      → AllByRecursion (λ t. t.tree ≢ p.tree → new t.tree ≡ old t.tree) schema.tables
+      → Spares old new
+  spared old new each = λ t. all_has _ schema.tables t each
 
   -- the row was put beside those that do not conflict with it
   pub record Replaced (old : Trees) (row : Row) (new : Trees) : Type 0 where
@@ -110,7 +112,7 @@ module _ (schema : Schema) (p : Plain) where
           fresh = it.fresh;
           keyed =
               it.keyed;
-          tables = subst (Spares db) (sym is) it.tables;
+          tables = subst (Spares db) (sym is) (spared db step.0 it.tables);
         }
 
     clears : (row : Row) (db : Trees) (found : List Row) (w : Written)
@@ -138,7 +140,8 @@ module _ (schema : Schema) (p : Plain) where
           rows = put.rows ∙ ap (put_row (cast_row table row)) it.rows;
           fresh = subst (λ rows. are_fresh rows (cast_row table row ∷ []) ≡ true) it.rows put.fresh;
           keyed = put.keyed;
-          tables = spares_again db step.0 w.trees it.tables put.tables;
+          tables = λ t listed apart. put.tables t listed apart
+              ∙ spared db step.0 it.tables t listed apart;
         }
 
     judged : (row : Row) (db : Trees) (verdict : Option Refusal) (w : Written)
@@ -152,23 +155,23 @@ module _ (schema : Schema) (p : Plain) where
     tries row db w (inr h) = judged row db h.0 w h.2
 
     -- the row that a source is made
-    abbrev pub row_of : Trees → Row → Row
-    row_of db source = with_rowid Chosen (db p.tree) (cast_row table (mended Replace table source))
+    abbrev pub table_row : Trees → Row → Row
+    table_row db source = with_rowid Chosen (db p.tree) (cast_row table (mended Replace table source))
 
     each : (source : Row) (top : ℤ) (db : Trees) (out : Written × ℤ)
         → TriesEach task Replace [] (source ∷ []) top (nothing db) (Ok out)
-        → Replaced db (row_of db source) out.0.trees
+        → Replaced db (table_row db source) out.0.trees
     each source top db out h =
         let step = went h in
         let ok : ◌≡◌ {A = Result (Written × ℤ) (Option Error)} (Ok out) (Ok _) = step.2 in
-        subst (Replaced db (row_of db source))
-        (sym (ap (λ (x : Written × ℤ). x.0.trees) (same_value ok))) (tries (row_of db source) db
+        subst (Replaced db (table_row db source))
+        (sym (ap (λ (x : Written × ℤ). x.0.trees) (same_value ok))) (tries (table_row db source) db
         step.0 step.1)
 
     inserts_or : (terms : List Term) (width : ℕ) (source : Row) (db : Trees) (w : Written)
         → value_rows (params ++ []) width (length terms / width) terms ≡ source ∷ []
         → InsertsOr task Replace [] (Values terms width) db (Ok w)
-        → Replaced db (row_of db source) w.trees
+        → Replaced db (table_row db source) w.trees
     inserts_or terms width source db w one h =
         let given = went h in
         let counter = went given.2 in
@@ -180,7 +183,7 @@ module _ (schema : Schema) (p : Plain) where
         let top = count_of counter.0 in
         let it = each source top db all.0 (subst (λ rs. TriesEach task Replace [] rs top
         (nothing db) (Ok all.0)) rows all.1) in
-        subst (Replaced db (row_of db source)) (sym (ap (λ (x : Written). x.trees) (same_value last)
+        subst (Replaced db (table_row db source)) (sym (ap (λ (x : Written). x.trees) (same_value last)
         ∙ same_value next)) it
 
   pub concluded : (limit : Option ℕ) (params : Row) (mode : Mode) (w : Written) (tally : Tally)
@@ -290,7 +293,7 @@ module _ (schema : Schema) (p : Plain) where
         rows = ap (λ (t : Trees). t p.tree) is ∙ it.rows;
         fresh = it.fresh;
         keyed = it.keyed;
-        tables = subst (Spares db) (sym is) it.tables;
+        tables = subst (Spares db) (sym is) (spared db step.0 it.tables);
       }
 
   pub inserts : (at : ℕ) (sql : List ℕ) (params source : Row) (terms : List Term) (width : ℕ)
@@ -331,7 +334,7 @@ module _ (schema : Schema) (p : Plain) where
     | inl same ↦ subst (λ at. IsShaped shape.Table (new at)) (sym (eqb-true t.tree p.tree same))
         here
     | inr other ↦ subst (IsShaped shape.Table)
-        (sym (all_has _ schema.tables t spares h (λ e. eqb-false t.tree p.tree other e)))
+        (sym (spares t h (λ e. eqb-false t.tree p.tree other e)))
         (shaped t h)
   ]
 
@@ -388,7 +391,7 @@ module _ (schema : Schema) (p : Plain) where
         record {
           rows = ap (λ (t : Trees). t p.tree) trees ∙ it.rows;
           tables =
-              subst (Spares old.now.trees) (sym trees) it.tables;
+              subst (Spares old.now.trees) (sym trees) (spared old.now.trees step.0 it.tables);
         },
       )
 

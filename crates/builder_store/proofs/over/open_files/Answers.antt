@@ -8,8 +8,8 @@ use Rattle.sqlite_wal.specs.Files.{image_at}
 use Rattle.builder_store.proofs.Rising.{tables_rise}
 use Rattle.builder_store.proofs.over.open_files.Goals as goal
 
-pub returns-in-Ok : goal.returns-in-Ok
-returns-in-Ok g c =
+pub returns-in-Ok-clause-made : goal.returns-in-Ok-clause-made
+returns-in-Ok-clause-made g c =
     let s = file_state c.in-Ok.conn in
     let found = c.in-Ok.ensures.found in
     record {

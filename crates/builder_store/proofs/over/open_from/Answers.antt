@@ -1,25 +1,41 @@
-use Rattle.std.proofs.Common.{arith}
+use Rattle.std.proofs.Common.{arith, inl, inr, subst, sym}
 use Rattle.sqlite.specs.Files.{file_state}
 use Rattle.sqlite.specs.State.{HasCleanDisk}
+use Rattle.builder_store.specs.Opening.{IsOpenedAs}
 use Rattle.builder_store.proofs.over.open_from.Goals as goal
 
 pub over-requires : goal.over-requires
-over-requires g c = c.in-Ok.ensures.made
+over-requires g c = c.in-Ok.ensures.made.made
 
 pub returns-in-Ok-over-clause-limit : goal.returns-in-Ok-over-clause-limit
-returns-in-Ok-over-clause-limit g c = c.in-Ok-over.ensures.limit
+returns-in-Ok-over-clause-limit g c = c.in-Ok-over.ensures.begins.limit
 
 pub returns-in-Ok-over-clause-faults : goal.returns-in-Ok-over-clause-faults
-returns-in-Ok-over-clause-faults g c = c.in-Ok-over.ensures.faults
+returns-in-Ok-over-clause-faults g c = c.in-Ok-over.ensures.begins.faults
 
 pub returns-in-Ok-over-clause-found : goal.returns-in-Ok-over-clause-found
 returns-in-Ok-over-clause-found g c = λ clean.
     let before : HasCleanDisk (file_state c.in-Ok.conn) = omega
-    (arith, c.in-Ok-over.ensures.clean, clean) in
-    let found = c.in-Ok.ensures.found before in
+    (arith, c.in-Ok-over.ensures.begins.clean, clean) in
+    let found = c.in-Ok.ensures.made.found before in
     record {
       trees = (file_state c.in-Ok.conn).committed.trees;
       holds = found.holds;
       reads = found.reads;
-      opens = c.in-Ok-over.ensures.found clean;
+      opens = c.in-Ok-over.ensures.begins.found clean;
     }
+
+pub returns-in-Err-clause-bad : goal.returns-in-Err-clause-bad
+returns-in-Err-clause-bad g c = c.in-Err.ensures.fault
+
+pub returns-in-Err-over-clause-bad : goal.returns-in-Err-over-clause-bad
+returns-in-Err-over-clause-bad g c = λ bad clean db held content opened.
+    let before : HasCleanDisk (file_state c.in-Ok.conn) = omega
+    (arith, c.in-Err-over.ensures.refused.clean, clean) in
+    let found = c.in-Ok.ensures.made.found before in
+    let as_it_was : IsOpenedAs (file_state c.in-Ok.conn).committed.trees content =
+    subst (λ t. IsOpenedAs t content) (sym (found.holds db held)) opened in
+    elim bad [
+      | inl rows ↦ c.in-Err-over.ensures.refused.rows rows clean content as_it_was
+      | inr tables ↦ c.in-Err-over.ensures.refused.tables tables clean as_it_was.0 as_it_was.1
+    ]

@@ -5,4 +5,4 @@ use Rattle.file_stores.proofs.making.make_store.Goals as goal
 pub returns-clause-made : goal.returns-clause-made
 returns-clause-made g c = is_made _ _ c.close_store.result c.in-Ok.keeper
     (c.in-Ok.ensures.limit ∙ c.full.ensures.numbers) c.in-Ok.ensures.faults c.in-Ok.ensures.made
-    c.stands.ensures.left
+    c.close_store.ensures.ended

@@ -4,6 +4,7 @@ use Rattle.std.specs.Io.KnownBytes.{Consumes}
 use Rattle.line_stream.specs.Answers.{Answered}
 use Rattle.byte_streams.specs.Counted.{read_faults, reader_of, reads_left, write_faults, writer_of}
 use Rattle.line_stream.specs.Inner.Midway.{IsMidway}
+use Rattle.line_stream.specs.Inner.Steps.{line_place}
 use Rattle.line_stream.proofs.serving.serve_lines.Given as goal
 
 abbrev pub invariant-loop-chunk : goal.invariant-loop-chunk
@@ -11,10 +12,8 @@ invariant-loop-chunk g l = record {
   room : vec_len l.chunk ≡ chunk_size;
   came : (bytes : List ℕ) × Consumes (g.R.Read.remaining (reader_of l.fn.reader))
       (g.R.Read.remaining (reader_of l.reader)) bytes
-      × IsMidway (Answered g.H.Handler.answers g.H.Handler.loses g.H.Handler.no_memory
-      g.H.Handler.too_long)
-      bytes (g.W.Write.contents (writer_of l.fn.writer)) (g.W.Write.contents (writer_of l.writer))
-      l.fn.state l.state l.progress.line l.progress.outbox l.progress.answered;
+      × IsMidway (Answered g.H.Handler) bytes (g.W.Write.contents (writer_of l.fn.writer))
+      l.fn.state (line_place g.W.Write.contents l.progress l.state l.writer);
   reads : read_faults l.reader ≡ read_faults l.fn.reader;
   writes : write_faults l.writer ≡ write_faults l.fn.writer;
 }

@@ -1,27 +1,32 @@
 use Rattle.std.proofs.Common.{inl, inr}
 use Rattle.std.proofs.lemmas.Result.{IfErr-weaker, err_from_is_err_and}
+use Rattle.programs.specs.Begun.{IsClosed, WasClosed}
 use Rattle.programs.proofs.Runs.{at_err, at_ok}
-use Rattle.programs.proofs.Services.{on_ok}
-use Rattle.programs.proofs.Kept.{answers_kept, stops_kept}
+use Rattle.programs.proofs.Kept.{answers_kept, on_closed, stops_kept}
 use Rattle.programs.proofs.lines.run_over_store.Goals as goal
 
 pub returns-clause-answered : goal.returns-clause-answered
 returns-clause-answered g c = let ran = c.answer_lines-answered in
-    on_ok _ _
-    (answers_kept g.S.Kept.Keeper g.S.Stores.begins c.in_ok-keeper.keeper c.in_ok-keeper.ensures.begins _ g.R.Read.remaining g.W.Write.contents
+    on_closed c.close-closed.result (g.S.Stores.ends ran.result.1) _
+    (λ ended. answers_kept g.S.Kept.Keeper _ (IsClosed g.S.Stores.ends) c.in_ok-keeper.keeper
+    ran.result.1
+    c.in_ok-keeper.ensures.begins ended g.R.Read.remaining g.W.Write.contents
     c.args.reader.now ran.new.reader c.args.writer.now ran.new.writer
     (at_ok ran.result.0 _ _ c.in_ok-answered.was ran.ensures.answered))
+    c.close-closed.ensures.ends
 
 pub returns-clause-failed : goal.returns-clause-failed
 returns-clause-failed g c = let ran = c.answer_lines-answered in
     IfErr-weaker c.close-closed.result _ _
     (λ why is. inr (inr (
       is,
-      answers_kept g.S.Kept.Keeper g.S.Stores.begins c.in_ok-keeper.keeper c.in_ok-keeper.ensures.begins _ g.R.Read.remaining g.W.Write.contents
+      answers_kept g.S.Kept.Keeper _ (WasClosed g.S.Stores.ends) c.in_ok-keeper.keeper ran.result.1
+          c.in_ok-keeper.ensures.begins (c.close-closed.result, c.close-closed.ensures.ends)
+          g.R.Read.remaining g.W.Write.contents
           c.args.reader.now ran.new.reader c.args.writer.now ran.new.writer
           (at_ok ran.result.0 _ _ c.in_ok-answered.was ran.ensures.answered),
     )))
-    c.close-closed.ensures
+    c.close-closed.ensures.fault
 
 pub returns-in_err-answered-clause-failed : goal.returns-in_err-answered-clause-failed
 returns-in_err-answered-clause-failed g c =
@@ -31,7 +36,9 @@ returns-in_err-answered-clause-failed g c =
     rw (p.1) (inl (
       c.in_err-answered.field-0.0,
       p.2,
-      stops_kept g.S.Kept.Keeper g.S.Stores.begins c.in_ok-keeper.keeper c.in_ok-keeper.ensures.begins _ g.R.Read.remaining g.W.Write.contents
+      stops_kept g.S.Kept.Keeper _ (WasClosed g.S.Stores.ends) c.in_ok-keeper.keeper ran.result.1
+          c.in_ok-keeper.ensures.begins (c.close-closed.result, c.close-closed.ensures.ends)
+          g.R.Read.remaining g.W.Write.contents
           c.args.reader.now ran.new.reader c.args.writer.now ran.new.writer
           c.in_err-answered.field-0.0
           (at_err ran.result.0 c.in_err-answered.field-0.0 _ c.in_err-answered.was ran.ensures.stopped),

@@ -10,27 +10,31 @@ returns-in-Import-clause-failed g c = rw c.in-Import.is (failed_asked
     (λ why form same. inl (form, refl, same)) (λ why f. inr (refl, f)) c.import.ensures.failed)
 
 pub returns-in_ok-serve_store-in-Serve-clause-ended : goal.returns-in_ok-serve_store-in-Serve-clause-ended
-returns-in_ok-serve_store-in-Serve-clause-ended g c = ends_as _ _ _ g.R.Read.remaining g.W.Write.contents
-    c.args.reader.now c.args.reader.now c.args.writer.now c.args.writer.now _ _ _ _ c.in-Serve.is
-    (refl, refl, c.in_ok-serve_store-in-Serve.ensures.served)
+returns-in_ok-serve_store-in-Serve-clause-ended g c =
+    ends_as _ g.S.Kept.Keeper g.S.Stores.begins g.S.Stores.ends g.R.Read.remaining g.W.Write.contents
+    c.args.reader.now c.args.reader.now c.args.writer.now c.args.writer.now g.S.Stores.is_made _ _ _
+    c.in-Serve.is (refl, refl, c.in_ok-serve_store-in-Serve.ensures.served)
 
 pub returns-in_err-serve_store-in-Serve-clause-failed : goal.returns-in_err-serve_store-in-Serve-clause-failed
 returns-in_err-serve_store-in-Serve-clause-failed g c =
     let p = err_from_is_err_and c.from_residual-in_err-serve_store-in-Serve.result
     c.from_residual-in_err-serve_store-in-Serve.ensures.1 in
-    rw (p.1, p.2) (fails_as _ _ _ g.R.Read.remaining g.W.Write.contents
-    c.args.reader.now c.args.reader.now c.args.writer.now c.args.writer.now _ _ _ c.in-Serve.is
+    rw (p.1, p.2) (fails_as _ g.S.Kept.Keeper g.S.Stores.begins g.S.Stores.ends g.R.Read.remaining
+    g.W.Write.contents c.args.reader.now c.args.reader.now c.args.writer.now c.args.writer.now
+    g.S.Stores.refuses g.S.Stores.is_unmade _ _ _ c.in-Serve.is
     (inr (refl, refl, c.in_err-serve_store-in-Serve.ensures.failed)))
 
 pub returns-in_ok-loop_bytes-in-Loop-clause-ended : goal.returns-in_ok-loop_bytes-in-Loop-clause-ended
-returns-in_ok-loop_bytes-in-Loop-clause-ended g c = ends_as _ _ _ g.R.Read.remaining g.W.Write.contents
-    c.args.reader.now c.args.reader.now c.args.writer.now c.loop_bytes.new.writer _ _ _ _
-    c.in-Loop.is (refl, c.in_ok-loop_bytes-in-Loop.ensures.done)
+returns-in_ok-loop_bytes-in-Loop-clause-ended g c =
+    ends_as _ g.S.Kept.Keeper g.S.Stores.begins g.S.Stores.ends g.R.Read.remaining g.W.Write.contents
+    c.args.reader.now c.args.reader.now c.args.writer.now c.loop_bytes.new.writer g.S.Stores.is_made
+    _ _ _ c.in-Loop.is (refl, c.in_ok-loop_bytes-in-Loop.ensures.done)
 
 pub returns-in_err-loop_bytes-in-Loop-clause-failed : goal.returns-in_err-loop_bytes-in-Loop-clause-failed
 returns-in_err-loop_bytes-in-Loop-clause-failed g c =
     let p = err_from_is_err_and c.from_residual-in_err-loop_bytes-in-Loop.result
     c.from_residual-in_err-loop_bytes-in-Loop.ensures.1 in
-    rw (p.1, p.2) (fails_as _ _ _ g.R.Read.remaining g.W.Write.contents
-    c.args.reader.now c.args.reader.now c.args.writer.now c.loop_bytes.new.writer _ _ _
-    c.in-Loop.is (inr (refl, c.in_err-loop_bytes-in-Loop.ensures.failed)))
+    rw (p.1, p.2) (fails_as _ g.S.Kept.Keeper g.S.Stores.begins g.S.Stores.ends g.R.Read.remaining
+    g.W.Write.contents c.args.reader.now c.args.reader.now c.args.writer.now c.loop_bytes.new.writer
+    g.S.Stores.refuses g.S.Stores.is_unmade _ _ _ c.in-Loop.is
+    (inr (refl, c.in_err-loop_bytes-in-Loop.ensures.failed)))

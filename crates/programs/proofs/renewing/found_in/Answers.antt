@@ -1,5 +1,5 @@
 use Rattle.std.proofs.Common.{refl}
-use Rattle.std.proofs.lemmas.Result.{IfOk-weaker}
+use Rattle.std.proofs.lemmas.Result.{IfErr-weaker, IfOk-weaker}
 use Rattle.programs.proofs.renewing.found_in.Goals as goal
 
 pub returns-clause-found : goal.returns-clause-found
@@ -9,9 +9,28 @@ returns-clause-found g c = let read = c.rings_and_hour-found in
       keeper = c.args.keeper;
       later = read.new.keeper;
       opened = refl;
+      ended = refl;
       stays_sound = read.ensures.sound;
       stays = read.ensures.content;
       left = read.ensures.left;
       is_so = is_so;
     })
     read.ensures.found
+
+pub returns-clause-fault : goal.returns-clause-fault
+returns-clause-fault g c = let read = c.rings_and_hour-found in
+    IfErr-weaker read.result _ _
+    (λ why fault. (
+      fault,
+      record {
+        keeper = c.args.keeper;
+        later = read.new.keeper;
+        opened = refl;
+        ended = refl;
+        stays_sound = read.ensures.sound;
+        stays = read.ensures.content;
+        left = read.ensures.left;
+        is_so = λ sound. tt;
+      },
+    ))
+    read.ensures.fault

@@ -1,22 +1,41 @@
-use Rattle.std.proofs.Common.{◌∙◌, ap, inr}
-use Rattle.std.proofs.lemmas.Result.{err_from_is_err_and}
+use Rattle.std.proofs.Common.{◌∙◌, ap, inl, inr}
+use Rattle.std.proofs.lemmas.Result.{IfErr-weaker, err_from_is_err_and}
+use Rattle.programs.specs.Begun.{IsClosed, WasClosed}
 use Rattle.programs.specs.Faults.{serve_fault}
-use Rattle.programs.proofs.Services.{match_err, match_ok, on_ok}
-use Rattle.programs.proofs.Services.{kept_served}
+use Rattle.programs.proofs.Kept.{on_closed}
+use Rattle.programs.proofs.Services.{kept_served, match_err, match_ok}
 use Rattle.programs.proofs.serving.serve_store.Goals as goal
 
 pub returns-clause-served : goal.returns-clause-served
-returns-clause-served g c = on_ok _ _
-    (kept_served g.S.Kept.Keeper g.S.Stores.begins c.in_ok-keeper.keeper c.in_ok-keeper.ensures.begins _ c.args.given c.args.names _
-    (match_ok c.serve_port-served.result.0 _ _ _ c.in_ok-served.was c.serve_port-served.ensures))
+returns-clause-served g c = let ran = c.serve_port-served in
+    on_closed c.close-closed.result (g.S.Stores.ends ran.result.1) _
+    (λ ended. kept_served g.S.Kept.Keeper _ (IsClosed g.S.Stores.ends) c.in_ok-keeper.keeper
+    ran.result.1
+    c.in_ok-keeper.ensures.begins ended c.args.given c.args.names _
+    (match_ok ran.result.0 _ _ _ c.in_ok-served.was ran.ensures))
+    c.close-closed.ensures.ends
+
+pub returns-clause-failed : goal.returns-clause-failed
+returns-clause-failed g c = let ran = c.serve_port-served in
+    IfErr-weaker c.close-closed.result _ _
+    (λ why is. inr (inl (
+      is,
+      kept_served g.S.Kept.Keeper _ (WasClosed g.S.Stores.ends) c.in_ok-keeper.keeper ran.result.1
+          c.in_ok-keeper.ensures.begins (c.close-closed.result, c.close-closed.ensures.ends)
+          c.args.given c.args.names _
+          (match_ok ran.result.0 _ _ _ c.in_ok-served.was ran.ensures),
+    )))
+    c.close-closed.ensures.fault
 
 pub returns-in_err-served-clause-failed : goal.returns-in_err-served-clause-failed
 returns-in_err-served-clause-failed g c =
+    let ran = c.serve_port-served in
     let p = err_from_is_err_and c.from_residual-in_err-served.result
     c.from_residual-in_err-served.ensures.1 in
-    let failed = match_err c.serve_port-served.result.0 _ _ _ c.in_err-served.was
-    c.serve_port-served.ensures in
-    rw (p.1) (inr (
+    let failed = match_err ran.result.0 _ _ _ c.in_err-served.was ran.ensures in
+    rw (p.1) (inr (inr (
       p.2 ∙ ap serve_fault failed.0,
-      kept_served g.S.Kept.Keeper g.S.Stores.begins c.in_ok-keeper.keeper c.in_ok-keeper.ensures.begins _ c.args.given c.args.names _ failed.1,
-    ))
+      kept_served g.S.Kept.Keeper _ (WasClosed g.S.Stores.ends) c.in_ok-keeper.keeper ran.result.1
+          c.in_ok-keeper.ensures.begins (c.close-closed.result, c.close-closed.ensures.ends)
+          c.args.given c.args.names _ failed.1,
+    )))

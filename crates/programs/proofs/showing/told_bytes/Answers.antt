@@ -20,7 +20,18 @@ pub returns-clause-fault : goal.returns-clause-fault
 returns-clause-fault g c = let kept = c.kept_bytes-bytes in
     IfErr-weaker kept.result _ _
     (λ why told. elim told [
-      | inl store ↦ inl store
+      | inl store ↦ inl (
+        store,
+        record {
+          keeper = c.args.keeper;
+          later = kept.new.keeper;
+          opened = refl;
+          left = refl;
+          stays_sound = kept.ensures.sound;
+          stays = kept.ensures.content;
+          tells = λ sound. tt;
+        },
+      )
       | inr hides ↦ inr (record {
         keeper = c.args.keeper;
         later = kept.new.keeper;

@@ -5,4 +5,4 @@ use Rattle.ring_messages.proofs.OneText.{one_text}
 use Rattle.ring_messages.proofs.laws.one_text.Goals as goal
 
 pub returns : goal.returns
-returns c = one_text command_data IsProperCommand (SaysCommand 0) readable
+returns c = one_text command_data IsProperCommand SaysCommand readable

@@ -13,7 +13,7 @@ pub returns-in_err-value : goal.returns-in_err-value
 returns-in_err-value c =
     let p = err_from_is_err_and c.from_residual.result c.from_residual.ensures.1 in
     rw (p.1, p.2)
-    (no_value command_data IsProperCommand (SaysCommand 0) readable c.as_bytes.result.now
+    (no_value command_data IsProperCommand SaysCommand readable c.as_bytes.result.now
     c.args.text.now c.in_err-value.field-0.0 c.as_bytes.ensures.utf8 c.as_bytes.ensures.value
     c.in_err-value.ensures)
 
@@ -22,13 +22,13 @@ returns-in_err-command c =
     let r = c.from_residual-in_err-command in
     let p = err_from_is_err_and r.result r.ensures.1 in
     rw (p.1, p.2)
-    (says_none command_data IsProperCommand (SaysCommand 0) readable c.as_bytes.result.now
+    (says_none command_data IsProperCommand SaysCommand readable c.as_bytes.result.now
     c.args.text.now (view c.in_ok-value.value) c.in_err-command.field-0.0 c.in_ok-value.ensures.1
     c.as_bytes.ensures.value c.in_err-command.ensures)
 
 pub returns-then-ne : goal.returns-then-ne
 returns-then-ne c =
-    other_text command_data IsProperCommand (SaysCommand 0) readable c.as_bytes.result.now
+    other_text command_data IsProperCommand SaysCommand readable c.as_bytes.result.now
     c.args.text.now c.as_str.result.now (view c.in_ok-value.value) c.in_ok-command.command
     c.in_ok-value.ensures.1 c.as_bytes.ensures.value c.in_ok-command.ensures
     (c.as_str.ensures.value ∙ c.in_ok-written.ensures)
@@ -39,6 +39,6 @@ returns c =
     let text =
     (bytes_eq-Decides c.as_str.result.now c.args.text.now).0
     (not-false _ (sym c.ne.ensures ∙ c.if-ne.false)) in (
-      command_proper 0 (view c.in_ok-value.value) c.in_ok-command.command c.in_ok-command.ensures,
+      command_proper (view c.in_ok-value.value) c.in_ok-command.command c.in_ok-command.ensures,
       sym text ∙ c.as_str.ensures.value ∙ c.in_ok-written.ensures,
     )

@@ -29,8 +29,8 @@ returns c = λ requests all.
       omega arith,
     )
 
-pub returns-then-len-gt100000 : goal.returns-then-len-gt100000
-returns-then-len-gt100000 c = λ requests all count says.
+pub returns-then-len-gt-MOST_NUMBERS : goal.returns-then-len-gt-MOST_NUMBERS
+returns-then-len-gt-MOST_NUMBERS c = λ requests all count says.
     let items = c.args.rows.items in
     let many = as_many items items says.0 says.1 (IsPermutation-refl items) (all ∙ ap entries says.2)
     in

@@ -1,8 +1,8 @@
-use Rattle.std.proofs.Common.{◌≡◌, ◌∙◌, ap, length, subst, sym}
+use Rattle.std.proofs.Common.{◌≡◌, ◌∙◌, ap, length, subst, sym, take}
 use Rattle.sqlite.specs.Schema.{Schema}
 use Rattle.store_tables.specs.Inner.Matching.{IsPlainSchema}
-use Rattle.store_tables.specs.Tables.{schema_of_first}
-use Rattle.store_tables.proofs.PlainSchemas.{clash, first_count, first_plain}
+use Rattle.store_tables.specs.Tables.{all_tables, schema_of_first}
+use Rattle.store_tables.proofs.PlainSchemas.{clash, first_count, made_plain}
 use Rattle.store_tables.proofs.opening.tables_made.Goals as goal
 
 pub returns-then-not-branch-clause-missing : goal.returns-then-not-branch-clause-missing
@@ -14,4 +14,4 @@ returns-then-not-branch-clause-missing g c = λ none made low is.
     let other : c.schema.result.now ≡ schema_of_first made = c.schema.ensures.value ∙
     c.in_ok-first.ensures ∙ ap schema_of_first many in
     absurd (clash _ (c.in_ok-are_same.ensures.plain (subst IsPlainSchema (sym seen)
-    (first_plain made low)) (seen ∙ sym other)) c.if-not-branch.true)
+    (made_plain (take made all_tables))) (seen ∙ sym other)) c.if-not-branch.true)

@@ -4,8 +4,8 @@ use Rattle.sqlite.specs.Held.{state}
 use Rattle.store_tables.specs.Inner.Told.{told}
 use Rattle.store_model.specs.Entries.{NameNumber}
 use Rattle.store_tables.specs.Inner.Texts.{pick_request}
-use Rattle.store_tables.proofs.Tables.Request.{pick_plain, key_params}
-use Rattle.store_tables.proofs.Steps.Request.{picks_request}
+use Rattle.store_tables.proofs.Tables.Lists.{key_params, request_picks}
+use Rattle.store_tables.proofs.Steps.{picks_request}
 use Rattle.store_tables.proofs.Reading.{reads_shown, reads_nothing}
 use Rattle.store_tables.proofs.reads.find_request.Goals as goal
 
@@ -15,7 +15,8 @@ returns-in_err-shown-clause-reads g c =
     let new = state g.S.Store c.query_all.new.self in
     let survives = rw (c.params-to_sql.ensures, c.params-to_sql-2.ensures) at
     c.query_all.ensures.survives in
-    reads_nothing pick_request pick_plain (key_params (c.args.caller.now, pos c.args.number)) old
+    reads_nothing pick_request request_picks.means.plain
+    (key_params (c.args.caller.now, pos c.args.number)) old
     new c.requires survives c.from_residual.result _ c.in_err-shown.field-0.0 (search rules)
 
 pub returns-clause-reads : goal.returns-clause-reads
@@ -27,7 +28,7 @@ returns-clause-reads g c =
     let survives = rw (c.params-to_sql.ensures, c.params-to_sql-2.ensures) at
     c.query_all.ensures.survives in
     let ok = rw (c.params-to_sql.ensures, c.params-to_sql-2.ensures) at c.in_ok-shown.ensures.ok in
-    reads_shown pick_request pick_plain (key_params key) old new c.requires survives
+    reads_shown pick_request request_picks.means.plain (key_params key) old new c.requires survives
     c.first_kept.result _ shown ok
     (λ clean. IfOk-weaker c.first_kept.result _ _
     (λ it is. is ∙ ap (λ rows. option_map told (slice_get rows 0)) c.deref.ensures.value

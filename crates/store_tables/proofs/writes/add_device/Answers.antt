@@ -1,6 +1,6 @@
 use Rattle.sqlite.specs.Held.{state}
 use Rattle.store_model.specs.Contents.{device_of}
-use Rattle.store_tables.proofs.Steps.Device.{adds_device}
+use Rattle.store_tables.proofs.Steps.{adds_device}
 use Rattle.store_tables.proofs.Writing.{writes_so}
 use Rattle.store_tables.proofs.writes.add_device.Goals as goal
 

@@ -1,6 +1,6 @@
 use Rattle.sqlite.specs.Held.{state}
 use Rattle.store_model.specs.Contents.{request_of}
-use Rattle.store_tables.proofs.Steps.Request.{adds_request}
+use Rattle.store_tables.proofs.Steps.{adds_request}
 use Rattle.store_tables.proofs.Writing.{writes_so}
 use Rattle.store_tables.proofs.writes.add_request.Goals as goal
 

@@ -1,5 +1,5 @@
 use Rattle.sqlite.specs.Held.{state}
-use Rattle.store_tables.proofs.Steps.Moved.{clears_moved}
+use Rattle.store_tables.proofs.Steps.{clears_moved}
 use Rattle.store_tables.proofs.Writing.{writes_so}
 use Rattle.store_tables.proofs.writes.clear_moved.Goals as goal
 

@@ -1,6 +1,6 @@
 use Rattle.sqlite.specs.Held.{state}
 use Rattle.store_model.specs.Contents.{device_key}
-use Rattle.store_tables.proofs.Steps.Device.{drops_device}
+use Rattle.store_tables.proofs.Steps.{drops_device}
 use Rattle.store_tables.proofs.Writing.{writes_so}
 use Rattle.store_tables.proofs.writes.drop_device.Goals as goal
 

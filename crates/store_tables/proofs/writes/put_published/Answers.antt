@@ -1,6 +1,6 @@
 use Rattle.sqlite.specs.Held.{state}
 use Rattle.store_model.specs.Contents.{published_of}
-use Rattle.store_tables.proofs.Steps.Published.{puts_published}
+use Rattle.store_tables.proofs.Steps.{puts_published}
 use Rattle.store_tables.proofs.Writing.{writes_so}
 use Rattle.store_tables.proofs.writes.put_published.Goals as goal
 

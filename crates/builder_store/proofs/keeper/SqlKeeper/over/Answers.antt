@@ -1,4 +1,4 @@
-use Rattle.std.proofs.Common.{refl, subst, sym}
+use Rattle.std.proofs.Common.{◌∙◌, Err, ap, refl, subst, sym}
 use Rattle.sqlite.specs.Held.{state}
 use Rattle.builder_store.specs.Opening.{IsOpenedAs}
 use Rattle.builder_store.specs.Standing.{StandsAlone}
@@ -24,8 +24,8 @@ invariant_of-result g c =
           ∣ (it.content, alone, it.rings, it.count, it.hour) ∣₁;
     }
 
-pub returns-in-Ok : goal.returns-in-Ok
-returns-in-Ok g c =
+pub returns-in-Ok-clause-begins : goal.returns-in-Ok-clause-begins
+returns-in-Ok-clause-begins g c =
     let old = state g.S.Store c.args.conn in
     let new = state g.S.Store c.open_tables.new.conn in
     record {
@@ -43,3 +43,10 @@ returns-in-Ok g c =
           subst (λ x. IsOpenedAs old.committed.trees x) (sym (told_is _ _ _ _ it.content clean
           ∣ alone ∣₁)) it.opens;
     }
+
+pub returns-in-Err-clause-refused : goal.returns-in-Err-clause-refused
+returns-in-Err-clause-refused g c = record {
+  clean = c.open_tables.ensures.survives.clean;
+  rows = λ is. c.open_tables.ensures.bad (c.in-Err.is ∙ ap Err is);
+  tables = λ is. c.open_tables.ensures.missing (c.in-Err.is ∙ ap Err is);
+}

@@ -9,25 +9,23 @@ use Rattle.http_stream.proofs.serving.StreamProgress.answer_buffered.Goals as go
 pub returns-in_err-refuse-in-Faulty-clause-answered :
     goal.returns-in_err-refuse-in-Faulty-clause-answered
 returns-in_err-refuse-in-Faulty-clause-answered g c = λ origin before came m.
-    let gives = ItemAnswered (g.H.Service.answers c.args.service.now)
-    (g.H.Service.loses c.args.service.now) in
+    let gives = ItemAnswered g.H.Service c.args.service.now in
     let mid = c.loop-wanted.invariant.midway origin before came m in
-    let f = c.in_err-refuse-in-Faulty.ensures.failed in
+    let f = c.in_err-refuse-in-Faulty.ensures.told in
     let p = err_from_is_err_and c.from_residual.result c.from_residual.ensures.1 in
     rw (p.1, p.2) (
       f.0,
-      broken_refusal gives came before _ _ origin _ _ _ _ _ c.in-Faulty.why _ mid
+      broken_refusal gives came before origin _ _ _ c.in-Faulty.why mid
           c.in-Faulty.ensures (refl, refl) f.1,
     )
 
 pub returns-in-Faulty-clause-answered : goal.returns-in-Faulty-clause-answered
 returns-in-Faulty-clause-answered g c = λ origin before came m.
-    let gives = ItemAnswered (g.H.Service.answers c.args.service.now)
-    (g.H.Service.loses c.args.service.now) in
+    let gives = ItemAnswered g.H.Service c.args.service.now in
     let mid = c.loop-wanted.invariant.midway origin before came m in
-    let k = c.in_ok-refuse-in-Faulty.ensures.ok in
-    refused_last gives came before _ _ origin _ _ _ _ _ _ c.in-Faulty.why _ _ mid
-    c.in-Faulty.ensures (refl, refl) k.1 k.0
+    let k = c.in_ok-refuse-in-Faulty.ensures in
+    refused_last gives came before origin _ _ _ c.in-Faulty.why mid c.in-Faulty.ensures (refl, refl)
+    k.told k.count
 
 pub returns-in_err-answer-in-Whole-clause-answered :
     goal.returns-in_err-answer-in-Whole-clause-answered

@@ -2,8 +2,8 @@ use Rattle.std.proofs.Common.{◌+◌, ◌++◌, ℕ, List, take, drop, subst, r
 use Rattle.std.proofs.lemmas.Grind.{common_steps}
 use Rattle.std.proofs.lemmas.Result.{err_from_is_err_and}
 use Rattle.line_stream.specs.Answers.{Answered}
-use Rattle.byte_streams.specs.Counted.{writer_of}
 use Rattle.line_stream.specs.Inner.Midway.{IsCutOff}
+use Rattle.line_stream.specs.Inner.Steps.{line_place}
 use Rattle.line_stream.proofs.MidwayLemmas.{more_taken, all_taken, midway_byte, midway_feed}
 use Rattle.line_stream.proofs.MidwayLemmas.{cut_at_feed, cut_longer}
 use Rattle.line_stream.proofs.serving.Progress.take.Goals as goal
@@ -12,29 +12,27 @@ use Rattle.line_stream.proofs.serving.Progress.take.Goals.{else-byte-eq10}
 
 pub returns-in_err-end_line-clause-answered : goal.returns-in_err-end_line-clause-answered
 returns-in_err-end_line-clause-answered g c = λ origin before came m.
-    let gives = Answered g.H.Handler.answers g.H.Handler.loses g.H.Handler.no_memory
-    g.H.Handler.too_long in
+    let gives = Answered g.H.Handler in
     let bytes = c.args.bytes.now in
     let i = c.loop-byte.byte-index in
     let e = c.in_err-end_line.ensures.answered in
     let p = err_from_is_err_and c.from_residual.result c.from_residual.ensures.1 in
-    let Cut : List ℕ → Type 0 = λ t. IsCutOff gives t before
-    (g.W.Write.contents (writer_of c.end_line.new.writer)) origin c.end_line.new.state in
-    let cut = cut_at_feed gives (came ++ take i bytes) before _ _ origin _ _ _ _ e.0 _
-    (c.loop-byte.invariant.midway origin before came m)
-    e.1 e.2.1 in
+    let n = c.end_line.new in
+    let Cut : List ℕ → Type 0 = λ t. IsCutOff gives t before origin
+    (line_place g.W.Write.contents n.self n.state n.writer) in
+    let cut = cut_at_feed gives (came ++ take i bytes) before origin _ _ e.0
+    (c.loop-byte.invariant.midway origin before came m) e.1 e.2.1 in
     let here = subst Cut (more_taken came bytes i 10 c.loop-byte-test.true c.if-byte-eq10.true) cut
     in
     rw (p.1, p.2) (
       e.2.0,
       subst Cut (all_taken came bytes (i + 1))
-          (cut_longer gives _ (drop (i + 1) bytes) before _ origin _ here),
+          (cut_longer gives _ (drop (i + 1) bytes) before origin _ here),
     )
 
 pub loop-byte-preserved : goal.loop-byte-preserved
 loop-byte-preserved g c =
-    let gives = Answered g.H.Handler.answers g.H.Handler.loses g.H.Handler.no_memory
-    g.H.Handler.too_long in
+    let gives = Answered g.H.Handler in
     let bytes = c.args.bytes.now in
     let i = c.loop-byte.byte-index in
     elim c.if-byte-eq10.branch [
@@ -43,13 +41,12 @@ loop-byte-preserved g c =
           record {
             midway = λ origin before came m.
                 let so_far = c.loop-byte.invariant.midway origin before came m in
-                let fed = midway_feed gives (came ++ take i bytes) before _ _ origin _ _ _ _ _ e.0 _
-                _ so_far e.1 e.2.2 e.2.1 in
+                let fed = midway_feed gives (came ++ take i bytes) before origin _ _ e.0 so_far e.1
+                e.2.0 e.2.1 e.2.2 in
                 rw (
                   w.self-is,
                   w.state-is,
                   w.writer-is,
-                  e.2.0,
                   ← more_taken came bytes i 10 c.loop-byte-test.true w.if-byte-eq10.true,
                 ) fed;
             same = rw w.writer-is (w.in_ok-end_line.ensures.cause ∙ c.loop-byte.invariant.same);
@@ -64,7 +61,7 @@ loop-byte-preserved g c =
                   w.writer-is,
                   ← more_taken came bytes i _ c.loop-byte-test.true refl,
                 )
-                (midway_byte gives (came ++ take i bytes) before _ origin _ _ _ _ _ _ so_far
+                (midway_byte gives (came ++ take i bytes) before origin _ _ _ so_far
                 w.if-byte-eq10.false w.push.ensures);
             same = rw w.writer-is c.loop-byte.invariant.same;
           }

@@ -38,7 +38,7 @@ returns-in-None-clause-best c =
           (c.requires.places index 0 c.place_after.ensures.within)
           (subst (λ b. IsBestSoFar places c.args.start c.args.step now row b) c.in-None.is
           c.requires.best) (sym free ∙ ap not c.if-contains.false),
-      c.crowd_at-crowd.ensures,
+      c.crowd_by-crowd.ensures,
     )
 
 pub returns-then-is_less-clause-best : goal.returns-then-is_less-clause-best
@@ -58,8 +58,8 @@ returns-then-is_less-clause-best c =
       best_take now row places c.args.start c.args.step place c.in-Some.other.0 comes
           (c.requires.places index 0 c.place_after.ensures.within) so_far.0
           (sym free ∙ ap not c.if-contains.false)
-          (cc (c.if-is_less.ensures, c.crowd_at-crowd.ensures, so_far.1)),
-      c.crowd_at-crowd.ensures,
+          (cc (c.if-is_less.ensures, c.crowd_by-crowd.ensures, so_far.1)),
+      c.crowd_by-crowd.ensures,
     )
 
 pub returns-else-is_less-clause-best : goal.returns-else-is_less-clause-best
@@ -72,7 +72,7 @@ returns-else-is_less-clause-best c =
     c.requires.best in (
       best_keep now row places c.args.start c.args.step (get_or places c.place_after.result 0)
           c.in-Some.other.0 comes so_far.0
-          (cc (c.if-is_less.ensures, c.crowd_at-crowd.ensures, so_far.1)),
+          (cc (c.if-is_less.ensures, c.crowd_by-crowd.ensures, so_far.1)),
       so_far.1,
     )
 
@@ -102,7 +102,7 @@ returns-in-None-clause-value c =
     let out = outside_at now.devices c.requires.load.rise others place c.requires.others
     (c.requires.places index 0 c.place_after.ensures.within)
     ∙ ap not (sym c.contains.ensures.value ∙ c.if-contains.false) in
-    better_is now row place c.crowd_at-crowd.result None out c.crowd_at-crowd.ensures
+    better_is now row place c.crowd_by-crowd.result None out c.crowd_by-crowd.ensures
     ∙ ap (better_of now row place) (sym c.in-None.is) ∙ ap (λ p. better_of now row p c.args.best) comes
 
 pub returns-then-is_less-clause-value : goal.returns-then-is_less-clause-value
@@ -117,8 +117,8 @@ returns-then-is_less-clause-value c =
     let out = outside_at now.devices c.requires.load.rise others place c.requires.others
     (c.requires.places index 0 c.place_after.ensures.within)
     ∙ ap not (sym c.contains.ensures.value ∙ c.if-contains.false) in
-    lesser_some c.in-Some.other (place, c.crowd_at-crowd.result) _ (sym c.if-is_less.ensures)
-    ∙ better_is now row place c.crowd_at-crowd.result (Some c.in-Some.other) out c.crowd_at-crowd.ensures
+    lesser_some c.in-Some.other (place, c.crowd_by-crowd.result) _ (sym c.if-is_less.ensures)
+    ∙ better_is now row place c.crowd_by-crowd.result (Some c.in-Some.other) out c.crowd_by-crowd.ensures
     ∙ ap (better_of now row place) (sym c.in-Some.is) ∙ ap (λ p. better_of now row p c.args.best) comes
 
 pub returns-else-is_less-clause-value : goal.returns-else-is_less-clause-value
@@ -133,6 +133,6 @@ returns-else-is_less-clause-value c =
     let out = outside_at now.devices c.requires.load.rise others place c.requires.others
     (c.requires.places index 0 c.place_after.ensures.within)
     ∙ ap not (sym c.contains.ensures.value ∙ c.if-contains.false) in
-    lesser_some c.in-Some.other (place, c.crowd_at-crowd.result) _ (sym c.if-is_less.ensures)
-    ∙ better_is now row place c.crowd_at-crowd.result (Some c.in-Some.other) out c.crowd_at-crowd.ensures
+    lesser_some c.in-Some.other (place, c.crowd_by-crowd.result) _ (sym c.if-is_less.ensures)
+    ∙ better_is now row place c.crowd_by-crowd.result (Some c.in-Some.other) out c.crowd_by-crowd.ensures
     ∙ ap (better_of now row place) (sym c.in-Some.is) ∙ ap (λ p. better_of now row p c.args.best) comes

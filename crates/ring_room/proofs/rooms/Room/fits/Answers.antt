@@ -11,4 +11,4 @@ returns-then-is_free_at c =
     let within : c.args.place < length now.devices = omega (arith, count, c.if-place-count.false) in
     does_fit now (seats_at now.devices c.args.others.now) c.args.crowd c.args.place
     c.is_less.result within (sym c.is_free_at.ensures ∙ c.if-is_free_at.true)
-    (c.is_less.ensures ∙ ap (is_less c.args.crowd) c.crowd_at.ensures)
+    (c.is_less.ensures ∙ ap (is_less c.args.crowd) c.crowd_by.ensures)

@@ -13,7 +13,7 @@ returns-then-not-is_less c =
     let now = c.args.self.now in
     let row = seats_at now.devices c.args.others.now in
     let places = c.args.places.now in
-    let crowd = c.crowd_at-crowd.result in
+    let crowd = c.crowd_by-crowd.result in
     subst (λ floor. IsFloor now row floor) (sym c.cut.ensures)
     (floor_at c.args.tier now c.requires.load row places crowd c.requires.tier
     (λ k lt. not_less_trans (crowd_in now row (id_at now.devices (get_or places k 0))) c.args.floor
@@ -34,7 +34,7 @@ loop-place-preserved c k lt =
     (λ here. let same : i ≡ k = omega (arith, here, lt) in
     let own : is_less (crowd_in now row (id_at now.devices (get_or places i 0)))
     c.lesser-least.result ≡ false = ap (λ crowd. is_less crowd c.lesser-least.result)
-    (sym c.crowd_at-crowd.ensures) ∙ c.lesser-least.ensures.one in
+    (sym c.crowd_by-crowd.ensures) ∙ c.lesser-least.ensures.one in
     subst (λ j. is_less (crowd_in now row (id_at now.devices (get_or places j 0)))
     c.lesser-least.result ≡ false) same own)
     (cases_lt k i)

@@ -17,7 +17,7 @@ loop-place-preserved c k lt =
     (λ before. let held = c.loop-place.invariant k before in omega (arith, held, c.min-least.ensures))
     (λ here. let same : i ≡ k = omega (arith, here, lt) in
     let own : c.min-least.result ≤ (crowd_in now row (id_at now.devices (get_or places i 0))).0 =
-    (let crowd = ap (λ (x : ℕ × ℕ × ℕ). x.0) c.crowd_at.ensures in
+    (let crowd = ap (λ (x : ℕ × ℕ × ℕ). x.0) c.crowd_by.ensures in
     omega (arith, c.min-least.ensures, crowd)) in
     subst (λ j. c.min-least.result ≤ (crowd_in now row (id_at now.devices (get_or places j 0))).0)
     same own)

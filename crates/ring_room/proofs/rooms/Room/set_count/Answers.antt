@@ -15,7 +15,8 @@ invariant_of-self-else-count-want c =
     let long = ap (λ (l : Load). length l.devices) c.self.view_is in
     let within : c.args.place < length inside.devices.items = omega (arith, long, c.requires) in
     room_kept load inside.roomy.items inside.count inside.regions.items inside.zones.items
-    inside.servers.items inside.in_region inside.in_zone inside.in_server c.self.invariant
+    inside.servers.items inside.in_region inside.in_zone inside.in_server inside.all_present
+    inside.all_want c.self.invariant
     c.args.place c.args.count
     (room_same load c.self.invariant.counted c.args.place c.index-want.result.now
     c.index.result.now c.args.count within c.index-want.ensures c.index.ensures

@@ -60,5 +60,5 @@ returns-clause-found c =
     let place = place_on c.args.piles.now c.in-Some-card_for.card in
     subst (λ taken. IsLeast now row (id_at now.devices taken.place)) (sym c.taken_with-2.ensures)
     (fits_least now row c.in_ok-best.best place c.in_ok-best.ensures.found
-    (subst (λ crowd. fits now row crowd place ≡ true) c.crowd_at-crowd.ensures
+    (subst (λ crowd. fits now row crowd place ≡ true) c.crowd_by-crowd.ensures
     c.in-Some-card_for.ensures.fits))

@@ -1,6 +1,6 @@
 use Rattle.sqlite.specs.Held.{state}
 use Rattle.store_model.specs.Contents.{meta_of}
-use Rattle.store_tables.proofs.Steps.Meta.{puts_meta}
+use Rattle.store_tables.proofs.Steps.{puts_meta}
 use Rattle.store_tables.proofs.Writing.{writes_so}
 use Rattle.store_tables.proofs.writes.MetaRowReplaces.add.Goals as goal
 

@@ -2,7 +2,7 @@ use Rattle.std.proofs.Common.{arith}
 use Rattle.std.proofs.lemmas.Result.{IfOk-weaker}
 use Rattle.sqlite.specs.Held.{state}
 use Rattle.store_model.specs.Contents.{meta_of}
-use Rattle.store_tables.proofs.Steps.Meta.{sets_meta}
+use Rattle.store_tables.proofs.Steps.{sets_meta}
 use Rattle.store_tables.proofs.writes.MetaRowReplaces.set.Goals as goal
 
 pub returns-clause-set : goal.returns-clause-set

@@ -1,6 +1,6 @@
 use Rattle.sqlite.specs.Held.{state}
 use Rattle.store_model.specs.Contents.{part_of}
-use Rattle.store_tables.proofs.Steps.Part.{adds_part}
+use Rattle.store_tables.proofs.Steps.{adds_part}
 use Rattle.store_tables.proofs.Writing.{writes_so}
 use Rattle.store_tables.proofs.writes.PartRowReplaces.add.Goals as goal
 

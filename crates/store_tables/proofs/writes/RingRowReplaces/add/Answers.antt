@@ -1,6 +1,6 @@
 use Rattle.sqlite.specs.Held.{state}
 use Rattle.store_model.specs.Contents.{ring_of}
-use Rattle.store_tables.proofs.Steps.Ring.{puts_ring}
+use Rattle.store_tables.proofs.Steps.{puts_ring}
 use Rattle.store_tables.proofs.Writing.{writes_so}
 use Rattle.store_tables.proofs.writes.RingRowReplaces.add.Goals as goal
 

@@ -1,0 +1,55 @@
+-- The life of a store, from one start of a program to the next.
+use Rattle.std.specs.Prelude.{◌≡◌, ⊤, ℕ, List, [], ◌∷◌, All, Err, IsSomeAnd, Ok, Result, false}
+use Rattle.std.specs.Prelude.{length}
+use Rattle.request_book.specs.Call.{Call, Deliver, Load, calls_of}
+use Rattle.request_book.specs.Content.{Content, entry_of}
+use Rattle.request_book.specs.Run.{Run}
+use Rattle.request_book.specs.declared.book.Fault.{Fault}
+use Rattle.request_book.specs.declared.book.Fault.TheVariants.{BookFull, Closed, NoMemory}
+use Rattle.request_book.specs.declared.book.Fault.TheVariants.{NumberReused, StoreFault}
+use Rattle.ring_messages.specs.Commands.{IsProperCommand}
+use Rattle.ring_words.specs.declared.request.Limits.{Limits}
+use Rattle.ring_words.specs.declared.command.Command.{Command}
+use Rattle.ring_words.specs.declared.command.Reply.{Reply}
+use Rattle.ring_words.specs.declared.request.Delivery.{Delivery}
+use Rattle.builder.specs.Safety.{Entries}
+use Rattle.builder.specs.Step.{State, Step}
+
+-- Runs one after another over one store. Each is the calls of a book that was opened anew, with
+-- their answers, and begins with the content that the one before it left.
+abbrev pub Lives : Limits → ℕ → Content State Command Reply → List (List (Call Command Reply)) →
+    Content State Command Reply → Type 0
+Lives limits limit old [] new = new ≡ old
+Lives limits limit old (calls ∷ later) new = (mid : Content State Command Reply)
+    × Run (Step limits) limit false old calls mid × Lives limits limit mid later new
+
+-- What a call delivers, if it does, is proper.
+abbrev pub IsProperCall : Call Command Reply → Type 0
+IsProperCall (Deliver delivery answer) = IsProperCommand delivery.command
+IsProperCall (Load answer) = ⊤
+
+-- The reply that a call got, if it got one, is the one that the book keeps under the key of its
+-- delivery, and for its command.
+abbrev pub KeepsReply : Entries → Call Command Reply → Type 0
+KeepsReply book (Deliver delivery (Ok reply)) = IsSomeAnd (entry_of delivery.key book)
+    (λ entry. (entry.command ≡ delivery.command) × (entry.reply ≡ reply))
+KeepsReply book (Deliver delivery (Err why)) = ⊤
+KeepsReply book (Load answer) = ⊤
+
+-- The answer is sure: a reply, or why the book has none for this delivery. Memory was enough, the
+-- store didn't fail, and the book wasn't closed.
+abbrev pub IsSure : {A : Type 0} → Result A Fault → Type 0
+IsSure (Ok value) = ⊤
+IsSure (Err NumberReused) = ⊤
+IsSure (Err BookFull) = ⊤
+IsSure (Err NoMemory) = ⊥
+IsSure (Err StoreFault) = ⊥
+IsSure (Err Closed) = ⊥
+
+-- A run over deliveries gave these answers, one for each and all of them sure.
+pub record IsSureRun (limits : Limits) (limit : ℕ) (old : Content State Command Reply)
+    (deliveries : List (Delivery Command)) (answers : List (Result Reply Fault))
+    (new : Content State Command Reply) : Type 0 where
+  pub as_many : length answers ≡ length deliveries
+  pub sure : All IsSure answers
+  pub run : Run (Step limits) limit false old (calls_of deliveries answers) new

@@ -1,0 +1,27 @@
+-- What files hold once the store in them was closed.
+use Rattle.std.specs.Prelude.{◌≡◌, []}
+use Rattle.sqlite_disk.specs.declared.Disk as disk
+use Rattle.sqlite_disk.specs.declared.Files.{Files}
+use Rattle.sqlite_trees.specs.Tree.{Trees}
+use Rattle.sqlite_wal.specs.Files.{outcomes}
+use Rattle.sqlite_wal.specs.Recovery.{Image}
+use Rattle.sqlite.specs.Files.{HoldsDatabase, image_of}
+use Rattle.store_rows.specs.Stands.{RingContent}
+use Rattle.builder_store.specs.Opening.{IsOpenedAs, IsOpenedFrom}
+
+-- Files that hold this hold a store of this content: an opening of its database finds it, and an
+-- opening of the files finds no other.
+pub record HoldsContent (image : Image) (content : RingContent) : Type 0 where
+  pub database : ∥ ((db : Trees) × HoldsDatabase image db × IsOpenedAs db content) ∥₁
+  pub only : (found : RingContent) → IsOpenedFrom image found → found ≡ content
+
+-- So do they with the log beside the database file, and so does that file alone.
+abbrev pub HoldsAlone : Image → RingContent → Type 0
+HoldsAlone image content =
+    HoldsContent image content × HoldsContent (record image { log = [] }) content
+
+-- Files hold a store of this content, as they read now and after a crash.
+pub record AreLeftWith {D : Type 0} (g : disk.Ghosts D) (files : Files D) (content : RingContent) :
+    Type 0 where
+  pub seen : HoldsAlone (image_of g files) content
+  pub left : (image : Image) → outcomes g files.log files.db image → HoldsAlone image content

@@ -1,0 +1,7 @@
+use Rattle.programs.proofs.Lives.{done_once}
+use Rattle.programs.proofs.laws.a_program_is_one_run.Goals as goal
+
+pub returns : goal.returns
+returns g c = λ reader late_reader writer later task done. done_once _ g.S.Kept.Keeper
+    g.S.Stores.begins g.S.Stores.ends g.S.Stores.is_made g.R.Read.remaining g.W.Write.contents
+    c.calls_go_on.ensures.none c.run_goes_on.ensures reader late_reader writer later task done
