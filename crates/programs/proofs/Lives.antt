@@ -36,7 +36,7 @@ use Rattle.http_api.specs.Http.{told_csv}
 use Rattle.path_lookup.specs.declared.hash.HashNames.{HashNames}
 use Rattle.ring_messages.specs.declared.told.Told.TheVariants as told
 use Rattle.ring_reads.specs.declared.reads.Question.{Question}
-use Rattle.programs.specs.Begun.{AreFull, Closing, IsBegun, IsClosed}
+use Rattle.programs.specs.Begun.{AreServiceLimits, Closing, IsBegun, IsClosed}
 use Rattle.programs.specs.Importing.{Imports, IsToldAs}
 use Rattle.programs.specs.Life.{IsOneRun, MakesOneRun, RunsStore, store_of}
 use Rattle.programs.specs.Performed.{EndsBy, EndsSo, ImportsFile, ShowsStore}
@@ -48,7 +48,7 @@ use Rattle.programs.specs.declared.importing.ImportAsk.{ImportAsk}
 use Rattle.programs.specs.declared.performing.Ending.TheVariants.{Done}
 
 -- the limits of a service are those of any other
-pub same_limits : (a b : Limits) → AreFull a → AreFull b → a ≡ b
+pub same_limits : (a b : Limits) → AreServiceLimits a → AreServiceLimits b → a ≡ b
 same_limits a b full also = λ i. record {
   rings = (full.rings ∙ sym also.rings) i;
   devices = (full.devices ∙ sym also.devices) i;
@@ -246,7 +246,7 @@ lives_on limits limit first mid last (before ∷ later) calls lives run = (
 
 -- the run of a program that found what the one before it left
 pub one_more : {K : Type 0} (g : Keeping K) (Begins Ends : K → Type 0) (limits : Limits) (limit : ℕ)
-    (first mid : Held) (runs : List Calls) (calls : Calls) → AreFull limits
+    (first mid : Held) (runs : List Calls) (calls : Calls) → AreServiceLimits limits
     → Lives limits limit first runs mid → (one : IsOneRun g Begins Ends calls) → g.sound one.later
     → g.fault_count one.keeper ≡ 0 → g.limit one.keeper ≡ limit → g.content one.keeper ≡ mid
     → Lives limits limit first (runs ++ calls ∷ []) (g.content one.later)

@@ -9,7 +9,7 @@ use Rattle.programs.specs.declared.faults.ProgramFault.{ProgramFault}
 use Rattle.programs.specs.declared.faults.ProgramFault.TheVariants as fault
 
 -- These are the limits of a service, the greatest that there are.
-pub record AreFull (limits : Limits) : Type 0 where
+pub record AreServiceLimits (limits : Limits) : Type 0 where
   pub rings : limits.rings ≡ most_rings
   pub devices : limits.devices ≡ most_devices
   pub ids : limits.ids ≡ most_ids
@@ -19,7 +19,7 @@ pub record AreFull (limits : Limits) : Type 0 where
 -- A book of the builder as a program opens it: under the limits of a service, over a keeper that
 -- begins so.
 pub record IsBegun {K : Type 0} (Begins : K → Type 0) (book : Parts RingMachine K) : Type 0 where
-  pub full : AreFull book.machine.limits
+  pub full : AreServiceLimits book.machine.limits
   pub keeper : Begins book.keeper
 
 -- Nothing is said of the keeper.

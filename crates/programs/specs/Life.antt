@@ -11,7 +11,7 @@ use Rattle.ring_book.specs.Book.{Keeping}
 use Rattle.ring_words.specs.declared.command.Command.{Command}
 use Rattle.ring_words.specs.declared.command.Reply.{Reply}
 use Rattle.ring_words.specs.declared.request.Limits.{Limits}
-use Rattle.programs.specs.Begun.{AreFull}
+use Rattle.programs.specs.Begun.{AreServiceLimits}
 
 -- the name of the store that a task is over, if it is over one
 abbrev pub store_of : Task → Option (List ℕ)
@@ -36,7 +36,7 @@ module _ {K : Type 0} (g : Keeping K) (Begins Ends : K → Type 0) where
     pub opened : Begins keeper
     pub closed : Ends later
     pub stays_sound : g.sound later → g.sound keeper
-    pub run : (limits : Limits) → AreFull limits → g.sound later → Run (Step limits)
+    pub run : (limits : Limits) → AreServiceLimits limits → g.sound later → Run (Step limits)
         (g.limit keeper) (nat_lt 0 (g.fault_count keeper)) (g.content keeper) calls
         (g.content later)
 

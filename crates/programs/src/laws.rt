@@ -13,7 +13,7 @@ ghost use Rattle.request_book.specs.Run.{Run};
 ghost use Rattle.ring_words.specs.declared.command.Command.{Command};
 ghost use Rattle.ring_words.specs.declared.command.Reply.{Reply};
 ghost use Rattle.ring_words.specs.declared.request.Limits.{Limits};
-ghost use Rattle.programs.specs.Begun.{AreFull, IsClosed};
+ghost use Rattle.programs.specs.Begun.{AreServiceLimits, IsClosed};
 ghost use Rattle.programs.specs.Life.{IsOneRun, RunsStore, store_of};
 ghost use Rattle.programs.specs.Performed.{EndsSo};
 ghost use Rattle.programs.specs.declared.performing.Ending.TheVariants.{Done};
@@ -42,7 +42,8 @@ pub fn a_program_is_one_run<S: Stores, R: Read, W: Write>()
 pub fn programs_are_one_life<S: Stores>()
     ensures { (name : List ℕ) (limits : Limits) (limit : ℕ)
         (first mid : Content State Command Reply) (runs : List (List (Call Command Reply)))
-        (calls : List (Call Command Reply)) → AreFull limits → Lives limits limit first runs mid
+        (calls : List (Call Command Reply)) → AreServiceLimits limits
+        → Lives limits limit first runs mid
         → (one : IsOneRun S.Kept.Keeper (S.begins name) (IsClosed S.ends) calls)
         → S.Kept.sound one.later → S.Kept.fault_count one.keeper ≡ 0
         → S.Kept.limit one.keeper ≡ limit → S.Kept.content one.keeper ≡ mid
