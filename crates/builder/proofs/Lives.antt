@@ -1,11 +1,12 @@
 -- Runs one after another over one store are one safe run.
-use Rattle.std.proofs.Common.{◌≡◌, ℕ, ◌≤◌, ◌++◌, List, [], ◌∷◌, append_assoc, append-nil, length}
+use Rattle.std.proofs.Common.{◌<◌, ◌≡◌, ℕ, ◌≤◌, ◌++◌, List, [], ◌∷◌, append_assoc, append-nil, length}
 use Rattle.std.proofs.Common.{false, sym, ap, subst, ◌∙◌}
 use Rattle.std.specs.Prelude.{All}
 use Rattle.std.specs.List.{AllByRecursion}
 use Rattle.std.specs.Option.{option_to_list}
 use Rattle.std.proofs.lemmas.List.{append_cancel_left}
 use Rattle.std.proofs.lemmas.List.Elements.{All-append, All-nil, recursion_from_All}
+use Rattle.ring_words.specs.Limits.{long_count}
 use Rattle.ring_words.specs.declared.request.Limits.{Limits}
 use Rattle.ring_words.specs.declared.command.Command.{Command}
 use Rattle.ring_words.specs.declared.command.Reply.{Reply}
@@ -17,7 +18,8 @@ use Rattle.builder.specs.Life.{IsProperCall, Lives}
 use Rattle.builder.specs.Safety.{AreValid, Entries, IsSafeRun}
 use Rattle.builder.specs.Step.{State, Step}
 use Rattle.builder.proofs.Joined.{leads_on}
-use Rattle.builder.proofs.Proper.{IsProperEntry, proper_entries}
+use Rattle.builder.proofs.Proper.{proper_entries, small_after}
+use Rattle.builder.specs.Safety.{IsProperEntry}
 use Rattle.builder.proofs.Safe.{safe_leads, safe_run}
 
 -- all that was decided in a life, in order, leads from its first content to its last
@@ -69,32 +71,33 @@ record IsProperly (old new : Content State Command Reply) : Type 0 where
 
 proper_life : (limits : Limits) (limit : ℕ) (old new : Content State Command Reply)
     (runs : List (List (Call Command Reply))) → Lives limits limit old runs new
-    → AllByRecursion (All IsProperCall) runs → IsProperly old new
-proper_life limits limit old new [] same proper = record {
+    → old.hour < long_count → AllByRecursion (All IsProperCall) runs → IsProperly old new
+proper_life limits limit old new [] same small proper = record {
   entries = [];
   book = ap (λ (c : Content State Command Reply). c.book) same ∙ sym (append-nil old.book);
   proper = All-nil IsProperEntry;
 }
-proper_life limits limit old new (calls ∷ later) lives proper =
+proper_life limits limit old new (calls ∷ later) lives small proper =
     let safe : IsSafeRun limits old lives.0 = safe_run limits limit false old lives.0 calls lives.1
     in
     let rest : IsProperly lives.0 new =
-    proper_life limits limit lives.0 new later lives.2 proper.1 in
+    proper_life limits limit lives.0 new later lives.2 (small_after limits limit false old lives.0
+    calls lives.1 small proper.0) proper.1 in
     record {
       entries = safe.entries ++ rest.entries;
       book = rest.book ∙ ap (λ (b : Entries). b ++ rest.entries) safe.book
           ∙ append_assoc old.book safe.entries rest.entries;
       proper = All-append IsProperEntry safe.entries rest.entries
-          (proper_entries limits limit false old lives.0 calls lives.1 proper.0 safe) rest.proper;
+          (proper_entries limits limit false old lives.0 calls lives.1 small proper.0 safe) rest.proper;
     }
 
 -- Where the old rings are valid and all that is delivered is proper, all rings on the way are valid.
 pub valid_life : (limits : Limits) (limit : ℕ) (old new : Content State Command Reply)
     (runs : List (List (Call Command Reply))) → Lives limits limit old runs new
-    → All (All IsProperCall) runs → AreValid old.state → (safe : IsSafeRun limits old new) → (n : ℕ)
-    → n ≤ length safe.entries → AreValid (safe.rings n)
-valid_life limits limit old new runs lives proper valid safe =
-    let all : IsProperly old new = proper_life limits limit old new runs lives
+    → old.hour < long_count → All (All IsProperCall) runs → AreValid old.state
+    → (safe : IsSafeRun limits old new) → (n : ℕ) → n ≤ length safe.entries → AreValid (safe.rings n)
+valid_life limits limit old new runs lives small proper valid safe =
+    let all : IsProperly old new = proper_life limits limit old new runs lives small
     (recursion_from_All (All IsProperCall) runs proper) in
     safe.safe.valid valid (subst (All IsProperEntry)
     (append_cancel_left old.book all.entries safe.entries (sym all.book ∙ safe.book)) all.proper)

@@ -13,6 +13,7 @@ use Rattle.ring_words.specs.declared.request.Limits.{Limits}
 use Rattle.ring_words.specs.declared.command.Command.{Command}
 use Rattle.ring_words.specs.declared.command.Reply.{Reply}
 use Rattle.ring_messages.specs.Commands.{IsProperCommand}
+use Rattle.ring_words.specs.Limits.{long_count}
 use Rattle.request_book.specs.Call.{Call, Deliver, calls_of, failed}
 use Rattle.request_book.specs.Content.{Content, entry_of, is_known, same_key}
 use Rattle.request_book.specs.Once.{decision, firsts, once}
@@ -197,17 +198,25 @@ goes_on limits limit old d reply calls new fresh run =
 
 -- ---- two runs from one content
 
+-- a delivery of a proper command at an hour of 32 bits
+abbrev pub IsProperDelivery : Delivery Command → Type 0
+IsProperDelivery d = IsProperCommand d.command × (d.hour < long_count)
+
+-- valid rings at an hour of 32 bits
+abbrev IsSound : Content State Command Reply → Type 0
+IsSound content = AreValid content.state × (content.hour < long_count)
+
 -- the first answers of two runs are one, and both go on from one valid content
 record GoOnAlike (limits : Limits) (limit : ℕ) (one two : Result Reply Fault) (calls others : Calls)
     (new after : Content State Command Reply) : Type 0 where
   answer : one ≡ two
   mid : Content State Command Reply
-  valid : AreValid mid.state
+  valid : IsSound mid
   first : IsSureRun limits limit mid calls new
   second : IsSureRun limits limit mid others after
 
 module _ (limits : Limits) (limit : ℕ) (old : Content State Command Reply)
-    (d : Delivery Command) (valid : AreValid old.state) where
+    (d : Delivery Command) (valid : IsSound old) where
   -- what an answer says of the book that it found
   abbrev May : Result Reply Fault → Type 0
   May a = MayAnswer limit false old.book (Deliver d a)
@@ -244,7 +253,7 @@ module _ (limits : Limits) (limit : ℕ) (old : Content State Command Reply)
   one_known e is a (Err Closed) sure also one two = absurd also
 
   module _ (calls others : Calls) (new after : Content State Command Reply)
-      (proper : IsProperCommand d.command) where
+      (proper : IsProperDelivery d) where
     abbrev Alike : Result Reply Fault → Result Reply Fault → Type 0
     Alike a b = IsSureRun limits limit old (Deliver d a ∷ calls) new
         → IsSureRun limits limit old (Deliver d b ∷ others) after
@@ -272,14 +281,18 @@ module _ (limits : Limits) (limit : ℕ) (old : Content State Command Reply)
         let mine = goes_on limits limit old d p calls new fresh one in
         let yours = goes_on limits limit old d q others after fresh two in
         let same = step_is_one limits old.state mine.mid yours.mid (max old.hour d.hour) d.command
-        p q valid mine.step yours.step in
+        p q valid.0 mine.step yours.step in
         let there = ap (λ (reply : Reply). left old d reply yours.mid) (sym same.0)
         ∙ ap (left old d p) (sym same.1) in
         record {
           answer = ap Ok same.0;
           mid = left old d p mine.mid;
-          valid = stay_valid limits old.state mine.mid (max old.hour d.hour) d.command p mine.step
-              proper valid;
+          valid = let one = valid.1 in let other = proper.1 in
+              let low : max old.hour d.hour < long_count = omega (arith, one, other) in (
+                stay_valid limits old.state mine.mid (max old.hour d.hour) d.command p low mine.step
+                    proper.0 valid.0,
+                low,
+              );
           first = mine.run;
           second = subst (λ (c : Content State Command Reply). IsSureRun limits limit c others
               after) there yours.run;
@@ -346,8 +359,8 @@ one_book : (limits : Limits) (limit : ℕ) (old new after : Content State Comman
     (deliveries : List (Delivery Command)) (answers others : List (Result Reply Fault))
     → length answers ≡ length deliveries → length others ≡ length deliveries
     → AllByRecursion IsSure answers → AllByRecursion IsSure others
-    → AllByRecursion (λ delivery. IsProperCommand delivery.command) deliveries
-    → AreValid old.state → IsSureRun limits limit old (calls_of deliveries answers) new
+    → AllByRecursion IsProperDelivery deliveries
+    → IsSound old → IsSureRun limits limit old (calls_of deliveries answers) new
     → IsSureRun limits limit old (calls_of deliveries others) after
     → AreOneBook answers others new after
 one_book limits limit old new after [] [] [] long even sure also proper valid one two =
@@ -377,16 +390,16 @@ pub same_book : (limits : Limits) (limit : ℕ) (old new after : Content State C
     (deliveries : List (Delivery Command)) (answers others : List (Result Reply Fault))
     → length answers ≡ length deliveries → length others ≡ length deliveries
     → All IsSure answers → All IsSure others
-    → All (λ delivery. IsProperCommand delivery.command) deliveries → AreValid old.state
+    → old.hour < long_count → All IsProperDelivery deliveries → AreValid old.state
     → Run (Step limits) limit false old (calls_of deliveries answers) new
     → Run (Step limits) limit false old (calls_of deliveries others) after
     → AreOneBook answers others new after
-same_book limits limit old new after deliveries answers others long even sure also proper valid one
-    two =
+same_book limits limit old new after deliveries answers others long even sure also small proper
+    valid one two =
     let mine = recursion_from_All IsSure answers sure in
     let yours = recursion_from_All IsSure others also in
     one_book limits limit old new after deliveries answers others long even mine yours
-    (recursion_from_All (λ delivery. IsProperCommand delivery.command) deliveries proper) valid
+    (recursion_from_All IsProperDelivery deliveries proper) (valid, small)
     (sure_run limits limit old (calls_of deliveries answers) new
     (never_failed deliveries answers mine) one)
     (sure_run limits limit old (calls_of deliveries others) after

@@ -1,6 +1,6 @@
 -- The commands of a run's entries are those of its calls.
-use Rattle.std.proofs.Common.{◌≡◌, ℕ, ◌≤◌, ◌++◌, Bool, true, false, cond, List, [], ◌∷◌, length}
-use Rattle.std.proofs.Common.{Option, Some, None, refl, sym, subst, ◌∙◌, max}
+use Rattle.std.proofs.Common.{◌≡◌, ℕ, ◌<◌, ◌≤◌, ◌++◌, Bool, true, false, cond, List, [], ◌∷◌, length}
+use Rattle.std.proofs.Common.{Option, Some, None, refl, sym, subst, ◌∙◌, max, arith}
 use Rattle.std.specs.Prelude.{All, Err, MatchOption, Ok}
 use Rattle.std.specs.List.{AllByRecursion, flat_map}
 use Rattle.std.specs.Option.{option_to_list}
@@ -15,14 +15,12 @@ use Rattle.ring_words.specs.declared.command.Reply.{Reply}
 use Rattle.request_book.specs.Call.{Call, Deliver, Load, failed, meets_fault}
 use Rattle.request_book.specs.Content.{Content, is_known}
 use Rattle.request_book.specs.Once.{decision, firsts, once}
-use Rattle.request_book.specs.Run.{IsInDoubt, Run, kept}
+use Rattle.request_book.specs.Run.{IsInDoubt, Run, kept, last_hour}
 use Rattle.request_book.specs.declared.entry.Entry.{Entry}
 use Rattle.builder.specs.Life.{IsProperCall}
-use Rattle.builder.specs.Safety.{AreValid, Entries, IsSafeRun}
+use Rattle.builder.specs.Safety.{AreValid, Entries, IsProperEntry, IsSafeRun}
+use Rattle.ring_words.specs.Limits.{long_count}
 use Rattle.builder.specs.Step.{State, Step}
-
-abbrev pub IsProperEntry : Entry Command Reply → Type 0
-IsProperEntry entry = IsProperCommand entry.command
 
 abbrev AreProper : Entries → Type 0
 AreProper entries = AllByRecursion IsProperEntry entries
@@ -42,10 +40,13 @@ proper_firsts seen (e ∷ es) proper =
     (λ known. proper_firsts seen es proper.1)
     (λ new. (proper.0, proper_firsts (seen ++ e ∷ []) es proper.1))
 
-proper_kept : (hour : ℕ) (entries : Entries) → AreProper entries
+proper_kept : (hour : ℕ) (entries : Entries) → hour < long_count → AreProper entries
     → AreProper (kept hour entries)
-proper_kept hour [] proper = tt
-proper_kept hour (e ∷ es) proper = (proper.0, proper_kept (max hour e.hour) es proper.1)
+proper_kept hour [] small proper = tt
+proper_kept hour (e ∷ es) small proper =
+    let low = proper.0.1 in
+    let greater : max hour e.hour < long_count = omega (arith, low) in
+    ((proper.0.0, greater), proper_kept (max hour e.hour) es greater proper.1)
 
 proper_if : (b : Bool) (first call : Call Command Reply) (rest : Option (Call Command Reply))
     → cond b (Some first) rest ≡ Some call → IsProperCall first
@@ -72,15 +73,19 @@ proper_doubt limit book call None is proper = All-nil IsProperEntry
 proper_doubt limit book None (Some e) is proper = absurd is
 proper_doubt limit book (Some (Load answer)) (Some e) is proper = absurd is
 proper_doubt limit book (Some (Deliver d answer)) (Some e) is proper =
-    All-cons IsProperEntry e [] (subst IsProperCommand (sym is.2) (proper (Deliver d answer) refl))
+    All-cons IsProperEntry e [] (
+      subst IsProperCommand (sym is.2) (proper (Deliver d answer) refl).0,
+      subst (λ (h : ℕ). h < long_count) (sym is.1) (proper (Deliver d answer) refl).1,
+    )
     (All-nil IsProperEntry)
 
--- Where all that was delivered is proper, so are the entries that a run decided.
-pub proper_entries : (limits : Limits) (limit : ℕ) (closed : Bool)
+-- Where all that was delivered is proper, so is what a run decided.
+proper_decided : (limits : Limits) (limit : ℕ) (closed : Bool)
     (old new : Content State Command Reply) (calls : List (Call Command Reply))
-    → Run (Step limits) limit closed old calls new → All IsProperCall calls
-    → (safe : IsSafeRun limits old new) → All IsProperEntry safe.entries
-proper_entries limits limit closed old new calls run proper safe =
+    → (run : Run (Step limits) limit closed old calls new) → old.hour < long_count
+    → All IsProperCall calls
+    → All IsProperEntry (kept old.hour (once old.book calls ++ option_to_list run.doubt))
+proper_decided limits limit closed old new calls run small proper =
     let each : AllByRecursion IsProperCall calls = recursion_from_All IsProperCall calls proper in
     let first : AreProper (once old.book calls) =
     proper_firsts old.book (flat_map decision calls) (proper_decisions calls each) in
@@ -91,19 +96,44 @@ proper_entries limits limit closed old new calls run proper safe =
     let all : All IsProperEntry decided =
     All-append IsProperEntry (once old.book calls) (option_to_list run.doubt)
     (All-from_recursion IsProperEntry (once old.book calls) first) last in
-    let entries : All IsProperEntry (kept old.hour decided) =
     All-from_recursion IsProperEntry (kept old.hour decided)
-    (proper_kept old.hour decided (recursion_from_All IsProperEntry decided all)) in
+    (proper_kept old.hour decided small (recursion_from_All IsProperEntry decided all))
+
+-- and so are the entries
+pub proper_entries : (limits : Limits) (limit : ℕ) (closed : Bool)
+    (old new : Content State Command Reply) (calls : List (Call Command Reply))
+    → Run (Step limits) limit closed old calls new → old.hour < long_count → All IsProperCall calls
+    → (safe : IsSafeRun limits old new) → All IsProperEntry safe.entries
+proper_entries limits limit closed old new calls run small proper safe =
+    let decided : Entries = once old.book calls ++ option_to_list run.doubt in
     let same : kept old.hour decided ≡ safe.entries =
     append_cancel_left old.book (kept old.hour decided) safe.entries
     (sym run.leads.book ∙ safe.book) in
-    subst (All IsProperEntry) same entries
+    subst (All IsProperEntry) same
+    (proper_decided limits limit closed old new calls run small proper)
+
+last_small : (hour : ℕ) (entries : Entries) → hour < long_count → AreProper entries
+    → last_hour hour entries < long_count
+last_small hour [] small proper = small
+last_small hour (e ∷ es) small proper = last_small e.hour es proper.0.1 proper.1
+
+-- The hour after a run has 32 bits too.
+pub small_after : (limits : Limits) (limit : ℕ) (closed : Bool)
+    (old new : Content State Command Reply) (calls : List (Call Command Reply))
+    → Run (Step limits) limit closed old calls new → old.hour < long_count → All IsProperCall calls
+    → new.hour < long_count
+small_after limits limit closed old new calls run small proper =
+    subst (λ (h : ℕ). h < long_count) (sym run.leads.hour) (last_small old.hour _ small
+    (recursion_from_All IsProperEntry _
+    (proper_decided limits limit closed old new calls run small proper)))
 
 -- Where the old rings are valid too, so are all rings on the way.
 pub valid_run : (limits : Limits) (limit : ℕ) (closed : Bool)
     (old new : Content State Command Reply) (calls : List (Call Command Reply))
-    → Run (Step limits) limit closed old calls new → All IsProperCall calls → AreValid old.state
+    → Run (Step limits) limit closed old calls new → old.hour < long_count → All IsProperCall calls
+    → AreValid old.state
     → (safe : IsSafeRun limits old new) → (n : ℕ) → n ≤ length safe.entries
     → AreValid (safe.rings n)
-valid_run limits limit closed old new calls run proper valid safe =
-    safe.safe.valid valid (proper_entries limits limit closed old new calls run proper safe)
+valid_run limits limit closed old new calls run small proper valid safe =
+    safe.safe.valid valid (proper_entries limits limit closed old new calls run small proper
+    safe)

@@ -4,7 +4,6 @@ use Rattle.std.proofs.Common.{subst, ⊎_elim, arith}
 use Rattle.std.specs.Prelude.{All, slice_get}
 use Rattle.std.specs.Option.{option_to_list}
 use Rattle.std.proofs.lemmas.Option.{get_or_from_slice_get, slice_get_cases, slice_get_within}
-use Rattle.ring_messages.specs.Commands.{IsProperCommand}
 use Rattle.ring_words.specs.declared.request.Limits.{Limits}
 use Rattle.ring_words.specs.declared.command.Command.{Command}
 use Rattle.ring_words.specs.declared.command.Act.TheVariants as act
@@ -15,7 +14,7 @@ use Rattle.request_book.specs.Once.{once}
 use Rattle.request_book.specs.Run.{Leads, Run, kept}
 use Rattle.request_book.specs.declared.entry.Entry.{Entry}
 use Rattle.builder.specs.Safety.{AreValid, DoNotFall, Entries, FewLeft, IsDone, IsSafe, IsSafeRun}
-use Rattle.builder.specs.Safety.{IsWay}
+use Rattle.builder.specs.Safety.{IsProperEntry, IsWay}
 use Rattle.builder.specs.Step.{State, Step}
 use Rattle.builder.proofs.Few.{few_left_of}
 use Rattle.builder.proofs.Hours.{kept_do_not_fall}
@@ -32,7 +31,7 @@ few_left_on_the_way limits old new entries rings way name n seed entry there is 
 
 valid_on_the_way : (limits : Limits) (old new : State) (entries : Entries)
     (rings : ℕ → State) → IsWay limits old entries new rings → AreValid old
-    → All (λ entry. IsProperCommand entry.command) entries → (n : ℕ) → n ≤ length entries
+    → All IsProperEntry entries → (n : ℕ) → n ≤ length entries
     → AreValid (rings n)
 valid_on_the_way limits old new entries rings way valid proper zero within =
     subst AreValid (sym way.first) valid
@@ -41,11 +40,11 @@ valid_on_the_way limits old new entries rings way valid proper (suc n) within =
     valid_on_the_way limits old new entries rings way valid proper n (omega arith) in
     let on : (entry : Entry Command Reply) → slice_get entries n ≡ Some entry →
     AreValid (rings (suc n)) =
-    λ entry at. subst (λ (k : ℕ). AreValid (rings k)) (omega arith)
-    (stay_valid limits (rings n) (rings (n + 1)) entry.hour entry.command entry.reply
-    (way.steps n entry at)
-    (subst (λ (e : Entry Command Reply). IsProperCommand e.command) (get_or_from_slice_get entries n
-    entry entry at) (proper n entry (slice_get_within entries n entry at))) before) in
+    λ entry at. (let here : IsProperEntry entry = subst IsProperEntry (get_or_from_slice_get entries
+    n entry entry at) (proper n entry (slice_get_within entries n entry at)) in
+    subst (λ (k : ℕ). AreValid (rings k)) (omega arith)
+    (stay_valid limits (rings n) (rings (n + 1)) entry.hour entry.command entry.reply here.1
+    (way.steps n entry at) here.0 before)) in
     ⊎_elim (λ some. on some.0 some.2) (λ past. absurd (omega (arith, past.0)))
     (slice_get_cases entries n).1
 

@@ -1,6 +1,6 @@
 -- A step keeps valid rings valid.
 use Rattle.std.proofs.Common.{◌≡◌, ℕ, ◌+◌, ◌<◌, ◌^◌, Bool, true, false, cond, List, [], ◌∷◌, ◌++◌}
-use Rattle.ring_words.specs.Limits.{greatest_power}
+use Rattle.ring_words.specs.Limits.{greatest_power, long_count}
 use Rattle.std.proofs.Common.{length, replicate, filter, Option, Some, None, refl, sym, ap, subst}
 use Rattle.std.proofs.Common.{◌∙◌, ⊎_elim, arith, find, true≢false}
 use Rattle.std.specs.Prelude.{All, IsTrue, is_some, nat_eq}
@@ -10,7 +10,7 @@ use Rattle.std.specs.Cmp.Lexicographic.{pointwise}
 use Rattle.std.proofs.lemmas.Bool.{and_cases, cond_both, eqb-false, leb-false, not-false}
 use Rattle.std.proofs.lemmas.List.{length-replicate}
 use Rattle.std.proofs.lemmas.List.Elements.{All-append, All-cons, All-filter, All-head, All-nil}
-use Rattle.std.proofs.lemmas.List.Elements.{All-tail}
+use Rattle.std.proofs.lemmas.List.Elements.{All-replicate, All-tail}
 use Rattle.ring_messages.specs.Commands.{IsProperAct, IsProperCommand}
 use Rattle.ring_model.proofs.Amidst.{among_valid}
 use Rattle.ring_model.proofs.ByName.{at_most_with, by_name_with}
@@ -21,8 +21,8 @@ use Rattle.ring_model.specs.Import.{after_row, after_rows, reweighed_by}
 use Rattle.ring_model.specs.Publish.{among, is_published, with_published}
 use Rattle.ring_model.specs.Ring.{RingRecord, added, marked, new_ring, partition_count, reweighed}
 use Rattle.ring_model.specs.Rings.{is_before, ring_at, with_ring}
-use Rattle.ring_model.specs.Valid.{IsValid}
-use Rattle.ring_words.specs.Rows.{has_place}
+use Rattle.ring_model.specs.Valid.{IsHour, IsValid}
+use Rattle.ring_words.specs.Rows.{IsProperRow, has_place}
 use Rattle.ring_words.specs.Texts.{is_label}
 use Rattle.ring_words.specs.declared.device.Row.{Row}
 use Rattle.ring_words.specs.declared.request.Limits.{Limits}
@@ -77,6 +77,7 @@ made_valid n proper = record {
         rise = λ k low. absurd (omega arith);
         apart =
             λ i j d less low. absurd (omega arith);
+        proper = All-nil _;
       };
   seats =
       record {
@@ -86,17 +87,22 @@ made_valid n proper = record {
             λ partition one other id low high at. cc;
       };
   moved = length-replicate _ _;
-  published = record { count = omega arith; rise = λ k low. absurd (omega arith) };
+  hours = All-replicate IsHour _ None tt;
+  published = record {
+    count = omega arith;
+    rise = λ k low. absurd (omega arith);
+    versions = All-nil _;
+  };
 }
 
 row_valid : (limits : Limits) (ring : RingRecord) (row : Row) → row_refusal limits ring row ≡ None
-    → IsValid ring → IsValid (after_row ring row)
-row_valid limits ring row none valid =
+    → IsProperRow row → IsValid ring → IsValid (after_row ring row)
+row_valid limits ring row none proper valid =
     cond_both (has_place row ring.devices) (record ring { devices = _ }) (added ring row) IsValid
-    (λ known. altered_valid (reweighed_by row) (reweighed_by_keeps row) ring valid)
+    (λ known. altered_valid (reweighed_by row) (reweighed_by_keeps row proper) ring valid)
     (λ new. (let fits = row_fits limits ring row none new in
     added_valid ring row valid (omega (arith, fits.0, limits.devices_within))
-    (omega (arith, fits.1, limits.ids_within)) new))
+    (omega (arith, fits.1, limits.ids_within)) new proper))
 
 clear_row : (n : ℕ) (refused : Option RowCause) (rest : List Cause)
     → AreClear (of_row n refused ++ rest) → (refused ≡ None) × AreClear rest
@@ -104,14 +110,15 @@ clear_row n None rest clear = (refl, clear)
 clear_row n (Some cause) rest clear = absurd (true≢false clear.0)
 
 rows_valid : (limits : Limits) (n : ℕ) (ring : RingRecord) (rows : List Row)
-    → AreClear (of_rows limits n ring rows) → IsValid ring → IsValid (after_rows ring rows)
-rows_valid limits n ring [] clear valid = valid
-rows_valid limits n ring (row ∷ rows) clear valid =
+    → AreClear (of_rows limits n ring rows) → AllByRecursion IsProperRow rows → IsValid ring
+    → IsValid (after_rows ring rows)
+rows_valid limits n ring [] clear proper valid = valid
+rows_valid limits n ring (row ∷ rows) clear proper valid =
     let first =
     clear_row n (row_refusal limits ring row) (of_rows limits (n + 1) (after_row ring row) rows)
     clear in
-    rows_valid limits (n + 1) (after_row ring row) rows first.1 (row_valid limits ring row first.0
-    valid)
+    rows_valid limits (n + 1) (after_row ring row) rows first.1 proper.1
+    (row_valid limits ring row first.0 proper.0 valid)
 
 hours_valid : (ring : RingRecord) (hours : ℕ) → hours < 2 ^ 16 → IsValid ring
     → IsValid (record ring { min_hours = hours })
@@ -124,6 +131,7 @@ hours_valid ring hours small valid = record {
   devices = valid.devices;
   seats = valid.seats;
   moved = valid.moved;
+  hours = valid.hours;
   published = valid.published;
 }
 
@@ -138,6 +146,7 @@ passed_valid ring valid = record {
   devices = valid.devices;
   seats = valid.seats;
   moved = length-replicate _ _;
+  hours = All-replicate IsHour _ None tt;
   published = valid.published;
 }
 
@@ -152,43 +161,52 @@ published_valid limits ring text room valid =
     omega (arith, limits.versions_within)))
 
 new_valid : (a : Act) (answer : Done) (limits : Limits) (name : List ℕ) (old new : RingRecord)
-    (hour : ℕ) → AreClear (ring_causes limits old a) → IsProperAct a → IsValid old
+    (hour : ℕ) → hour < long_count → AreClear (ring_causes limits old a) → IsProperAct a
+    → IsValid old
     → RingEffect name hour old a answer new → IsValid new
-new_valid (act.Add row) answer limits name old new hour clear proper valid effect =
+new_valid (act.Add row) answer limits name old new hour small clear proper valid effect =
     subst IsValid (sym effect.0) (changed_valid (added old row) (added_valid old row valid
     (let room = leb-false limits.devices (length old.devices) clear.1.0 in
     omega (arith, limits.devices_within))
     (let room = leb-false limits.ids old.next_id clear.1.1.0 in omega (arith, limits.ids_within))
-    clear.0))
-new_valid (act.SetWeight to) answer limits name old new hour clear proper valid effect =
+    clear.0 (record {
+      region = let most = proper.0.1 in omega (arith, most);
+      zone = let most = proper.1.0.1 in omega (arith, most);
+      address = proper.1.1.0;
+      port = (proper.1.1.1.0.0, let most = proper.1.1.1.0.1 in omega (arith, most));
+      name = proper.1.1.1.1.0;
+      weight = proper.1.1.1.1.1.0;
+    })))
+new_valid (act.SetWeight to) answer limits name old new hour small clear proper valid effect =
     subst IsValid (sym effect.0)
-    (changed_valid _ (altered_valid (reweighed to.id to.weight) (reweighed_keeps to.id to.weight)
+    (changed_valid _ (altered_valid (reweighed to.id to.weight) (reweighed_keeps to.id to.weight proper.1.0)
     old valid))
-new_valid (act.Remove id) answer limits name old new hour clear proper valid effect =
+new_valid (act.Remove id) answer limits name old new hour small clear proper valid effect =
     subst IsValid (sym effect.0) (changed_valid _ (altered_valid (marked id) (marked_keeps id) old
     valid))
-new_valid (act.SetHours hours) answer limits name old new hour clear proper valid effect =
+new_valid (act.SetHours hours) answer limits name old new hour small clear proper valid effect =
     let most = proper.0.1 in
     subst IsValid (sym effect.0) (changed_valid _ (hours_valid old hours (omega (arith, most))
     valid))
-new_valid act.PretendPassed answer limits name old new hour clear proper valid effect =
+new_valid act.PretendPassed answer limits name old new hour small clear proper valid effect =
     subst IsValid (sym effect.0) (changed_valid _ (passed_valid old valid))
-new_valid act.RaisePower answer limits name old new hour clear proper valid effect =
+new_valid act.RaisePower answer limits name old new hour small clear proper valid effect =
     let below : old.power ≡ greatest_power → ⊥ = eqb-false old.power greatest_power clear.0 in
     raised_valid old new valid effect.0 (let up = effect.0.power in let most = valid.power.1 in
     omega arith)
-new_valid (act.Import rows) answer limits name old new hour clear
+new_valid (act.Import rows) answer limits name old new hour small clear
     proper valid effect =
-    subst IsValid (sym effect.0) (changed_valid _ (rows_valid limits 1 old rows clear valid))
-new_valid (act.Rebalance seed) answer limits name old new hour clear proper valid effect =
-    rebalanced_valid old new hour valid effect.0
-new_valid act.Publish answer limits name old new hour clear proper valid effect =
+    subst IsValid (sym effect.0) (changed_valid _ (rows_valid limits 1 old rows clear proper.0
+    valid))
+new_valid (act.Rebalance seed) answer limits name old new hour small clear proper valid effect =
+    rebalanced_valid old new hour small valid effect.0
+new_valid act.Publish answer limits name old new hour small clear proper valid effect =
     subst IsValid (sym effect.0) (published_valid limits old _
     (λ unpublished. ⊎_elim (λ published. absurd
     (true≢false (sym (not-false _ published) ∙ unpublished))) (λ room. leb-false limits.versions
     (length old.published) room) (and_cases _ _ clear.1.0))
     valid)
-new_valid a answer limits name old new hour clear proper valid effect = absurd effect
+new_valid a answer limits name old new hour small clear proper valid effect = absurd effect
 
 -- ---- the rings after a step
 
@@ -246,27 +264,27 @@ first_valid (act.Create made) answer limits rings name new clear proper effect =
 first_valid a answer limits rings name new clear proper effect = absurd effect
 
 by_found : (found : Option RingRecord) (a : Act) (answer : Done) (limits : Limits) (rings : State)
-    (name : List ℕ) (new : RingRecord) (hour : ℕ) → ring_at name rings ≡ found
+    (name : List ℕ) (new : RingRecord) (hour : ℕ) → hour < long_count → ring_at name rings ≡ found
     → AreClear (causes limits rings found a) → IsProperAct a → AreValid rings
     → Effect name hour found a answer new → IsNewValid rings name new
-by_found None a answer limits rings name new hour is clear proper valid effect =
+by_found None a answer limits rings name new hour small is clear proper valid effect =
     first_valid a answer limits rings name new clear proper effect
-by_found (Some old) a answer limits rings name new hour is clear proper valid effect = record {
-  ring = new_valid a answer limits name old new hour clear proper (valid_at rings name old
+by_found (Some old) a answer limits rings name new hour small is clear proper valid effect = record {
+  ring = new_valid a answer limits name old new hour small clear proper (valid_at rings name old
       valid.each is) effect;
   room = λ none. absurd (true≢false (sym (ap is_some is) ∙ none));
 }
 
 pub stay_valid : (limits : Limits) (rings after : State) (hour : ℕ) (command : Command) (r : Reply)
-    → Step limits rings hour command r after → IsProperCommand command → AreValid rings
-    → AreValid after
-stay_valid limits rings after hour command (reply.Refused refused) step proper valid =
+    → hour < long_count → Step limits rings hour command r after → IsProperCommand command
+    → AreValid rings → AreValid after
+stay_valid limits rings after hour command (reply.Refused refused) small step proper valid =
     subst AreValid (sym step.1) valid
-stay_valid limits rings after hour command (reply.Done answer) step proper valid =
+stay_valid limits rings after hour command (reply.Done answer) small step proper valid =
     let new : RingRecord = step.1.0 in
     let clear = none_stands (causes limits rings (ring_at command.ring rings) command.act) step.0 in
     let is =
-    by_found (ring_at command.ring rings) command.act answer limits rings command.ring new hour refl
+    by_found (ring_at command.ring rings) command.act answer limits rings command.ring new hour small refl
     clear proper.act valid step.1.1 in
     subst AreValid (sym step.1.2) (put_valid rings command.ring new valid proper.ring is.ring
     is.room)

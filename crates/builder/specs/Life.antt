@@ -1,6 +1,7 @@
 -- The life of a store, from one start of a program to the next.
 use Rattle.std.specs.Prelude.{◌≡◌, ⊤, ℕ, List, [], ◌∷◌, All, Err, IsSomeAnd, Ok, Result, false}
-use Rattle.std.specs.Prelude.{length}
+use Rattle.std.specs.Prelude.{length, ◌<◌}
+use Rattle.ring_words.specs.Limits.{long_count}
 use Rattle.request_book.specs.Call.{Call, Deliver, Load, calls_of}
 use Rattle.request_book.specs.Content.{Content, entry_of}
 use Rattle.request_book.specs.Run.{Run}
@@ -25,7 +26,8 @@ Lives limits limit old (calls ∷ later) new = (mid : Content State Command Repl
 
 -- What a call delivers, if it does, is proper.
 abbrev pub IsProperCall : Call Command Reply → Type 0
-IsProperCall (Deliver delivery answer) = IsProperCommand delivery.command
+IsProperCall (Deliver delivery answer) = IsProperCommand delivery.command ×
+    (delivery.hour < long_count)
 IsProperCall (Load answer) = ⊤
 
 -- The reply that a call got, if it got one, is the one that the book keeps under the key of its

@@ -2,7 +2,7 @@
 -- remain, how long those of a moved partition stay, and that the rings stay valid.
 use Rattle.std.specs.Prelude.{◌≡◌, ◌+◌, ◌-◌, ◌/◌, ◌^◌, ◌<◌, ◌≤◌, ◌++◌, ℕ, IsTrue, true, false, List}
 use Rattle.std.specs.Prelude.{length, slice_get, Some, All, AllPairs}
-use Rattle.ring_words.specs.Limits.{most_rings}
+use Rattle.ring_words.specs.Limits.{long_count, most_rings}
 use Rattle.ring_model.specs.Ring.{RingRecord, partition_count}
 use Rattle.ring_model.specs.Rings.{AreByName, ring_at, with_ring}
 use Rattle.ring_model.specs.Valid.{IsValid}
@@ -51,6 +51,10 @@ pub record AreValid (rings : State) : Type 0 where
 -- the requests that were decided, in their order, with the hours that were used and the replies
 abbrev pub Entries : Type 0
 Entries = List (Entry Command Reply)
+
+-- The command is such as there are, and the hour has 32 bits.
+abbrev pub IsProperEntry : Entry Command Reply → Type 0
+IsProperEntry entry = IsProperCommand entry.command × (entry.hour < long_count)
 
 -- No entry is of an earlier hour than one before it.
 abbrev pub DoNotFall : Entries → Type 0
@@ -134,8 +138,8 @@ pub record IsSafe (limits : Limits) (old : State) (entries : Entries) (new : Sta
       has_changed move.old move.new (origin move.old later.old partition) ≡ true →
       Leaves later.old later.new partition replica →
       move.entry.hour + later.old.min_hours ≤ later.entry.hour
-  -- The rings stay valid, if the old ones are and the commands such as there are.
-  pub valid : AreValid old → All (λ entry. IsProperCommand entry.command) entries →
+  -- The rings stay valid, if the old ones are and the commands and hours such as there are.
+  pub valid : AreValid old → All IsProperEntry entries →
       (n : ℕ) → n ≤ length entries → AreValid (rings n)
 
 -- The new book is the old one and entries that lead safely from the old rings to the new ones.

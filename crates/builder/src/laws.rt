@@ -16,6 +16,7 @@ ghost use Rattle.ring_model.specs.Ring.{RingRecord, partition_count};
 ghost use Rattle.ring_model.specs.Rings.{ring_at};
 ghost use Rattle.ring_place.specs.Rebalance.{IsRebalance, has_changed, is_locked};
 ghost use Rattle.ring_words.specs.declared.request.Delivery.{Delivery};
+ghost use Rattle.ring_words.specs.Limits.{long_count};
 ghost use Rattle.ring_words.specs.declared.request.Limits.{Limits};
 ghost use Rattle.ring_words.specs.declared.command.Command.{Command};
 ghost use Rattle.ring_words.specs.declared.command.Act.TheVariants as act;
@@ -33,7 +34,7 @@ pub fn other_rings_stay()
 /// Each step keeps valid rings valid.
 pub fn valid_rings_stay_valid()
     ensures { (limits : Limits) (rings after : State) (hour : ℕ) (command : Command) (reply : Reply)
-        → Step limits rings hour command reply after → IsProperCommand command
+        → hour < long_count → Step limits rings hour command reply after → IsProperCommand command
         → AreValid rings → AreValid after }
 {}
 
@@ -109,8 +110,8 @@ pub fn a_run_is_safe()
 pub fn a_run_stays_valid()
     ensures { (limits : Limits) (limit : ℕ) (closed : Bool) (old new : Content State Command Reply)
         (calls : List (Call Command Reply))
-        → Run (Step limits) limit closed old calls new → All IsProperCall calls
-        → AreValid old.state → (safe : IsSafeRun limits old new) → (n : ℕ) → n ≤ length safe.entries
+        → Run (Step limits) limit closed old calls new → old.hour < long_count
+        → All IsProperCall calls → AreValid old.state → (safe : IsSafeRun limits old new) → (n : ℕ) → n ≤ length safe.entries
         → AreValid (safe.rings n) }
 {}
 
@@ -134,7 +135,8 @@ pub fn a_life_is_safe()
 pub fn a_life_stays_valid()
     ensures { (limits : Limits) (limit : ℕ) (old new : Content State Command Reply)
         (runs : List (List (Call Command Reply)))
-        → Lives limits limit old runs new → All (All IsProperCall) runs → AreValid old.state
+        → Lives limits limit old runs new → old.hour < long_count
+        → All (All IsProperCall) runs → AreValid old.state
         → (safe : IsSafeRun limits old new) → (n : ℕ) → n ≤ length safe.entries
         → AreValid (safe.rings n) }
 {}
@@ -162,7 +164,9 @@ pub fn a_step_is_one()
 pub fn one_list_one_book()
     ensures { (limits : Limits) (limit : ℕ) (old new after : Content State Command Reply)
         (deliveries : List (Delivery Command)) (answers others : List (Result Reply Fault))
-        → All (λ delivery. IsProperCommand delivery.command) deliveries → AreValid old.state
+        → old.hour < long_count
+        → All (λ delivery. IsProperCommand delivery.command × (delivery.hour < long_count)) deliveries
+        → AreValid old.state
         → IsSureRun limits limit old deliveries answers new
         → IsSureRun limits limit old deliveries others after → (answers ≡ others) × (new ≡ after) }
 {}

@@ -53,10 +53,10 @@ impl<R> CountedReader<R> {
     }
 }
 
-impl<R: Read> Read for CountedReader<R> {
-    ghost remaining = { λ reader. R.remaining (reader_of reader) };
-
-    fn read(&mut self, buf: &mut [u8]) -> io::Result<usize>
+impl<R: Read> CountedReader<R> {
+    /// Reads once. Only this crate can, and what it offers above asks first that all that was written
+    /// is flushed, or reads for who has no peer that waits.
+    pub(crate) fn read(&mut self, buf: &mut [u8]) -> io::Result<usize>
         ensures bound { ReadsAtMost result buf.new }
         ensures bytes { ReadConsumes (R.remaining (reader_of self.old))
             (R.remaining (reader_of self.new)) result buf.new }

@@ -2,7 +2,7 @@
 use path_lookup::HashNames;
 use std::cell::Cell;
 use std::io::{self, ErrorKind, Read, Write};
-use std::net::{Net, OpenListener, OpenStream, SocketAddr};
+use std::net::{IpAddr, Net, OpenListener, OpenStream, Shutdown, SocketAddr};
 use std::os::fd::{AsRawFd, RawFd};
 use std::time::{Clock, Duration};
 
@@ -81,10 +81,11 @@ impl AsRawFd for Trickle {
     }
 }
 
-/// A listener whose first peer is gone, which then has a peer, and then fails.
+/// A listener whose first peer is gone, which then has so many peers, and then fails.
 #[derive(Drop)]
 pub struct ShortListener {
     accepts: Cell<u32>,
+    peers: u32,
 }
 
 impl OpenListener for ShortListener {
@@ -93,10 +94,12 @@ impl OpenListener for ShortListener {
     fn accept(&self) -> io::Result<(Trickle, SocketAddr)> {
         let count = self.accepts.get();
         self.accepts.set(count.saturating_add(1));
-        match count {
-            0 => Err(ErrorKind::ConnectionAborted.into()),
-            1 => Ok((Trickle, SocketAddr::from(([127, 0, 0, 1], 1)))),
-            _ => Err(ErrorKind::Other.into()),
+        if count == 0 {
+            Err(ErrorKind::ConnectionAborted.into())
+        } else if count <= self.peers {
+            Ok((Trickle, SocketAddr::from(([127, 0, 0, 1], 1))))
+        } else {
+            Err(ErrorKind::Other.into())
         }
     }
 }
@@ -107,18 +110,24 @@ impl AsRawFd for ShortListener {
     }
 }
 
-/// A machine whose net is that listener, and whose time stands still.
+/// A machine whose net is such a listener, of any port of 127.0.0.1, and whose time stands still.
 #[derive(Drop)]
-pub struct ShortNet;
+pub struct ShortNet {
+    pub peers: u32,
+}
 
 impl Net for ShortNet {
     type Stream = Trickle;
 
     type Listener = ShortListener;
 
-    fn bind(&self, _addr: SocketAddr) -> io::Result<ShortListener> {
+    fn bind(&self, addr: SocketAddr) -> io::Result<ShortListener> {
+        if addr.ip() != IpAddr::from([127, 0, 0, 1]) {
+            return Err(ErrorKind::AddrNotAvailable.into());
+        }
         Ok(ShortListener {
             accepts: Cell::new(0),
+            peers: self.peers,
         })
     }
 
@@ -128,6 +137,146 @@ impl Net for ShortNet {
 }
 
 impl Clock for ShortNet {
+    fn monotonic(&self) -> io::Result<Duration> {
+        Ok(Duration::ZERO)
+    }
+
+    fn since_1970(&self) -> io::Result<Duration> {
+        Ok(Duration::ZERO)
+    }
+}
+
+/// A stream that has these bytes, or fails when it is read, and takes whatever is written. Both of
+/// its ends are at one port.
+#[derive(Drop)]
+pub struct Peer {
+    text: Option<&'static [u8]>,
+    port: u16,
+}
+
+impl Read for Peer {
+    fn read(&mut self, buf: &mut [u8]) -> io::Result<usize> {
+        let Some(text) = self.text else {
+            return Err(ErrorKind::BrokenPipe.into());
+        };
+        let count = text.len().min(buf.len());
+        buf[..count].copy_from_slice(&text[..count]);
+        self.text = Some(&text[count..]);
+        Ok(count)
+    }
+}
+
+impl Write for Peer {
+    fn write(&mut self, buf: &[u8]) -> io::Result<usize> {
+        Ok(buf.len())
+    }
+
+    fn flush(&mut self) -> io::Result<()> {
+        Ok(())
+    }
+}
+
+impl OpenStream for Peer {
+    fn peer_addr(&self) -> io::Result<SocketAddr> {
+        Ok(SocketAddr::from(([127, 0, 0, 1], self.port)))
+    }
+
+    fn local_addr(&self) -> io::Result<SocketAddr> {
+        Ok(SocketAddr::from(([127, 0, 0, 1], self.port)))
+    }
+
+    fn shutdown(&self, _how: Shutdown) -> io::Result<()> {
+        Ok(())
+    }
+
+    fn set_read_timeout(&self, _dur: Option<Duration>) -> io::Result<()> {
+        Ok(())
+    }
+
+    fn set_write_timeout(&self, _dur: Option<Duration>) -> io::Result<()> {
+        Ok(())
+    }
+
+    fn try_clone(&self) -> io::Result<Peer> {
+        Ok(Peer {
+            text: self.text,
+            port: self.port,
+        })
+    }
+}
+
+impl AsRawFd for Peer {
+    fn as_raw_fd(&self) -> RawFd {
+        0
+    }
+}
+
+/// A listener that has so many strangers, which fail when they are read, and then the client.
+#[derive(Drop)]
+pub struct StrangeListener {
+    accepts: Cell<u32>,
+    strangers: u32,
+}
+
+impl OpenListener for StrangeListener {
+    type Stream = Peer;
+
+    fn accept(&self) -> io::Result<(Peer, SocketAddr)> {
+        let count = self.accepts.get();
+        self.accepts.set(count.saturating_add(1));
+        let peer = if count < self.strangers {
+            Peer {
+                text: None,
+                port: 2,
+            }
+        } else {
+            Peer {
+                text: Some(b""),
+                port: 1,
+            }
+        };
+        let address = peer.peer_addr()?;
+        Ok((peer, address))
+    }
+
+    fn local_addr(&self) -> io::Result<SocketAddr> {
+        Ok(SocketAddr::from(([127, 0, 0, 1], 3)))
+    }
+}
+
+impl AsRawFd for StrangeListener {
+    fn as_raw_fd(&self) -> RawFd {
+        0
+    }
+}
+
+/// A machine whose net is such a listener, and whose clients are at port 1.
+#[derive(Drop)]
+pub struct StrangeNet {
+    pub strangers: u32,
+}
+
+impl Net for StrangeNet {
+    type Stream = Peer;
+
+    type Listener = StrangeListener;
+
+    fn bind(&self, _addr: SocketAddr) -> io::Result<StrangeListener> {
+        Ok(StrangeListener {
+            accepts: Cell::new(0),
+            strangers: self.strangers,
+        })
+    }
+
+    fn connect(&self, _addr: SocketAddr) -> io::Result<Peer> {
+        Ok(Peer {
+            text: Some(b""),
+            port: 1,
+        })
+    }
+}
+
+impl Clock for StrangeNet {
     fn monotonic(&self) -> io::Result<Duration> {
         Ok(Duration::ZERO)
     }

@@ -1,5 +1,5 @@
 //! Bytes served by way of a socket.
-use crate::doubles::NO_NAMES;
+use crate::doubles::{NO_NAMES, StrangeNet};
 use crate::serving::{CREATE, CREATED, LAST, LAST_ANSWER, RingBook, are_joined, open};
 use byte_streams::{CountedWriter, StreamFault};
 use http_sockets::{HourClock, ServeFault, loop_over};
@@ -120,5 +120,28 @@ fn a_writer_that_fails_is_told(rt: HostRuntime) -> Result<(), Fail> {
     let failed = Err(ServeFault::Stream(StreamFault::WriteFailed));
     assert!(rt; came == failed && is_beginning);
     assert!(rt; loops(&rt, &mut book, &[CREATE], Ok(()), &[CREATED])?);
+    Ok(())
+}
+
+/// How the serving of no bytes ends where so many strangers come before the client.
+fn looped_past(alloc: Global, strangers: u32) -> Result<(), ServeFault> {
+    let machine = (StrangeNet { strangers }, alloc);
+    let mut book = open(alloc);
+    let mut clock = HourClock::new(&machine, Some(7));
+    let mut writer = CountedWriter::new(Vec::new(alloc));
+    loop_over(&machine, b"", &mut writer, &mut clock, &mut book, NO_NAMES)
+}
+
+#[test]
+fn a_stranger_is_turned_away(rt: HostRuntime) -> Result<(), Fail> {
+    assert!(rt; looped_past(rt.alloc(), 0) == Ok(()));
+    assert!(rt; looped_past(rt.alloc(), 1) == Ok(()));
+    assert!(rt; looped_past(rt.alloc(), 128) == Ok(()));
+    Ok(())
+}
+
+#[test]
+fn no_more_than_128_strangers_are_turned_away(rt: HostRuntime) -> Result<(), Fail> {
+    assert!(rt; looped_past(rt.alloc(), 129) == Err(ServeFault::NetFailed));
     Ok(())
 }

@@ -219,21 +219,38 @@ fn a_port_that_is_taken_is_told(rt: HostRuntime) -> Result<(), Fail> {
     Ok(())
 }
 
-/// What serving one connection twice comes to, over a net that fails the second time.
-fn served_twice(alloc: Global) -> Result<(bool, bool), ServeFault> {
-    let machine = (ShortNet, alloc);
+/// Serves so many connections over a new book, and then so many again.
+fn served_twice(
+    alloc: Global,
+    net: ShortNet,
+    count: u16,
+    again: u16,
+) -> Result<(Result<(), ServeFault>, Result<(), ServeFault>), ServeFault> {
+    let machine = (net, alloc);
     let mut book = open(alloc);
-    let mut clock = HourClock::new(&ShortNet, Some(7));
+    let mut clock = HourClock::new(&machine, Some(7));
     let mut server = Server::bind(&machine, 0, Patience::usual())?;
-    let first = server.serve(1, &mut clock, &mut book, NO_NAMES);
-    let second = server.serve(1, &mut clock, &mut book, NO_NAMES);
-    Ok((first.is_ok(), second == Err(ServeFault::NetFailed)))
+    let first = server.serve(count, &mut clock, &mut book, NO_NAMES);
+    let second = server.serve(again, &mut clock, &mut book, NO_NAMES);
+    Ok((first, second))
 }
 
 #[test]
 fn a_peer_that_is_gone_is_passed_over_and_a_net_that_fails_is_told(
     rt: HostRuntime,
 ) -> Result<(), Fail> {
-    assert!(rt; served_twice(rt.alloc()) == Ok((true, true)));
+    let net = ShortNet { peers: 1 };
+    let want = Ok((Ok(()), Err(ServeFault::NetFailed)));
+    assert!(rt; served_twice(rt.alloc(), net, 1, 1) == want);
+    Ok(())
+}
+
+#[test]
+fn as_many_connections_are_served_as_a_service_may_be_asked_for(
+    rt: HostRuntime,
+) -> Result<(), Fail> {
+    let net = ShortNet { peers: 131070 };
+    let want = Ok((Ok(()), Ok(())));
+    assert!(rt; served_twice(rt.alloc(), net, 65535, 65535) == want);
     Ok(())
 }

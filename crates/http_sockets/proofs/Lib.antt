@@ -1,2 +1,3 @@
 pub mod Joined
 pub mod Chains
+pub mod Talks

@@ -1,4 +1,3 @@
 pub mod Hours
 pub mod Listening
 pub mod Connections
-pub mod Inner

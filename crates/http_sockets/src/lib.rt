@@ -2,17 +2,21 @@
 //!
 //! `serve_connections` serves a port, and `loop_over` the bytes of a file by way of a socket. That
 //! the requests of all connections are one run of the book stands in `specs/Connections.antt`.
-//! `machine_hour` is the hour of the machine, and `HourClock` tells that, or a given one.
+//! Connections come of a `Door`, which a `Ports` opens; a `Server` of this machine is one, and who
+//! serves a door can tell of no connection that it did not give. `machine_hour` is the hour of the
+//! machine, and `HourClock` tells that, or a given one.
 #![tactic(auto)]
 
+mod doors;
 mod fault;
 mod hours;
 mod looping;
 mod server;
 mod serving;
 
+pub use doors::{Door, Ports};
 pub use fault::ServeFault;
 pub use hours::{HourClock, machine_hour};
 pub use looping::{MOST_LOOPED, loop_over};
 pub use server::Server;
-pub use serving::serve_connections;
+pub use serving::{serve, serve_connections};

@@ -4,10 +4,10 @@ ghost use Rattle.std.specs.Io.KnownBytes.{Appends};
 ghost use Rattle.builder.specs.Safety.{IsSafeRun};
 ghost use Rattle.byte_streams.specs.Counted.{Counts, IsFlushed, one_more, write_faults, writer_of};
 ghost use Rattle.byte_streams.specs.declared.fault.StreamFault.TheVariants.{WriteFailed};
-ghost use Rattle.http_sockets.specs.Connections.{ConnectionsServed, ServedAtMost, most_looped};
-ghost use Rattle.http_sockets.specs.Inner.One.{OneServed};
+ghost use Rattle.http_sockets.specs.Connections.{IsTalk, OneServed, OneServedOrNone, most_looped};
 ghost use Rattle.http_sockets.specs.declared.fault.ServeFault.TheVariants.{NetFailed, Stream};
 
+use crate::doors::Door;
 use crate::fault::ServeFault;
 use crate::server::Server;
 use crate::serving::{close, converse};
@@ -48,13 +48,13 @@ fn send<R: Net + time::Clock>(rt: &R, address: SocketAddr, input: &[u8]) -> io::
 }
 
 /// The connection of the client at this address. Other peers are turned away.
-fn accept_from<R: Net>(
+fn accept_from<R: AllocGlobal + Net + time::Clock>(
     server: &mut Server<'_, R>,
     client: SocketAddr,
 ) -> Result<R::Stream, ServeFault>
     ensures { IfErr result (λ fault. fault ≡ NetFailed) }
 {
-    for _ in 0..MOST_STRANGERS {
+    for _ in 0..MOST_STRANGERS + 1 {
         let stream = server.accept()?;
         if stream.peer_addr().ok() == Some(client) {
             return Ok(stream);
@@ -64,7 +64,10 @@ fn accept_from<R: Net>(
 }
 
 /// Both ends of a connection over which these bytes were sent.
-fn join_ends<R: Net + time::Clock>(rt: &R, input: &[u8]) -> Result<Ends<R::Stream>, ServeFault>
+fn join_ends<R: AllocGlobal + Net + time::Clock>(
+    rt: &R,
+    input: &[u8],
+) -> Result<Ends<R::Stream>, ServeFault>
     ensures { IfErr result (λ fault. fault ≡ NetFailed) }
 {
     let mut server = Server::bind(rt, 0, Patience::usual())?;
@@ -100,15 +103,16 @@ fn serve_capped<
     book: &mut Book<RingMachine, K>,
     names: HashNames<'_>,
 ) -> Result<u32, StreamFault>
-    ensures { OneServed K.Keeper C.tells names.entry.prefix.now names.entry.suffix.now
-        (clock.old, book.old) (clock.new, book.new) }
+    ensures { (one : OneServed K.Keeper C.tells names.entry.prefix.now names.entry.suffix.now
+        (IsTalk S.remaining S.contents) (clock.old, book.old) (clock.new, book.new))
+        × (one.connection.stream ≡ stream) }
 {
     let pace = Pace::new(time, Patience::usual());
     let reader = TimedReader::new(stream, &pace);
     let writer = CappedWriter::new(TimedWriter::new(twin, &pace), MOST_LOOPED);
-    let (result, stream) = converse(alloc, reader, writer, clock, book, names);
-    close(stream, time, Patience::usual());
-    result
+    let talk = converse(alloc, reader, writer, clock, book, names);
+    close(talk.stream, time, Patience::usual());
+    talk.result
 }
 
 /// Serves the bytes, and puts the answers in the room. Tells how many bytes they have, and what the
@@ -123,12 +127,12 @@ fn answer_into<R: AllocGlobal + Net + time::Clock, C: Clock, K: Keeper<RingMachi
 ) -> Result<(usize, Result<u32, StreamFault>), ServeFault>
     ensures bound { IfOk result (λ told. told.0 ≤ length room.new) }
     ensures same { length room.new ≡ length room.old }
-    ensures served { MatchResult result
-        (λ _. ConnectionsServed K.Keeper C.tells names.entry.prefix.now
-        names.entry.suffix.now 1 (clock.old, book.old) (clock.new, book.new))
-        (λ fault. (fault ≡ NetFailed)
-        × ServedAtMost K.Keeper C.tells names.entry.prefix.now names.entry.suffix.now 1
+    ensures served { OnOk result (OneServed K.Keeper C.tells names.entry.prefix.now
+        names.entry.suffix.now (IsTalk R.Stream.remaining R.Stream.contents)
         (clock.old, book.old) (clock.new, book.new)) }
+    ensures failed { IfErr result (λ fault. (fault ≡ NetFailed)
+        × OneServedOrNone K.Keeper C.tells names.entry.prefix.now names.entry.suffix.now
+        (IsTalk R.Stream.remaining R.Stream.contents) (clock.old, book.old) (clock.new, book.new)) }
     ensures safe { K.sound book.new.keeper → IsSafeRun book.old.machine.limits
         (K.content book.old.keeper) (K.content book.new.keeper) }
 {
@@ -181,10 +185,11 @@ pub fn loop_over<R: AllocGlobal + Net + time::Clock, W: Write, C: Clock, K: Keep
     book: &mut Book<RingMachine, K>,
     names: HashNames<'_>,
 ) -> Result<(), ServeFault>
-    ensures served { MatchResult result
-        (λ _. ConnectionsServed K.Keeper C.tells names.entry.prefix.now
-        names.entry.suffix.now 1 (clock.old, book.old) (clock.new, book.new))
-        (λ _. ServedAtMost K.Keeper C.tells names.entry.prefix.now names.entry.suffix.now 1
+    ensures served { OnOk result (OneServed K.Keeper C.tells names.entry.prefix.now
+        names.entry.suffix.now (IsTalk R.Stream.remaining R.Stream.contents)
+        (clock.old, book.old) (clock.new, book.new)) }
+    ensures failed { IfErr result (λ _. OneServedOrNone K.Keeper C.tells names.entry.prefix.now
+        names.entry.suffix.now (IsTalk R.Stream.remaining R.Stream.contents)
         (clock.old, book.old) (clock.new, book.new)) }
     ensures few { (answers : List ℕ) × (length answers ≤ most_looped)
         × Appends (W.contents (writer_of writer.old)) (W.contents (writer_of writer.new)) answers }

@@ -1,12 +1,15 @@
 //! A server of a port of this machine.
-ghost use Rattle.std.specs.Prelude.{◌≡◌, ◌+◌, IfErr, IfOk, MatchResult};
-ghost use Rattle.byte_streams.specs.Counted.{Counts};
-ghost use Rattle.http_sockets.specs.Listening.{accepted_count, net_faults};
+ghost use Rattle.std.specs.Prelude.{◌≡◌, IfErr, IfOk};
+ghost use Rattle.http_sockets.specs.Listening.{AcceptsNone, AcceptsOne, HasAcceptedNone};
 ghost use Rattle.http_sockets.specs.declared.fault.ServeFault.TheVariants.{NetFailed};
 
+use crate::doors::{Door, Ports};
 use crate::fault::ServeFault;
+use ring_words::Port;
+use std::alloc::Global;
 use std::io::ErrorKind;
 use std::net::{Ipv4Addr, Net, OpenListener, SocketAddr};
+use std::time;
 use timed_streams::Patience;
 
 /// The next connection of a listener, and `None` where there will be none. A peer that is gone
@@ -28,8 +31,8 @@ fn next_of<L: OpenListener>(listener: &L) -> Option<L::Stream> {
 
 /// A port of this machine, on 127.0.0.1, whose connections are served one after another.
 ///
-/// It counts the connections that it accepted, 2^64 - 1 at most, and how often none could be
-/// accepted any more. Its fields are private to this file, so that nothing else raises a count.
+/// It counts the connections that it accepted, and how often none could be accepted any more, both
+/// up to 2^64 - 1. Its fields are private to this file, so that nothing else raises a count.
 #[derive(Drop)]
 pub struct Server<'a, R: Net> {
     rt: &'a R,
@@ -44,8 +47,7 @@ impl<'a, R: Net> Server<'a, R> {
     /// can't be had.
     pub fn bind(rt: &'a R, port: u16, patience: Patience) -> Result<Server<'a, R>, ServeFault>
         ensures fault { IfErr result (λ fault. fault ≡ NetFailed) }
-        ensures new { IfOk result (λ server. (accepted_count server ≡ 0)
-            × (net_faults server ≡ 0)) }
+        ensures new { IfOk result HasAcceptedNone }
     {
         let Ok(listener) = rt.bind(SocketAddr::from((Ipv4Addr::LOCALHOST, port))) else {
             return Err(ServeFault::NetFailed);
@@ -68,34 +70,50 @@ impl<'a, R: Net> Server<'a, R> {
             Err(_) => Err(ServeFault::NetFailed),
         }
     }
+}
 
-    /// The machine that it runs on.
-    pub(crate) fn machine(&self) -> &'a R {
-        self.rt
-    }
+impl<'a, R: AllocGlobal + Net + time::Clock> Door for Server<'a, R> {
+    type Stream = R::Stream;
 
-    /// How long a client may hold it.
-    pub(crate) fn patience(&self) -> Patience {
-        self.patience
-    }
+    type Time = R;
 
-    /// The next connection. `NetFailed` says that there will be none.
-    pub(crate) fn accept(&mut self) -> Result<R::Stream, ServeFault>
-        ensures fault { IfErr result (λ fault. fault ≡ NetFailed) }
-        ensures accepted { MatchResult result
-            (λ _. accepted_count self.new ≡ accepted_count self.old + 1)
-            (λ _. accepted_count self.new ≡ accepted_count self.old) }
-        ensures cause { Counts (net_faults self.old) (net_faults self.new) result }
-    {
+    ghost gives = { λ old _ new. AcceptsOne old new };
+
+    ghost fails = { AcceptsNone };
+
+    fn accept(&mut self) -> Result<R::Stream, ServeFault> {
         match next_of(&self.listener) {
-            Some(stream) if self.accepted < u64::MAX => {
-                self.accepted += 1;
+            Some(stream) => {
+                self.accepted = self.accepted.saturating_add(1);
                 Ok(stream)
             }
-            _ => {
+            None => {
                 self.faults = self.faults.saturating_add(1);
                 Err(ServeFault::NetFailed)
             }
         }
+    }
+
+    fn time(&self) -> &R {
+        self.rt
+    }
+
+    fn patience(&self) -> Patience {
+        self.patience
+    }
+
+    fn alloc(&self) -> Global {
+        self.rt.alloc()
+    }
+}
+
+/// The ports of 127.0.0.1. A client is waited for as long as is usual.
+impl<'a, R: AllocGlobal + Net + time::Clock> Ports for &'a R {
+    type Door = Server<'a, R>;
+
+    ghost opens = { λ _ server. HasAcceptedNone server };
+
+    fn open(self, port: Port) -> Result<Server<'a, R>, ServeFault> {
+        Server::bind(self, port.get(), Patience::usual())
     }
 }

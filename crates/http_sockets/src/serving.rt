@@ -1,11 +1,15 @@
 //! Connections are served, one after another.
-ghost use Rattle.std.specs.Prelude.{◌≡◌, ◌+◌, ◌≤◌, MatchResult};
+ghost use Rattle.std.specs.Prelude.{◌≡◌, ◌+◌, ◌^◌, ◌<◌, IfErr, IfOk, MatchResult};
 ghost use Rattle.builder.specs.Safety.{IsSafeRun};
 ghost use Rattle.byte_streams.specs.Counted.{Counts};
+ghost use Rattle.http_api.specs.Served.{ServesHttp};
+ghost use Rattle.http_sockets.specs.Connections.{IsTalk, OneServed, PortFailed, PortServed};
 ghost use Rattle.http_sockets.specs.Connections.{ServedUpTo};
-ghost use Rattle.http_sockets.specs.Inner.One.{OneServed};
-ghost use Rattle.http_sockets.specs.Listening.{accepted_count, net_faults};
+ghost use Rattle.http_sockets.specs.Listening.{AcceptsNone, AcceptsOne, accepted_count, net_faults};
+ghost use Rattle.http_sockets.specs.declared.fault.ServeFault.TheVariants.{NetFailed};
+ghost use Rattle.http_stream.specs.Serving.{RequestsServed, RequestsStopped};
 
+use crate::doors::{Door, Ports};
 use crate::fault::ServeFault;
 use crate::server::Server;
 use builder::RingMachine;
@@ -19,6 +23,14 @@ use std::io::{Read, Write};
 use std::net::{Net, OpenStream, Shutdown};
 use std::time;
 use timed_streams::{Pace, Patience, TimedReader, TimedWriter, read_away};
+
+/// What a stream was served to: how that ended, and both ends as they were left.
+#[derive(Drop)]
+pub(crate) struct Conversation<S, W> {
+    pub(crate) result: Result<u32, StreamFault>,
+    pub(crate) stream: S,
+    pub(crate) writer: W,
+}
 
 /// Serves a stream, and gives it back.
 pub(crate) fn converse<
@@ -34,14 +46,25 @@ pub(crate) fn converse<
     clock: &mut C,
     book: &mut Book<RingMachine, K>,
     names: HashNames<'_>,
-) -> (Result<u32, StreamFault>, S)
-    ensures { OneServed K.Keeper C.tells names.entry.prefix.now names.entry.suffix.now
-        (clock.old, book.old) (clock.new, book.new) }
+) -> Conversation<S, W>
+    ensures served { IfOk result.result (RequestsServed
+        (ServesHttp K.Keeper C.tells names.entry.prefix.now names.entry.suffix.now)
+        (S.remaining reader.entry.stream) (W.contents writer) (W.contents result.writer)
+        (clock.old, book.old) (clock.new, book.new)) }
+    ensures stopped { IfErr result.result (RequestsStopped
+        (ServesHttp K.Keeper C.tells names.entry.prefix.now names.entry.suffix.now)
+        (S.remaining reader.entry.stream) (S.remaining result.stream) (W.contents writer)
+        (W.contents result.writer) (clock.old, book.old) (clock.new, book.new)
+        ((clock.new ≡ clock.old) × (book.new ≡ book.old))) }
 {
     let mut reader = CountedReader::new(reader);
     let mut writer = CountedWriter::new(writer);
     let result = serve_stream(alloc, &mut reader, &mut writer, clock, book, names);
-    (result, reader.into_inner().into_inner())
+    Conversation {
+        result,
+        stream: reader.into_inner().into_inner(),
+        writer: writer.into_inner(),
+    }
 }
 
 /// Ends a stream whose answers are out: tells the peer that no more comes, and reads away what it
@@ -55,38 +78,61 @@ pub(crate) fn close<S: Read + OpenStream + Drop, T: time::Clock>(
     read_away(&mut stream, time, patience.after);
 }
 
-impl<'a, R: AllocGlobal + Net + time::Clock> Server<'a, R> {
-    /// Serves one connection to its end.
-    fn serve_one<C: Clock, K: Keeper<RingMachine>>(
-        &self,
-        stream: R::Stream,
-        clock: &mut C,
-        book: &mut Book<RingMachine, K>,
-        names: HashNames<'_>,
-    )
-        ensures { OneServed K.Keeper C.tells names.entry.prefix.now names.entry.suffix.now
-            (clock.old, book.old) (clock.new, book.new) }
-    {
-        // Answers that are written are sent at once. Where the machine can't, they come later.
-        let _ = stream.set_nodelay(true);
-        let Ok(twin) = stream.try_clone() else {
-            return;
-        };
-        let rt = self.machine();
-        let pace = Pace::new(rt, self.patience());
-        let reader = TimedReader::new(stream, &pace);
-        let writer = TimedWriter::new(twin, &pace);
-        let (result, stream) = converse(rt.alloc(), reader, writer, clock, book, names);
-        if result.is_ok() {
-            close(stream, rt, self.patience());
-        }
+/// Serves one connection to its end.
+fn serve_one<D: Door, C: Clock, K: Keeper<RingMachine>>(
+    door: &D,
+    stream: D::Stream,
+    clock: &mut C,
+    book: &mut Book<RingMachine, K>,
+    names: HashNames<'_>,
+)
+    ensures { (one : OneServed K.Keeper C.tells names.entry.prefix.now names.entry.suffix.now
+        (IsTalk D.Stream.remaining D.Stream.contents) (clock.old, book.old) (clock.new, book.new))
+        × (one.connection.stream ≡ stream) }
+{
+    // Answers that are written are sent at once. Where the machine can't, they come later.
+    let _ = stream.set_nodelay(true);
+    let Ok(twin) = stream.try_clone() else {
+        return;
+    };
+    let pace = Pace::new(door.time(), door.patience());
+    let reader = TimedReader::new(stream, &pace);
+    let writer = TimedWriter::new(twin, &pace);
+    let talk = converse(door.alloc(), reader, writer, clock, book, names);
+    if talk.result.is_ok() {
+        close(talk.stream, door.time(), door.patience());
     }
+}
 
-    /// Serves so many connections, one after another.
-    ///
-    /// A stream's fault ends its connection alone, and the next one is served; what ends by time is
-    /// a fault. `NetFailed` says that no connection can be accepted any more, and the server counts
-    /// one more fault exactly then.
+/// Serves so many connections, one after another.
+///
+/// A stream's fault ends its connection alone, and the next one is served; what ends by time is
+/// a fault. `NetFailed` says that no connection came any more.
+pub fn serve<D: Door, C: Clock, K: Keeper<RingMachine>>(
+    door: &mut D,
+    count: u16,
+    clock: &mut C,
+    book: &mut Book<RingMachine, K>,
+    names: HashNames<'_>,
+) -> Result<(), ServeFault>
+    ensures served { ServedUpTo K.Keeper C.tells names.entry.prefix.now names.entry.suffix.now
+        (IsTalk D.Stream.remaining D.Stream.contents) D.gives D.fails count door.old door.new
+        (clock.old, book.old) (clock.new, book.new) result }
+    ensures safe { K.sound book.new.keeper → IsSafeRun book.old.machine.limits
+        (K.content book.old.keeper) (K.content book.new.keeper) }
+{
+    let mut served = 0;
+    while served < count {
+        let stream = door.accept()?;
+        serve_one(&*door, stream, clock, book, names);
+        served += 1;
+    }
+    Ok(())
+}
+
+impl<'a, R: AllocGlobal + Net + time::Clock> Server<'a, R> {
+    /// Serves so many connections, one after another, as `serve` does. It counts each connection,
+    /// and one more fault exactly where none came any more.
     pub fn serve<C: Clock, K: Keeper<RingMachine>>(
         &mut self,
         count: u16,
@@ -94,41 +140,40 @@ impl<'a, R: AllocGlobal + Net + time::Clock> Server<'a, R> {
         book: &mut Book<RingMachine, K>,
         names: HashNames<'_>,
     ) -> Result<(), ServeFault>
-        ensures served { ServedUpTo K.Keeper C.tells names.entry.prefix.now
-            names.entry.suffix.now count (clock.old, book.old) (clock.new, book.new) result }
-        ensures accepted { MatchResult result
+        ensures served { ServedUpTo K.Keeper C.tells names.entry.prefix.now names.entry.suffix.now
+            (IsTalk R.Stream.remaining R.Stream.contents) (λ old _ new. AcceptsOne old new) AcceptsNone
+            count self.old self.new (clock.old, book.old) (clock.new, book.new) result }
+        ensures accepted { accepted_count self.old + count < 2 ^ 64 → MatchResult result
             (λ _. accepted_count self.new ≡ accepted_count self.old + count)
-            (λ _. accepted_count self.new ≤ accepted_count self.old + count) }
+            (λ _. accepted_count self.new < accepted_count self.old + count) }
         ensures cause { Counts (net_faults self.old) (net_faults self.new) result }
         ensures safe { K.sound book.new.keeper → IsSafeRun book.old.machine.limits
             (K.content book.old.keeper) (K.content book.new.keeper) }
     {
-        let mut served = 0;
-        while served < count {
-            let stream = self.accept()?;
-            self.serve_one(stream, clock, book, names);
-            served += 1;
-        }
-        Ok(())
+        serve(self, count, clock, book, names)
     }
 }
 
-/// Serves so many connections of a port on 127.0.0.1, one after another.
-pub fn serve_connections<R: AllocGlobal + Net + time::Clock, C: Clock, K: Keeper<RingMachine>>(
-    rt: &R,
+/// Serves so many connections of a port, one after another. `NetFailed` says that the port can't be
+/// had, or that no connection came any more.
+pub fn serve_connections<P: Ports, C: Clock, K: Keeper<RingMachine>>(
+    ports: P,
     port: Port,
     count: u16,
     clock: &mut C,
     book: &mut Book<RingMachine, K>,
     names: HashNames<'_>,
 ) -> Result<(), ServeFault>
-    ensures served { ServedUpTo K.Keeper C.tells names.entry.prefix.now
-        names.entry.suffix.now count (clock.old, book.old) (clock.new, book.new) result }
+    ensures served { IfOk result (λ _. PortServed K.Keeper C.tells names.entry.prefix.now
+        names.entry.suffix.now (IsTalk P.Door.Stream.remaining P.Door.Stream.contents) P.Door.gives
+        P.Door.fails P.opens port count (clock.old, book.old) (clock.new, book.new)) }
+    ensures failed { IfErr result (λ fault. (fault ≡ NetFailed) × PortFailed K.Keeper C.tells
+        names.entry.prefix.now names.entry.suffix.now
+        (IsTalk P.Door.Stream.remaining P.Door.Stream.contents) P.Door.gives P.Door.fails P.opens port
+        count (clock.old, book.old) (clock.new, book.new)) }
     ensures safe { K.sound book.new.keeper → IsSafeRun book.old.machine.limits
         (K.content book.old.keeper) (K.content book.new.keeper) }
 {
-    let Ok(mut server) = Server::bind(rt, port.get(), Patience::usual()) else {
-        return Err(ServeFault::NetFailed);
-    };
-    server.serve(count, clock, book, names)
+    let mut door = ports.open(port)?;
+    serve(&mut door, count, clock, book, names)
 }

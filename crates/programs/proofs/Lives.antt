@@ -6,7 +6,6 @@ use mathlib.Core.HLevel.{is_prop→PathP}
 use Rattle.std.specs.Prelude.{◌++◌, ◌||◌, ◌≤◌, Bool, false, is_some, nat_lt}
 use Rattle.byte_streams.specs.declared.counted.CountedReader.{CountedReader}
 use Rattle.byte_streams.specs.declared.counted.CountedWriter.{CountedWriter}
-use Rattle.byte_streams.specs.declared.fault.StreamFault.{StreamFault}
 use Rattle.builder.specs.Life.{Lives}
 use Rattle.builder.specs.Step.{State, Step}
 use Rattle.builder.specs.declared.machine.RingMachine.{RingMachine}
@@ -42,7 +41,7 @@ use Rattle.programs.specs.Life.{IsOneRun, MakesOneRun, RunsStore, store_of}
 use Rattle.programs.specs.Performed.{EndsBy, EndsSo, ImportsFile, ShowsStore}
 use Rattle.programs.specs.Renewing.{IsRead}
 use Rattle.programs.specs.Running.{AnswersLines}
-use Rattle.programs.specs.Serving.{ServesConnections}
+use Rattle.programs.specs.Serving.{ServesOne, ServesPort}
 use Rattle.programs.specs.Showing.{AsksShown, IsAsked}
 use Rattle.programs.specs.declared.importing.ImportAsk.{ImportAsk}
 use Rattle.programs.specs.declared.performing.Ending.TheVariants.{Done}
@@ -184,10 +183,17 @@ module _ {M K R W : Type 0} (memory : Keeping M) (stores : Keeping K)
       run.4.get.calls run.2 run.3 run.4.get.made
 
   -- of one that served connections
-  served_run : (name : List ℕ) (given : Option ℕ) (names : HashNames) (count : ℕ)
-      → ServesConnections stores (Begins name) (IsClosed Ends) given names count
+  served_run : (name : List ℕ) (given : Option ℕ) (names : HashNames) (port count : ℕ)
+      → ServesPort stores (Begins name) (IsClosed Ends) given names port count
       → MakesOneRun stores (Begins name) (IsClosed Ends)
-  served_run name given names count s = made_run stores (Begins name) (IsClosed Ends) s.first.1
+  served_run name given names port count s = made_run stores (Begins name) (IsClosed Ends) s.first.1
+      s.last.1 s.led.3.serves.calls s.opened s.left s.led.3.serves.made
+
+  -- of one that served a connection of the machine with itself
+  looped_run : (name : List ℕ) (given : Option ℕ) (names : HashNames)
+      → ServesOne stores (Begins name) (IsClosed Ends) given names
+      → MakesOneRun stores (Begins name) (IsClosed Ends)
+  looped_run name given names s = made_run stores (Begins name) (IsClosed Ends) s.first.1
       s.last.1 s.led.serves.calls s.opened s.left s.led.serves.made
 
   -- of one that showed something
@@ -215,9 +221,9 @@ module _ {M K R W : Type 0} (memory : Keeping M) (stores : Keeping K)
       writer later IsMade t Done → RunsStore stores Begins (IsClosed Ends) (store_of t)
   done_once (task.Run None) all = tt
   done_once (task.Run (Some file)) all = lines_run file.now all
-  done_once (task.Serve file port count given names) all = served_run file.now given names count
-      all.2
-  done_once (task.Loop file input given names) all = served_run file.now given names 1 all.1.2.0
+  done_once (task.Serve file port count given names) all = served_run file.now given names port
+      count all.2
+  done_once (task.Loop file input given names) all = looped_run file.now given names all.1.2.0
   done_once (task.Import file ring caller number csv given) all = table_run file.now _ given all.1
   done_once (task.Table file ring) all = shown_run file.now [] [] (AsksShown (task.Table file ring))
       all.1

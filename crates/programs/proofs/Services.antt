@@ -1,18 +1,22 @@
 -- What serving does, over a keeper of which more or less is known, and over that of a store.
-use Rattle.std.proofs.Common.{◌≡◌, ◌⊎◌, List, Option, Result, Ok, Err, ℕ, subst, sym}
-use Rattle.std.specs.Prelude.{MatchResult, OnOk}
+use Rattle.std.proofs.Common.{◌≡◌, ◌⊎◌, List, Option, Result, Ok, Err, ℕ, inl, inr, subst, sym}
+use Rattle.std.proofs.lemmas.Result.{IfErr-weaker, on_ok_weaker}
+use Rattle.std.specs.Prelude.{IfErr, MatchResult, OnOk}
+use Rattle.std.specs.declared.net.tcp.TcpStream.{TcpStream}
 use Rattle.builder.specs.Safety.{IsSafeRun}
 use Rattle.byte_streams.specs.Counted.{IsFlushed, one_more, write_faults}
 use Rattle.byte_streams.specs.declared.counted.CountedWriter.{CountedWriter}
 use Rattle.byte_streams.specs.declared.fault.StreamFault.TheVariants.{WriteFailed}
-use Rattle.http_sockets.specs.Connections.{ConnectionsServed, ServedAtMost, ServedUpTo}
+use Rattle.http_sockets.specs.Connections.{IsTalk, OneServed, PortFailed}
+use Rattle.http_sockets.specs.Connections.{PortServed}
+use Rattle.http_sockets.proofs.Talks.{first_one, first_port, first_port_failed}
 use Rattle.http_sockets.specs.Hours.{TellsGiven}
 use Rattle.http_sockets.specs.declared.fault.ServeFault.{ServeFault}
 use Rattle.http_sockets.specs.declared.fault.ServeFault.TheVariants.{NetFailed, Stream}
 use Rattle.path_lookup.specs.declared.hash.HashNames.{HashNames}
 use Rattle.programs.specs.Begun.{IsBegun}
-use Rattle.programs.specs.Serving.{IsServed, IsSet, LoopsOnce, Service, ServesAtMost}
-use Rattle.programs.specs.Serving.{ServesConnections, StopsLoop, TakesFew}
+use Rattle.programs.specs.Serving.{IsServed, IsSet, LoopsOnce, Service, ServesConnections}
+use Rattle.programs.specs.Serving.{ServesFewer, StopsLoop, TakesFew, tcp_remaining}
 use Rattle.programs.proofs.Runs.{begun}
 use Rattle.ring_book.specs.Book.{Keeping}
 
@@ -20,6 +24,10 @@ use Rattle.ring_book.specs.Book.{Keeping}
 pub match_ok : {A E : Type 0} (result : Result A E) (value : A) (Well : A → Type 0)
     (Ill : E → Type 0) → result ≡ Ok value → MatchResult result Well Ill → Well value
 match_ok result value Well Ill is holds = subst (λ r. MatchResult r Well Ill) is holds
+
+pub on_ok_at : {A E : Type 0} (result : Result A E) (value : A) (Well : Type 0) → result ≡ Ok value
+    → OnOk result Well → Well
+on_ok_at result value Well is holds = subst (λ r. OnOk r Well) is holds
 
 pub match_err : {A E : Type 0} (result : Result A E) (why : E) (Well : A → Type 0)
     (Ill : E → Type 0) → result ≡ Err why → MatchResult result Well Ill → Ill why
@@ -44,23 +52,38 @@ module _ {K : Type 0} (g : Keeping K) (Begins Ends : K → Type 0) (given : Opti
     safe = safe;
   }
 
-  -- what serving a port does
-  pub port_served : (count : ℕ) (result : Result (Unit {0}) ServeFault)
-      → ServedUpTo g TellsGiven names.prefix.now
-      names.suffix.now count first last result
-      → MatchResult result (λ _. ServesConnections g Begins Ends given names count)
-      (λ cause. (cause ≡ NetFailed) × ServesAtMost g Begins Ends given names count)
-  port_served count (Ok done) all = is_served _ all
-  port_served count (Err cause) all = (all.0, is_served _ all.1)
+  module _ {D S : Type 0} (remaining contents : S → Option (List ℕ)) (gives : D → S → D → Type 0)
+      (fails : D → D → Type 0) (opens : ℕ → D → Type 0) (port count : ℕ)
+      (result : Result (Unit {0}) ServeFault) where
+    -- what serving a port does
+    pub port_served : OnOk result (PortServed g TellsGiven names.prefix.now names.suffix.now
+        (IsTalk remaining contents) gives fails opens port count first last)
+        → OnOk result (ServesConnections g Begins Ends given names remaining gives fails opens port count)
+    port_served = on_ok_weaker result (λ all. is_served _ (first_port remaining contents g
+        TellsGiven names.prefix.now names.suffix.now gives fails opens port count first last
+        all))
+
+    -- what failing to serve it does
+    pub port_failed : IfErr result (λ cause. (cause ≡ NetFailed) × PortFailed g TellsGiven
+        names.prefix.now names.suffix.now (IsTalk remaining contents) gives fails opens port count
+        first last)
+        → IfErr result (λ cause. (cause ≡ NetFailed)
+        × ServesFewer g Begins Ends given names remaining gives fails opens port count)
+    port_failed = IfErr-weaker result _ _ (λ cause all. (
+      all.0,
+      is_served _ (first_port_failed
+          remaining contents g TellsGiven names.prefix.now names.suffix.now gives fails opens port count
+          first last all.1),
+    ))
 
   -- what serving an input does
-  pub input_served : {W : Type 0} (contents : W → Option (List ℕ)) (writer later : CountedWriter W)
+  pub input_served : {W : Type 0} (sent : TcpStream → Option (List ℕ))
+      (contents : W → Option (List ℕ)) (writer later : CountedWriter W)
       (result : Result (Unit {0}) ServeFault)
-      → MatchResult result
-      (λ _. ConnectionsServed g TellsGiven names.prefix.now
-      names.suffix.now 1 first last)
-      (λ _. ServedAtMost g TellsGiven names.prefix.now
-      names.suffix.now 1 first last)
+      → OnOk result (OneServed g TellsGiven names.prefix.now
+      names.suffix.now (IsTalk tcp_remaining sent) first last)
+      → IfErr result (λ _. (last ≡ first) ⊎ OneServed g TellsGiven names.prefix.now
+      names.suffix.now (IsTalk tcp_remaining sent) first last)
       → TakesFew contents writer later
       → MatchResult result (λ _. write_faults later ≡ write_faults writer)
       (λ cause. (write_faults later ≡ write_faults writer)
@@ -68,10 +91,21 @@ module _ {K : Type 0} (g : Keeping K) (Begins Ends : K → Type 0) (given : Opti
       → OnOk result (IsFlushed later)
       → MatchResult result (λ _. LoopsOnce g Begins Ends given names contents writer later)
       (StopsLoop g Begins Ends given names contents writer later)
-  input_served contents writer later (Ok done) served few cause flushed =
-      (is_served _ served, few, cause, flushed)
-  input_served contents writer later (Err why) served few cause flushed =
-      (is_served _ served, few, cause)
+  input_served sent contents writer later (Ok done) one some few cause flushed = (
+    is_served _ (first_one tcp_remaining sent g TellsGiven names.prefix.now names.suffix.now first
+        last one),
+    few,
+    cause,
+    flushed,
+  )
+  input_served sent contents writer later (Err why) one (inl same) few cause flushed =
+      (is_served _ (inl same), few, cause)
+  input_served sent contents writer later (Err why) one (inr some) few cause flushed = (
+    is_served _ (inr (first_one tcp_remaining sent g TellsGiven names.prefix.now
+        names.suffix.now first last some)),
+    few,
+    cause,
+  )
 
 module _ {K : Type 0} (g : Keeping K) (Begins Ends : K → Type 0) (kept left : K)
     (is : Begins kept) (ends : Ends left) (given : Option ℕ) (names : HashNames) where

@@ -14,8 +14,8 @@ use Rattle.programs.specs.Begun.{Closing, IsAny, IsClosed, WasClosed, IsNew}
 use Rattle.builder.specs.Step.{State}
 use Rattle.programs.specs.Renewing.{FailsToRenew, Renews}
 use Rattle.programs.specs.Running.{AnswersLines, FailsLines, StopsLines}
-use Rattle.programs.specs.Serving.{FailsToLoopInput, FailsToServe, LoopsInput}
-use Rattle.programs.specs.Serving.{ServesConnections}
+use Rattle.programs.specs.Serving.{FailsToLoopInput, FailsToServePort, LoopsInput}
+use Rattle.programs.specs.Serving.{ServesPort}
 use Rattle.programs.specs.Showing.{AsksShown, FailsToShow, IsFormFault, HasBadWord}
 use Rattle.programs.specs.Showing.{IsPathless, ShowsRead}
 use Rattle.programs.specs.declared.faults.ProgramFault.{ProgramFault}
@@ -95,7 +95,7 @@ module _ {M K R W : Type 0} (memory : Keeping M) (stores : Keeping K)
     abbrev pub EndsSo : Task → Ending → Type 0
     EndsSo (task.Run file) Done = Runs file
     EndsSo (task.Serve file port count given names) Done = (late_reader ≡ reader) × (later ≡ writer)
-        × ServesConnections stores (Begins file.now) (IsClosed Ends) given names count
+        × ServesPort stores (Begins file.now) (IsClosed Ends) given names port count
     EndsSo (task.Loop file input given names) Done = (late_reader ≡ reader)
         × LoopsInput stores (Begins file.now) (IsClosed Ends) given names contents writer later None
     EndsSo (task.Table file ring) Done = (late_reader ≡ reader)
@@ -122,8 +122,8 @@ module _ {M K R W : Type 0} (memory : Keeping M) (stores : Keeping K)
     abbrev pub FailsToDo : Task → ProgramFault → Type 0
     FailsToDo (task.Run file) why = FailsToRun Refuses file why
     FailsToDo (task.Serve file port count given names) why = (late_reader ≡ reader)
-        × (later ≡ writer) × FailsToServe stores (Begins file.now) (WasClosed Ends) given names
-        (Refuses file.now) count why
+        × (later ≡ writer) × FailsToServePort stores (Begins file.now) (WasClosed Ends) given names
+        (Refuses file.now) port count why
     FailsToDo (task.Loop file input given names) why = (late_reader ≡ reader)
         × FailsToLoopFile stores (Begins file.now) Ends contents writer later (Refuses file.now) given
         names why

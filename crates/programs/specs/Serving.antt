@@ -1,18 +1,23 @@
 -- What the programs `serve` and `loop` do.
-use Rattle.std.specs.Prelude.{◌≡◌, ◌⊎◌, ◌≤◌, ℕ, List, Option, length}
+use Rattle.std.specs.Prelude.{◌≡◌, ◌⊎◌, ◌≤◌, ℕ, List, None, Option, length}
 use Rattle.std.specs.Borrow.{Bor}
 use Rattle.std.specs.Io.KnownBytes.{Appends}
+use Rattle.std.specs.declared.net.tcp.TcpListener.{TcpListener}
+use Rattle.std.specs.declared.net.tcp.TcpStream.{TcpStream}
 use Rattle.std.specs.declared.rt.LibcRuntime.{LibcRuntime}
 use Rattle.builder.specs.Safety.{IsSafeRun}
 use Rattle.builder.specs.declared.machine.RingMachine.{RingMachine}
 use Rattle.byte_streams.specs.Counted.{IsFlushed, one_more, write_faults, writer_of}
 use Rattle.byte_streams.specs.declared.counted.CountedWriter.{CountedWriter}
 use Rattle.byte_streams.specs.declared.fault.StreamFault.TheVariants.{WriteFailed}
-use Rattle.http_sockets.specs.Connections.{ConnectionsServed, ServedAtMost, most_looped}
+use Rattle.http_sockets.specs.Connections.{AnswersFirst, OneServed, PortFailed, PortServed}
+use Rattle.http_sockets.specs.Connections.{most_looped}
 use Rattle.http_sockets.specs.Hours.{TellsGiven, given_hour, told_hour}
+use Rattle.http_sockets.specs.Listening.{AcceptsNone, AcceptsOne, HasAcceptedNone}
 use Rattle.http_sockets.specs.declared.fault.ServeFault.{ServeFault}
 use Rattle.http_sockets.specs.declared.fault.ServeFault.TheVariants.{Stream}
 use Rattle.http_sockets.specs.declared.hours.HourClock.{HourClock}
+use Rattle.http_sockets.specs.declared.server.Server.{Server}
 use Rattle.path_lookup.specs.declared.hash.HashNames.{HashNames}
 use Rattle.request_book.specs.Book.{Parts}
 use Rattle.programs.specs.Faults.{serve_fault}
@@ -25,6 +30,18 @@ use Rattle.ring_book.specs.Book.{Keeping}
 -- a clock that tells the hours of this machine, or always one
 abbrev pub MachineClock : Type 0
 MachineClock = HourClock (Bor LibcRuntime)
+
+-- the server of a port of this machine
+abbrev pub MachineServer : Type 0
+MachineServer = Server LibcRuntime TcpStream TcpListener
+
+-- a socket doesn't tell its bytes
+abbrev pub tcp_remaining : TcpStream → Option (List ℕ)
+tcp_remaining stream = None
+
+-- A server of this machine accepted this connection.
+abbrev pub accepts_tcp : MachineServer → TcpStream → MachineServer → Type 0
+accepts_tcp old stream new = AcceptsOne old new
 
 -- The clock was given this hour to tell, or none, and has told none yet.
 pub record IsSet (given : Option ℕ) (clock : MachineClock) : Type 0 where
@@ -56,35 +73,58 @@ module _ {K : Type 0} (g : Keeping K) (Begins Ends : K → Type 0) (given : Opti
     pub safe : g.sound last.1.keeper → IsSafeRun first.1.machine.limits
         (g.content first.1.keeper) (g.content last.1.keeper)
 
-  -- So many connections were served, and the calls of their requests, one connection after another,
-  -- are one run of the book.
-  abbrev pub ServesConnections : ℕ → Type 0
-  ServesConnections count = IsServed (ConnectionsServed g
-      TellsGiven names.prefix.now names.suffix.now count)
+  -- The streams of connections tell so of their bytes; doors give them so, or fail so to give one;
+  -- and ports open them so.
+  module _ {D S : Type 0} (remaining : S → Option (List ℕ)) (gives : D → S → D → Type 0)
+      (fails : D → D → Type 0) (opens : ℕ → D → Type 0) where
+    -- A port was opened, so many of its connections were served, and the calls of their requests,
+    -- one connection after another, are one run of the book.
+    abbrev pub ServesConnections : ℕ → ℕ → Type 0
+    ServesConnections port count = IsServed (PortServed g TellsGiven names.prefix.now
+        names.suffix.now (AnswersFirst remaining) gives fails opens port count)
 
-  -- So many connections were served, or fewer.
-  abbrev pub ServesAtMost : ℕ → Type 0
-  ServesAtMost count = IsServed (ServedAtMost g TellsGiven
-      names.prefix.now names.suffix.now count)
+    -- The port wasn't opened, or fewer of its connections were served before none came any more.
+    abbrev pub ServesFewer : ℕ → ℕ → Type 0
+    ServesFewer port count = IsServed (PortFailed g TellsGiven names.prefix.now
+        names.suffix.now (AnswersFirst remaining) gives fails opens port count)
 
-  -- This fault ended it: the store wasn't opened, for that fault; or all were served, and the store
-  -- couldn't be closed; or the port can't be had, or no connection can be accepted any more.
-  abbrev pub FailsToServe : (ProgramFault → Type 0) → ℕ → ProgramFault → Type 0
-  FailsToServe Refuses count why = (Refuses why × IsStoreFault why)
-      ⊎ ((why ≡ fault.StoreFault) × ServesConnections count)
-      ⊎ ((why ≡ fault.NetFailed) × ServesAtMost count)
+    -- This fault ended it: the store wasn't opened, for that fault; or all were served, and the
+    -- store couldn't be closed; or the port can't be had, or no connection came any more.
+    abbrev pub FailsToServe : (ProgramFault → Type 0) → ℕ → ℕ → ProgramFault → Type 0
+    FailsToServe Refuses port count why = (Refuses why × IsStoreFault why)
+        ⊎ ((why ≡ fault.StoreFault) × ServesConnections port count)
+        ⊎ ((why ≡ fault.NetFailed) × ServesFewer port count)
+
+  -- So many connections of a port of this machine were served.
+  abbrev pub ServesPort : ℕ → ℕ → Type 0
+  ServesPort = ServesConnections tcp_remaining accepts_tcp AcceptsNone (λ _ server. HasAcceptedNone server)
+
+  -- This fault ended the serving of a port of this machine.
+  abbrev pub FailsToServePort : (ProgramFault → Type 0) → ℕ → ℕ → ProgramFault → Type 0
+  FailsToServePort = FailsToServe tcp_remaining accepts_tcp AcceptsNone
+      (λ _ server. HasAcceptedNone server)
+
+  -- One connection of this machine with itself was served.
+  abbrev pub ServesOne : Type 0
+  ServesOne = IsServed (OneServed g TellsGiven names.prefix.now names.suffix.now
+      (AnswersFirst tcp_remaining))
+
+  -- Such a connection was served, or none.
+  abbrev pub ServesOneOrNone : Type 0
+  ServesOneOrNone = IsServed (λ old new. (new ≡ old) ⊎ OneServed g TellsGiven names.prefix.now
+      names.suffix.now (AnswersFirst tcp_remaining) old new)
 
   module _ {W : Type 0} (contents : W → Option (List ℕ)) (writer later : CountedWriter W) where
     -- One connection was served, and its answers were written and flushed.
     abbrev pub LoopsOnce : Type 0
-    LoopsOnce = ServesConnections 1 × TakesFew contents writer later
+    LoopsOnce = ServesOne × TakesFew contents writer later
         × (write_faults later ≡ write_faults writer)
         × IsFlushed later
 
     -- This fault of a service ended it, once the answers so far were written. The writer failed
     -- only where the fault says so.
     abbrev pub StopsLoop : ServeFault → Type 0
-    StopsLoop cause = ServesAtMost 1 × TakesFew contents writer later
+    StopsLoop cause = ServesOneOrNone × TakesFew contents writer later
         × ((write_faults later ≡ write_faults writer)
         ⊎ ((cause ≡ Stream WriteFailed) × (write_faults later ≡ one_more (write_faults writer))))
 

@@ -68,7 +68,7 @@ fn run<S: Stores, R: Read, W: Write>(
     }
 }
 
-/// ShowsRead what is asked for of a store.
+/// Shows what is asked for of a store.
 fn show_asked<S: Stores, W: Write>(
     rt: &HostRuntime,
     file: &str,
@@ -90,7 +90,7 @@ fn show_asked<S: Stores, W: Write>(
     Ok(Ending::Done)
 }
 
-/// ShowsRead what a task asks to be shown.
+/// Shows what a task asks to be shown.
 fn show_task<S: Stores, W: Write>(
     rt: &HostRuntime,
     task: &Task<'_>,
@@ -221,7 +221,7 @@ fn perform_task<S: Stores, R: Read, W: Write>(
             hour,
             names,
         } => {
-            serve_store(rt, *file, *port, *count, *hour, *names, stores)?;
+            serve_store(rt, rt, *file, *port, *count, *hour, *names, stores)?;
             Ok(Ending::Done)
         }
         Task::Loop {

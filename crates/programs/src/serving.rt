@@ -1,7 +1,7 @@
 //! The programs `serve` and `loop`: requests of HTTP over sockets of this machine.
 ghost use Rattle.std.specs.Prelude.{◌≡◌, MatchResult, IfErr, OnOk};
 ghost use Rattle.http_sockets.specs.declared.fault.ServeFault.TheVariants.{NetFailed};
-ghost use Rattle.programs.specs.Serving.{IsSet, LoopsOnce, ServesAtMost, ServesConnections};
+ghost use Rattle.programs.specs.Serving.{IsSet, LoopsOnce, ServesConnections, ServesFewer};
 ghost use Rattle.programs.specs.Serving.{StopsLoop, FailsToLoop, FailsToLoopInput};
 ghost use Rattle.programs.specs.Serving.{FailsToServe, LoopsInput};
 ghost use Rattle.programs.specs.Begun.{IsClosed, WasClosed};
@@ -12,7 +12,7 @@ use crate::stores::Stores;
 use crate::texts::read_short;
 use builder::RingMachine;
 use byte_streams::CountedWriter;
-use http_sockets::{HourClock, MOST_LOOPED, ServeFault, loop_over, serve_connections};
+use http_sockets::{HourClock, MOST_LOOPED, Ports, ServeFault, loop_over, serve_connections};
 use path_lookup::HashNames;
 use request_book::Keeper;
 use ring_words::{Hour, Port};
@@ -26,8 +26,9 @@ fn new_clock(rt: &HostRuntime, given: Option<Hour>) -> HourClock<&HostRuntime>
 }
 
 /// Serves connections of a port over what a keeper holds, and gives the keeper back.
-fn serve_port<K: Keeper<RingMachine>>(
+fn serve_port<P: Ports, K: Keeper<RingMachine>>(
     rt: &HostRuntime,
+    ports: P,
     keeper: K,
     port: Port,
     count: u16,
@@ -35,14 +36,15 @@ fn serve_port<K: Keeper<RingMachine>>(
     names: HashNames<'_>,
 ) -> (Result<(), ServeFault>, K)
     requires { K.fault_count keeper ≡ 0 }
-    ensures { MatchResult result.0
-        (λ _. ServesConnections K.Keeper (λ k. k ≡ keeper) (λ k. k ≡ result.1) given names.entry count)
-        (λ cause. (cause ≡ NetFailed)
-        × ServesAtMost K.Keeper (λ k. k ≡ keeper) (λ k. k ≡ result.1) given names.entry count) }
+    ensures served { OnOk result.0 (ServesConnections K.Keeper (λ k. k ≡ keeper) (λ k. k ≡ result.1)
+        given names.entry P.Door.Stream.remaining P.Door.gives P.Door.fails P.opens port count) }
+    ensures failed { IfErr result.0 (λ cause. (cause ≡ NetFailed) × ServesFewer K.Keeper
+        (λ k. k ≡ keeper) (λ k. k ≡ result.1) given names.entry P.Door.Stream.remaining P.Door.gives
+        P.Door.fails P.opens port count) }
 {
     let mut book = open_book(rt.alloc(), keeper);
     let mut clock = new_clock(rt, given);
-    let served = serve_connections(rt, port, count, &mut clock, &mut book, names);
+    let served = serve_connections(ports, port, count, &mut clock, &mut book, names);
     (served, book.into_keeper())
 }
 
@@ -68,10 +70,10 @@ fn loop_input<W: Write, K: Keeper<RingMachine>>(
     (looped, book.into_keeper())
 }
 
-/// Serves so many connections of a port of 127.0.0.1, one after another, over a store, and closes
-/// it.
-pub(crate) fn serve_store<S: Stores>(
+/// Serves so many connections of a port, one after another, over a store, and closes it.
+pub(crate) fn serve_store<S: Stores, P: Ports + Drop>(
     rt: &HostRuntime,
+    ports: P,
     file: &str,
     port: Port,
     count: u16,
@@ -80,12 +82,14 @@ pub(crate) fn serve_store<S: Stores>(
     stores: S,
 ) -> Result<(), ProgramFault>
     ensures served { OnOk result (ServesConnections S.Kept.Keeper (S.begins file.now)
-        (IsClosed S.ends) given names.entry count) }
+        (IsClosed S.ends) given names.entry P.Door.Stream.remaining P.Door.gives P.Door.fails P.opens
+        port count) }
     ensures failed { IfErr result (FailsToServe S.Kept.Keeper (S.begins file.now) (WasClosed S.ends)
-        given names.entry (S.refuses file.now) count) }
+        given names.entry P.Door.Stream.remaining P.Door.gives P.Door.fails P.opens
+        (S.refuses file.now) port count) }
 {
     let keeper = stores.open(rt, file)?;
-    let (served, keeper) = serve_port(rt, keeper, port, count, given, names);
+    let (served, keeper) = serve_port(rt, ports, keeper, port, count, given, names);
     let closed = S::close(keeper);
     served?;
     closed

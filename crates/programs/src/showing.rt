@@ -199,7 +199,7 @@ fn store_bytes<S: Stores>(
     Ok(bytes)
 }
 
-/// ShowsRead what is asked for of the store.
+/// Shows what is asked for of the store.
 pub(crate) fn show<S: Stores, W: Write>(
     rt: &HostRuntime,
     file: &str,

@@ -9,9 +9,10 @@ use Rattle.serde_json.specs.Find.{get}
 use Rattle.serde_json.specs.View.{items_of}
 use Rattle.serde_json.specs.Written.{has_float, items_have_float}
 use Rattle.serde_json.proofs.Views.{get_member-put, get_member-put_other}
+use Rattle.ring_words.specs.Rows.{IsProperRow}
 use Rattle.ring_words.specs.declared.device.Row.{Row}
 use Rattle.ring_messages.specs.Fields.{Field, Fields, within, device_name, address, weight, rows}
-use Rattle.ring_messages.specs.Fields.{row_data, field_data, members, IsProperRow, IsProperField}
+use Rattle.ring_messages.specs.Fields.{row_data, field_data, members, IsProperField}
 use Rattle.ring_messages.specs.Fields.{AreProper}
 use Rattle.ring_messages.specs.Inner.Says.{HasFields, StandsInMessage}
 use Rattle.ring_messages.proofs.Plain.{IsPlain, ArePlain}

@@ -10,8 +10,9 @@ use Rattle.serde_json.specs.Data.{Items, no_items, item}
 use Rattle.serde_json.specs.Find.{as_array, at}
 use Rattle.serde_json.specs.View.{items_of, view}
 use Rattle.serde_json.specs.declared.value.Value.{Value}
+use Rattle.ring_words.specs.Rows.{IsProperRow}
 use Rattle.ring_words.specs.declared.device.Row.{Row}
-use Rattle.ring_messages.specs.Fields.{row_data, IsProperRow}
+use Rattle.ring_messages.specs.Fields.{row_data}
 use Rattle.ring_words.specs.Spelling.{Reads}
 use Rattle.ring_messages.specs.Inner.Says.{SaysRow, IsRows, ListsRow, ListsRows}
 use Rattle.ring_words.specs.Inner.ReadsAs.{ReadsAs}

@@ -1,12 +1,12 @@
 -- What stands under the keys of a command or a reply: its kind, its bounds, what is written of it.
 use Rattle.std.specs.Prelude.{ℕ, ◌<◌, ◌≤◌, List, [], ◌∷◌, IsTrue, map}
 use Rattle.std.specs.List.{AllByRecursion}
-use Rattle.ring_words.specs.Limits.{short_count}
 use Rattle.serde_json.specs.Data.{Data, number, unsigned, string, array, item, no_items, Members}
 use Rattle.serde_json.specs.Data.{no_members, put}
 use Rattle.serde_json.specs.View.{items_of}
 use Rattle.ring_words.specs.Texts.{is_device_name, address_text, address_limit, hundredths_text}
 use Rattle.ring_words.specs.Texts.{greatest_weight}
+use Rattle.ring_words.specs.Rows.{IsProperRow}
 use Rattle.ring_words.specs.declared.device.Row.{Row}
 
 -- A whole number from a least to a greatest one, a device's name, an address, a weight in
@@ -45,15 +45,6 @@ field_data (rows rs) = array (items_of (map row_data rs))
 abbrev pub members : Fields → Members
 members [] = no_members
 members (f ∷ fs) = put f.0 (field_data f.1) (members fs)
-
--- The device has a name, an address, a port and a weight such as there are.
-pub record IsProperRow (r : Row) : Type 0 where
-  pub region : r.region < short_count
-  pub zone : r.zone < short_count
-  pub address : r.address < address_limit
-  pub port : (1 ≤ r.port) × (r.port < short_count)
-  pub name : IsTrue (is_device_name r.name)
-  pub weight : r.weight ≤ greatest_weight
 
 -- The field is such as there are: within its bounds, and of its form.
 abbrev pub IsProperField : Field → Type 0

@@ -1,6 +1,6 @@
 -- A text among those that are published.
 use Rattle.std.proofs.Common.{◌≡◌, ℕ, ◌+◌, ◌<◌, ◌≤◌, Bool, true, false, cond, List, [], ◌∷◌, ◌++◌}
-use Rattle.ring_words.specs.Limits.{most_versions}
+use Rattle.ring_words.specs.Limits.{greatest_long, most_versions}
 use Rattle.std.proofs.Common.{length, map, refl, ap, ⊎_elim, arith, lit≤, zero, suc, ◌-◌, filter}
 use Rattle.std.proofs.Common.{nat_lt, count_by}
 use native.Mathlib.Numerals.{unary_clauses}
@@ -12,13 +12,14 @@ use Rattle.std.specs.declared.alloc.Global.{Global}
 use Rattle.std.proofs.lemmas.Bool.{cases_lt, ltb-true}
 use Rattle.std.proofs.lemmas.List.{length-append, map-append, append_assoc, get_or_append_left}
 use Rattle.std.proofs.lemmas.List.{get_or_at, get_or-append_right}
-use Rattle.std.proofs.lemmas.List.Elements.{filter_passes, All-weaker}
+use Rattle.std.proofs.lemmas.List.Elements.{filter_passes, All-append, All-cons, All-filter}
+use Rattle.std.proofs.lemmas.List.Elements.{All-weaker}
 use Rattle.std.proofs.lemmas.List.Sums.{length-filter, sum_by-cons}
 use Rattle.std.proofs.lemmas.List.Kept.{IsStrictlyIncreasing-filter}
 use Rattle.ring_model.specs.Parts.{texts_of}
 use Rattle.ring_model.specs.Publish.{among}
 use Rattle.ring_model.specs.Ring.{RingRecord}
-use Rattle.ring_model.specs.Valid.{IsValid}
+use Rattle.ring_model.specs.Valid.{IsValid, IsVersioned}
 
 -- what is kept by its version is seen as what is kept of what is seen
 pub texts_filter : (p : ℕ → Bool) (xs : List (ℕ × RcStr Global)) → texts_of (filter (λ e. p e.0) xs)
@@ -144,6 +145,15 @@ among_rises version text xs rise =
     (All-weaker (λ v. later v ≡ true) (λ v. version < v) (λ v is. ltb-true version v is) _
     (filter_passes later versions))))
 
+among_versioned : (version : ℕ) (text : List ℕ) (xs : List (ℕ × List ℕ)) →
+    version ≤ greatest_long → All IsVersioned xs → All IsVersioned (among version text xs)
+among_versioned version text xs fits all =
+    All-append IsVersioned (filter (λ e. nat_lt e.0 version) xs) ((version, text) ∷
+    filter (λ e. nat_lt version e.0) xs)
+    (All-filter (λ e. nat_lt e.0 version) IsVersioned xs all)
+    (All-cons IsVersioned (version, text) (filter (λ e. nat_lt version e.0) xs) (omega arith)
+    (All-filter (λ e. nat_lt version e.0) IsVersioned xs all))
+
 pub among_valid : (ring : RingRecord) (text : List ℕ) → IsValid ring →
     length ring.published < most_versions →
     IsValid (record ring { published = among ring.version text ring.published })
@@ -156,8 +166,11 @@ among_valid ring text valid room = record {
   devices = valid.devices;
   seats = valid.seats;
   moved = valid.moved;
+  hours = valid.hours;
   published = record {
     count = (let few = among_count ring.version text ring.published in omega arith);
     rise = among_rises ring.version text ring.published valid.published.rise;
+    versions = among_versioned ring.version text ring.published valid.version
+        valid.published.versions;
   };
 }

@@ -1,7 +1,7 @@
 -- A changed ring is valid.
 use Rattle.std.proofs.Common.{◌≡◌, ℕ, ◌+◌, ◌<◌, ◌≤◌, Bool, true, false, ◌||◌, cond, List, [], ◌∷◌}
 use Rattle.ring_words.specs.Limits.{greatest_long, most_devices, most_ids}
-use Rattle.std.proofs.Common.{◌++◌, length, get_or, take, drop, map, refl, sym, ap, ap₂, ◌∙◌}
+use Rattle.std.proofs.Common.{◌++◌, length, get_or, take, drop, map, refl, sym, ap₂, ◌∙◌}
 use Rattle.std.proofs.Common.{⊎_elim, lit≤, arith}
 use Rattle.std.specs.Prelude.{All, ◌==◌, slice_index}
 use Rattle.std.specs.List.Sorted.{IsStrictlyIncreasing}
@@ -12,14 +12,13 @@ use Rattle.std.proofs.lemmas.List.Folds.{list_any-append}
 use Rattle.std.proofs.lemmas.List.Elements.{All-push, All-weaker, All-map}
 use Rattle.std.proofs.lemmas.List.Quantifiers.{all_pairs_push}
 use Rattle.ring_model.specs.Ring.{RingRecord, has_device, risen, reweighed, marked, added, changed}
-use Rattle.ring_model.specs.Ring.{with_device, partition_count}
-use Rattle.ring_words.specs.Rows.{has_place, same_place}
+use Rattle.ring_model.specs.Ring.{partition_count}
+use Rattle.ring_words.specs.Rows.{IsProperRow, has_place, same_place}
+use Rattle.ring_words.specs.Texts.{greatest_weight}
 use Rattle.ring_model.specs.Import.{reweighed_by}
 use Rattle.ring_model.specs.Valid.{AreApart, AreDevices, AreSeats, IsValid}
 use Rattle.ring_words.specs.declared.device.Device.{Device}
 use Rattle.ring_words.specs.declared.device.Row.{Row}
-use Rattle.ring_model.specs.declared.parts.RingParts.{RingParts}
-use Rattle.ring_model.specs.Parts.{record_of}
 use Rattle.ring_model.proofs.Validity.{any_fails_at}
 
 pub risen_fits : (version : ℕ) → version ≤ greatest_long → risen version ≤ greatest_long
@@ -42,9 +41,9 @@ rising_push xs y rise below k lt =
     (cases_lt (k + 1) (length xs))
 
 pub devices_added : (next_id : ℕ) (devices : List Device) (row : Row) → AreDevices next_id devices →
-    length devices < most_devices → has_place row devices ≡ false →
+    length devices < most_devices → has_place row devices ≡ false → IsProperRow row →
     AreDevices (next_id + 1) (devices ++ record { id = next_id; row = row; removed = false } ∷ [])
-devices_added next_id devices row valid room none =
+devices_added next_id devices row valid room none proper =
     let device : Device = record { id = next_id; row = row; removed = false } in
     record {
       count = omega (arith, length-append devices (device ∷ []));
@@ -56,6 +55,7 @@ devices_added next_id devices row valid room none =
           (All-map (λ n. n < next_id) (λ (d : Device). d.id) devices valid.below));
       apart = all_pairs_push (λ a b. same_place a.row b.row ≡ false) devices device valid.apart
           (λ k d lt. any_fails_at (λ (x : Device). same_place x.row row) devices k d none lt);
+      proper = All-push (λ (d : Device). IsProperRow d.row) devices device valid.proper proper;
     }
 
 seats_added : (partitions replicas : ℕ) (devices more : List Device) (seats : List ℕ) →
@@ -71,16 +71,19 @@ seats_added partitions replicas devices more seats valid = record {
 
 pub added_valid : (ring : RingRecord) (row : Row) → IsValid ring →
     length ring.devices < most_devices →
-    ring.next_id < most_ids → has_place row ring.devices ≡ false → IsValid (added ring row)
-added_valid ring row valid room numbers none = record {
+    ring.next_id < most_ids → has_place row ring.devices ≡ false → IsProperRow row →
+    IsValid (added ring row)
+added_valid ring row valid room numbers none proper = record {
   power = valid.power;
   replicas = valid.replicas;
   min_hours = valid.min_hours;
   next_id = omega arith;
   version = valid.version;
-  devices = devices_added ring.next_id ring.devices row valid.devices room none;
+  devices = devices_added ring.next_id ring.devices row valid.devices room none
+      proper;
   seats = seats_added (partition_count ring) ring.replicas ring.devices _ ring.seats valid.seats;
   moved = valid.moved;
+  hours = valid.hours;
   published = valid.published;
 }
 
@@ -96,14 +99,16 @@ changed_valid ring valid = record {
   devices = valid.devices;
   seats = valid.seats;
   moved = valid.moved;
+  hours = valid.hours;
   published = valid.published;
 }
 
--- ---- devices that keep their numbers and places
+-- ---- devices that keep their numbers and places, and stay such as there are
 
 abbrev pub Keeps : (Device → Device) → Type 0
 Keeps f = ((d : Device) → (f d).id ≡ d.id) ×
-    ((a b : Device) → same_place (f a).row (f b).row ≡ same_place a.row b.row)
+    ((a b : Device) → same_place (f a).row (f b).row ≡ same_place a.row b.row) ×
+    ((d : Device) → IsProperRow d.row → IsProperRow (f d).row)
 
 ids_kept : (f : Device → Device) → Keeps f → (devices : List Device) →
     map (λ (d : Device). d.id) (map f devices) ≡ map (λ (d : Device). d.id) devices
@@ -141,6 +146,9 @@ altered_valid f keeps ring valid = record {
         (λ d lt. rw (keeps.0 d) lt) ring.devices valid.devices.below);
     rise = rw (ids_kept f keeps ring.devices) valid.devices.rise;
     apart = apart_kept f keeps ring.devices valid.devices.apart;
+    proper = All-map (λ (d : Device). IsProperRow d.row) f ring.devices
+        (All-weaker (λ (d : Device). IsProperRow d.row) (λ (d : Device). IsProperRow (f d).row)
+        keeps.2 ring.devices valid.devices.proper);
   };
   seats = record {
     whole = valid.seats.whole;
@@ -150,6 +158,7 @@ altered_valid f keeps ring valid = record {
     distinct = valid.seats.distinct;
   };
   moved = valid.moved;
+  hours = valid.hours;
   published = valid.published;
 }
 
@@ -168,16 +177,30 @@ weighed_if-id : (b : Bool) (weight : ℕ) (d : Device) → (weighed_if b weight 
 weighed_if-id true weight d = refl
 weighed_if-id false weight d = refl
 
-pub reweighed_keeps : (id weight : ℕ) → Keeps (reweighed id weight)
-reweighed_keeps id weight = (
+weighed_if-proper : (b : Bool) (weight : ℕ) (d : Device) → weight ≤ greatest_weight →
+    IsProperRow d.row → IsProperRow (weighed_if b weight d).row
+weighed_if-proper true weight d le proper = record {
+  region = proper.region;
+  zone = proper.zone;
+  address = proper.address;
+  port = proper.port;
+  name = proper.name;
+  weight = le;
+}
+weighed_if-proper false weight d le proper = proper
+
+pub reweighed_keeps : (id weight : ℕ) → weight ≤ greatest_weight → Keeps (reweighed id weight)
+reweighed_keeps id weight le = (
   λ d. weighed_if-id (d.id == id) weight d,
   λ a b. weighed_if-place (a.id == id) (b.id == id) weight weight a b,
+  λ d proper. weighed_if-proper (d.id == id) weight d le proper,
 )
 
-pub reweighed_by_keeps : (row : Row) → Keeps (reweighed_by row)
-reweighed_by_keeps row = (
+pub reweighed_by_keeps : (row : Row) → IsProperRow row → Keeps (reweighed_by row)
+reweighed_by_keeps row proper = (
   λ d. weighed_if-id (same_place d.row row) row.weight d,
   λ a b. weighed_if-place (same_place a.row row) (same_place b.row row) row.weight row.weight a b,
+  λ d old. weighed_if-proper (same_place d.row row) row.weight d proper.weight old,
 )
 
 -- a marked device where a test says so
@@ -196,6 +219,7 @@ pub marked_keeps : (id : ℕ) → Keeps (marked id)
 marked_keeps id = (
   λ d. marked_if-id (d.id == id) d,
   λ a b. ap₂ same_place (marked_if-row (a.id == id) a) (marked_if-row (b.id == id) b),
+  λ d proper. rw (marked_if-row (d.id == id) d) proper,
 )
 
 -- what a vector holds after each of its elements was written

@@ -8,10 +8,11 @@ use Rattle.std.proofs.Math.Nat.{div-add-mod, mod-lt, mul_comm, mul_assoc, pow-su
 use Rattle.std.proofs.lemmas.Bool.{cases_eq}
 use Rattle.std.proofs.lemmas.Option.{slice_get-get_or, slice_get_within, get_or_from_slice_get}
 use Rattle.std.proofs.lemmas.Option.{unwrap_or-slice_get}
-use Rattle.ring_model.specs.Ring.{RingRecord, has_device, seat, risen, partition_count}
+use Rattle.std.proofs.lemmas.List.{get_or_default}
+use Rattle.ring_model.specs.Ring.{RingRecord, has_device, moved_at, seat, risen, partition_count}
 use Rattle.ring_model.specs.Raise.{IsRaised}
 use Rattle.ring_model.specs.Inner.Twice.{IsTwice}
-use Rattle.ring_model.specs.Valid.{AreDistinct, IsValid}
+use Rattle.ring_model.specs.Valid.{AreDistinct, IsHour, IsValid}
 use Rattle.ring_model.proofs.Changes.{risen_fits}
 
 same_replicas : (old new : RingRecord) → IsRaised old new → new.replicas ≡ old.replicas
@@ -54,6 +55,20 @@ distinct_halves old new raised distinct half one other id lone lother first seco
     distinct (half / 2) one other id lone lother (sym (half_seat old new raised half one lone) ∙
     first) (sym (half_seat old new raised half other lother) ∙ second)
 
+hours_of_halves : (old new : RingRecord) → IsRaised old new → All IsHour old.moved →
+    All IsHour new.moved
+hours_of_halves old new raised hours k d lt =
+    let both = raised.moved (k / 2) in
+    let from : moved_at new k ≡ moved_at old (k / 2) =
+    ⊎_elim
+    (λ e. ap (moved_at new) (let even : k ≡ 2 * (k / 2) = omega arith in even) ∙ both.0)
+    (λ ne. ap (moved_at new) (let odd : k ≡ 2 * (k / 2) + 1 = omega arith in odd) ∙ both.1)
+    (cases_eq (k % 2) 0) in
+    let within : k / 2 < length old.moved = omega (arith, raised.moved_count) in
+    let same : get_or new.moved k d ≡ get_or old.moved (k / 2) None =
+    get_or_default new.moved k d None lt ∙ from in
+    subst IsHour (sym same) (hours (k / 2) None within)
+
 twice_as_many : (old new : RingRecord) → IsRaised old new →
     partition_count new ≡ 2 * partition_count old
 twice_as_many old new raised = ap (λ (n : ℕ). 2 ^ n) raised.power ∙ rw (add-one, pow-suc)
@@ -82,6 +97,7 @@ raised_valid old new valid raised low =
         distinct = distinct_halves old new raised valid.seats.distinct;
       });
       moved = raised.moved_count ∙ ap (λ (n : ℕ). 2 * n) valid.moved ∙ sym twice;
+      hours = hours_of_halves old new raised valid.hours;
       published = rw (ap (λ (r : RingRecord). r.published) raised.rest) valid.published;
     }
 

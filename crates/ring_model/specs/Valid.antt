@@ -1,11 +1,11 @@
 -- When a ring's record is that of a ring.
-use Rattle.std.specs.Prelude.{◌≡◌, ℕ, ◌+◌, ◌*◌, ◌<◌, ◌≤◌, List, length, map, slice_get, Some, All}
+use Rattle.std.specs.Prelude.{◌≡◌, ℕ, ◌+◌, ◌*◌, ◌<◌, ◌≤◌, List, length, map, slice_get, Option, Some}
 use Rattle.ring_words.specs.Limits.{greatest_long, greatest_power, greatest_short, most_devices}
-use Rattle.ring_words.specs.Limits.{most_ids, most_replicas, most_versions}
-use Rattle.std.specs.Prelude.{AllPairs, true, false}
+use Rattle.ring_words.specs.Limits.{long_count, most_ids, most_replicas, most_versions}
+use Rattle.std.specs.Prelude.{All, AllPairs, IfSome, true, false}
 use Rattle.std.specs.List.Sorted.{IsStrictlyIncreasing}
 use Rattle.ring_model.specs.Ring.{RingRecord, partition_count, has_device}
-use Rattle.ring_words.specs.Rows.{same_place}
+use Rattle.ring_words.specs.Rows.{IsProperRow, same_place}
 use Rattle.ring_words.specs.declared.device.Device.{Device}
 
 -- No two devices have the same address, port and name.
@@ -25,6 +25,7 @@ pub record AreDevices (next_id : ℕ) (devices : List Device) : Type 0 where
   pub below : All (λ device. device.id < next_id) devices
   pub rise : IsStrictlyIncreasing (map (λ device. device.id) devices)
   pub apart : AreApart devices
+  pub proper : All (λ device. IsProperRow device.row) devices
 
 -- These are the seats of so many partitions and replicas on these devices.
 pub record AreSeats (partitions replicas : ℕ) (devices : List Device) (seats : List ℕ) : Type 0
@@ -34,13 +35,22 @@ pub record AreSeats (partitions replicas : ℕ) (devices : List Device) (seats :
     pub known : All (λ id. has_device id devices ≡ true) seats
     pub distinct : AreDistinct replicas seats
 
+-- A text under a version of 32 bits.
+abbrev pub IsVersioned : ℕ × List ℕ → Type 0
+IsVersioned text = text.0 < long_count
+
 -- These are texts under rising versions.
 pub record ArePublished (published : List (ℕ × List ℕ)) : Type 0 where
   pub count : length published ≤ most_versions
   pub rise : IsStrictlyIncreasing (map (λ entry. entry.0) published)
+  pub versions : All IsVersioned published
 
--- The ring is valid: its numbers are within their limits, its devices are apart, and its seats are
--- on devices of its own.
+-- An hour of 32 bits, or never.
+abbrev pub IsHour : Option ℕ → Type 0
+IsHour hour = IfSome hour (λ h. h < long_count)
+
+-- The ring is valid: its numbers are within their limits, its devices are such as there are and
+-- apart, and its seats are on devices of its own.
 pub record IsValid (ring : RingRecord) : Type 0 where
   pub power : (1 ≤ ring.power) × (ring.power ≤ greatest_power)
   pub replicas : (1 ≤ ring.replicas) × (ring.replicas ≤ most_replicas)
@@ -50,4 +60,5 @@ pub record IsValid (ring : RingRecord) : Type 0 where
   pub devices : AreDevices ring.next_id ring.devices
   pub seats : AreSeats (partition_count ring) ring.replicas ring.devices ring.seats
   pub moved : length ring.moved ≡ partition_count ring
+  pub hours : All IsHour ring.moved
   pub published : ArePublished ring.published

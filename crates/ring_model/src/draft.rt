@@ -9,6 +9,7 @@ ghost use Rattle.ring_model.specs.Valid.{IsValid};
 
 use crate::altering::alter_all;
 use crate::parts::{RingParts, risen};
+use crate::proper::row_is_proper;
 use crate::ring::Ring;
 use ring_words::{Device, Row};
 use std::alloc::AllocError;
@@ -77,6 +78,7 @@ impl Draft {
         ensures ok { OnOk result (self.new ≡ after_row self.old row.now) }
         ensures err { OnErr result (self.new ≡ self.old) }
     {
+        row_is_proper(row);
         if row.has_place_in(&self.parts.devices) {
             alter_all(&mut self.parts.devices, row);
             return Ok(());

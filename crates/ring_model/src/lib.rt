@@ -9,6 +9,7 @@ mod altering;
 mod draft;
 pub mod laws;
 mod parts;
+mod proper;
 mod publishing;
 mod ring;
 mod rings;

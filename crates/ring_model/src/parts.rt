@@ -14,6 +14,7 @@ ghost use Rattle.ring_model.specs.Inner.Twice.{IsTwice};
 ghost use Rattle.ring_model.specs.Valid.{AreApart, AreDevices, AreDistinct, ArePublished, AreSeats};
 ghost use Rattle.ring_model.specs.Valid.{IsValid};
 
+use crate::proper::{devices_are_proper, moves_are_proper, texts_are_proper};
 use ring_words::{
     Device, DeviceId, Hour, MOST_DEVICES, MOST_IDS, MOST_VERSIONS, Power, Replicas, Row,
     partition_count,
@@ -190,6 +191,7 @@ fn are_distinct(seats: &[DeviceId], replicas: usize) -> bool
 fn are_devices(devices: &[Device], next_id: u32) -> bool
     ensures { IsTrue result ↔ AreDevices next_id devices.now }
 {
+    devices_are_proper(devices);
     devices.len() <= MOST_DEVICES
         && are_ids_below(devices, next_id)
         && are_ids_rising(devices)
@@ -199,6 +201,7 @@ fn are_devices(devices: &[Device], next_id: u32) -> bool
 fn are_published(published: &[(u32, RcStr)]) -> bool
     ensures { IsTrue result ↔ ArePublished (texts_of published.now) }
 {
+    texts_are_proper(published);
     let is_few = published.len() <= MOST_VERSIONS;
     is_few && are_versions_rising(published)
 }
@@ -219,6 +222,7 @@ impl RingParts {
         ensures { IsTrue result ↔ IsValid (record_of self.now) }
     {
         let (_hours, _version) = (self.min_hours, self.version);
+        moves_are_proper(&self.moved);
         let partitions = partition_count(self.power);
         let replicas = usize::from(self.replicas.get());
         if self.next_id > MOST_IDS as u32 || self.moved.len() != partitions {

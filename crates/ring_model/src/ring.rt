@@ -7,6 +7,7 @@ ghost use Rattle.std.specs.Option.{option_map, option_copied};
 use crate::altering::{Mark, alter_all};
 use crate::draft::Draft;
 use crate::parts::{RingParts, has_device, has_present, risen, text_at};
+use crate::proper::weight_is_proper;
 use ring_words::{
     Device, DeviceId, Hour, NewWeight, Power, Replicas, Row, Weight, partition_count,
 };
@@ -162,6 +163,7 @@ impl Ring {
         requires { has_present id self.now.devices ≡ true }
         ensures { IfOk result (λ ring. ring ≡ with_weight self.now id weight) }
     {
+        weight_is_proper(weight);
         let mut parts = self.parts.copy()?;
         alter_all(&mut parts.devices, &NewWeight { id, weight });
         parts.version = risen(parts.version);

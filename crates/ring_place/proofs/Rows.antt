@@ -4,6 +4,5 @@ pub mod WrittenSeats
 pub mod RowFronts
 pub mod OneWrite
 pub mod LiftedSeats
-pub mod PartitionOrders
 pub mod RingSeats
 pub mod IndexRanges

@@ -1,13 +1,16 @@
 -- A rebalance by its seed.
-use Rattle.std.proofs.Common.{◌≡◌, ◌∙◌, ℕ, List, Option, ap, sym}
+use Rattle.std.proofs.Common.{◌≡◌, ◌∙◌, ℕ, List, Option, ap, sym, true, false}
+use Rattle.std.specs.Prelude.{if◌then◌else◌}
 use Rattle.std.specs.List.{range_with_len}
 use Rattle.rand_pcg.specs.Lcg.{Lcg}
 use Rattle.ring_model.specs.Ring.{RingRecord, partition_count}
 use Rattle.ring_share.specs.Crowd.{rows_of}
 use Rattle.ring_share.proofs.Determined.{same_wants}
 use Rattle.ring_room.specs.Load.{Load}
-use Rattle.ring_place.specs.Made.{Gathering, Placing, all_placed, draws_of, left_of, order_of}
-use Rattle.ring_place.specs.Made.{placed_after, rebalanced_rows, shuffled}
+use Rattle.ring_place.specs.Made.{Gathering, Placing, all_placed, left_of, order_of}
+use Rattle.ring_deal.specs.Draws.{draws_of}
+use Rattle.ring_place.specs.Made.{dealt_rows, is_dealt, put_rows, placed_after, rebalanced_rows}
+use Rattle.ring_deal.specs.Draws.{shuffled}
 use Rattle.ring_place.specs.Seeded.{IsSeeded, rebalanced}
 
 pub seeded_rows : (ring : RingRecord) (wanted : List ℕ) (hour seed : ℕ) (first second items : List ℕ)
@@ -17,7 +20,7 @@ pub seeded_rows : (ring : RingRecord) (wanted : List ℕ) (hour seed : ℕ) (fir
     → ◌≡◌ {A = List ℕ × Lcg} (items, draws) (shuffled (range_with_len 0 count) from) → from ≡ draws_of seed
     → count ≡ partition_count ring
     → ◌≡◌ {A = Gathering} (record { load = load; rows = seats }) (left_of ring wanted hour first)
-    → new ≡ rebalanced_rows ring wanted hour seed
+    → new ≡ put_rows ring wanted hour seed
 seeded_rows ring wanted hour seed first second items draws from count load seats old new placed olds is also
     drawn begins counts left =
     let order : ◌≡◌ {A = List ℕ × Lcg} (items, draws) (order_of ring seed) =
@@ -28,6 +31,17 @@ seeded_rows ring wanted hour seed first second items draws from count load seats
     ∙ ap (λ (g : Gathering). all_placed items (rows_of ring) g.load g.rows draws)
     (left ∙ ap (left_of ring wanted hour) also)
     ∙ ap (λ (p : List ℕ × Lcg). placed_after ring p (left_of ring wanted hour p.0)) order)
+
+-- what is dealt at once, and what isn't
+pub rebalanced_dealt : (ring : RingRecord) (wanted : List ℕ) (hour seed : ℕ) → is_dealt ring wanted ≡
+    true → dealt_rows ring wanted seed ≡ rebalanced_rows ring wanted hour seed
+rebalanced_dealt ring wanted hour seed is = sym (ap (λ b. if b then dealt_rows ring wanted seed else
+    put_rows ring wanted hour seed) is)
+
+pub rebalanced_moved : (ring : RingRecord) (wanted : List ℕ) (hour seed : ℕ) → is_dealt ring wanted ≡
+    false → put_rows ring wanted hour seed ≡ rebalanced_rows ring wanted hour seed
+rebalanced_moved ring wanted hour seed is = sym (ap (λ b. if b then dealt_rows ring wanted seed else
+    put_rows ring wanted hour seed) is)
 
 -- a seed gives one ring
 pub one_seeded : (old one other : RingRecord) (hour seed : ℕ) → IsSeeded old hour seed one →

@@ -1,26 +1,27 @@
 -- A rebalance of a valid ring is valid.
 use Rattle.std.proofs.Common.{◌≡◌, ℕ, ◌+◌, ◌*◌, ◌/◌, ◌%◌, ◌^◌, ◌<◌, ◌≤◌, All, true, false, not}
 use Rattle.ring_words.specs.Limits.{greatest_short, most_ids}
-use Rattle.ring_words.specs.Limits.{greatest_long}
+use Rattle.ring_words.specs.Limits.{greatest_long, long_count}
 use Rattle.ring_words.specs.Limits.{greatest_power, most_replicas}
 use Rattle.std.proofs.Common.{List, length, map, Some, sym, ap, subst, ◌∙◌, inl, inr, ⊎_elim, arith}
-use Rattle.std.proofs.Common.{slice_get}
+use Rattle.std.proofs.Common.{slice_get, Bool, cond, get_or, Option, None}
 use Rattle.std.specs.List.{AllPairs}
 use Rattle.std.specs.List.Sorted.{IsStrictlyIncreasing}
 use Rattle.std.proofs.Math.Nat.{mul-le-mul_right}
 use Rattle.std.proofs.lemmas.Bool.{cases_Bool, cases_lt}
 use Rattle.std.proofs.lemmas.Bool.Decides.{nat_tests}
-use Rattle.std.proofs.lemmas.List.{get_or-map, length-map}
+use Rattle.std.proofs.lemmas.List.{get_or-map, get_or_default, length-map}
 use Rattle.std.proofs.lemmas.List.Elements.{All-filter}
 use Rattle.std.proofs.lemmas.List.Kept.{AllPairs-filter}
 use Rattle.std.proofs.lemmas.List.Sums.{count_by-le-length, length-filter}
 use Rattle.std.proofs.lemmas.Nat.{div-add-mod', div_below}
 use Rattle.std.proofs.lemmas.Option.{get_or_from_slice_get, slice_get_within}
-use Rattle.ring_model.specs.Ring.{RingRecord, has_device, has_present, partition_count, risen, seat}
-use Rattle.ring_model.specs.Valid.{AreDevices, ArePublished, AreSeats, IsValid}
-use Rattle.ring_words.specs.Rows.{same_place}
+use Rattle.ring_model.specs.Ring.{RingRecord, has_device, has_present, moved_at, partition_count}
+use Rattle.ring_model.specs.Ring.{risen, seat}
+use Rattle.ring_model.specs.Valid.{AreDevices, ArePublished, AreSeats, IsHour, IsValid}
+use Rattle.ring_words.specs.Rows.{IsProperRow, same_place}
 use Rattle.ring_words.specs.declared.device.Device.{Device}
-use Rattle.ring_place.specs.Rebalance.{IsAfter, IsLawfulRebalance, IsSeat, is_lost}
+use Rattle.ring_place.specs.Rebalance.{IsAfter, IsLawfulRebalance, IsSeat, has_changed, is_lost}
 use Rattle.ring_room.proofs.Searching.OpenDevices.{pairs}
 use Rattle.ring_room.proofs.Searching.FreeOutside.{device_there}
 use Rattle.ring_place.proofs.Placing.Placeable.{fails, lost_cases, open_present}
@@ -59,10 +60,19 @@ devices_remain next_id devices are = record {
       (λ (device : Device). not device.removed) devices (pairs devices are.rise));
   apart = AllPairs-filter (λ (a b : Device). same_place a.row b.row ≡ false)
       (λ (device : Device). not device.removed) devices are.apart;
+  proper = All-filter (λ (device : Device). not device.removed)
+      (λ (device : Device). IsProperRow device.row) devices are.proper;
 }
 
 risen_few : (version : ℕ) → version ≤ greatest_long → risen version ≤ greatest_long
 risen_few version few = grind (arith, nat_tests)
+
+-- ---- hours of moves
+
+hour_after : (b : Bool) (hour : ℕ) (was : Option ℕ) → hour < long_count → IsHour was →
+    IsHour (cond b (Some hour) was)
+hour_after true hour was small is = small
+hour_after false hour was small is = is
 
 -- ---- seats on them
 
@@ -75,7 +85,7 @@ pub record AreOnRemaining (old new : RingRecord) : Type 0 where
       seat new partition replica ≡ Some id → seat new partition other ≡ Some id → replica ≡ other
 
 module _ (old new : RingRecord) (hour : ℕ) (valid : IsValid old) (on : AreOnRemaining old new)
-    (after : IsAfter old hour new) where
+    (after : IsAfter old hour new) (small : hour < long_count) where
   replicas_same : new.replicas ≡ old.replicas
   replicas_same = ap (λ (r : RingRecord). r.replicas) after.rest
 
@@ -142,6 +152,15 @@ module _ (old new : RingRecord) (hour : ℕ) (valid : IsValid old) (on : AreOnRe
     distinct = seats_distinct;
   }
 
+  hours_valid : All IsHour new.moved
+  hours_valid k d lt =
+      let below : k < partition_count old = omega (arith, lt, after.moved_count) in
+      let within : k < length old.moved = omega (arith, below, valid.moved) in
+      let same : get_or new.moved k d ≡ get_or new.moved k None = get_or_default new.moved k d None
+      lt in
+      subst IsHour (sym (same ∙ after.moved k below)) (hour_after (has_changed old new k) hour
+      (moved_at old k) small (valid.hours k None within))
+
   pub valid_after : IsValid new
   valid_after = record {
     power = subst (λ (n : ℕ). (1 ≤ n) × (n ≤ greatest_power)) (sym power_same) valid.power;
@@ -159,6 +178,7 @@ module _ (old new : RingRecord) (hour : ℕ) (valid : IsValid old) (on : AreOnRe
         (devices_remain old.next_id old.devices valid.devices));
     seats = seats_valid;
     moved = after.moved_count ∙ sym partitions_same;
+    hours = hours_valid;
     published = subst (λ (ps : List (ℕ × List ℕ)). ArePublished ps)
         (sym (ap (λ (r : RingRecord). r.published) after.rest)) valid.published;
   }
@@ -186,7 +206,7 @@ on_remaining old new hour l = record {
   distinct = l.seated.distinct;
 }
 
-pub stays_valid : (old new : RingRecord) (hour : ℕ) → IsValid old → IsLawfulRebalance old hour new →
-    IsValid new
-stays_valid old new hour valid l = valid_after old new hour valid (on_remaining old new hour l)
-    l.after
+pub stays_valid : (old new : RingRecord) (hour : ℕ) → hour < long_count → IsValid old →
+    IsLawfulRebalance old hour new → IsValid new
+stays_valid old new hour small valid l = valid_after old new hour valid
+    (on_remaining old new hour l) l.after small

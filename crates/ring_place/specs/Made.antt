@@ -5,19 +5,20 @@ use Rattle.ring_room.specs.Cards.{lacks_at, shares_zone, taken, without_card}
 use Rattle.ring_room.specs.declared.cards.Card.{Card}
 use Rattle.ring_room.specs.Search.{least_place, open_place, own_or_place, roomy_places}
 use Rattle.ring_room.specs.declared.cards.Taken.{Taken}
-use Rattle.std.specs.Prelude.{ℕ, ◌+◌, ◌-◌, ◌*◌, ◌/◌, ◌==◌, ◌&&◌, ◌||◌, Bool, true, false, not, if◌then◌else◌}
+use Rattle.std.specs.Prelude.{ℕ, ◌+◌, ◌-◌, ◌==◌, ◌&&◌, ◌||◌, Bool, true, false, not, if◌then◌else◌}
 use Rattle.std.specs.Prelude.{count_by, filter, is_some, max, replicate}
 use Rattle.std.specs.Prelude.{List, [], ◌∷◌, ◌++◌, length, slice_index, Option, Some, None}
 use Rattle.std.specs.Prelude.{slice_index_or, slice_set, map, nat_le, nat_lt}
 use Rattle.std.specs.Option.{option_map}
-use Rattle.std.specs.List.{flat_map, list_any, range_with_len, swap}
-use Rattle.ring_words.specs.Limits.{long_count}
+use Rattle.std.specs.List.{flat_map, list_all, list_any, range_with_len}
 use Rattle.ring_words.specs.declared.device.Device.{Device}
-use Rattle.rand_pcg.specs.Lcg.{Lcg, increment_of, started}
-use Rattle.rand_pcg.specs.Pcg.{multiplier_64, pcg32}
-use Rattle.ring_model.specs.Ring.{RingRecord, has_present, partition_count}
+use Rattle.rand_pcg.specs.Lcg.{Lcg}
+use Rattle.rand_pcg.specs.Pcg.{pcg32}
+use Rattle.ring_model.specs.Ring.{RingRecord, has_present, is_assigned, partition_count}
 use Rattle.ring_share.specs.Crowd.{is_less, is_on, others, rows_of}
 use Rattle.ring_share.specs.Room.{have, place_of}
+use Rattle.ring_deal.specs.Deal.{dealt_seats}
+use Rattle.ring_deal.specs.Draws.{draws_of, shuffled}
 use Rattle.ring_place.specs.Rebalance.{differs, is_recent}
 use Rattle.ring_place.specs.declared.gather.Pass.{Pass}
 use Rattle.ring_place.specs.declared.gather.Pass.TheVariants.{First, Apart, Beside, Second}
@@ -73,24 +74,6 @@ chosen_of load row own (Some taken) = with_card taken (own_or_place load row own
 -- where a lifted seat goes, and the card that goes with it
 abbrev pub chosen : Load → List (Option ℕ) → Option ℕ → List (List ℕ) → ℕ → Taken
 chosen load row own piles draw = chosen_of load row own (taken load row piles draw)
-
--- ---- the draws
-
--- the draws of a seed
-abbrev pub draws_of : ℕ → Lcg
-draws_of seed = started 64 multiplier_64 seed (increment_of 64 0)
-
--- a number below a bound, and the draws after it
-abbrev pub draw_below : ℕ → Lcg → ℕ × Lcg
-draw_below bound draws = ((pcg32 draws).0 * bound / long_count, (pcg32 draws).1)
-
--- the number at a place is swapped with one that is drawn
-abbrev pub swap_at : {A : Type 0} → ℕ → List A × Lcg → List A × Lcg
-swap_at place now = (swap now.0 place (draw_below (place + 1) now.1).0, (draw_below (place + 1) now.1).1)
-
--- items in an order that is drawn
-abbrev pub shuffled : {A : Type 0} → List A → Lcg → List A × Lcg
-shuffled items draws = after_steps swap_at (length items) (items, draws)
 
 -- ---- cards
 
@@ -612,7 +595,24 @@ order_of ring seed = shuffled (range_with_len 0 (partition_count ring)) (draws_o
 abbrev pub placed_after : RingRecord → List ℕ × Lcg → Gathering → Placing
 placed_after ring order left = all_placed order.0 (rows_of ring) left.load left.rows order.1
 
+-- whether all seats of a ring are dealt at once: none has a device yet, and no device wants two of a
+-- partition
+abbrev pub is_dealt : RingRecord → List ℕ → Bool
+is_dealt ring wanted = not (is_assigned ring) &&
+    list_all (λ want. nat_le want (partition_count ring)) wanted
+
+-- the seats that they get
+abbrev pub dealt_rows : RingRecord → List ℕ → ℕ → List (List (Option ℕ))
+dealt_rows ring wanted seed = rows_of (record ring {
+  seats = dealt_seats ring.devices wanted ring.power ring.replicas (draws_of seed);
+})
+
+-- the seats once those that were gathered are put
+abbrev pub put_rows : RingRecord → List ℕ → ℕ → ℕ → List (List (Option ℕ))
+put_rows ring wanted hour seed = (placed_after ring (order_of ring seed)
+    (left_of ring wanted hour (order_of ring seed).0)).rows
+
 -- the seats that a rebalance gives
 abbrev pub rebalanced_rows : RingRecord → List ℕ → ℕ → ℕ → List (List (Option ℕ))
-rebalanced_rows ring wanted hour seed = (placed_after ring (order_of ring seed)
-    (left_of ring wanted hour (order_of ring seed).0)).rows
+rebalanced_rows ring wanted hour seed = if is_dealt ring wanted then
+    dealt_rows ring wanted seed else put_rows ring wanted hour seed

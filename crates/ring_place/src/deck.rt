@@ -7,9 +7,9 @@ ghost use Rattle.rand_pcg.specs.Pcg.{pcg32};
 ghost use Rattle.ring_room.specs.Cards.{IsCard};
 ghost use Rattle.ring_place.specs.Made.{dealt, deck_of, is_first, pile_more, zone_cards, zone_places};
 
-use crate::order::shuffle;
 use rand_core::utils::NextWord;
 use rand_pcg::Pcg32;
+use ring_deal::shuffle;
 use ring_room::{Card, Pile, Room};
 use std::alloc::{AllocError, Global};
 use std::marker::Model;

@@ -1,8 +1,10 @@
 //! What follows from the definitions alone.
-ghost use Rattle.std.specs.Prelude.{◌≡◌, ℕ, List, Some, false};
+ghost use Rattle.std.specs.Prelude.{◌≡◌, ◌<◌, ◌≤◌, ℕ, List, Some, count_by, false};
+ghost use Rattle.ring_words.specs.Limits.{long_count};
 ghost use Rattle.ring_model.specs.Ring.{RingRecord, seat};
 ghost use Rattle.ring_model.specs.Valid.{IsValid};
-ghost use Rattle.ring_share.specs.Want.{AreWanted};
+ghost use Rattle.ring_share.specs.Want.{AreWanted, is_open};
+ghost use Rattle.ring_place.specs.First.{IsFirstApart};
 ghost use Rattle.ring_place.specs.Rebalance.{IsAtRest, IsLawfulRebalance, IsRebalance, IsSeat};
 ghost use Rattle.ring_place.specs.Rebalance.{Leaves, changed_seats, is_locked};
 ghost use Rattle.ring_place.specs.Seeded.{IsSeeded};
@@ -15,8 +17,8 @@ pub fn a_rebalance_is_lawful()
 
 /// A lawful rebalance of a valid ring leaves a valid ring.
 pub fn valid_rings_stay_valid()
-    ensures { (old new : RingRecord) (hour : ℕ) → IsValid old → IsLawfulRebalance old hour new →
-        IsValid new }
+    ensures { (old new : RingRecord) (hour : ℕ) → hour < long_count → IsValid old →
+        IsLawfulRebalance old hour new → IsValid new }
 {}
 
 /// No replica of a locked partition leaves a device that remains.
@@ -34,8 +36,8 @@ pub fn one_replica_leaves()
 
 /// Where a rebalance changes no seat, each seat of an unlocked partition is where it should be.
 pub fn unchanged_is_settled()
-    ensures { (old new : RingRecord) (hour : ℕ) (wanted : List ℕ) → IsValid old →
-        IsRebalance old hour new → AreWanted new wanted
+    ensures { (old new : RingRecord) (hour : ℕ) (wanted : List ℕ) → hour < long_count →
+        IsValid old → IsRebalance old hour new → AreWanted new wanted
         → changed_seats old new ≡ 0 → (partition replica id : ℕ) → IsSeat new partition replica → is_locked new hour partition ≡ false
         → seat new partition replica ≡ Some id → IsAtRest new wanted partition replica id }
 {}
@@ -44,4 +46,12 @@ pub fn unchanged_is_settled()
 pub fn a_seed_decides()
     ensures { (old one other : RingRecord) (hour seed : ℕ) → IsSeeded old hour seed one →
         IsSeeded old hour seed other → one ≡ other }
+{}
+
+/// Of a ring no seat of which had a device yet the first rebalance puts no more seats of a partition
+/// into a region, into a zone or onto a server than what the devices there want forces on it.
+pub fn first_seats_stand_apart()
+    ensures { (old new : RingRecord) (hour seed : ℕ) → IsValid old →
+        old.replicas ≤ count_by is_open old.devices → IsSeeded old hour seed new →
+        IsFirstApart old new }
 {}

@@ -9,7 +9,7 @@ mod deck;
 mod gather;
 mod homes;
 pub mod laws;
-mod order;
+mod new_seats;
 mod place;
 mod rebalances;
 mod seats;

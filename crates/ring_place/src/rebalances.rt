@@ -9,16 +9,15 @@ ghost use Rattle.ring_place.specs.Inner.Finishing.{AreAlike, AreWhole, changed_o
 ghost use Rattle.ring_place.specs.Made.{changed_in};
 ghost use Rattle.ring_place.specs.Made.{stamped, stamps};
 ghost use Rattle.ring_place.specs.Apart.{IsRebalanceApart};
+ghost use Rattle.ring_place.specs.First.{IsFirstApart};
 ghost use Rattle.ring_place.specs.Rebalance.{IsAfter, IsRebalance, changed_seats};
 ghost use Rattle.ring_place.specs.Seeded.{IsSeeded, finished};
 
-use crate::gather::gathering;
-use crate::order::{draws_of, shuffled_order};
-use crate::place::place_all;
+use crate::new_seats::new_seats;
 use crate::seats::Seats;
 use ring_model::Ring;
 use ring_share::is_open;
-use ring_words::{Device, DeviceId, Hour, partition_count};
+use ring_words::{Device, DeviceId, Hour};
 use std::alloc::{AllocError, Global};
 
 /// Why a ring isn't rebalanced.
@@ -148,6 +147,10 @@ fn finish(
 /// zone with none of their partition's other seats, and then with one. TooFewDevices exactly where
 /// fewer devices are open than the ring has replicas. The seed varies which of several such rings it
 /// is.
+///
+/// All seats of a ring that has a device on none of them yet are dealt at once, unless a device wants
+/// two of a partition: then no partition has more seats in a region, in a zone or on a server than
+/// the wants force on it.
 pub fn rebalance(
     alloc: Global,
     ring: &Ring,
@@ -158,16 +161,14 @@ pub fn rebalance(
         (count_by is_open_device ring.now.devices < ring.now.replicas) }
     ensures rebalance { IfOk result (λ done. IsRebalance ring.now hour done.ring) }
     ensures apart { IfOk result (λ done. IsRebalanceApart ring.now hour done.ring) }
+    ensures first { IfOk result (λ done. IsFirstApart ring.now done.ring) }
     ensures seeded { IfOk result (λ done. IsSeeded ring.now hour seed done.ring) }
     ensures changed { IfOk result (λ done. done.changed ≡ changed_seats ring.now done.ring) }
 {
     if open_count(ring.devices()) < usize::from(ring.replicas().get()) {
         return Err(PlaceError::TooFewDevices);
     }
-    let mut draws = draws_of(seed);
-    let order = shuffled_order(alloc, partition_count(ring.power()), &mut draws)?;
     let old = Seats::of(alloc, ring)?;
-    let (mut room, mut seats) = gathering(alloc, ring, hour, order.as_slice())?;
-    place_all(alloc, &mut room, order.as_slice(), &old, &mut seats, draws)?;
+    let seats = new_seats(alloc, ring, hour, seed, &old)?;
     finish(alloc, ring, hour, &old, &seats)
 }

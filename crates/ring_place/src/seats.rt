@@ -1,8 +1,9 @@
 //! Seats of partitions while some of them are empty.
-ghost use Rattle.std.specs.Prelude.{◌≡◌, ◌<◌, ◌≤◌, ℕ, length, slice_get, slice_set, take, IfOk};
+ghost use Rattle.std.specs.Prelude.{◌≡◌, ◌<◌, ◌≤◌, ◌*◌, ℕ, length, slice_get, slice_set, take, IfOk};
 ghost use Rattle.ring_words.specs.Limits.{most_replicas};
 ghost use Rattle.std.specs.Prelude.{slice_index_or, count_by, IfNone, IfSome, None, Some};
 ghost use Rattle.std.specs.List.{flat_map, list_any};
+ghost use Rattle.ring_model.specs.Ring.{partition_count};
 ghost use Rattle.ring_model.specs.Valid.{IsValid};
 ghost use Rattle.ring_share.specs.Crowd.{rows_of};
 ghost use Rattle.ring_place.specs.Made.{first_empty, most_empty};
@@ -104,9 +105,23 @@ impl Seats {
         ensures rows { IfOk result (λ seats. seats ≡ rows_of ring.now) }
         ensures valid { IsValid ring.now }
     {
+        Seats::with(alloc, ring, ring.seats())
+    }
+
+    /// The seats of a ring if these devices are on them, by partition and then by replica.
+    pub(crate) fn with(
+        alloc: Global,
+        ring: &Ring,
+        devices: &[DeviceId],
+    ) -> Result<Seats, AllocError>
+        requires few { length devices.now ≤ partition_count ring.now * ring.now.replicas }
+        ensures rows { IfOk result (λ seats. seats ≡ rows_of (record ring.now {
+          seats = devices.now;
+        })) }
+    {
         let partitions = partition_count(ring.power());
         let replicas = usize::from(ring.replicas().get());
-        let seats = seats_with(alloc, ring.seats(), partitions * replicas)?;
+        let seats = seats_with(alloc, devices, partitions * replicas)?;
         Ok(Seats {
             seats,
             partitions,

@@ -4,10 +4,10 @@ ghost use Rattle.std.specs.Prelude.{◌≡◌, ◌<◌};
 
 use crate::checker::{check, crowd_among, has_room};
 use crate::gather::gathering;
-use crate::order::{draws_of, shuffled_order};
 use crate::{PlaceError, Rebalanced, Room, rebalance};
 use rand_core::Rng;
 use rand_pcg::Pcg32;
+use ring_deal::{draws_of, shuffled_order};
 use ring_model::{Ring, RingParts};
 use ring_share::wanted;
 use ring_words::{

@@ -9,7 +9,8 @@ ghost use Rattle.ring_share.specs.Figures.{has_better, has_crowded};
 ghost use Rattle.ring_share.specs.Tiers.{AreTier};
 ghost use Rattle.ring_share.specs.Want.{is_open};
 ghost use Rattle.ring_share.specs.declared.tiers.Tier.TheVariants.{Region, Zone};
-ghost use Rattle.ring_share.specs.Inner.Coded.{AreAllCodes, AreOthers, AreStanding, crowd_at};
+ghost use Rattle.ring_share.specs.Inner.Coded.{AreAllCodes, AreAllCounts, AreAllOthers, AreCounts};
+ghost use Rattle.ring_share.specs.Inner.Coded.{AreOthers, AreStanding, crowd_at};
 
 use crate::apart::{count_at, no_codes, stand_apart};
 use crate::places::places_of;
@@ -24,22 +25,77 @@ pub(crate) struct ByTier {
     pub(crate) server: [u8; MOST_DEVICES],
 }
 
-/// How many seats of a partition other than that of a replica have each code. `places` has the
-/// places of their devices.
-fn others_by_code(
+/// How many seats of a partition have each code. `places` has the places of their devices.
+fn count_by_code(codes: &ByTier, places: &[usize]) -> ByTier
+    requires places { All (λ place. place < most_devices) places.now }
+    requires few { length places.now ≤ most_replicas }
+    ensures { AreAllCounts codes.now places.now result }
+{
+    let mut counts = ByTier {
+        region: no_codes(),
+        zone: no_codes(),
+        server: no_codes(),
+    };
+    count_at(&mut counts.region, &codes.region, places);
+    count_at(&mut counts.zone, &codes.zone, places);
+    count_at(&mut counts.server, &codes.server, places);
+    counts
+}
+
+/// The seat of a replica is left out of the counts of one kind of tier.
+fn leave_out(
+    counts: &mut [u8; MOST_DEVICES],
     codes: &[u8; MOST_DEVICES],
     places: &[usize],
     replica: usize,
-) -> [u8; MOST_DEVICES]
+)
+    requires places { All (λ place. place < most_devices) places.now }
+    requires replica { replica < length places.now }
+    requires counted { AreCounts codes.now places.now counts.old }
+    ensures { AreOthers codes.now places.now replica counts.new }
+{
+    counts[usize::from(codes[places[replica]])] -= 1;
+}
+
+/// It is counted again.
+fn put_back(
+    counts: &mut [u8; MOST_DEVICES],
+    codes: &[u8; MOST_DEVICES],
+    places: &[usize],
+    replica: usize,
+)
     requires places { All (λ place. place < most_devices) places.now }
     requires few { length places.now ≤ most_replicas }
     requires replica { replica < length places.now }
-    ensures { AreOthers codes.now places.now replica result }
+    requires others { AreOthers codes.now places.now replica counts.old }
+    ensures { AreCounts codes.now places.now counts.new }
 {
-    let mut others: [u8; MOST_DEVICES] = no_codes();
-    count_at(&mut others, codes, places);
-    others[usize::from(codes[places[replica]])] -= 1;
-    others
+    counts[usize::from(codes[places[replica]])] += 1;
+}
+
+/// The seat of a replica is left out of all counts.
+fn leave_out_all(counts: &mut ByTier, codes: &ByTier, places: &[usize], replica: usize)
+    requires places { All (λ place. place < most_devices) places.now }
+    requires replica { replica < length places.now }
+    requires counted { AreAllCounts codes.now places.now counts.old }
+    ensures { AreAllOthers codes.now places.now replica counts.new }
+{
+    leave_out(&mut counts.region, &codes.region, places, replica);
+    leave_out(&mut counts.zone, &codes.zone, places, replica);
+    leave_out(&mut counts.server, &codes.server, places, replica);
+}
+
+/// It is counted again in all of them.
+fn put_back_all(counts: &mut ByTier, codes: &ByTier, places: &[usize], replica: usize)
+    requires places { All (λ place. place < most_devices) places.now }
+    requires few { length places.now ≤ most_replicas }
+    requires replica { replica < length places.now }
+    requires others { AreAllOthers codes.now places.now replica counts.old }
+    ensures { AreAllCounts codes.now places.now counts.new }
+{
+    put_back(&mut counts.region, &codes.region, places, replica);
+    put_back(&mut counts.zone, &codes.zone, places, replica);
+    put_back(&mut counts.server, &codes.server, places, replica);
 }
 
 /// How crowded the device at a place is, by its codes and how many seats have each.
@@ -84,12 +140,14 @@ fn has_less(codes: &ByTier, counts: &ByTier, places: &[usize], own: (u8, u8, u8)
 }
 
 /// Whether an open device outside a partition is less crowded for the seat of a replica than that
-/// seat's own. `places` has the places of the devices of its seats, and `zones` that of a device in
-/// each zone that has an open one.
+/// seat's own. `others` tells by code how many seats but this one are in each tier, `places` has the
+/// places of the devices of all of them, and `zones` that of a device in each zone that has an open
+/// one.
 fn has_better(
     devices: &[Device],
     zones: &[usize],
     codes: &ByTier,
+    others: &ByTier,
     row: &[DeviceId],
     places: &[usize],
     replica: usize,
@@ -100,21 +158,17 @@ fn has_better(
     requires places { AreStanding devices.now row.now places.now }
     requires few { length row.now ≤ most_replicas }
     requires replica { replica < length row.now }
+    requires others { AreAllOthers codes.now places.now replica others.now }
     ensures { result ≡ has_better devices.now (map Some row.now) replica
         (slice_index row.now replica) }
 {
-    let others = ByTier {
-        region: others_by_code(&codes.region, places, replica),
-        zone: others_by_code(&codes.zone, places, replica),
-        server: others_by_code(&codes.server, places, replica),
-    };
-    let own = crowd_at(codes, &others, places[replica]);
+    let own = crowd_at(codes, others, places[replica]);
     // alone on its server: a less crowded device stands in a less crowded zone or region
-    if own.2 == 0 && !has_less(codes, &others, zones, own) {
+    if own.2 == 0 && !has_less(codes, others, zones, own) {
         return false;
     }
     for (place, device) in devices.iter().enumerate() {
-        let less = is_less(crowd_at(codes, &others, place), own);
+        let less = is_less(crowd_at(codes, others, place), own);
         if less && is_free(device, row) {
             return true;
         }
@@ -144,11 +198,32 @@ pub(crate) fn has_crowded(
         return false;
     }
     let places = places_of(devices, row);
-    let places = &places[..row.len()];
+    has_seat_crowded(devices, zones, codes, row, &places[..row.len()])
+}
+
+/// So with the places of the devices of its seats.
+fn has_seat_crowded(
+    devices: &[Device],
+    zones: &[usize],
+    codes: &ByTier,
+    row: &[DeviceId],
+    places: &[usize],
+) -> bool
+    requires devices { AreDevices most_ids devices.now }
+    requires zones { AreTier Zone devices.now zones.now }
+    requires codes { AreAllCodes devices.now codes.now }
+    requires places { AreStanding devices.now row.now places.now }
+    requires within { All (λ place. place < most_devices) places.now }
+    requires few { length row.now ≤ most_replicas }
+    ensures { result ≡ has_crowded devices.now (map Some row.now) }
+{
+    let mut counts = count_by_code(codes, places);
     for replica in 0..row.len() {
-        if has_better(devices, zones, codes, row, places, replica) {
+        leave_out_all(&mut counts, codes, places, replica);
+        if has_better(devices, zones, codes, &counts, row, places, replica) {
             return true;
         }
+        put_back_all(&mut counts, codes, places, replica);
     }
     false
 }

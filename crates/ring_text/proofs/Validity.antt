@@ -19,6 +19,7 @@ devices_below next greater devices le are = record {
       greater) (λ device h. omega arith) devices are.below;
   rise = are.rise;
   apart = are.apart;
+  proper = are.proper;
 }
 
 pub valid_of_ring : (name : List ℕ) (ring : RingRecord) → IsValid ring → is_assigned ring ≡ true →

@@ -9,7 +9,7 @@ use Rattle.std.proofs.lemmas.List.{length-drop, take-append-drop, drop-drop}
 use Rattle.std.proofs.lemmas.List.Elements.{recursion_from_All}
 use Rattle.ring_words.specs.declared.device.Device.{Device}
 use Rattle.ring_words.proofs.Spelled.{one_address}
-use Rattle.ring_messages.specs.Fields.{IsProperRow}
+use Rattle.ring_words.specs.Rows.{IsProperRow}
 use Rattle.ring_model.specs.Ring.{RingRecord}
 use Rattle.store_model.specs.Entries as rows
 use Rattle.store_model.specs.Entries.{name_cmp, NameNumber}
@@ -205,7 +205,8 @@ one_ring x y p q row devices texts parts =
     ap (λ (r : rows.Ring). r.version) value in cc) in
     let same_devices = one_list (λ (d : Device). IsProperRow d.row) (device_entry x.0)
     (λ a b. one_device x.0 x.0 a b) x.1.devices y.1.devices
-    (recursion_from_All _ x.1.devices p.devices) (recursion_from_All _ y.1.devices q.devices)
+    (recursion_from_All _ x.1.devices p.valid.devices.proper)
+    (recursion_from_All _ y.1.devices q.valid.devices.proper)
     (devices ∙ ap (λ n. map (device_entry n) y.1.devices) (sym name)) in
     let same_texts = one_list (λ (t : ℕ × List ℕ). Unit {0}) (published_entry x.0)
     (λ a b _ _. one_text x.0 x.0 a b) x.1.published y.1.published (nothing x.1.published)

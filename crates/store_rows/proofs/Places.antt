@@ -22,7 +22,7 @@ use Rattle.store_rows.proofs.OneBook.{of_all}
 use Rattle.store_rows.specs.RingRows.{hour_number, part_entry, stored_seats, two_bytes}
 use Rattle.store_rows.specs.FirstRows.{moved_entry}
 use Rattle.store_rows.specs.Inner.Found.{Places, StandForMove, StandForMoves, StandForParts}
-use Rattle.store_rows.specs.Numbers.{IsHour}
+use Rattle.ring_model.specs.Valid.{IsHour}
 
 -- ---- two bytes a seat
 

@@ -12,7 +12,7 @@ use Rattle.ring_words.specs.Spelling.{Reads}
 use Rattle.ring_words.specs.Texts.{address_text, address_limit}
 use Rattle.ring_words.specs.declared.device.Device.{Device}
 use Rattle.ring_words.proofs.Spelled.{one_address}
-use Rattle.ring_messages.specs.Fields.{IsProperRow}
+use Rattle.ring_words.specs.Rows.{IsProperRow}
 use Rattle.store_model.specs.Contents.{device_of}
 use Rattle.store_model.specs.Entries as rows
 use Rattle.store_model.specs.declared.rows.DeviceRow.{DeviceRow}

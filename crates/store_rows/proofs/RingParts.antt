@@ -7,9 +7,9 @@ use Rattle.std.proofs.lemmas.Bool.{cases_Bool, eqb-true}
 use Rattle.std.specs.List.{AllByRecursion, AllZip, enumerate_from, list_any}
 use Rattle.std.proofs.lemmas.List.Elements.{All-weaker, recursion_from_All}
 use Rattle.ring_model.specs.Ring.{RingRecord, has_device}
-use Rattle.ring_model.specs.Valid.{IsValid}
+use Rattle.ring_model.specs.Valid.{IsValid, IsVersioned}
+use Rattle.ring_words.specs.Rows.{IsProperRow}
 use Rattle.ring_words.specs.declared.device.Device.{Device}
-use Rattle.ring_messages.specs.Fields.{IsProperRow}
 use Rattle.store_model.specs.Contents.{device_of, published_of, ring_of, seat_of}
 use Rattle.store_model.specs.Entries as rows
 use Rattle.store_model.specs.declared.rows.DeviceRow.{DeviceRow}
@@ -21,7 +21,6 @@ use Rattle.store_rows.specs.FirstRows.{seat_entry}
 use Rattle.store_rows.specs.declared.naming.RingTables.{RingTables}
 use Rattle.store_rows.specs.Inner.Found.{StandForPlaces, StandForRing, StandForSeats}
 use Rattle.store_rows.specs.Inner.Found.{StandsForDevice, StandsForSeat, StandsForText}
-use Rattle.store_rows.specs.Numbers.{IsVersioned}
 use Rattle.store_rows.proofs.Ordered.{weaker}
 use Rattle.store_rows.proofs.Reading.{one_number}
 
@@ -105,11 +104,11 @@ module _ (is_first : Bool) (row : RingRow) (tables : RingTables) (ring : RingRec
   pub devices_zip : AllZip StandsForDevice tables.devices.now ring.devices
   devices_zip = devices_each s.name tables.devices.now ring.devices s.devices
       (weaker _ _ (λ d h. let few = valid.next_id in omega arith) ring.devices ids)
-      (recursion_from_All (λ (d : Device). IsProperRow d.row) ring.devices s.proper.devices)
+      (recursion_from_All (λ (d : Device). IsProperRow d.row) ring.devices valid.devices.proper)
 
   pub texts_zip : AllZip StandsForText tables.published.now ring.published
   texts_zip = texts_each s.name tables.published.now ring.published s.published
-      (recursion_from_All IsVersioned ring.published s.proper.published)
+      (recursion_from_All IsVersioned ring.published valid.published.versions)
 
   seats_small : All (λ (id : ℕ). id < 2 ^ 16) ring.seats
   seats_small = All-weaker (λ (id : ℕ). has_device id ring.devices ≡ true)
@@ -131,7 +130,7 @@ places_of true row tables ring s = (
     name = s.name;
     is = s.moved;
     count = s.proper.valid.moved;
-    hours = s.proper.moved;
+    hours = s.proper.valid.hours;
   },
 )
 places_of false row tables ring s = record {
@@ -141,7 +140,7 @@ places_of false row tables ring s = record {
   whole = λ some. s.proper.valid.seats.whole some
       ∙ ap (λ (n : ℕ). n * ring.replicas) (sym s.proper.valid.moved);
   seats = seats_small false row tables ring s;
-  hours = s.proper.moved;
+  hours = s.proper.valid.hours;
 }
 
 -- a field of a ring's row

@@ -1,4 +1,3 @@
-pub mod Numbers
 pub mod RingRows
 pub mod FirstRows
 pub mod Stands

@@ -12,7 +12,6 @@ use Rattle.ring_model.specs.Ring.{RingRecord}
 use Rattle.ring_model.specs.Rings.{AreByName}
 use Rattle.ring_model.specs.Valid.{IsValid}
 use Rattle.ring_messages.specs.Commands.{canonical, IsProperCommand}
-use Rattle.ring_messages.specs.Fields.{IsProperRow}
 use Rattle.ring_messages.specs.Replies.{reply_text, IsProperReply}
 use Rattle.request_book.specs.Content.{Content, same_key}
 use Rattle.request_book.specs.Run.{last_hour}
@@ -21,7 +20,6 @@ use Rattle.store_model.specs.Contents.{Contents}
 use Rattle.store_model.specs.Entries as rows
 use Rattle.store_rows.specs.RingRows.{NamedRings, ring_entries, device_entries, published_entries}
 use Rattle.store_rows.specs.RingRows.{part_entries}
-use Rattle.store_rows.specs.Numbers.{IsHour, IsVersioned}
 use Rattle.store_rows.specs.FirstRows.{seat_entries, moved_entries}
 
 -- ---- the book as rows
@@ -90,13 +88,10 @@ first_contents_for content = record {
 
 -- ---- which contents a store can hold
 
--- A ring under a ring's name, valid, and its numbers such as there are.
+-- A valid ring under a ring's name.
 pub record IsNamedRing (e : List ℕ × RingRecord) : Type 0 where
   pub name : IsTrue (is_label e.0)
   pub valid : IsValid e.1
-  pub devices : All (λ device. IsProperRow device.row) e.1.devices
-  pub moved : All IsHour e.1.moved
-  pub published : All IsVersioned e.1.published
 
 -- No more rings than may be kept, each under a name of its own.
 pub record AreRings (rings : NamedRings) : Type 0 where

@@ -4,7 +4,7 @@ ghost use Rattle.ring_words.specs.Limits.{long_count, short_count};
 ghost use Rattle.ring_words.specs.Spelling.{Reads};
 ghost use Rattle.ring_words.specs.Texts.{greatest_weight};
 ghost use Rattle.store_rows.specs.RingRows.{hour_number, mark_number};
-ghost use Rattle.store_rows.specs.Numbers.{IsHour};
+ghost use Rattle.ring_model.specs.Valid.{IsHour};
 
 use ring_words::{Bounded, Hour, SpellingFault, Weight};
 

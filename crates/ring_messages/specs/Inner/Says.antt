@@ -12,6 +12,7 @@ use Rattle.serde_json.specs.declared.value.Value.{Value}
 use Rattle.ring_words.specs.Texts.{is_label, is_device_name, address_text, address_limit}
 use Rattle.ring_words.specs.Texts.{hundredths_text, greatest_weight}
 use Rattle.ring_words.specs.declared.request.Key.{Key}
+use Rattle.ring_words.specs.Rows.{IsProperRow}
 use Rattle.ring_words.specs.declared.device.Row.{Row}
 use Rattle.ring_words.specs.declared.command.Command.{Command}
 use Rattle.ring_words.specs.declared.command.Act.{Act}
@@ -21,7 +22,7 @@ use Rattle.ring_words.specs.declared.command.Refusal.TheVariants.{RowRefused}
 use Rattle.ring_words.specs.declared.command.Reply.{Reply}
 use Rattle.ring_words.specs.declared.command.Reply.TheVariants as reply
 use Rattle.ring_messages.specs.Fields.{Field, Fields, within, device_name, address, weight, rows}
-use Rattle.ring_messages.specs.Fields.{field_data, IsProperRow}
+use Rattle.ring_messages.specs.Fields.{field_data}
 use Rattle.ring_messages.specs.Commands.{act_word, act_fields, command_data}
 use Rattle.ring_messages.specs.Message.{members_count}
 use Rattle.ring_messages.specs.Reads.{IsNumber, IsName}

@@ -14,6 +14,7 @@ use Rattle.std.proofs.lemmas.Option.{get_or_from_slice_get, same_Some, slice_get
 use Rattle.ring_model.specs.Ring.{RingRecord, moved_at, partition_count, risen, seat}
 use Rattle.ring_model.specs.Reseat.{reseated}
 use Rattle.ring_model.specs.Valid.{IsValid}
+use Rattle.ring_words.specs.Limits.{long_count}
 use Rattle.ring_words.specs.declared.device.Device.{Device}
 use Rattle.ring_share.specs.Crowd.{row_of, rows_of}
 use Rattle.ring_place.specs.Inner.Finishing.{AreAlike, AreWhole}
@@ -68,7 +69,7 @@ length_full (None ∷ row) full = absurd (full zero refl)
 length_full (Some id ∷ row) full = let rest = length_full row (full_rest (Some id) row full) in
     omega (arith, rest)
 
-get_full : (row : List (Option ℕ)) → IsFull row → (k id : ℕ) → slice_get row k ≡ Some (Some id) →
+pub get_full : (row : List (Option ℕ)) → IsFull row → (k id : ℕ) → slice_get row k ≡ Some (Some id) →
     slice_get (devices_on row) k ≡ Some id
 get_full [] full k id at = absurd (cc at)
 get_full (None ∷ row) full k id at = absurd (full zero refl)
@@ -121,7 +122,7 @@ length_flat n (row ∷ rows) are =
       one_more (length rows) n,
     )
 
-get_flat : (n : ℕ) (rows : List (List (Option ℕ))) → AreFull n rows → (p r : ℕ) → p < length rows →
+pub get_flat : (n : ℕ) (rows : List (List (Option ℕ))) → AreFull n rows → (p r : ℕ) → p < length rows →
     r < n → slice_get (flat_map devices_on rows) (p * n + r) ≡ slice_get
     (devices_on (row_at rows p)) r
 get_flat n [] are p r lt below = absurd (omega (arith, lt))
@@ -284,8 +285,8 @@ module _ (ring : RingRecord) (hour : ℕ) (rows : List (List (Option ℕ))) (mad
         one_seat id (row_at rows p) one other (whole.distinct p id lt) first second;
   }
 
-  pub made_valid : IsValid made
-  made_valid = valid_after ring made hour valid made_on made_after
+  pub made_valid : hour < long_count → IsValid made
+  made_valid small = valid_after ring made hour valid made_on made_after small
 
 pub is_made : (ring : RingRecord) (hour : ℕ) (old rows : List (List (Option ℕ)))
     (all devices : List Device) (seats : List ℕ) (moved : List (Option ℕ)) → old ≡ rows_of ring

@@ -14,6 +14,7 @@ use Rattle.std.proofs.lemmas.Option.{same_Some, slice_get_within}
 use Rattle.ring_model.specs.Ring.{RingRecord, has_present, is_assigned, moved_at, partition_count}
 use Rattle.ring_model.specs.Ring.{seat}
 use Rattle.ring_model.specs.Valid.{IsValid}
+use Rattle.ring_words.specs.Limits.{long_count}
 use Rattle.ring_words.specs.declared.device.Device.{Device}
 use Rattle.ring_share.specs.Crowd.{crowd, crowd_for, is_less, is_on, is_outside, others, row_of}
 use Rattle.ring_share.specs.Crowd.{rows_of, seats_on, tiers_of}
@@ -54,8 +55,8 @@ both_first : (a b : Bool) → (a && b) ≡ true → a ≡ true
 both_first true b h = refl
 both_first false b h = h
 
-module _ (old new : RingRecord) (hour : ℕ) (wanted : List ℕ) (valid : IsValid old)
-    (r : IsRebalance old hour new) (are : AreWanted new wanted)
+module _ (old new : RingRecord) (hour : ℕ) (wanted : List ℕ) (small : hour < long_count)
+    (valid : IsValid old) (r : IsRebalance old hour new) (are : AreWanted new wanted)
     (unchanged : changed_seats old new ≡ 0) where
   rest : IsRest old new
   rest = record {
@@ -134,7 +135,8 @@ module _ (old new : RingRecord) (hour : ℕ) (wanted : List ℕ) (valid : IsVali
       some (length new.seats) (omega (arith, within))
 
   have_same : (id : ℕ) → have new id ≡ have old id
-  have_same id = have_is_rows new id (stays_valid old new hour valid (lawful old new hour r))
+  have_same id = have_is_rows new id (stays_valid old new hour small valid
+      (lawful old new hour r))
       assigned_new ∙ ap (sum_by (seats_on id)) rows_same ∙ sym (have_is_rows old id valid assigned)
 
   none_lost : (p : ℕ) → p < partition_count old → has_lost old p ≡ false

@@ -13,7 +13,8 @@ use Rattle.ring_place.specs.Apart.{GivesApartFirst}
 use Rattle.ring_place.specs.Rebalance.{is_locked, is_recent}
 use Rattle.ring_place.specs.declared.gather.Pass.TheVariants.{First, Apart, Second}
 use Rattle.ring_place.specs.Inner.Gathering.{AreRowsOfSeats, Falls, IsFilled, IsFirst, IsPass}
-use Rattle.ring_place.specs.Inner.Gathering.{IsSecond, Lifts, Same, Surplus, gathered_in, is_among}
+use Rattle.ring_place.specs.Inner.Gathering.{IsSecond, Lifts, Same, Surplus, gathered_in}
+use Rattle.ring_deal.specs.Inner.Orders.{is_among}
 use Rattle.ring_place.specs.Made.{row_at}
 use Rattle.ring_place.proofs.Gathering.ApartFirst.{gives_apart_first}
 use Rattle.ring_place.proofs.Gathering.GatheredRing.{both_lifted, locked_at}
@@ -21,7 +22,7 @@ use Rattle.ring_place.proofs.Gathering.GatheredSeats.{free_same}
 use Rattle.ring_place.proofs.Gathering.LiftedFor.{IsLiftedFor, lifted_for}
 use Rattle.ring_place.proofs.Gathering.PassSteps.{pass_rows, second_passed}
 use Rattle.ring_place.proofs.Gathering.SeatSums.{lifts_fewer, lifts_less, sum_less}
-use Rattle.ring_place.proofs.Rows.PartitionOrders.{order_all, order_is_below}
+use Rattle.ring_deal.proofs.Orders.{order_all, order_is_below}
 use Rattle.ring_place.proofs.Rows.RingSeats.{length-rows_of, row_at-rows_of, seat_known}
 
 -- the second pass leaves no more seats of a partition on any device

@@ -19,7 +19,7 @@ use Rattle.ring_place.proofs.Gathering.BothPasses.{IsBoth, both_here}
 use Rattle.ring_place.proofs.Gathering.GatheredRows.{counts_are_kept, gathering_is_lawful}
 use Rattle.ring_place.proofs.Gathering.GatheredRows.{gathering_is_whole, reasons_hold}
 use Rattle.ring_place.proofs.Gathering.GatheredRows.{rows_are_kept}
-use Rattle.ring_place.proofs.Rows.PartitionOrders.{order_all}
+use Rattle.ring_deal.proofs.Orders.{order_all}
 use Rattle.ring_place.proofs.Rows.RingSeats.{length-rows_of, row_at-rows_of, seat_known}
 
 -- a partition's entry tells whether it is locked

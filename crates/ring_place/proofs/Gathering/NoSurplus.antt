@@ -12,7 +12,8 @@ use Rattle.ring_room.specs.Load.{Load, have_in, want_in}
 use Rattle.ring_room.proofs.Searching.DevicesAt.{id_stands}
 use Rattle.ring_place.specs.declared.gather.Pass.{Pass}
 use Rattle.ring_place.specs.declared.gather.Pass.TheVariants.{First, Apart, Beside, Second}
-use Rattle.ring_place.specs.Inner.Gathering.{AreRowsOfSeats, IsFilled, IsPass, MustStay, is_among}
+use Rattle.ring_place.specs.Inner.Gathering.{AreRowsOfSeats, IsFilled, IsPass, MustStay}
+use Rattle.ring_deal.specs.Inner.Orders.{is_among}
 use Rattle.ring_place.specs.Made.{has_surplus, is_over_at, row_at}
 use Rattle.ring_place.proofs.Gathering.LaterPasses.{later_rests}
 

@@ -19,7 +19,8 @@ use Rattle.ring_place.specs.Inner.Gathering.{AreRowsOfSeats, Calm, Crowded, Drai
 use Rattle.ring_place.specs.Inner.Gathering.{Goes}
 use Rattle.ring_place.specs.Inner.Gathering.{Holds, IsApart, IsFilled, IsFirst, IsLater, IsLifting}
 use Rattle.ring_place.specs.Inner.Gathering.{IsPass, IsSecond, Lifts, LostFirst, Rests, Same}
-use Rattle.ring_place.specs.Inner.Gathering.{Surplus, Takes, is_among, present_only}
+use Rattle.ring_place.specs.Inner.Gathering.{Surplus, Takes, present_only}
+use Rattle.ring_deal.specs.Inner.Orders.{is_among}
 use Rattle.ring_place.proofs.Gathering.BothPasses.{lifted_empty}
 use Rattle.ring_place.proofs.Gathering.LaterPasses.{later_only}
 use Rattle.ring_place.proofs.Rows.LiftedSeats.{known_lifted}

@@ -17,7 +17,7 @@ use Rattle.ring_room.specs.Load.{Load, IsLoad, have_in, load_put, want_in}
 use Rattle.ring_place.specs.Made.{row_at}
 use Rattle.ring_room.specs.Free.{has_free_in}
 use Rattle.ring_room.specs.Rows.{is_empty}
-use Rattle.ring_place.specs.Inner.Gathering.{is_among}
+use Rattle.ring_deal.specs.Inner.Orders.{is_among}
 use Rattle.ring_place.specs.declared.place.Turn.{Turn}
 use Rattle.ring_place.specs.declared.place.Turn.TheVariants.{Homeless, Home, Rest}
 use Rattle.ring_place.specs.Inner.Placing.{AllPlaced, AreTurns, AreWaiting, CanPlace, CanPlaceAll}
@@ -31,7 +31,7 @@ use Rattle.ring_place.proofs.Placing.RowPlaces.{some_empty}
 use Rattle.ring_place.proofs.Placing.RowSteps.{IsRoomTaken, begun_next, can_next, drawn_less}
 use Rattle.ring_place.proofs.Placing.RowSteps.{empty_less, nothing_drawn, seat_cases, seat_drawn}
 use Rattle.ring_place.proofs.Placing.SettledSeats.{seats_put}
-use Rattle.ring_place.proofs.Rows.PartitionOrders.{among_more}
+use Rattle.ring_deal.proofs.Orders.{among_more}
 
 -- the same free devices or fewer
 pub has_free_shrinks : (old new : Load) → Fills old new → (row : List (Option ℕ)) →

@@ -9,7 +9,7 @@ use Rattle.ring_room.specs.Rows.{is_empty}
 use Rattle.ring_room.specs.Steps.{after_steps}
 use Rattle.ring_room.proofs.Steps.{steps_end, steps_more, steps_none}
 use Rattle.ring_place.specs.declared.place.Turn.{Turn}
-use Rattle.ring_place.specs.Inner.Gathering.{is_among}
+use Rattle.ring_deal.specs.Inner.Orders.{is_among}
 use Rattle.ring_place.specs.Inner.Placing.{AreFull, AreTurns, AreWaiting}
 use Rattle.ring_place.specs.Made.{Placing, put_at, put_by, row_at, turn, turn_at}
 

@@ -13,7 +13,7 @@ use Rattle.ring_words.specs.declared.device.Device.{Device}
 use Rattle.ring_room.specs.Rows.{AreKnown}
 use Rattle.ring_place.specs.Made.{by_number, device_at, is_number, numbered_as}
 use Rattle.ring_place.specs.Inner.Placing.{numbered}
-use Rattle.ring_place.proofs.Dealing.{range_more}
+use Rattle.ring_deal.proofs.Lists.{range_more}
 use Rattle.ring_place.proofs.Placing.RowSteps.{if_some_at}
 use Rattle.std.proofs.lemmas.List.{flat_map_more}
 

@@ -11,9 +11,9 @@ use Rattle.ring_room.specs.Rows.{is_empty}
 use Rattle.ring_room.specs.Load.{Load}
 use Rattle.ring_place.specs.Made.{heap_rank, is_number, numbered_as, row_at, waiting, with_empty}
 use Rattle.ring_place.proofs.Placing.Homes.{any_flat, numbers_all}
-use Rattle.ring_place.specs.Inner.Gathering.{is_among}
+use Rattle.ring_deal.specs.Inner.Orders.{is_among}
 use Rattle.ring_place.specs.Inner.Placing.{AreWaiting}
-use Rattle.ring_place.proofs.Rows.PartitionOrders.{all_below, order_all}
+use Rattle.ring_deal.proofs.Orders.{all_below, order_all}
 
 no_empty : (row : List (Option ℕ)) → list_any is_empty row ≡ false → count_by is_empty row ≡ 0
 no_empty [] none = refl

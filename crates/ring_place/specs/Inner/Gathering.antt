@@ -10,6 +10,7 @@ use Rattle.ring_model.specs.Ring.{RingRecord, has_device, has_present, partition
 use Rattle.ring_words.specs.declared.device.Device.{Device}
 use Rattle.ring_share.specs.Crowd.{is_less, others, seats_on}
 use Rattle.ring_share.specs.Want.{AreWanted}
+use Rattle.ring_deal.specs.Inner.Orders.{is_among}
 use Rattle.ring_place.specs.declared.gather.Pass.{Pass}
 use Rattle.ring_place.specs.declared.gather.Pass.TheVariants.{First, Apart, Beside, Second}
 use Rattle.ring_place.specs.declared.surplus.Gift.{Gift}
@@ -172,10 +173,6 @@ pub record AreRowsOfSeats (devices : List Device) (rows : List (List (Option ℕ
   pub known : (partition : ℕ) → partition < length rows → AreKnown devices (row_at rows partition)
   pub few : (partition : ℕ) → partition < length rows →
       length (row_at rows partition) ≤ most_replicas
-
--- whether a partition is among those that were gone through
-abbrev pub is_among : List ℕ → ℕ → Bool
-is_among done partition = list_any (λ other. other == partition) done
 
 -- What a pass lifts of a partition.
 abbrev pub IsLifting : Pass → Load → Load → Bool → List (Option ℕ) → List (Option ℕ) → Type 0

@@ -13,7 +13,7 @@ use Rattle.ring_room.specs.Load.{Load, IsLoad, have_in, want_in, is_free_in, cro
 use Rattle.ring_place.specs.declared.place.Turn.{Turn}
 use Rattle.ring_place.specs.declared.place.Turn.TheVariants.{Homeless, Home, Rest}
 use Rattle.ring_place.specs.Rebalance.{differs}
-use Rattle.ring_place.specs.Inner.Gathering.{is_among}
+use Rattle.ring_deal.specs.Inner.Orders.{is_among}
 use Rattle.ring_place.specs.Made.{first_empty, is_number, row_at}
 use Rattle.ring_room.specs.Free.{has_free_in}
 use Rattle.ring_room.specs.Rows.{AreKnown, is_empty}

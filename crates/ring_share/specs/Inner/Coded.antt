@@ -30,6 +30,24 @@ AreOthers codes places replica counts = (code : ℕ) → code < most_devices →
     slice_index counts code + (if code == slice_index codes (slice_index places replica) then 1 else
     0) ≡ coded codes places code
 
+-- These are, by code, how many places have it.
+abbrev pub AreCounts : List ℕ → List ℕ → List ℕ → Type 0
+AreCounts codes places counts = (code : ℕ) → code < most_devices →
+    slice_index counts code ≡ coded codes places code
+
+-- So it is for each kind of tier.
+pub record AreAllCounts (codes : ByTier) (places : List ℕ) (counts : ByTier) : Type 0 where
+  pub region : AreCounts codes.region places counts.region
+  pub zone : AreCounts codes.zone places counts.zone
+  pub server : AreCounts codes.server places counts.server
+
+-- So it is for each kind of tier, without the seat of a replica.
+pub record AreAllOthers (codes : ByTier) (places : List ℕ) (replica : ℕ) (counts : ByTier) : Type 0
+  where
+    pub region : AreOthers codes.region places replica counts.region
+    pub zone : AreOthers codes.zone places replica counts.zone
+    pub server : AreOthers codes.server places replica counts.server
+
 -- how crowded the device at a place is, by its codes and how many seats have each
 abbrev pub crowd_at : ByTier → ByTier → ℕ → ℕ × ℕ × ℕ
 crowd_at codes counts place = (

@@ -6,7 +6,7 @@ use Rattle.ring_words.specs.Limits.{long_count, short_count}
 use Rattle.ring_words.specs.declared.device.Device.{Device}
 use Rattle.ring_words.specs.declared.spelling.SpellingFault.{SpellingFault}
 use Rattle.ring_words.specs.declared.spelling.SpellingFault.TheVariants.{Bad, NoMemory}
-use Rattle.ring_messages.specs.Fields.{IsProperRow}
+use Rattle.ring_words.specs.Rows.{IsProperRow}
 use Rattle.ring_model.specs.Ring.{RingRecord}
 use Rattle.store_model.specs.Contents.{device_of, moved_of, part_of, published_of, ring_of}
 use Rattle.store_model.specs.Contents.{seat_of}
@@ -21,7 +21,7 @@ use Rattle.store_rows.specs.RingRows.{device_entry, part_entry, part_entries_of}
 use Rattle.store_rows.specs.RingRows.{published_entry, ring_entry}
 use Rattle.store_rows.specs.FirstRows.{moved_entry, seat_entry}
 use Rattle.store_rows.specs.Stands.{IsNamedRing}
-use Rattle.store_rows.specs.Numbers.{IsHour}
+use Rattle.ring_model.specs.Valid.{IsHour}
 use Rattle.store_rows.specs.declared.naming.RingTables.{RingTables}
 
 -- Where there is one thing of which this holds, it is what was read, and nothing was bad. Want of

@@ -9,5 +9,5 @@ returns g c = let looped = c.loop_over-looped in
     (c.new_clock-clock.result, c.open_book-book.result) (looped.new.clock, looped.new.book)
     c.new_clock-clock.ensures c.open_book-book.ensures (sym c.into_keeper.ensures)
     looped.ensures.safe
-    g.W.Write.contents c.args.writer.now looped.new.writer looped.result
-    looped.ensures.served looped.ensures.few looped.ensures.cause looped.ensures.flushed
+    _ g.W.Write.contents c.args.writer.now looped.new.writer looped.result
+    looped.ensures.served looped.ensures.failed looped.ensures.few looped.ensures.cause looped.ensures.flushed

@@ -1,9 +1,9 @@
 use Rattle.std.proofs.Common.{◌∙◌, ap, inl, inr}
-use Rattle.std.proofs.lemmas.Result.{IfErr-weaker, err_from_is_err_and}
+use Rattle.std.proofs.lemmas.Result.{IfErr-at_err, IfErr-weaker, err_from_is_err_and}
 use Rattle.programs.specs.Begun.{IsClosed, WasClosed}
 use Rattle.programs.specs.Faults.{serve_fault}
 use Rattle.programs.proofs.Kept.{on_closed}
-use Rattle.programs.proofs.Services.{kept_served, match_err, match_ok}
+use Rattle.programs.proofs.Services.{kept_served, on_ok_at}
 use Rattle.programs.proofs.serving.serve_store.Goals as goal
 
 pub returns-clause-served : goal.returns-clause-served
@@ -12,7 +12,7 @@ returns-clause-served g c = let ran = c.serve_port-served in
     (λ ended. kept_served g.S.Kept.Keeper _ (IsClosed g.S.Stores.ends) c.in_ok-keeper.keeper
     ran.result.1
     c.in_ok-keeper.ensures.begins ended c.args.given c.args.names _
-    (match_ok ran.result.0 _ _ _ c.in_ok-served.was ran.ensures))
+    (on_ok_at ran.result.0 _ _ c.in_ok-served.was ran.ensures.served))
     c.close-closed.ensures.ends
 
 pub returns-clause-failed : goal.returns-clause-failed
@@ -23,7 +23,7 @@ returns-clause-failed g c = let ran = c.serve_port-served in
       kept_served g.S.Kept.Keeper _ (WasClosed g.S.Stores.ends) c.in_ok-keeper.keeper ran.result.1
           c.in_ok-keeper.ensures.begins (c.close-closed.result, c.close-closed.ensures.ends)
           c.args.given c.args.names _
-          (match_ok ran.result.0 _ _ _ c.in_ok-served.was ran.ensures),
+          (on_ok_at ran.result.0 _ _ c.in_ok-served.was ran.ensures.served),
     )))
     c.close-closed.ensures.fault
 
@@ -32,7 +32,7 @@ returns-in_err-served-clause-failed g c =
     let ran = c.serve_port-served in
     let p = err_from_is_err_and c.from_residual-in_err-served.result
     c.from_residual-in_err-served.ensures.1 in
-    let failed = match_err ran.result.0 _ _ _ c.in_err-served.was ran.ensures in
+    let failed = IfErr-at_err _ c.in_err-served.was ran.ensures.failed in
     rw (p.1) (inr (inr (
       p.2 ∙ ap serve_fault failed.0,
       kept_served g.S.Kept.Keeper _ (WasClosed g.S.Stores.ends) c.in_ok-keeper.keeper ran.result.1

@@ -2,7 +2,7 @@ use Rattle.std.proofs.Common.{subst, arith}
 use Rattle.std.specs.List.{All}
 use Rattle.std.proofs.lemmas.List.{take_all}
 use Rattle.std.proofs.lemmas.List.Elements.{All-more}
-use Rattle.ring_messages.specs.Fields.{IsProperRow}
+use Rattle.ring_words.specs.Rows.{IsProperRow}
 use Rattle.ring_messages.proofs.rows.rows_are_proper.Goals as goal
 
 pub loop-row-preserved : goal.loop-row-preserved

@@ -12,6 +12,7 @@ returns-then-is_few c =
         count = rw length-map (omega arith);
         rise =
             rw same (c.are_versions_rising.ensures.0 yes);
+        versions = c.texts_are_proper.ensures;
       },
       λ valid. c.are_versions_rising.ensures.1 (rw same at valid.rise),
     )

@@ -1,7 +1,7 @@
 use Rattle.std.proofs.Common.{◌∙◌, [], ap, cond, replicate, sym}
 use Rattle.ring_room.specs.Cards.{lacks_at}
 use Rattle.ring_place.specs.Made.{cards_at}
-use Rattle.ring_place.proofs.Dealing.{flat_more, flat_none}
+use Rattle.ring_deal.proofs.Lists.{flat_more, flat_none}
 use Rattle.ring_place.proofs.deck.zone_cards.Goals as goal
 use Rattle.ring_place.proofs.deck.zone_cards.Goals.{then-shares_zone+in_ok-add_cards}
 use Rattle.ring_place.proofs.deck.zone_cards.Goals.{else-shares_zone}

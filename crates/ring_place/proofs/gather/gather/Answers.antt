@@ -3,8 +3,8 @@ use Rattle.std.proofs.lemmas.Grind.{common_steps}
 use Rattle.std.specs.Prelude.{slice_index_or}
 use Rattle.ring_room.specs.Rows.{AreKnown}
 use Rattle.ring_place.specs.Inner.Gathering.{IsLifting, Takes}
-use Rattle.ring_place.proofs.Rows.PartitionOrders.{among_below, among_more, order_fresh}
-use Rattle.ring_place.proofs.Rows.PartitionOrders.{order_all, order_below}
+use Rattle.ring_deal.proofs.Orders.{among_below, among_more, order_fresh}
+use Rattle.ring_deal.proofs.Orders.{order_all, order_below}
 use Rattle.ring_place.proofs.Gathering.PassSteps.{falls_more, falls_none, pass_start}
 use Rattle.ring_place.proofs.Gathering.PassSteps.{pass_rows, pass_written}
 use Rattle.ring_place.specs.Made.{gather_at}

@@ -1,6 +1,6 @@
 use Rattle.std.proofs.Common.{◌∙◌, sym, length}
 use Rattle.ring_place.proofs.Gathering.NoSurplus.{no_surplus}
-use Rattle.ring_place.proofs.Rows.PartitionOrders.{order_is_below}
+use Rattle.ring_deal.proofs.Orders.{order_is_below}
 use Rattle.ring_place.proofs.gather.gather_over.Goals as goal
 
 pub returns-else-has_surplus-clause-pass : goal.returns-else-has_surplus-clause-pass

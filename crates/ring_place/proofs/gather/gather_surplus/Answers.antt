@@ -1,8 +1,9 @@
 use Rattle.std.proofs.Common.{◌≡◌, ◌∙◌, ◌<◌, ℕ, length, sym, true, arith}
 use Rattle.ring_place.specs.declared.gather.Pass.TheVariants.{Beside, First, Second}
-use Rattle.ring_place.specs.Inner.Gathering.{Falls, IsPass, is_among}
+use Rattle.ring_place.specs.Inner.Gathering.{Falls, IsPass}
+use Rattle.ring_deal.specs.Inner.Orders.{is_among}
 use Rattle.ring_place.proofs.Gathering.PassSteps.{falls_more, second_passed}
-use Rattle.ring_place.proofs.Rows.PartitionOrders.{order_is_below}
+use Rattle.ring_deal.proofs.Orders.{order_is_below}
 use Rattle.ring_place.proofs.gather.gather_surplus.Goals as goal
 
 pub returns-clause-later : goal.returns-clause-later

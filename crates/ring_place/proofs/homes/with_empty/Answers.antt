@@ -1,5 +1,5 @@
 use Rattle.std.proofs.Common.{length, arith}
-use Rattle.ring_place.proofs.Rows.PartitionOrders.{order_below}
+use Rattle.ring_deal.proofs.Orders.{order_below}
 use Rattle.ring_place.proofs.homes.with_empty.Goals as goal
 
 pub row-requires : goal.row-requires

@@ -33,6 +33,7 @@ reseated-requires c =
     c.in_ok-moved.moved.items c.requires.old c.devices.ensures.value c.in_ok-devices.ensures
     c.in_ok-seats.ensures c.in_ok-moved.ensures.moved in
     made_valid c.args.ring.now c.args.hour c.args.new.now _ c.requires.valid c.requires.new made
+    (omega arith)
 
 pub returns-clause-rows : goal.returns-clause-rows
 returns-clause-rows c =
@@ -60,7 +61,8 @@ returns-clause-valid c =
     c.in_ok-moved.moved.items c.requires.old c.devices.ensures.value c.in_ok-devices.ensures
     c.in_ok-seats.ensures c.in_ok-moved.ensures.moved in
     subst IsValid (sym c.in_ok-ring.ensures)
-    (made_valid c.args.ring.now c.args.hour c.args.new.now _ c.requires.valid c.requires.new made)
+    (made_valid c.args.ring.now c.args.hour c.args.new.now _ c.requires.valid c.requires.new made
+    (omega arith))
 
 pub returns-clause-changed : goal.returns-clause-changed
 returns-clause-changed c =

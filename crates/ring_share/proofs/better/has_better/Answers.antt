@@ -20,11 +20,7 @@ use Rattle.ring_share.proofs.better.has_better.Goals.{else-less-via-else-less}
 
 -- how many other seats have each code
 abbrev counts : After-crowd_at-own → ByTier
-counts c = record {
-  region = c.others_by_code.result;
-  zone = c.others_by_code-2.result;
-  server = c.others_by_code-3.result;
-}
+counts c = c.args.others.now
 
 -- whether a device is less crowded for the seat than the seat's own
 abbrev less_crowded : After-crowd_at-own → Device → Bool
@@ -56,8 +52,8 @@ less_told c place x at =
         c.args.replica) id
     told = crowd_told c.args.devices.now c.requires.devices.rise c.args.row.now c.args.places.now
         c.requires.places c.requires.devices.count c.args.codes.now (counts c) c.requires.codes
-        c.args.replica c.requires.replica c.others_by_code.ensures c.others_by_code-2.ensures
-        c.others_by_code-3.ensures
+        c.args.replica c.requires.replica c.requires.others.region c.requires.others.zone
+        c.requires.others.server
 
 pub returns-then-not-has_less : goal.returns-then-not-has_less
 returns-then-not-has_less c =

@@ -19,7 +19,7 @@ invariant_of-self c =
       written_all parts.devices.items
           (map f parts.devices.items) parts.devices.len parts.devices.ok.0 (length-map _ _),
     )
-    (altered_valid f (reweighed_by_keeps c.args.row.now) (record_of parts) c.self.invariant)
+    (altered_valid f (reweighed_by_keeps c.args.row.now c.row_is_proper.ensures) (record_of parts) c.self.invariant)
 
 pub invariant_of-self-2 : goal.invariant_of-self-2
 invariant_of-self-2 c =
@@ -29,7 +29,7 @@ invariant_of-self-2 c =
     ap (has_place c.args.row.now) (sym c.deref.ensures.value) ∙ sym c.if-has_place_in.ensures in
     rw (c.in_ok-push.ensures.items, row) (added_valid old c.args.row.now c.self.invariant
     ((rw (← c.self.view_is) at c.requires.room) free)
-    ((rw (← c.self.view_is) at c.requires.numbers) free) free)
+    ((rw (← c.self.view_is) at c.requires.numbers) free) free c.row_is_proper.ensures)
 
 pub returns-in_err-push-clause-err : goal.returns-in_err-push-clause-err
 returns-in_err-push-clause-err c = search rules

@@ -20,7 +20,7 @@ invariant_of-result c =
     )
     (subst (λ (r : RingRecord). IsValid (with_weight r c.args.id c.args.weight))
     (sym c.in_ok-parts.ensures) (changed_valid _
-    (altered_valid f (reweighed_keeps c.args.id c.args.weight) old c.self.invariant)))
+    (altered_valid f (reweighed_keeps c.args.id c.args.weight c.weight_is_proper.ensures) old c.self.invariant)))
 
 pub returns : goal.returns
 returns c =

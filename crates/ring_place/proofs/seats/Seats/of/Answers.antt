@@ -1,29 +1,27 @@
-use Rattle.std.proofs.Common.{◌≡◌, ◌*◌, ◌^◌, ℕ, None, length, map, ap, ◌∙◌}
-use Rattle.std.specs.Prelude.{slice_get}
-use Rattle.std.specs.List.{range_with_len}
-use Rattle.std.proofs.lemmas.List.FromFn.{fill_by_all}
-use Rattle.ring_model.specs.Ring.{partition_count}
-use Rattle.ring_place.specs.Inner.Rows.{rows_in}
-use Rattle.ring_place.proofs.Rows.SeatRows.{rows_of_ring}
+use Rattle.std.proofs.Common.{◌≡◌, ◌*◌, ◌≤◌, IfOk, Ok, Err, Result, ap, arith, length, ◌∙◌, inl, inr}
+use Rattle.std.proofs.lemmas.Bool.Decides.{leb_tells}
+use Rattle.ring_model.specs.Ring.{RingRecord, partition_count}
+use Rattle.ring_model.specs.Valid.{IsValid}
+use Rattle.ring_share.specs.Crowd.{rows_of}
 use Rattle.ring_place.proofs.seats.Seats.of.Goals as goal
 
+seats_fit : (ring : RingRecord) → IsValid ring → length ring.seats ≤ partition_count ring * ring.replicas
+seats_fit ring valid = elim (leb_tells 1 (length ring.seats)) [
+  | inl some ↦ (let whole = valid.seats.whole (let least = some.1 in omega (arith, least)) in omega (arith, whole))
+  | inr none ↦ (let few = none.1 in omega (arith, few))
+]
+
+pub with-requires : goal.with-requires
+with-requires c = record {
+  few = (let same = ap length c.seats.ensures.value in
+      let fit = seats_fit c.args.ring.now c.seats.ensures.valid in omega (arith, same, fit));
+}
+
+if_ok_one : {T E : Type 0} (r : Result T E) (P S : T → Type 0) → IfOk r P → ((x : T) → P x → S x) → IfOk r S
+if_ok_one (Ok x) P S p all = all x p
+if_ok_one (Err e) P S p all = tt
+
 pub returns-clause-rows : goal.returns-clause-rows
-returns-clause-rows c =
-    let ring = c.args.ring.now in
-    let items = c.in_ok-seats.seats.items in
-    let n = c.from-replicas.result in
-    let partitions : c.partition_count-partitions.result ≡ partition_count ring =
-    c.partition_count-partitions.ensures.value ∙ ap (λ (n : ℕ). 2 ^ n) c.power.ensures.value in
-    let replicas : n ≡ ring.replicas =
-    c.from-replicas.ensures ∙ c.get.ensures.value ∙ c.replicas.ensures.value in
-    let long : length items ≡ partition_count ring * ring.replicas =
-    c.in_ok-seats.ensures.long ∙ ap (λ (k : ℕ). k * n) partitions ∙ ap (λ (k : ℕ). partition_count
-    ring * k) replicas in
-    let seats : items ≡ map (λ (place : ℕ). slice_get ring.seats place)
-    (range_with_len 0 (partition_count ring * ring.replicas)) =
-    fill_by_all (λ place. slice_get ring.seats place) items (partition_count ring * ring.replicas)
-    None long
-    (λ place lt. c.in_ok-seats.ensures.seats place ∙ ap (λ s. slice_get s place)
-    c.seats.ensures.value) in
-    ap (λ (k : ℕ). rows_in items k n) partitions ∙ ap (λ (k : ℕ). rows_in items (partition_count
-    ring) k) replicas ∙ rows_of_ring ring items seats
+returns-clause-rows c = if_ok_one c.with.result _ (λ seats. seats ≡ rows_of c.args.ring.now)
+    c.with.ensures.rows
+    (λ seats is. is ∙ ap (λ ss. rows_of (record c.args.ring.now { seats = ss })) c.seats.ensures.value)

@@ -1,0 +1,5 @@
+pub mod Runs
+pub mod Hands
+pub mod DrawnRanks
+pub mod TierOrder
+pub mod AllApart

@@ -1,0 +1,4 @@
+-- Words of contracts of private functions and of proofs. No public contract rests on them.
+pub mod Orders
+pub mod Spread
+pub mod Going

@@ -1,0 +1,5 @@
+pub mod Draws
+pub mod Order
+pub mod Hand
+pub mod Deal
+pub mod Inner

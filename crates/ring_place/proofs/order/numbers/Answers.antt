@@ -1,7 +1,0 @@
-use Rattle.std.proofs.Common.{◌++◌, ◌∷◌, [], sym, ap, ◌∙◌}
-use Rattle.ring_place.proofs.Dealing.{range_more}
-use Rattle.ring_place.proofs.order.numbers.Goals as goal
-
-pub loop-number-preserved : goal.loop-number-preserved
-loop-number-preserved c = c.in_ok-push.ensures.items ∙ ap (λ xs. xs ++ c.loop-number.number ∷
-    []) c.loop-number.invariant ∙ sym (range_more c.loop-number.number)
