@@ -13,21 +13,39 @@ use Rattle.ring_words.specs.declared.request.Limits.{Limits}
 use Rattle.ring_words.specs.declared.command.Command.{Command}
 use Rattle.ring_words.specs.declared.command.Reply.{Reply}
 use Rattle.ring_words.specs.declared.request.Delivery.{Delivery}
-use Rattle.builder.specs.Safety.{Entries}
+use Rattle.builder.specs.Safety.{AreValid, Entries}
 use Rattle.builder.specs.Step.{State, Step}
+
+-- what a book of the builder holds
+abbrev pub BookContent : Type 0
+BookContent = Content State Command Reply
+
+-- the calls of a run, with their answers
+abbrev pub BookCalls : Type 0
+BookCalls = List (Call Command Reply)
+
+-- a list of deliveries
+abbrev pub Deliveries : Type 0
+Deliveries = List (Delivery Command)
+
+-- what they are answered, one for each
+abbrev pub BookAnswers : Type 0
+BookAnswers = List (Result Reply Fault)
 
 -- Runs one after another over one store. Each is the calls of a book that was opened anew, with
 -- their answers, and begins with the content that the one before it left.
-abbrev pub Lives : Limits → ℕ → Content State Command Reply → List (List (Call Command Reply)) →
-    Content State Command Reply → Type 0
+abbrev pub Lives : Limits → ℕ → BookContent → List BookCalls → BookContent → Type 0
 Lives limits limit old [] new = new ≡ old
-Lives limits limit old (calls ∷ later) new = (mid : Content State Command Reply)
+Lives limits limit old (calls ∷ later) new = (mid : BookContent)
     × Run (Step limits) limit false old calls mid × Lives limits limit mid later new
+
+-- The command is such as there are, and the hour has 32 bits.
+abbrev pub IsProperDelivery : Delivery Command → Type 0
+IsProperDelivery delivery = IsProperCommand delivery.command × (delivery.hour < long_count)
 
 -- What a call delivers, if it does, is proper.
 abbrev pub IsProperCall : Call Command Reply → Type 0
-IsProperCall (Deliver delivery answer) = IsProperCommand delivery.command ×
-    (delivery.hour < long_count)
+IsProperCall (Deliver delivery answer) = IsProperDelivery delivery
 IsProperCall (Load answer) = ⊤
 
 -- The reply that a call got, if it got one, is the one that the book keeps under the key of its
@@ -49,9 +67,14 @@ IsSure (Err StoreFault) = ⊥
 IsSure (Err Closed) = ⊥
 
 -- A run over deliveries gave these answers, one for each and all of them sure.
-pub record IsSureRun (limits : Limits) (limit : ℕ) (old : Content State Command Reply)
-    (deliveries : List (Delivery Command)) (answers : List (Result Reply Fault))
-    (new : Content State Command Reply) : Type 0 where
+pub record IsSureRun (limits : Limits) (limit : ℕ) (old : BookContent) (deliveries : Deliveries)
+    (answers : BookAnswers) (new : BookContent) : Type 0 where
   pub as_many : length answers ≡ length deliveries
   pub sure : All IsSure answers
   pub run : Run (Step limits) limit false old (calls_of deliveries answers) new
+
+-- The deliveries are proper, and so is what the book holds before them.
+pub record BeginsProperly (old : BookContent) (deliveries : Deliveries) : Type 0 where
+  pub hour : old.hour < long_count
+  pub rings : AreValid old.state
+  pub proper : All IsProperDelivery deliveries

@@ -11,11 +11,17 @@ use Rattle.ring_words.specs.declared.command.Reply.{Reply}
 abbrev pub rebalance_of : List ℕ → ℕ → Command
 rebalance_of name seed = record { ring = name; act = act.Rebalance seed }
 
+-- At the hour the rebalance of the ring of this name with this seed gives this reply and leaves these
+-- rings.
+abbrev pub Rebalances : Limits → State → ℕ → List ℕ → ℕ → Reply → State → Type 0
+Rebalances limits rings hour name seed told left =
+    Step limits rings hour (rebalance_of name seed) told left
+
 -- Where the ring of the name is as in these rings, its rebalance at the hour with the seed gives
 -- this reply and no other, and the ring that it leaves under the name is the one in those left.
 -- Other rings may differ.
 abbrev pub IsOnly : Limits → State → ℕ → List ℕ → ℕ → Reply → State → Type 0
 IsOnly limits rings hour name seed told left = (others : State) (other : Reply) (after : State) →
     ring_at name others ≡ ring_at name rings →
-    Step limits others hour (rebalance_of name seed) other after →
+    Rebalances limits others hour name seed other after →
     (other ≡ told) × (ring_at name after ≡ ring_at name left)

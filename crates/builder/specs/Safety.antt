@@ -48,9 +48,13 @@ pub record AreValid (rings : State) : Type 0 where
 
 -- ---- the way of a run
 
--- the requests that were decided, in their order, with the hours that were used and the replies
+-- a request that was decided, with the hour that was used and the reply
+abbrev pub BookEntry : Type 0
+BookEntry = Entry Command Reply
+
+-- the requests that were decided, in their order
 abbrev pub Entries : Type 0
-Entries = List (Entry Command Reply)
+Entries = List BookEntry
 
 -- The command is such as there are, and the hour has 32 bits.
 abbrev pub IsProperEntry : Entry Command Reply → Type 0
@@ -79,6 +83,15 @@ pub record IsDone (name : List ℕ) (what : Act) (entry : Entry Command Reply) :
 abbrev pub NeverBetween : Entries → ℕ → ℕ → List ℕ → Act → Type 0
 NeverBetween entries i j name what = (n : ℕ) (entry : Entry Command Reply) → i < n → n < j →
     slice_get entries n ≡ Some entry → IsDone name what entry → ⊥
+
+-- Between two places the ring of this name was never told to take all hours as passed.
+abbrev pub NeverPretended : Entries → ℕ → ℕ → List ℕ → Type 0
+NeverPretended entries i j name = NeverBetween entries i j name act.PretendPassed
+
+-- Between two places the hours of the ring of this name were never set to fewer than so many.
+abbrev pub NeverFewerHours : Entries → ℕ → ℕ → List ℕ → ℕ → Type 0
+NeverFewerHours entries i j name hours = (fewer : ℕ) → fewer < hours →
+    NeverBetween entries i j name (act.SetHours fewer)
 
 -- At this place a rebalance of the ring of this name was done. It found the one ring, and left the
 -- other.
@@ -148,3 +161,8 @@ pub record IsSafeRun (limits : Limits) (old new : Content State Command Reply) :
   pub book : new.book ≡ old.book ++ entries
   pub rings : ℕ → State
   pub safe : IsSafe limits old.state entries new.state rings
+
+-- All rings on the way of the run are valid.
+abbrev pub AreValidOnTheWay : {limits : Limits} {old new : Content State Command Reply} → IsSafeRun limits old new →
+    Type 0
+AreValidOnTheWay run = (n : ℕ) → n ≤ length run.entries → AreValid (run.rings n)

@@ -1,21 +1,18 @@
 //! What follows from the definitions alone.
 ghost use Rattle.std.specs.Prelude.{◌≡◌, ◌≢◌, ◌+◌, ◌<◌, ◌≤◌, ℕ, Bool, List, length, slice_get};
-ghost use Rattle.std.specs.Prelude.{All, Result, Some, true};
-ghost use Rattle.builder.specs.Life.{IsProperCall, IsSureRun, KeepsReply, Lives};
-ghost use Rattle.builder.specs.Preview.{rebalance_of};
-ghost use Rattle.builder.specs.Safety.{AreValid, DoNotFall, Entries, FewLeft, IsDone, IsSafeRun};
-ghost use Rattle.builder.specs.Safety.{IsWay, LockStays, NeverBetween, RestsFor};
+ghost use Rattle.std.specs.Prelude.{All, Some, true};
+ghost use Rattle.builder.specs.Life.{BeginsProperly, BookAnswers, BookCalls, BookContent};
+ghost use Rattle.builder.specs.Life.{Deliveries, IsProperCall, IsSureRun, KeepsReply, Lives};
+ghost use Rattle.builder.specs.Preview.{Rebalances};
+ghost use Rattle.builder.specs.Safety.{AreValid, AreValidOnTheWay, BookEntry, DoNotFall, Entries};
+ghost use Rattle.builder.specs.Safety.{FewLeft, IsDone, IsSafeRun, IsWay, LockStays};
+ghost use Rattle.builder.specs.Safety.{NeverFewerHours, NeverPretended, RestsFor};
 ghost use Rattle.builder.specs.Step.{State, Step};
-ghost use Rattle.request_book.specs.Call.{Call};
-ghost use Rattle.request_book.specs.Content.{Content};
 ghost use Rattle.request_book.specs.Run.{Run};
-ghost use Rattle.request_book.specs.declared.book.Fault.{Fault};
-ghost use Rattle.request_book.specs.declared.entry.Entry.{Entry};
 ghost use Rattle.ring_messages.specs.Commands.{IsProperCommand};
 ghost use Rattle.ring_model.specs.Ring.{RingRecord, partition_count};
 ghost use Rattle.ring_model.specs.Rings.{ring_at};
 ghost use Rattle.ring_place.specs.Rebalance.{IsRebalance, has_changed, is_locked};
-ghost use Rattle.ring_words.specs.declared.request.Delivery.{Delivery};
 ghost use Rattle.ring_words.specs.Limits.{long_count};
 ghost use Rattle.ring_words.specs.declared.request.Limits.{Limits};
 ghost use Rattle.ring_words.specs.declared.command.Command.{Command};
@@ -51,7 +48,7 @@ pub fn few_replicas_leave()
 pub fn few_replicas_leave_in_a_run()
     ensures { (limits : Limits) (old new : State) (entries : Entries) (rings : ℕ → State)
         → IsWay limits old entries new rings
-        → (name : List ℕ) (n seed : ℕ) (entry : Entry Command Reply)
+        → (name : List ℕ) (n seed : ℕ) (entry : BookEntry)
         → slice_get entries n ≡ Some entry → IsDone name (act.Rebalance seed) entry
         → FewLeft (rings n) name entry.hour (rings (n + 1)) }
 {}
@@ -71,7 +68,7 @@ pub fn a_lock_stays()
     ensures { (limits : Limits) (old new : State) (entries : Entries) (rings : ℕ → State)
         → IsWay limits old entries new rings → DoNotFall entries
         → (name : List ℕ) (i j : ℕ) → i < j → j ≤ length entries
-        → NeverBetween entries i j name act.PretendPassed → LockStays entries rings name i j }
+        → NeverPretended entries i j name → LockStays entries rings name i j }
 {}
 
 /// So, if a rebalance changed a seat of a partition, no later one takes a replica of it off a
@@ -81,44 +78,49 @@ pub fn moved_partitions_rest()
     ensures { (limits : Limits) (old new : State) (entries : Entries) (rings : ℕ → State)
         → IsWay limits old entries new rings → DoNotFall entries
         → (name : List ℕ) (hours i j : ℕ) → i < j
-        → NeverBetween entries i j name act.PretendPassed
-        → ((fewer : ℕ) → fewer < hours → NeverBetween entries i j name (act.SetHours fewer))
+        → NeverPretended entries i j name
+        → NeverFewerHours entries i j name hours
         → RestsFor hours entries rings name i j }
 {}
 
 /// A seed decides a rebalance: at the same hour and with the same seed, one ring is given one reply
 /// and becomes one ring, whatever the other rings are.
 pub fn a_seed_decides_reply_and_ring()
-    ensures { (limits : Limits) (rings others left after : State) (hour seed : ℕ) (name : List ℕ)
-        (told other : Reply)
+    ensures reply { (limits : Limits) (rings others left after : State) (hour seed : ℕ)
+        (name : List ℕ) (told other : Reply)
         → ring_at name rings ≡ ring_at name others
-        → Step limits rings hour (rebalance_of name seed) told left
-        → Step limits others hour (rebalance_of name seed) other after
-        → (told ≡ other) × (ring_at name left ≡ ring_at name after) }
+        → Rebalances limits rings hour name seed told left
+        → Rebalances limits others hour name seed other after → told ≡ other }
+    ensures ring { (limits : Limits) (rings others left after : State) (hour seed : ℕ)
+        (name : List ℕ) (told other : Reply)
+        → ring_at name rings ≡ ring_at name others
+        → Rebalances limits rings hour name seed told left
+        → Rebalances limits others hour name seed other after
+        → ring_at name left ≡ ring_at name after }
 {}
 
 /// Whatever calls come, a run is safe: on its way few replicas leave in each rebalance, moved
 /// partitions rest, and valid rings stay valid.
 pub fn a_run_is_safe()
-    ensures { (limits : Limits) (limit : ℕ) (closed : Bool) (old new : Content State Command Reply)
-        (calls : List (Call Command Reply))
+    ensures { (limits : Limits) (limit : ℕ) (closed : Bool) (old new : BookContent)
+        (calls : BookCalls)
         → Run (Step limits) limit closed old calls new → IsSafeRun limits old new }
 {}
 
 /// Where the old rings are valid and each command is proper, all rings on the way of a run are
 /// valid.
 pub fn a_run_stays_valid()
-    ensures { (limits : Limits) (limit : ℕ) (closed : Bool) (old new : Content State Command Reply)
-        (calls : List (Call Command Reply))
+    ensures { (limits : Limits) (limit : ℕ) (closed : Bool) (old new : BookContent)
+        (calls : BookCalls)
         → Run (Step limits) limit closed old calls new → old.hour < long_count
-        → All IsProperCall calls → AreValid old.state → (safe : IsSafeRun limits old new) → (n : ℕ) → n ≤ length safe.entries
-        → AreValid (safe.rings n) }
+        → All IsProperCall calls → AreValid old.state
+        → (safe : IsSafeRun limits old new) → AreValidOnTheWay safe }
 {}
 
 /// Two runs, of which the one begins with what the other left, are one safe run.
 pub fn runs_are_safe_together()
     ensures { (limits : Limits) (limit more : ℕ) (closed later : Bool)
-        (old mid new : Content State Command Reply) (first second : List (Call Command Reply))
+        (old mid new : BookContent) (first second : BookCalls)
         → Run (Step limits) limit closed old first mid → Run (Step limits) more later mid second new
         → IsSafeRun limits old new }
 {}
@@ -126,27 +128,26 @@ pub fn runs_are_safe_together()
 /// The life of a store is one safe run, however often a program is started over it: on its way few
 /// replicas leave in each rebalance, and moved partitions rest, also from one start to the next.
 pub fn a_life_is_safe()
-    ensures { (limits : Limits) (limit : ℕ) (old new : Content State Command Reply)
-        (runs : List (List (Call Command Reply)))
+    ensures { (limits : Limits) (limit : ℕ) (old new : BookContent)
+        (runs : List BookCalls)
         → Lives limits limit old runs new → IsSafeRun limits old new }
 {}
 
 /// And where the rings were valid at first and each command is proper, they are at each place.
 pub fn a_life_stays_valid()
-    ensures { (limits : Limits) (limit : ℕ) (old new : Content State Command Reply)
-        (runs : List (List (Call Command Reply)))
+    ensures { (limits : Limits) (limit : ℕ) (old new : BookContent)
+        (runs : List BookCalls)
         → Lives limits limit old runs new → old.hour < long_count
         → All (All IsProperCall) runs → AreValid old.state
-        → (safe : IsSafeRun limits old new) → (n : ℕ) → n ≤ length safe.entries
-        → AreValid (safe.rings n) }
+        → (safe : IsSafeRun limits old new) → AreValidOnTheWay safe }
 {}
 
 /// Each reply that was given in any run of a life is the one that the book of its end keeps under
 /// that key and for that command. So a repeat gets the reply of the first, however often the
 /// program was started in between.
 pub fn a_life_keeps_its_replies()
-    ensures { (limits : Limits) (limit : ℕ) (old new : Content State Command Reply)
-        (runs : List (List (Call Command Reply)))
+    ensures { (limits : Limits) (limit : ℕ) (old new : BookContent)
+        (runs : List BookCalls)
         → Lives limits limit old runs new → All (All (KeepsReply new.book)) runs }
 {}
 
@@ -162,11 +163,9 @@ pub fn a_step_is_one()
 /// begin with one content, and nothing failed in either, they give the same answers and end with
 /// the same content.
 pub fn one_list_one_book()
-    ensures { (limits : Limits) (limit : ℕ) (old new after : Content State Command Reply)
-        (deliveries : List (Delivery Command)) (answers others : List (Result Reply Fault))
-        → old.hour < long_count
-        → All (λ delivery. IsProperCommand delivery.command × (delivery.hour < long_count)) deliveries
-        → AreValid old.state
+    ensures { (limits : Limits) (limit : ℕ) (old new after : BookContent)
+        (deliveries : Deliveries) (answers others : BookAnswers)
+        → BeginsProperly old deliveries
         → IsSureRun limits limit old deliveries answers new
         → IsSureRun limits limit old deliveries others after → (answers ≡ others) × (new ≡ after) }
 {}

@@ -1,22 +1,32 @@
 -- What a closed store leaves in its files.
-use Rattle.std.proofs.Common.{◌≡◌, [], arith, false, subst}
+use Rattle.std.proofs.Common.{◌≡◌, ◌∙◌, [], arith, false, inl, inr, refl, subst, sym, true≢false}
+use Rattle.std.specs.Prelude.{◌⊎◌, IsTrue}
 use Rattle.std.proofs.Math.Logic.{∥∥₁_elim, ∥∥₁_map}
 use mathlib.Core.Logic.{∥∥₁_prop}
 use Rattle.sqlite_disk.specs.declared.Disk as disk
 use Rattle.sqlite_disk.specs.declared.Files.{Files}
+use Rattle.sqlite_disk.specs.Disk.{MoreFaults}
 use Rattle.sqlite_trees.specs.Tree.{Trees}
+use Rattle.sqlite_trees.specs.View.{IsClean}
+use Rattle.sqlite_trees.specs.declared.error.StoreError.{StoreError}
+use Rattle.sqlite_trees.specs.declared.error.StoreError.TheVariants as stored
 use Rattle.sqlite_wal.specs.Reads.{AreClean}
 use Rattle.sqlite_wal.specs.Recovery.{Image}
 use Rattle.sqlite.specs.Closing.{IsCopied}
 use Rattle.sqlite.specs.Closing as kit
 use Rattle.sqlite.specs.Effect.{Database, IsDatabase}
-use Rattle.sqlite.specs.Files.{HoldsDatabase, file_state, over_files}
+use Rattle.sqlite.specs.Files.{ExcusesClose, FailsToClose, HoldsDatabase, IsClosed, file_state}
+use Rattle.sqlite.specs.Files.{over_files}
 use Rattle.sqlite.specs.Held.{Held}
-use Rattle.sqlite.specs.State.{State}
+use Rattle.sqlite.specs.State.{HasCleanDisk, State, store_error}
+use Rattle.sqlite.specs.declared.error.Error.{Error}
+use Rattle.sqlite.specs.declared.error.Error.TheVariants.{SqliteFailure}
+use Rattle.sqlite.specs.declared.error.ErrorCode.TheVariants.{OutOfMemory}
+use Rattle.sqlite_store.specs.FileStore.{faults, view}
 use Rattle.sqlite_store.specs.declared.store.FileStore.{FileStore}
 use Rattle.store_rows.specs.Stands.{RingContent}
 use Rattle.store_tables.proofs.Living.{lives_in}
-use Rattle.builder_store.specs.Closing.{AreLeftWith, HoldsAlone, HoldsContent}
+use Rattle.builder_store.specs.Closing.{AreLeftWith, HoldsAlone, HoldsContent, IsUnclosed}
 use Rattle.builder_store.specs.Inner.Codes.{content_set}
 use Rattle.builder_store.specs.Inner.Tables.{HasTables, IsSettledState}
 use Rattle.builder_store.specs.Keepers.{content_of_keeper}
@@ -96,3 +106,43 @@ pub closed_left : OneContent → {D : Type 0} {g : disk.Ghosts D}
     → AreClean g files.log files.db → AreLeftWith g files (content_of_keeper k)
 closed_left one k conn files same settled copied = keeper_left one k files
     (subst (IsClosing files) same (record { settled = settled; copied = copied }))
+
+-- an open store that isn't closed has met a fault, or memory was wanted
+excused : {D : Type 0} {g : disk.Ghosts D} (c : Held (FileStore D g)) (last : FileStore D g)
+    (cause : StoreError) → IsTrue (view c.store).is_open → ExcusesClose c last cause
+    → (store_error cause ≡ SqliteFailure OutOfMemory) ⊎ MoreFaults (faults c.store) (faults last)
+excused c last stored.OutOfMemory is_open why = inl refl
+excused c last stored.Broken is_open why = elim why [
+  | inl shut ↦ absurd (true≢false (sym is_open ∙ shut))
+  | inr more ↦ inr more
+]
+excused c last stored.Unstorable is_open why = absurd why
+excused c last stored.Io is_open why = inr why
+excused c last stored.Corrupt is_open why = inr why
+excused c last stored.Full is_open why = inr why
+
+unclosed_keeper : {D : Type 0} {g : disk.Ghosts D} (k : SqlKeeper (FileStore D g) over_files)
+    (last : FileStore D g) (error : Error) → IsClosed k.conn last → (IsClean (view last)
+    → FailsToClose k.conn last error) → k.faults ≡ 0 → IsClean (view last)
+    → IsUnclosed k.conn.store last error
+unclosed_keeper k last error closed failed none clean =
+    let was : HasCleanDisk (file_state k.conn) = omega (arith, closed.quiet.clean, clean) in
+    let why = failed clean in
+    record {
+      counted = closed.quiet.counts;
+      cause = elim (excused k.conn last why.0 (k.tables none was).0 why.2) [
+        | inl memory ↦ inl (why.1 ∙ memory)
+        | inr more ↦ inr more
+      ];
+      named = (why.0, why.1, why.3);
+      crash = closed.quiet.outcomes;
+    }
+
+-- so the store of a keeper whose connection isn't closed has
+pub unclosed : {D : Type 0} {g : disk.Ghosts D} (k : SqlKeeper (FileStore D g) over_files)
+    (conn : Held (FileStore D g)) (last : FileStore D g) (error : Error) → conn ≡ k.conn
+    → IsClosed conn last → (IsClean (view last) → FailsToClose conn last error)
+    → k.faults ≡ 0 → IsClean (view last) → IsUnclosed k.conn.store last error
+unclosed k conn last error same closed failed = unclosed_keeper k last error
+    (subst (λ c. IsClosed c last) same closed)
+    (subst (λ c. IsClean (view last) → FailsToClose c last error) same failed)

@@ -1,10 +1,9 @@
 -- What stands for a content once it gained a request.
-use Rattle.std.proofs.Common.{◌≡◌, ◌∙◌, ◌≤◌, ◌∷◌, [], Bool, List, None, ap, false, length, pos}
+use Rattle.std.proofs.Common.{◌≡◌, ◌∙◌, ◌∷◌, [], Bool, List, ap, false, pos}
 use Rattle.std.proofs.Common.{refl}
 use Rattle.std.proofs.Common.{sym, true, ℕ}
 use Rattle.std.specs.FinMap.{from_entries}
 use Rattle.std.specs.Ordering.{int_cmp}
-use Rattle.request_book.specs.Content.{entry_of}
 use Rattle.sqlite_trees.specs.Tree.{Trees}
 use Rattle.store_model.specs.declared.change.RowChange.{RowChange}
 use Rattle.store_model.specs.declared.change.RowChange.TheVariants.{DropDevice, PutRing}
@@ -21,7 +20,7 @@ use Rattle.store_rows.specs.Differences.{with_state}
 use Rattle.store_rows.specs.RingRows.{NamedRings}
 use Rattle.store_rows.specs.Stands.{DecidedRequest, IsHoldable, RingContent, contents_for, gained}
 use Rattle.store_rows.specs.Stands.{meta_value}
-use Rattle.builder_store.specs.Inner.Gains.{GainsIn, written}
+use Rattle.builder_store.specs.Inner.Gains.{GainsIn, IsNextIn, LeadOn, written}
 use Rattle.builder_store.specs.Standing.{Stands, StandsAlone}
 
 -- that no store stands for two contents
@@ -91,18 +90,20 @@ pub gains_in : OneContent → (old : Trees) (rings state : NamedRings) (count li
     (entry : DecidedRequest) (b : Bool) → (b ≡ true → entry.hour ≡ hour)
     → (changes shown : List RowChange) (request : RequestRow)
     (meta : MetaRow) → shown ≡ changes
-    → ((content : RingContent) → IsHoldable content → content.state ≡ rings
-    → length content.book ≡ count → entry_of entry.key content.book ≡ None
-    → content.hour ≤ entry.hour
-    → (with_decided (changed_all (contents_for content) changes) request meta ≡ contents_for
-    (gained (with_state content state) entry)) × IsHoldable (gained
-    (with_state content state) entry))
+    → ((content : RingContent) → IsNextIn content rings count entry
+    → LeadOn content (gained (with_state content state) entry) changes request meta)
     → (db : Trees) → contents_of db ≡ written b (contents_of old) shown request meta
     → GainsIn old rings count limit hour entry state db
 gains_in one old rings state count limit hour entry b at changes shown request meta same planned db
     is content stands may =
-    let made = planned content stands.holdable may.held may.counted may.unknown may.later in
+    let made = planned content (record {
+      holdable = stands.holdable;
+      held = may.held;
+      counted = may.counted;
+      unknown = may.unknown;
+      later = may.later;
+    }) in
     gained_alone one old db content (gained (with_state content state) entry) b changes request meta
     stands (written_is b content state entry changes request meta (λ t. may.reached ∙ sym (at t))
-    made.0) made.1
+    made.stands) made.holdable
     (is ∙ ap (λ x. written b (contents_of old) x request meta) same)

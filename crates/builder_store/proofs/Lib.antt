@@ -1,5 +1,6 @@
 pub mod Settled
 pub mod Finds
+pub mod Causes
 pub mod Closes
 pub mod Nothing
 pub mod Opens

@@ -7,15 +7,17 @@ use Rattle.std.specs.Ordering.{int_cmp}
 use Rattle.sqlite_trees.specs.Objects.{catalog_tree}
 use Rattle.sqlite_catalog.specs.Listing.{Lists}
 use Rattle.sqlite_catalog.proofs.ReadLemmas.{lists_once}
+use Rattle.sqlite.specs.Effect.{Database, IsDatabase}
 use Rattle.sqlite.specs.State.{State}
 use Rattle.sqlite.specs.Steps.{IsEmpty}
 use Rattle.store_model.specs.Contents.{Contents}
 use Rattle.store_tables.specs.Store.{begun_contents}
 use Rattle.store_tables.specs.Tables.{schema_of_first}
 use Rattle.store_model.specs.Entries.{Meta}
-use Rattle.store_rows.specs.Stands.{RingContent}
+use Rattle.store_rows.specs.Stands.{IsHoldable, RingContent}
 use Rattle.builder_store.proofs.Declared.{made_once}
-use Rattle.builder_store.specs.Opening.{IsOpenedAs, OpensAs, no_contents, nothing}
+use Rattle.builder_store.proofs.Opens.{nothing_opens}
+use Rattle.builder_store.specs.Opening.{AreDeclared, IsOpenedAs, OpensAs, no_contents, nothing}
 
 pub one_row : (key : ℤ) (m : Meta) → insert (empty {X = Meta} {R = int_cmp}) key m ≡ empty → ⊥
 one_row key m is =
@@ -47,3 +49,17 @@ opened_empty s e content it =
     (e.1 e.0.is_open).0.lists ∙ e.2) in
     nothing_only content (subst (λ n. OpensAs (begun_contents n s.committed.trees) content) made
     it.2)
+
+-- and it is opened, since there are no tables
+pub empty_declared : (s : State) → IsEmpty s → AreDeclared 0 s.committed.trees
+empty_declared s e = (
+  omega arith,
+  subst (λ schema. IsDatabase (record { schema = schema; trees = s.committed.trees })) e.2
+      (subst (λ (d : Database). IsDatabase (record {
+        schema = s.now.schema;
+        trees = d.trees;
+      })) e.0.clean (e.1 e.0.is_open).0),
+)
+
+pub empty_opens : (s : State) → IsEmpty s → IsHoldable nothing → IsOpenedAs s.committed.trees nothing
+empty_opens s e holdable = (0, empty_declared s e, nothing_opens holdable)

@@ -66,6 +66,21 @@ abbrev pub HoldsNoStore : Image → Type 0
 HoldsNoStore image = (db : Trees) → HoldsDatabase image db → (content : RingContent)
     → IsOpenedAs db content → ⊥
 
+-- Of files that held this a crash leaves the trees to which they recover, or what was made of these.
+pub record IsLeftOf (Makes : Trees → Trees → Type 0) (image : Image) (db : Trees) : Type 0 where
+  pub trees : Trees
+  pub holds : (old : Trees) → HoldsDatabase image old → trees ≡ old
+  pub reads : AreFoundIn image trees
+  pub left : (db ≡ trees) ⊎ Makes trees db
+
+-- Files that held this hold no table: their database has none, if they hold one.
+abbrev pub HoldsNoTable : Image → Type 0
+HoldsNoTable image = (db : Trees) → HoldsDatabase image db → AreDeclared 0 db
+
+-- Nor is their database one without a table.
+abbrev pub HoldsTables : Image → Type 0
+HoldsTables image = (db : Trees) → HoldsDatabase image db → AreDeclared 0 db → ⊥
+
 -- The tables that were missing are there, and no row is another.
 abbrev pub KeepsRows : Trees → Trees → Type 0
 KeepsRows old db = (made : ℕ) × AreDeclared made old × (contents_of db ≡ begun_contents made old)

@@ -4,6 +4,7 @@ ghost use Rattle.sqlite_trees.specs.Tree.{Trees};
 ghost use Rattle.sqlite_trees.specs.View.{doubt};
 ghost use Rattle.sqlite.specs.Held.{state};
 ghost use Rattle.sqlite.specs.State.{HasCleanDisk};
+ghost use Rattle.builder_store.specs.Inner.Faults.{opening_fault};
 ghost use Rattle.builder_store.specs.Inner.Opened.{IsFresh};
 ghost use Rattle.builder_store.specs.declared.fault.OpenFault.TheVariants.{BadRows, BadTables};
 
@@ -69,7 +70,8 @@ pub(crate) fn take_over<S: Alter + Drop>(
 
 /// Why an error of a connection ends an opening.
 pub(crate) fn fault_of(error: &Error) -> OpenFault
-    ensures { (result ≢ BadRows) × (result ≢ BadTables) }
+    ensures which { result ≡ opening_fault error.now }
+    ensures unjudged { (result ≢ BadRows) × (result ≢ BadTables) }
 {
     match error {
         Error::SqliteFailure(ErrorCode::OutOfMemory) => OpenFault::NoMemory,

@@ -3,6 +3,8 @@
 ghost use Rattle.std.specs.Prelude.{◌≡◌, ◌≢◌, false, Err, IfOk, IsTrue};
 ghost use Rattle.sqlite.specs.Held.{state};
 ghost use Rattle.sqlite.specs.State.{HasCleanDisk, IsLive, IsUnchanged, Survives};
+ghost use Rattle.sqlite.specs.declared.error.Error.TheVariants.{SqliteFailure};
+ghost use Rattle.sqlite.specs.declared.error.ErrorCode.TheVariants.{OutOfMemory};
 ghost use Rattle.request_book.specs.Content.{entry_of};
 ghost use Rattle.request_book.specs.Keeper.{IsFound};
 ghost use Rattle.request_book.specs.declared.keeper.KeepFault.TheVariants.{NoMemory, Store};
@@ -50,6 +52,7 @@ pub(crate) fn cause<S: Alter>(conn: &mut Connection<S>, error: &Error) -> KeepFa
     ensures mode { conn.new.in_transaction ≡ false }
     ensures same { HasCleanDisk (state S.Store conn.new) → result ≡ NoMemory
         → IsUnchanged (state S.Store conn.old) (state S.Store conn.new) }
+    ensures memory { result ≡ NoMemory → error.now ≡ SqliteFailure OutOfMemory }
     ensures survives { Survives (state S.Store conn.old) (state S.Store conn.new) (λ _. ⊥) }
 {
     let wants_memory = matches!(error, Error::SqliteFailure(ErrorCode::OutOfMemory));

@@ -108,30 +108,42 @@ impl<S: Alter + Drop> SqlKeeper<S> {
             → (state S.Store conn).may_leave db ⊎ IsMadeOf
             (state S.Store conn).committed.trees db) }
     {
-        one_content();
-        let mut conn = match take_over(alloc, conn) {
+        let conn = match take_over(alloc, conn) {
             Ok(conn) => conn,
             Err((error, store)) => return Err((fault_of(&error), Left::Store(store))),
         };
-        match open_tables(alloc, &mut conn) {
-            Ok(Opened { rings, count, hour }) => Ok(SqlKeeper {
-                alloc,
-                last: Snapshot::of(&conn),
-                conn,
-                rings,
-                count,
-                hour,
-                limit: limits.numbers,
-                faults: 0,
-            }),
-            Err(fault) => Err((fault, Left::Connection(conn))),
+        match SqlKeeper::over(alloc, conn, limits) {
+            Ok(keeper) => Ok(keeper),
+            Err((fault, conn)) => Err((fault, Left::Connection(conn))),
         }
     }
 }
 
 impl<S: Alter + Drop> SqlKeeper<S> {
     ghost use Rattle.std.specs.Prelude.{IfErr, IfOk};
-    ghost use Rattle.builder_store.specs.Inner.Begins.{BeginsOver, IsJustMade, IsRefused};
+    ghost use Rattle.builder_store.specs.Inner.Begins.{BeginsOver, BeginsWith, IsJustMade};
+    ghost use Rattle.builder_store.specs.Inner.Begins.{IsHolding, IsRefused, IsUnmade};
+
+    /// A keeper over a connection whose tables stand for a content, of which this is held.
+    fn holding(alloc: Global, conn: Connection<S>, opened: Opened, limits: Limits) -> SqlKeeper<S>
+        requires idle { conn.in_transaction ≡ false }
+        requires tables { HasCleanDisk (state S.Store conn) → HasTables (state S.Store conn) }
+        requires holds { HasCleanDisk (state S.Store conn) → Holds
+            (state S.Store conn).committed.trees opened.rings opened.count opened.hour }
+        ensures { IsHolding S.Store conn limits.numbers result }
+    {
+        let Opened { rings, count, hour } = opened;
+        SqlKeeper {
+            alloc,
+            last: Snapshot::of(&conn),
+            conn,
+            rings,
+            count,
+            hour,
+            limit: limits.numbers,
+            faults: 0,
+        }
+    }
 
     /// Opens what a connection holds that was just made over its store, as `adopt` does, but
     /// without reading the store a second time. A refused opening gives the connection back.
@@ -147,16 +159,35 @@ impl<S: Alter + Drop> SqlKeeper<S> {
         one_content();
         let mut conn = conn;
         match open_tables(alloc, &mut conn) {
-            Ok(Opened { rings, count, hour }) => Ok(SqlKeeper {
-                alloc,
-                last: Snapshot::of(&conn),
-                conn,
-                rings,
-                count,
-                hour,
-                limit: limits.numbers,
-                faults: 0,
-            }),
+            Ok(opened) => Ok(SqlKeeper::holding(alloc, conn, opened, limits)),
+            Err(fault) => Err((fault, conn)),
+        }
+    }
+
+    /// Makes a store over a connection that was just made over its store, as `make` does, but
+    /// without reading the store a second time. A refusal gives the connection back.
+    pub(crate) fn make_over(
+        alloc: Global,
+        conn: Connection<S>,
+        rings: Rings,
+        hour: Hour,
+        limits: Limits,
+    ) -> Result<SqlKeeper<S>, (MakeFault, Connection<S>)>
+        requires { IsJustMade S.Store conn }
+        ensures begins { IfOk result (BeginsWith S.Store conn rings hour limits.numbers) }
+        ensures refused { IfErr result (λ e. IsUnmade S.Store conn rings hour e.0 e.1) }
+    {
+        one_content();
+        let mut conn = conn;
+        match make_tables(alloc, &mut conn, &rings, hour) {
+            Ok(()) => {
+                let opened = Opened {
+                    rings,
+                    count: 0,
+                    hour,
+                };
+                Ok(SqlKeeper::holding(alloc, conn, opened, limits))
+            }
             Err(fault) => Err((fault, conn)),
         }
     }
@@ -167,7 +198,7 @@ impl<S: Alter + Drop> SqlKeeper<S> {
     ghost use Rattle.sqlite_trees.specs.Tree.{Trees};
     ghost use Rattle.sqlite_trees.specs.View.{doubt};
     ghost use Rattle.builder_store.specs.Keepers.{IsCleanLeft, content_of_keeper, left_may_leave};
-    ghost use Rattle.builder_store.specs.Making.{rings_alone};
+    ghost use Rattle.builder_store.specs.Making.{IsJudgement, rings_alone};
     ghost use Rattle.builder_store.specs.Opening.{AreDeclared};
     ghost use Rattle.builder_store.specs.Standing.{Stands};
     ghost use Rattle.builder_store.specs.declared.fault.MakeFault.TheVariants.{Taken};
@@ -195,6 +226,8 @@ impl<S: Alter + Drop> SqlKeeper<S> {
             → AreDeclared 0 (state S.Store conn).committed.trees) }
         ensures taken { IfErr result (λ e. e.0 ≡ Taken → IsCleanLeft S.Store e.1
             → AreDeclared 0 (state S.Store conn).committed.trees → ⊥) }
+        // What is there is judged by nobody, so it is told as bad by nobody.
+        ensures unjudged { IfErr result (λ e. IsJudgement e.0 → ⊥) }
         ensures stays { IfErr result (λ e. e.0 ≡ Taken → IsCleanLeft S.Store e.1 → (db : Trees)
             → left_may_leave S.Store e.1 db → (state S.Store conn).may_leave db) }
         // A crash after a refusal leaves what it could leave before, or what was to be made.
@@ -202,26 +235,16 @@ impl<S: Alter + Drop> SqlKeeper<S> {
             → left_may_leave S.Store e.1 db
             → (state S.Store conn).may_leave db ⊎ Stands db (rings_alone rings hour)) }
     {
-        one_content();
-        let mut conn = match take_over(alloc, conn) {
+        let conn = match take_over(alloc, conn) {
             Ok(conn) => conn,
             Err((error, store)) => {
                 let fault = FileFault::Opening(fault_of(&error));
                 return Err((MakeFault::Opening(fault), Left::Store(store)));
             }
         };
-        match make_tables(alloc, &mut conn, &rings, hour) {
-            Ok(()) => Ok(SqlKeeper {
-                alloc,
-                last: Snapshot::of(&conn),
-                conn,
-                rings,
-                count: 0,
-                hour,
-                limit: limits.numbers,
-                faults: 0,
-            }),
-            Err(fault) => Err((fault, Left::Connection(conn))),
+        match SqlKeeper::make_over(alloc, conn, rings, hour, limits) {
+            Ok(keeper) => Ok(keeper),
+            Err((fault, conn)) => Err((fault, Left::Connection(conn))),
         }
     }
 }

@@ -1,5 +1,5 @@
 //! Writing a store of given rings where nothing is.
-ghost use Rattle.std.specs.Prelude.{◌≡◌, ◌≢◌, ◌<◌, ℕ, false, Err, IfOk, OnOk};
+ghost use Rattle.std.specs.Prelude.{◌≡◌, ◌≢◌, ◌<◌, ℕ, false, Err, IfErr, IfOk, OnOk};
 ghost use Rattle.ring_words.specs.Limits.{long_count};
 ghost use Rattle.sqlite.specs.Held.{state};
 ghost use Rattle.sqlite.specs.State.{HasCleanDisk, Survives};
@@ -7,7 +7,7 @@ ghost use Rattle.store_model.specs.Changes.{prepared};
 ghost use Rattle.store_tables.specs.Tables.{no_tables};
 ghost use Rattle.store_rows.specs.Judging.{meta_now};
 ghost use Rattle.store_rows.specs.Stands.{IsHoldable, contents_for};
-ghost use Rattle.builder_store.specs.Making.{rings_alone};
+ghost use Rattle.builder_store.specs.Making.{IsJudgement, rings_alone};
 ghost use Rattle.builder_store.specs.Opening.{no_contents};
 ghost use Rattle.builder_store.specs.Standing.{Stands};
 ghost use Rattle.builder_store.specs.Inner.Opened.{IsFresh};
@@ -53,6 +53,7 @@ pub(crate) fn make_tables<S: Alter>(
     ensures made { HasCleanDisk (state S.Store conn.new) → OnOk result
         (Stands (state S.Store conn.new).committed.trees (rings_alone rings.now hour)) }
     ensures taken { result ≡ Err Taken → (conn.new ≡ conn.old) × (conn.old.schema ≢ no_tables) }
+    ensures unjudged { IfErr result (λ why. IsJudgement why → ⊥) }
     ensures survives { Survives (state S.Store conn.old) (state S.Store conn.new)
         (λ db. Stands db (rings_alone rings.now hour)) }
 {

@@ -3,6 +3,8 @@ ghost use Rattle.std.specs.Prelude.{◌≡◌, ◌≢◌, ◌≤◌, false, Err,
 ghost use Rattle.store_tables.specs.Tables.{table_count};
 ghost use Rattle.sqlite.specs.Held.{state};
 ghost use Rattle.sqlite.specs.State.{HasCleanDisk, Survives};
+ghost use Rattle.sqlite.specs.declared.error.Error.TheVariants.{SqliteFailure};
+ghost use Rattle.sqlite.specs.declared.error.ErrorCode.TheVariants.{OutOfMemory};
 ghost use Rattle.store_tables.specs.Contents.{contents_of};
 ghost use Rattle.store_tables.specs.Store.{CommitsTables, HasMadeTables, begun_contents};
 ghost use Rattle.store_rows.specs.Judging.{IsFoundIn};
@@ -11,6 +13,7 @@ ghost use Rattle.builder_store.specs.Opening.{OpensAs, no_contents};
 ghost use Rattle.builder_store.specs.Inner.Opened.{LeadsInStore, LeadsTo, OpensRows};
 ghost use Rattle.builder_store.specs.Inner.Tables.{HasTables, IsSettledState};
 ghost use Rattle.builder_store.specs.declared.fault.OpenFault.TheVariants.{BadRows, BadTables};
+ghost use Rattle.builder_store.specs.declared.fault.OpenFault.TheVariants.{NoMemory};
 
 use crate::calls::cause;
 use crate::fault::OpenFault;
@@ -45,6 +48,7 @@ pub(crate) fn refused<S: Alter>(conn: &mut Connection<S>, error: &Error) -> Open
     requires { conn.old.in_transaction ≡ false }
     ensures mode { conn.new.in_transaction ≡ false }
     ensures other { (result ≢ BadRows) × (result ≢ BadTables) }
+    ensures memory { result ≡ NoMemory → error.now ≡ SqliteFailure OutOfMemory }
     ensures survives { Survives (state S.Store conn.old) (state S.Store conn.new) (λ _. ⊥) }
 {
     match cause(conn, error) {

@@ -1,14 +1,21 @@
 //! Opening and making over memory and over the files at a path.
-ghost use Rattle.std.specs.Prelude.{◌≡◌, IfErr, IfOk, IsSomeAnd};
+ghost use Rattle.std.specs.Prelude.{◌≡◌, ◌≢◌, IfErr, IfOk, IfSome, IsSomeAnd};
+ghost use Rattle.sqlite_trees.specs.Tree.{Trees};
 ghost use Rattle.sqlite.specs.Files.{file_state};
 ghost use Rattle.sqlite.specs.Held.{state};
 ghost use Rattle.sqlite.specs.State.{HasCleanDisk};
 ghost use Rattle.sqlite.specs.Steps.{over_memory};
 ghost use Rattle.sqlite_wal.specs.Files.{image_at};
 ghost use Rattle.builder_store.specs.Keepers.{content_of_keeper};
-ghost use Rattle.builder_store.specs.Making.{rings_alone};
-ghost use Rattle.builder_store.specs.Opening.{HoldsNoStore, IsBadStore, IsOpenedFrom, nothing};
-ghost use Rattle.builder_store.specs.Inner.Begins.{BeginsWith, IsMadeOver};
+ghost use Rattle.builder_store.specs.Making.{IsJudgement, rings_alone};
+ghost use Rattle.builder_store.specs.Opening.{HoldsNoStore, HoldsNoTable, HoldsTables, IsBadStore};
+ghost use Rattle.builder_store.specs.Opening.{IsLeftOf, IsMadeOf, IsOpenedFrom, KeepsRows, nothing};
+ghost use Rattle.builder_store.specs.Standing.{Stands};
+ghost use Rattle.builder_store.specs.Inner.Begins.{IsMadeOver};
+ghost use Rattle.builder_store.specs.Inner.Faults.{file_fault};
+ghost use Rattle.builder_store.specs.declared.fault.FileFault.TheVariants.{Opening};
+ghost use Rattle.builder_store.specs.declared.fault.MakeFault.TheVariants.{Taken};
+ghost use Rattle.builder_store.specs.declared.fault.OpenFault.TheVariants.{BadRows, BadTables};
 
 use crate::fault::{FileFault, MakeFault, OpenFault};
 use crate::keeper::SqlKeeper;
@@ -19,6 +26,7 @@ use std::alloc::Global;
 use std::fs::symlink_metadata;
 use std::io::ErrorKind;
 use std::rt::HostRuntime;
+use store_rows::laws::nothing_is_holdable;
 
 /// A keeper of no rings and no request, in memory. It keeps at most `limits.numbers` requests.
 pub fn open_memory(alloc: Global, limits: Limits) -> Result<SqlKeeper<MemStore>, OpenFault>
@@ -26,11 +34,14 @@ pub fn open_memory(alloc: Global, limits: Limits) -> Result<SqlKeeper<MemStore>,
     ensures faults { IfOk result (λ k. k.faults ≡ 0) }
     ensures found { IfOk result (λ k. HasCleanDisk (state over_memory k.conn)
         → content_of_keeper k ≡ nothing) }
+    // There is no table yet, and that stands for no rings and no request.
+    ensures good { IfErr result (λ fault. (fault ≢ BadRows) × (fault ≢ BadTables)) }
 {
+    nothing_is_holdable();
     let Ok(conn) = Connection::open_in_memory(alloc) else {
         return Err(OpenFault::NoMemory);
     };
-    match SqlKeeper::adopt(alloc, conn, limits) {
+    match SqlKeeper::over(alloc, conn, limits) {
         Ok(keeper) => Ok(keeper),
         Err((fault, _)) => Err(fault),
     }
@@ -38,7 +49,8 @@ pub fn open_memory(alloc: Global, limits: Limits) -> Result<SqlKeeper<MemStore>,
 
 /// Why a connection over files isn't made.
 fn file_fault(error: &Error) -> FileFault
-    ensures { IsBadStore result → ⊥ }
+    ensures which { result ≡ file_fault error.now }
+    ensures unjudged { IsBadStore result → ⊥ }
 {
     match error {
         Error::SqliteFailure(ErrorCode::DatabaseBusy) => FileFault::Busy,
@@ -86,6 +98,14 @@ pub fn open_from<S: Start>(
         (image_at S.Start) (content_of_keeper k)) }
     ensures bad { IfErr result (λ e. IsBadStore e.0 → IsSomeAnd e.1 (λ conn.
         HasCleanDisk (file_state conn) → HoldsNoStore (image_at S.Start))) }
+    // A crash after a refusal leaves what the files recovered to, or what an opening makes of it;
+    // where the rows are refused, no row of it is another.
+    ensures rows { IfErr result (λ e. e.0 ≡ Opening BadRows → IfSome e.1 (λ conn.
+        HasCleanDisk (file_state conn) → (db : Trees) → (file_state conn).may_leave db
+        → IsLeftOf KeepsRows (image_at S.Start) db)) }
+    ensures crash { IfErr result (λ e. IfSome e.1 (λ conn. HasCleanDisk (file_state conn)
+        → (db : Trees) → (file_state conn).may_leave db
+        → IsLeftOf IsMadeOf (image_at S.Start) db)) }
 {
     let conn = match open_files(rt, path, start) {
         Ok(conn) => conn,
@@ -98,7 +118,9 @@ pub fn open_from<S: Start>(
 }
 
 /// Whether there is anything at a path, as also a link that leads nowhere.
-fn is_taken(rt: &HostRuntime, path: &str) -> Result<bool, FileFault> {
+fn is_taken(rt: &HostRuntime, path: &str) -> Result<bool, FileFault>
+    ensures { IfErr result (λ why. IsBadStore why → ⊥) }
+{
     match symlink_metadata(rt, path) {
         Ok(_) => Ok(true),
         Err(error) => match error.kind() {
@@ -109,20 +131,23 @@ fn is_taken(rt: &HostRuntime, path: &str) -> Result<bool, FileFault> {
     }
 }
 
-/// Makes a store of these rings over a connection, as `SqlKeeper::make` does. A refusal drops what
-/// is left.
-fn make_over<S: Alter + Drop>(
-    alloc: Global,
-    conn: Connection<S>,
-    rings: Rings,
-    hour: Hour,
-    limits: Limits,
-) -> Result<SqlKeeper<S>, MakeFault>
-    ensures { IfOk result (BeginsWith S.Store rings hour limits.numbers) }
+/// A connection to a database file at a path where nothing was, and the log beside it.
+fn new_files<S: Start>(
+    rt: &HostRuntime,
+    path: &str,
+    start: S,
+) -> Result<Connection<FileStore<FileFrom<S>>>, MakeFault>
+    ensures made { IfOk result (IsMadeOver (image_at S.Start)) }
+    ensures unjudged { IfErr result (λ why. IsJudgement why → ⊥) }
 {
-    match SqlKeeper::make(alloc, conn, rings, hour, limits) {
-        Ok(keeper) => Ok(keeper),
-        Err((fault, _)) => Err(fault),
+    match is_taken(rt, path) {
+        Ok(false) => {}
+        Ok(true) => return Err(MakeFault::Taken),
+        Err(fault) => return Err(MakeFault::Opening(fault)),
+    }
+    match open_files(rt, path, start) {
+        Ok(conn) => Ok(conn),
+        Err(fault) => Err(MakeFault::Opening(fault)),
     }
 }
 
@@ -130,7 +155,7 @@ fn make_over<S: Alter + Drop>(
 /// request, and its book goes on from `hour`. Keeps at most `limits.numbers` requests.
 ///
 /// Whatever is at the path already stays as it was, and the answer is `Taken`. `start` stands for
-/// what the files hold once they are there.
+/// what the files hold once they are there. A refusal gives the connection back, if there was one.
 pub fn make_at<S: Start>(
     rt: &HostRuntime,
     path: &str,
@@ -138,20 +163,31 @@ pub fn make_at<S: Start>(
     hour: Hour,
     limits: Limits,
     start: S,
-) -> Result<SqlKeeper<FileStore<FileFrom<S>>>, MakeFault>
+) -> Result<SqlKeeper<FileStore<FileFrom<S>>>, (MakeFault, Option<FileConnection<S>>)>
     ensures limit { IfOk result (λ k. k.limit ≡ limits.numbers) }
     ensures faults { IfOk result (λ k. k.faults ≡ 0) }
     ensures made { IfOk result (λ k. HasCleanDisk (file_state k.conn)
         → content_of_keeper k ≡ rings_alone rings hour) }
+    ensures nothing { IfOk result (λ k. HasCleanDisk (file_state k.conn)
+        → HoldsNoTable (image_at S.Start)) }
+    ensures unjudged { IfErr result (λ e. IsJudgement e.0 → ⊥) }
+    ensures taken { IfErr result (λ e. e.0 ≡ Taken → IfSome e.1 (λ conn.
+        HasCleanDisk (file_state conn) → HoldsTables (image_at S.Start))) }
+    // A crash after a refusal leaves what the files recovered to, or what was to be made; where
+    // there is something already, it stays.
+    ensures stays { IfErr result (λ e. e.0 ≡ Taken → IfSome e.1 (λ conn.
+        HasCleanDisk (file_state conn) → (db : Trees) → (file_state conn).may_leave db
+        → IsLeftOf (λ _ _. ⊥) (image_at S.Start) db)) }
+    ensures crash { IfErr result (λ e. IfSome e.1 (λ conn. HasCleanDisk (file_state conn)
+        → (db : Trees) → (file_state conn).may_leave db
+        → IsLeftOf (λ _ made. Stands made (rings_alone rings hour)) (image_at S.Start) db)) }
 {
-    match is_taken(rt, path) {
-        Ok(false) => {}
-        Ok(true) => return Err(MakeFault::Taken),
-        Err(fault) => return Err(MakeFault::Opening(fault)),
-    }
-    let conn = match open_files(rt, path, start) {
+    let conn = match new_files(rt, path, start) {
         Ok(conn) => conn,
-        Err(fault) => return Err(MakeFault::Opening(fault)),
+        Err(fault) => return Err((fault, None)),
     };
-    make_over(rt.alloc(), conn, rings, hour, limits)
+    match SqlKeeper::make_over(rt.alloc(), conn, rings, hour, limits) {
+        Ok(keeper) => Ok(keeper),
+        Err((fault, conn)) => Err((fault, Some(conn))),
+    }
 }

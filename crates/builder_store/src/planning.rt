@@ -1,17 +1,15 @@
 //! What a commit writes, and its transaction.
-ghost use Rattle.std.specs.Prelude.{◌≡◌, ◌≢◌, ◌<◌, ◌≤◌, false, Err, IfOk, None, OnOk, length};
+ghost use Rattle.std.specs.Prelude.{◌≡◌, ◌≢◌, ◌<◌, ◌≤◌, false, Err, IfOk, OnOk};
 ghost use Rattle.ring_words.specs.Limits.{most_numbers};
 ghost use Rattle.sqlite.specs.Held.{state};
 ghost use Rattle.sqlite.specs.State.{HasCleanDisk, Survives};
 ghost use Rattle.request_book.specs.declared.keeper.KeepFault.TheVariants.{NoMemory, Store};
 ghost use Rattle.store_tables.specs.Contents.{contents_of};
-ghost use Rattle.builder_store.specs.Inner.Gains.{GainsIn, written};
+ghost use Rattle.builder_store.specs.Inner.Gains.{GainsIn, IsNextIn, LeadOn, written};
 ghost use Rattle.builder_store.specs.Inner.Tables.{HasTables};
-ghost use Rattle.request_book.specs.Content.{entry_of};
-ghost use Rattle.store_model.specs.Changes.{changed_all, with_decided};
 ghost use Rattle.store_tables.specs.Store.{CommitsTables, SeesStore};
 ghost use Rattle.store_rows.specs.Differences.{Grows, with_state};
-ghost use Rattle.store_rows.specs.Stands.{IsHoldable, RingContent, contents_for, gained};
+ghost use Rattle.store_rows.specs.Stands.{RingContent, gained};
 
 use crate::calls::{cause, settle};
 use request_book::{Entry, KeepFault};
@@ -43,14 +41,9 @@ pub(crate) fn planned(
 ) -> Result<Plan, AllocError>
     requires room { count < most_numbers }
     requires grows { Grows old.now new.now }
-    ensures { IfOk result (λ plan. (content : RingContent) → IsHoldable content
-        → content.state ≡ old.now
-        → length content.book ≡ count → entry_of entry.now.key content.book ≡ None
-        → content.hour ≤ entry.now.hour
-        → (with_decided (changed_all (contents_for content) plan.change.0) plan.rows.request
-        plan.rows.meta
-        ≡ contents_for (gained (with_state content new.now) entry.now))
-        × IsHoldable (gained (with_state content new.now) entry.now)) }
+    ensures { IfOk result (λ plan. (content : RingContent) → IsNextIn content old.now count entry.now
+        → LeadOn content (gained (with_state content new.now) entry.now) plan.change.0
+        plan.rows.request plan.rows.meta) }
 {
     let change = Change::between(alloc, old, new)?;
     let rows = decided_rows(

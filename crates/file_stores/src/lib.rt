@@ -10,6 +10,7 @@
 mod making;
 mod opening;
 mod performing;
+mod reading;
 mod stores;
 
 pub use performing::perform_over_files;

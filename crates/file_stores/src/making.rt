@@ -1,8 +1,9 @@
 //! Making the store in a file.
-ghost use Rattle.std.specs.Prelude.{IfErr, OnOk};
+ghost use Rattle.std.specs.Prelude.{◌≡◌, IfErr, OnOk};
 ghost use Rattle.builder_store.specs.Making.{rings_alone};
 ghost use Rattle.programs.specs.Begun.{IsStoreFault};
 ghost use Rattle.file_stores.specs.Opened.{IsMade};
+ghost use Rattle.file_stores.specs.Inner.Unopened.{make_fault};
 
 use crate::opening::{FileKeeper, close_store, open_fault};
 use builder::RingMachine;
@@ -35,10 +36,13 @@ impl<S: Start> Start for NewFiles<S> {
     }
 }
 
+/// Keeps rings and requests in files that are made.
+pub(crate) type NewKeeper<S> = FileKeeper<NewFiles<S>>;
+
 /// What a store that isn't made is told as. Where something is there already the store can't be
 /// made, as where its folder is missing.
 fn make_fault(fault: MakeFault) -> ProgramFault
-    ensures { IsStoreFault result }
+    ensures { result ≡ make_fault fault }
 {
     match fault {
         MakeFault::Taken => ProgramFault::StoreFault,
@@ -54,14 +58,17 @@ pub(crate) fn make_store<S: Start>(
     rings: Rings,
     hour: Hour,
 ) -> Result<(), ProgramFault>
-    ensures made { OnOk result (IsMade ⟦<FileKeeper<NewFiles<S>> as Keeper<RingMachine>>⟧
+    ensures made { OnOk result (IsMade ⟦<NewKeeper<S> as Keeper<RingMachine>>⟧
         (rings_alone rings hour)) }
     ensures fault { IfErr result IsStoreFault }
 {
     let files: NewFiles<S> = NewFiles { like: PhantomData };
     let keeper = match make_at(rt, file, rings, hour, Limits::full(), files) {
         Ok(keeper) => keeper,
-        Err(fault) => return Err(make_fault(fault)),
+        Err((fault, left)) => {
+            drop(left);
+            return Err(make_fault(fault));
+        }
     };
     close_store(keeper)
 }

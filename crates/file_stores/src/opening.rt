@@ -68,6 +68,9 @@ pub(crate) fn close_store<S: Start>(keeper: FileKeeper<S>) -> Result<(), Program
             drop(files);
             Ok(())
         }
-        Err(_) => Err(ProgramFault::StoreFault),
+        Err((_, store)) => {
+            drop(store.close());
+            Err(ProgramFault::StoreFault)
+        }
     }
 }

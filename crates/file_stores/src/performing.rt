@@ -2,12 +2,9 @@
 ghost use Rattle.std.specs.Prelude.{◌≡◌, ◌≤◌, map, string_bytes};
 ghost use Rattle.command_line.specs.Tasks.{AskForNothing};
 ghost use Rattle.sqlite_wal.specs.Files.{image_at};
-ghost use Rattle.builder_store.specs.Making.{rings_alone};
-ghost use Rattle.programs.specs.Performed.{DoesAsked, FailsAsked};
-ghost use Rattle.programs.specs.Begun.{IsStoreFault};
-ghost use Rattle.file_stores.specs.Opened.{EndsSettled, IsKept, IsMade};
+ghost use Rattle.file_stores.specs.Done.{DoesOverFiles, FailsOverFiles};
 
-use crate::making::NewFiles;
+use crate::making::NewKeeper;
 use crate::opening::FileKeeper;
 use crate::stores::StoreFiles;
 use builder::RingMachine;
@@ -29,21 +26,14 @@ pub fn perform_over_files<S: Start, R: Read, W: Write, E: Write>(
     start: S,
 ) -> u8
     ensures status { result ≤ 2 }
-    ensures done { result ≡ 0 → DoesAsked ⟦<MemoryKeeper as Keeper<RingMachine>>⟧
-        ⟦<FileKeeper<S> as Keeper<RingMachine>>⟧
-        (λ name. IsKept ⟦<FileKeeper<S> as Keeper<RingMachine>>⟧ (image_at S.Start))
-        (λ keeper answer. EndsSettled ⟦<FileKeeper<S> as Keeper<RingMachine>>⟧ keeper)
-        (λ name rings hour. IsMade ⟦<FileKeeper<NewFiles<S>> as Keeper<RingMachine>>⟧
-        (rings_alone rings hour)) R.remaining W.contents E.contents (map string_bytes words.now)
+    ensures done { result ≡ 0 → DoesOverFiles ⟦<MemoryKeeper as Keeper<RingMachine>>⟧
+        ⟦<FileKeeper<S> as Keeper<RingMachine>>⟧ ⟦<NewKeeper<S> as Keeper<RingMachine>>⟧
+        (image_at S.Start) R.remaining W.contents E.contents (map string_bytes words.now)
         reader.old reader.new writer.old writer.new errors.old errors.new }
-    ensures fault { result ≡ 1 → FailsAsked ⟦<MemoryKeeper as Keeper<RingMachine>>⟧
-        ⟦<FileKeeper<S> as Keeper<RingMachine>>⟧
-        (λ name. IsKept ⟦<FileKeeper<S> as Keeper<RingMachine>>⟧ (image_at S.Start))
-        (λ keeper answer. EndsSettled ⟦<FileKeeper<S> as Keeper<RingMachine>>⟧ keeper)
-        (λ name rings hour. IsMade ⟦<FileKeeper<NewFiles<S>> as Keeper<RingMachine>>⟧
-        (rings_alone rings hour)) R.remaining W.contents E.contents (map string_bytes words.now)
-        reader.old reader.new writer.old writer.new errors.old errors.new
-        (λ name why. IsStoreFault why) (λ name rings hour why. IsStoreFault why) }
+    ensures fault { result ≡ 1 → FailsOverFiles ⟦<MemoryKeeper as Keeper<RingMachine>>⟧
+        ⟦<FileKeeper<S> as Keeper<RingMachine>>⟧ ⟦<NewKeeper<S> as Keeper<RingMachine>>⟧
+        (image_at S.Start) R.remaining W.contents E.contents (map string_bytes words.now)
+        reader.old reader.new writer.old writer.new errors.old errors.new }
     ensures nothing { result ≡ 2 → AskForNothing (map string_bytes words.now)
         × (reader.new ≡ reader.old) × (writer.new ≡ writer.old) }
 {

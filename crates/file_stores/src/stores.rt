@@ -1,11 +1,14 @@
 //! The stores in files.
+ghost use Rattle.std.specs.Prelude.{⊤};
 ghost use Rattle.sqlite_wal.specs.Files.{image_at};
 ghost use Rattle.builder_store.specs.Making.{rings_alone};
 ghost use Rattle.file_stores.specs.Opened.{EndsSettled, IsKept, IsMade};
 ghost use Rattle.programs.specs.Begun.{IsStoreFault};
+ghost use Rattle.programs.specs.Tables.{IsFileFault};
 
-use crate::making::{NewFiles, make_store};
+use crate::making::{NewKeeper, make_store};
 use crate::opening::{FileKeeper, close_store, open_store};
+use crate::reading::read_file;
 use builder::RingMachine;
 use programs::{ProgramFault, Stores};
 use request_book::Keeper;
@@ -28,10 +31,14 @@ impl<S: Start> Stores for StoreFiles<S> {
 
     ghost ends = { λ keeper answer. EndsSettled ⟦<FileKeeper<S> as Keeper<RingMachine>>⟧ keeper };
 
-    ghost is_made = { λ name rings hour. IsMade ⟦<FileKeeper<NewFiles<S>> as Keeper<RingMachine>>⟧
+    ghost is_made = { λ name rings hour. IsMade ⟦<NewKeeper<S> as Keeper<RingMachine>>⟧
         (rings_alone rings hour) };
 
     ghost is_unmade = { λ name rings hour why. IsStoreFault why };
+
+    ghost holds = { λ name text. ⊤ };
+
+    ghost is_unread = { λ name most why. IsFileFault why };
 
     fn open(self, rt: &HostRuntime, name: &str) -> Result<FileKeeper<S>, ProgramFault> {
         let StoreFiles { start } = self;
@@ -45,4 +52,10 @@ impl<S: Start> Stores for StoreFiles<S> {
     fn make(rt: &HostRuntime, name: &str, rings: Rings, hour: Hour) -> Result<(), ProgramFault> {
         make_store::<S>(rt, name, rings, hour)
     }
+
+    fn read(rt: &HostRuntime, name: &str, most: u32) -> Result<Vec<u8>, ProgramFault> {
+        read_file(rt, name, most)
+    }
+
+    ghost opens_whole = { λ name keeper kept. (kept.faults, kept.limit) };
 }

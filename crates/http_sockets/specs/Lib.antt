@@ -1,3 +1,4 @@
 pub mod Hours
 pub mod Listening
 pub mod Connections
+pub mod Inner

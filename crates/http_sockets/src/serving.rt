@@ -5,9 +5,10 @@ ghost use Rattle.byte_streams.specs.Counted.{Counts};
 ghost use Rattle.http_api.specs.Served.{ServesHttp};
 ghost use Rattle.http_sockets.specs.Connections.{IsTalk, OneServed, PortFailed, PortServed};
 ghost use Rattle.http_sockets.specs.Connections.{ServedUpTo};
+ghost use Rattle.http_sockets.specs.Inner.Stopping.{StopsServing};
 ghost use Rattle.http_sockets.specs.Listening.{AcceptsNone, AcceptsOne, accepted_count, net_faults};
 ghost use Rattle.http_sockets.specs.declared.fault.ServeFault.TheVariants.{NetFailed};
-ghost use Rattle.http_stream.specs.Serving.{RequestsServed, RequestsStopped};
+ghost use Rattle.http_stream.specs.Serving.{RequestsServed};
 
 use crate::doors::{Door, Ports};
 use crate::fault::ServeFault;
@@ -51,11 +52,9 @@ pub(crate) fn converse<
         (ServesHttp K.Keeper C.tells names.entry.prefix.now names.entry.suffix.now)
         (S.remaining reader.entry.stream) (W.contents writer) (W.contents result.writer)
         (clock.old, book.old) (clock.new, book.new)) }
-    ensures stopped { IfErr result.result (RequestsStopped
-        (ServesHttp K.Keeper C.tells names.entry.prefix.now names.entry.suffix.now)
-        (S.remaining reader.entry.stream) (S.remaining result.stream) (W.contents writer)
-        (W.contents result.writer) (clock.old, book.old) (clock.new, book.new)
-        ((clock.new ≡ clock.old) × (book.new ≡ book.old))) }
+    ensures stopped { IfErr result.result (StopsServing K.Keeper C.tells names.entry.prefix.now
+        names.entry.suffix.now (S.remaining reader.entry.stream) (S.remaining result.stream)
+        (W.contents writer) (W.contents result.writer) (clock.old, book.old) (clock.new, book.new)) }
 {
     let mut reader = CountedReader::new(reader);
     let mut writer = CountedWriter::new(writer);

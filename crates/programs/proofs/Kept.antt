@@ -76,15 +76,18 @@ asked_left g Begins Ends Tells a = asked g Begins Begins (IsClosed Ends) (WasClo
 
 -- and so it is with what an import is told
 pub tells_left : {K : Type 0} (g : Keeping K) (Begins : K → Type 0) (Ends : K → Closing → Type 0)
-    (known : Option (List ℕ)) (ask : ImportAsk) (hour : ℕ) (t : Told)
-    → TellsImport g Begins (IsClosed Ends) known ask hour t
-    → TellsImport g Begins (WasClosed Ends) known ask hour t
-tells_left g Begins Ends known ask hour t told = elim told [
+    (Holds : List ℕ → Type 0) (IsUnread : ℕ → ProgramFault → Type 0) (ask : ImportAsk)
+    (given : Option ℕ) (t : Told)
+    → TellsImport g Begins (IsClosed Ends) Holds IsUnread ask given t
+    → TellsImport g Begins (WasClosed Ends) Holds IsUnread ask given t
+tells_left g Begins Ends Holds IsUnread ask given t told = elim told [
   | inl done ↦ inl (
     done.0,
     done.1,
+    done.2,
+    done.3,
     imports g Begins Begins (IsClosed Ends) (WasClosed Ends)
-        (λ keeper is. is) (closed_left Ends) ask done.0 hour t done.2,
+        (λ keeper is. is) (closed_left Ends) ask done.0 done.1 t done.4,
   )
   | inr bad ↦ inr bad
 ]

@@ -1,11 +1,14 @@
 -- What each program makes of the store that it is over is one run.
-use Rattle.std.proofs.Common.{◌≡◌, ◌⊎◌, ◌∙◌, ◌∷◌, [], List, None, Option, Some, arith, inl, inr}
-use Rattle.std.proofs.Common.{ap, refl, subst, sym, ℕ}
+use Rattle.std.proofs.Common.{◌≡◌, ◌⊎◌, ◌∙◌, ◌∷◌, [], List, None, Ok, Option, Some, arith, inl}
+use Rattle.std.proofs.Common.{ap, inr, refl, subst, sym, ℕ}
 use Rattle.std.proofs.Math.Bridge.{le_prop}
 use mathlib.Core.HLevel.{is_prop→PathP}
+use Rattle.std.specs.Borrow.{Bor}
 use Rattle.std.specs.Prelude.{◌++◌, ◌||◌, ◌≤◌, Bool, false, is_some, nat_lt}
 use Rattle.byte_streams.specs.declared.counted.CountedReader.{CountedReader}
 use Rattle.byte_streams.specs.declared.counted.CountedWriter.{CountedWriter}
+use Rattle.byte_streams.specs.declared.fault.StreamFault.{StreamFault}
+use Rattle.byte_streams.specs.declared.fault.StreamFault.TheVariants as stream
 use Rattle.builder.specs.Life.{Lives}
 use Rattle.builder.specs.Step.{State, Step}
 use Rattle.builder.specs.declared.machine.RingMachine.{RingMachine}
@@ -18,7 +21,6 @@ use Rattle.request_book.specs.Call.{Call, Deliver, failed}
 use Rattle.request_book.specs.Called.{Called}
 use Rattle.request_book.specs.Content.{Content}
 use Rattle.request_book.specs.Front.{CallsMade}
-use Rattle.request_book.specs.Keeper.{CrashLeaves}
 use Rattle.request_book.specs.Run.{Run}
 use Rattle.ring_book.specs.Book.{Keeping, steps_of}
 use Rattle.ring_messages.specs.declared.told.Told.{Told}
@@ -35,16 +37,25 @@ use Rattle.http_api.specs.Http.{told_csv}
 use Rattle.path_lookup.specs.declared.hash.HashNames.{HashNames}
 use Rattle.ring_messages.specs.declared.told.Told.TheVariants as told
 use Rattle.ring_reads.specs.declared.reads.Question.{Question}
-use Rattle.programs.specs.Begun.{AreServiceLimits, Closing, IsBegun, IsClosed}
-use Rattle.programs.specs.Importing.{Imports, IsToldAs}
-use Rattle.programs.specs.Life.{IsOneRun, MakesOneRun, RunsStore, store_of}
-use Rattle.programs.specs.Performed.{EndsBy, EndsSo, ImportsFile, ShowsStore}
-use Rattle.programs.specs.Renewing.{IsRead}
-use Rattle.programs.specs.Running.{AnswersLines}
-use Rattle.programs.specs.Serving.{ServesOne, ServesPort}
+use Rattle.http_sockets.specs.Listening.{AcceptsNone, HasAcceptedNone}
+use Rattle.programs.specs.Begun.{AreServiceLimits, Closing, IsBegun, IsClosed, IsStoreFault}
+use Rattle.programs.specs.Begun.{WasClosed}
+use Rattle.programs.specs.Importing.{FailsTold, FailsToImport, Imports, IsToldAs, TellsImport}
+use Rattle.programs.specs.Importing.{TellsNothing, WritesTold}
+use Rattle.programs.specs.Life.{FailsBefore, ComesOfFile, CrashEndsRun, GoesOnWithLife}
+use Rattle.programs.specs.Life.{MakesOneRun, RunsStore, TellsBadTable, store_of}
+use Rattle.programs.specs.Performed.{EndsBy, EndsSo, FailsSo, FailsToDo, FailsToShowStore}
+use Rattle.programs.specs.Performed.{ImportsFile, ShowsStore}
+use Rattle.programs.specs.Renewing.{FailsToRenew, IsRead}
+use Rattle.programs.specs.Running.{AnswersLines, FailsLines, StopsLines}
+use Rattle.programs.specs.Serving.{FailsToLoop, FailsToLoopInput, FailsToServePort, Service}
+use Rattle.programs.specs.Serving.{ServesFewer, ServesOne, ServesOneOrNone, ServesPort}
+use Rattle.programs.specs.Serving.{accepts_tcp, tcp_remaining}
 use Rattle.programs.specs.Showing.{AsksShown, IsAsked}
+use Rattle.programs.specs.declared.faults.ProgramFault.{ProgramFault}
+use Rattle.programs.specs.declared.faults.ProgramFault.TheVariants as fault
 use Rattle.programs.specs.declared.importing.ImportAsk.{ImportAsk}
-use Rattle.programs.specs.declared.performing.Ending.TheVariants.{Done}
+use Rattle.programs.specs.declared.performing.Ending.TheVariants.{Done, Refused}
 
 -- the limits of a service are those of any other
 pub same_limits : (a b : Limits) → AreServiceLimits a → AreServiceLimits b → a ≡ b
@@ -171,69 +182,320 @@ not_done why shown (inr is) status =
     let h : answer_status told.NoMemory ≡ 200 = subst (λ t. answer_status t ≡ 200) is status in
     omega (arith, h)
 
-module _ {M K R W : Type 0} (memory : Keeping M) (stores : Keeping K)
-    (Begins : List ℕ → K → Type 0) (Ends : K → Closing → Type 0)
-    (IsMade : List ℕ → State → ℕ → Type 0) (remaining : R → Option (List ℕ))
-    (contents : W → Option (List ℕ)) (none : StaysNone stores) (more : GoesOn)
-    (reader late_reader : CountedReader R) (writer later : CountedWriter W) where
-  -- the run of a program that answered lines
-  lines_run : (name : List ℕ) → AnswersLines stores (Begins name) (IsClosed Ends) remaining contents
-      reader late_reader writer later → MakesOneRun stores (Begins name) (IsClosed Ends)
-  lines_run name all = let run = all.0.1 in made_run stores (Begins name) (IsClosed Ends) run.0 run.1
-      run.4.get.calls run.2 run.3 run.4.get.made
+-- what was told of a table that is refused
+told_as : (why : CsvFault) (t shown : Told) → t ≡ told_csv why → IsToldAs t shown
+    → (shown ≡ told_csv why) ⊎ (shown ≡ told.NoMemory)
+told_as why t shown is (inl same) = inl (same ∙ is)
+told_as why t shown is (inr lost) = inr lost
 
-  -- of one that served connections
-  served_run : (name : List ℕ) (given : Option ℕ) (names : HashNames) (port count : ℕ)
-      → ServesPort stores (Begins name) (IsClosed Ends) given names port count
-      → MakesOneRun stores (Begins name) (IsClosed Ends)
-  served_run name given names port count s = made_run stores (Begins name) (IsClosed Ends) s.first.1
-      s.last.1 s.led.3.serves.calls s.opened s.left s.led.3.serves.made
+-- Runs over a keeper that begins so and is left so.
+module _ {K : Type 0} (g : Keeping K) (Begins Ends : K → Type 0) (none : StaysNone g) where
+  -- a book that stays as it is makes a run of no call
+  same_run : (old new : Parts RingMachine K) → IsBegun Begins old → Ends new.keeper → new ≡ old
+      → MakesOneRun g Begins Ends
+  same_run old new begun ends same = still_run g Begins Ends none old.keeper new.keeper begun.keeper
+      ends (subst (λ (b : Parts RingMachine K). g.sound b.keeper) same)
+      (λ sound. ap (λ (b : Parts RingMachine K). g.content b.keeper) same)
 
-  -- of one that served a connection of the machine with itself
-  looped_run : (name : List ℕ) (given : Option ℕ) (names : HashNames)
-      → ServesOne stores (Begins name) (IsClosed Ends) given names
-      → MakesOneRun stores (Begins name) (IsClosed Ends)
-  looped_run name given names s = made_run stores (Begins name) (IsClosed Ends) s.first.1
-      s.last.1 s.led.serves.calls s.opened s.left s.led.serves.made
+  module _ {R W : Type 0} (remaining : R → Option (List ℕ)) (contents : W → Option (List ℕ))
+      (reader late_reader : CountedReader R) (writer later : CountedWriter W) where
+    -- the run of a program that answered lines
+    lines_run : AnswersLines g Begins Ends remaining contents reader late_reader writer later
+        → MakesOneRun g Begins Ends
+    lines_run all = let run = all.0.1 in made_run g Begins Ends run.0 run.1 run.4.get.calls run.2 run.3
+        run.4.get.made
 
-  -- of one that showed something
-  shown_run : (name prefix suffix : List ℕ) (Asks : Question → Type 0)
-      → ShowsStore stores (Begins name) Ends contents writer later prefix suffix Asks
-      → MakesOneRun stores (Begins name) (IsClosed Ends)
-  shown_run name prefix suffix Asks s = asked_run stores (Begins name) (IsClosed Ends) none _ s.2.1
+    -- of one that a fault of a stream stopped
+    stopped_run : (why : StreamFault)
+        → StopsLines g Begins Ends remaining contents reader late_reader writer later why
+        → MakesOneRun g Begins Ends
+    stopped_run stream.ReadFailed all = let run = all.0 in made_run g Begins Ends run.0 run.1
+        run.4.get.calls run.2 run.3 run.4.get.made
+    stopped_run stream.WriteFailed all = let run = all.0 in made_run g Begins Ends run.0 run.1
+        run.4.get.calls run.2 run.3 run.4.get.made
+    stopped_run stream.NoMemory all = let run = all.0 in same_run run.0 run.1 run.2 run.3 run.4.2
+
+  module _ (given : Option ℕ) (names : HashNames) where
+    -- of one that served connections
+    served_run : (port count : ℕ) → ServesPort g Begins Ends given names port count
+        → MakesOneRun g Begins Ends
+    served_run port count s = made_run g Begins Ends s.first.1 s.last.1 s.led.3.serves.calls s.opened
+        s.left s.led.3.serves.made
+
+    -- of one that served fewer
+    fewer_run : {D S : Type 0} (remaining : S → Option (List ℕ)) (gives : D → S → D → Type 0)
+        (fails : D → D → Type 0) (opens : ℕ → D → Type 0) (port count : ℕ)
+        → ServesFewer g Begins Ends given names remaining gives fails opens port count
+        → MakesOneRun g Begins Ends
+    fewer_run remaining gives fails opens port count s = elim s.led [
+      | inl same ↦ same_run s.first.1 s.last.1 s.opened s.left (ap (λ (f : Service K). f.1) same)
+      | inr some ↦ made_run g Begins Ends s.first.1 s.last.1 some.3.all.serves.calls s.opened s.left
+          some.3.all.serves.made
+    ]
+
+    -- of one that served a connection of the machine with itself
+    looped_run : ServesOne g Begins Ends given names → MakesOneRun g Begins Ends
+    looped_run s = made_run g Begins Ends s.first.1 s.last.1 s.led.serves.calls s.opened s.left
+        s.led.serves.made
+
+    -- or none
+    looped_some : ServesOneOrNone g Begins Ends given names → MakesOneRun g Begins Ends
+    looped_some s = elim s.led [
+      | inl same ↦ same_run s.first.1 s.last.1 s.opened s.left (ap (λ (f : Service K). f.1) same)
+      | inr one ↦ made_run g Begins Ends s.first.1 s.last.1 one.serves.calls s.opened s.left
+          one.serves.made
+    ]
+
+-- one run of a store that was closed well is one of a store that was closed
+closed_run : {K : Type 0} (g : Keeping K) (Begins : K → Type 0) (Ends : K → Closing → Type 0)
+    → MakesOneRun g Begins (IsClosed Ends) → MakesOneRun g Begins (WasClosed Ends)
+closed_run g Begins Ends all = let one = all.1 in (
+  all.0,
+  record {
+    keeper = one.keeper;
+    later = one.later;
+    opened = one.opened;
+    closed = (Ok tt, one.closed);
+    stays_sound = one.stays_sound;
+    run = one.run;
+  },
+)
+
+-- a refused opening is one of the three causes that come before
+at_opening : {A B C D : Type 0} → C ⊎ D → (A ⊎ B ⊎ C) ⊎ D
+at_opening (inl refused) = inl (inr (inr refused))
+at_opening (inr run) = inr run
+
+-- and so is the file that is read
+at_file : {A B C D : Type 0} → B ⊎ C ⊎ D → (A ⊎ B ⊎ C) ⊎ D
+at_file (inl file) = inl (inr (inl file))
+at_file (inr (inl refused)) = inl (inr (inr refused))
+at_file (inr (inr run)) = inr run
+
+-- Keepers of stores are these, begin so, and end so with what closing them answers.
+module _ {K W : Type 0} (stores : Keeping K) (Begins : K → Type 0)
+    (Ends : K → Closing → Type 0) (none : StaysNone stores) (more : GoesOn)
+    (contents : W → Option (List ℕ)) (writer later : CountedWriter W) where
+  -- the run of a program that showed something
+  shown_run : (prefix suffix : List ℕ) (Asks : Question → Type 0)
+      → ShowsStore stores Begins Ends contents writer later prefix suffix Asks
+      → MakesOneRun stores Begins (IsClosed Ends)
+  shown_run prefix suffix Asks s = asked_run stores Begins (IsClosed Ends) none _ s.2.1
 
   -- of one that imported a table
-  table_run : (name : List ℕ) (Asks : ImportAsk → Type 0) (given : Option ℕ)
-      → ImportsFile stores (Begins name) Ends contents writer later Asks given (EndsBy Done)
-      → MakesOneRun stores (Begins name) (IsClosed Ends)
-  table_run name Asks given i = elim i.6.1 [
-    | inl it ↦ import_run stores (Begins name) (IsClosed Ends) none more i.0 it.0 i.1 i.6.0 it.2
-    | inr bad ↦ absurd (not_done bad.0 i.6.2.0 (told_as bad.0 i.6.0 i.6.2.0 bad.2 i.6.2.1) (sym i.6.2.5 ∙ i.5))
+  table_run : (Holds : List ℕ → Type 0) (IsUnread : ℕ → ProgramFault → Type 0)
+      (Asks : ImportAsk → Type 0) (given : Option ℕ)
+      → ImportsFile stores Begins Ends contents writer later Holds IsUnread Asks given (EndsBy Done)
+      → MakesOneRun stores Begins (IsClosed Ends)
+  table_run Holds IsUnread Asks given i = elim i.4.1 [
+    | inl it ↦ import_run stores Begins (IsClosed Ends) none more i.0 it.0 it.1 i.4.0 it.4
+    | inr bad ↦ absurd (not_done bad.0 i.4.2.0 (told_as bad.0 i.4.0 i.4.2.0 bad.2 i.4.2.1) (sym i.4.2.5 ∙ i.3))
   ]
-    where
-      told_as : (why : CsvFault) (t shown : Told) → t ≡ told_csv why → IsToldAs t shown
-          → (shown ≡ told_csv why) ⊎ (shown ≡ told.NoMemory)
-      told_as why t shown is (inl same) = inl (same ∙ is)
-      told_as why t shown is (inr lost) = inr lost
 
-  -- Each program that did what it was asked for made one run of the store that it is over.
-  pub done_once : (t : Task) → EndsSo memory stores Begins Ends remaining contents reader late_reader
-      writer later IsMade t Done → RunsStore stores Begins (IsClosed Ends) (store_of t)
-  done_once (task.Run None) all = tt
-  done_once (task.Run (Some file)) all = lines_run file.now all
-  done_once (task.Serve file port count given names) all = served_run file.now given names port
-      count all.2
-  done_once (task.Loop file input given names) all = looped_run file.now given names all.1.2.0
-  done_once (task.Import file ring caller number csv given) all = table_run file.now _ given all.1
-  done_once (task.Table file ring) all = shown_run file.now [] [] (AsksShown (task.Table file ring))
-      all.1
-  done_once (task.Nodes file ring account container object names) all =
-      shown_run file.now names.prefix.now names.suffix.now
-      (AsksShown (task.Nodes file ring account container object names)) all.1
-  done_once (task.Export file ring version written) all = shown_run file.now [] []
-      (AsksShown (task.Export file ring version written)) all.1
-  done_once (task.Renew file fresh) all = read_run stores (Begins file.now) (IsClosed Ends) none _
-      all.2
+  -- of one whose import was refused, unless its table tells no rows
+  refused_run : (Holds : List ℕ → List ℕ → Type 0)
+      (IsUnread : List ℕ → ℕ → ProgramFault → Type 0) (file ring caller number csv : Bor (List ℕ))
+      (Asks : ImportAsk → Type 0) (given : Option ℕ)
+      → ImportsFile stores Begins Ends contents writer later (Holds csv.now) (IsUnread csv.now) Asks
+      given (EndsBy Refused)
+      → TellsBadTable contents writer later Holds IsUnread
+      (task.Import file ring caller number csv given)
+      ⊎ MakesOneRun stores Begins (IsClosed Ends)
+  refused_run Holds IsUnread file ring caller number csv Asks given i = elim i.4.1 [
+    | inl it ↦ inr (import_run stores Begins (IsClosed Ends) none more i.0 it.0 it.1 i.4.0 it.4)
+    | inr bad ↦ inl (
+      bad.0,
+      i.1,
+      bad.1,
+      subst (λ t. WritesTold contents writer later t i.1) bad.2 i.4.2,
+    )
+  ]
+
+  module _ (Refuses : ProgramFault → Type 0) where
+    -- the store was refused, or run once
+    abbrev OpensOnce : ProgramFault → Type 0
+    OpensOnce why = (Refuses why × IsStoreFault why) ⊎ MakesOneRun stores Begins (WasClosed Ends)
+
+    lines_failed : {R : Type 0} (remaining : R → Option (List ℕ))
+        (reader late_reader : CountedReader R) (why : ProgramFault)
+        → FailsLines stores Begins (WasClosed Ends) remaining contents reader late_reader writer later
+        Refuses why → OpensOnce why
+    lines_failed remaining reader late_reader why (inl stopped) = inr (stopped_run stores Begins
+        (WasClosed Ends) none remaining contents reader late_reader writer later stopped.0 stopped.2)
+    lines_failed remaining reader late_reader why (inr (inl refused)) = inl (refused.0, refused.1)
+    lines_failed remaining reader late_reader why (inr (inr closed)) = inr (lines_run stores Begins
+        (WasClosed Ends) none remaining contents reader late_reader writer later closed.1)
+
+    serve_failed : (given : Option ℕ) (names : HashNames) (port count : ℕ) (why : ProgramFault)
+        → FailsToServePort stores Begins (WasClosed Ends) given names Refuses port count why
+        → OpensOnce why
+    serve_failed given names port count why (inl refused) = inl refused
+    serve_failed given names port count why (inr (inl closed)) = inr (served_run stores Begins
+        (WasClosed Ends) none given names port count closed.1)
+    serve_failed given names port count why (inr (inr net)) = inr (fewer_run stores Begins
+        (WasClosed Ends) none given names tcp_remaining accepts_tcp AcceptsNone
+        (λ _ server. HasAcceptedNone server) port count net.1)
+
+    loop_failed : (given : Option ℕ) (names : HashNames) (why : ProgramFault)
+        → FailsToLoop stores Begins (WasClosed Ends) given names contents writer later Refuses why
+        → OpensOnce why
+    loop_failed given names why (inl refused) = inl (refused.0, refused.1)
+    loop_failed given names why (inr (inl stopped)) = inr (looped_some stores Begins (WasClosed Ends)
+        none given names stopped.2.0)
+    loop_failed given names why (inr (inr closed)) = inr (looped_run stores Begins (WasClosed Ends)
+        none given names closed.1.0)
+
+    show_failed : (prefix suffix : List ℕ) (Asks : Question → Type 0) (why : ProgramFault)
+        → FailsToShowStore stores Begins Ends contents writer later Refuses prefix suffix Asks why
+        → OpensOnce why
+    show_failed prefix suffix Asks why f = elim f.2 [
+      | inl refused ↦ inl (refused.0, refused.1)
+      | inr rest ↦ elim rest [
+        | inl failed ↦ inr (asked_run stores Begins (WasClosed Ends) none _ failed.1)
+        | inr other ↦ elim other [
+          | inl hidden ↦ inr (asked_run stores Begins (WasClosed Ends) none _ hidden.0)
+          | inr unwritten ↦ inr (asked_run stores Begins (WasClosed Ends) none _ unwritten.1.1)
+        ]
+      ]
+    ]
+
+    renew_failed : (IsUnmade : State → ℕ → ProgramFault → Type 0) (why : ProgramFault)
+        → FailsToRenew stores Begins Ends Refuses IsUnmade why → OpensOnce why
+    renew_failed IsUnmade why (inl (inl refused)) = inl refused
+    renew_failed IsUnmade why (inl (inr unread)) = inr (read_run stores Begins (WasClosed Ends) none _
+        unread.1)
+    renew_failed IsUnmade why (inr unmade) = inr (closed_run stores Begins Ends (read_run stores Begins
+        (IsClosed Ends) none _ unmade.1))
+
+    module _ (Holds : List ℕ → List ℕ → Type 0) (IsUnread : List ℕ → ℕ → ProgramFault → Type 0) where
+      -- the fault is one of the file that a task reads first, or its store was refused or run once
+      abbrev ReadsFirst : Task → ProgramFault → Type 0
+      ReadsFirst t why = ComesOfFile contents writer later Holds IsUnread t why ⊎ OpensOnce why
+
+      input_failed : (file input : Bor (List ℕ)) (given : Option ℕ) (names : HashNames)
+          (why : ProgramFault)
+          → FailsToLoopInput stores Begins (WasClosed Ends) given names contents writer later Refuses
+          (IsUnread input.now) why
+          → ReadsFirst (task.Loop file input given names) why
+      input_failed file input given names why (inl unread) = inl (unread.0, unread.1)
+      input_failed file input given names why (inr failed) = inr (loop_failed given names why failed)
+
+      module _ (file ring caller number csv : Bor (List ℕ)) (given : Option ℕ) (ask : ImportAsk)
+        where
+          abbrev ImportsFirst : ProgramFault → Type 0
+          ImportsFirst = ReadsFirst (task.Import file ring caller number csv given)
+
+          nothing_told : (why : ProgramFault) → TellsNothing stores Begins (WasClosed Ends)
+              (Holds csv.now) (IsUnread csv.now) Refuses ask given why → ImportsFirst why
+          nothing_told why (inl lost) = inl (inl lost)
+          nothing_told why (inr it) = elim it.4 [
+            | inl refused ↦ inr (inl refused)
+            | inr closed ↦ inr (inr (import_run stores Begins (WasClosed Ends) none more ask it.0 it.1
+                closed.1.0 closed.1.1))
+          ]
+
+          telling_failed : (why : ProgramFault) (t : Told) → why ≡ fault.WriteFailed
+              → TellsImport stores Begins (WasClosed Ends) (Holds csv.now) (IsUnread csv.now) ask given t
+              → FailsTold contents writer later t → ImportsFirst why
+          telling_failed why t is (inl it) failed = inr (inr (import_run stores Begins (WasClosed Ends)
+              none more ask it.0 it.1 t it.4))
+          telling_failed why t is (inr bad) failed = inl (inr (
+            is,
+            (bad.0, bad.1, subst (FailsTold contents writer later) bad.2 failed),
+          ))
+
+          import_failed : (why : ProgramFault) → FailsToImport stores Begins (WasClosed Ends)
+              (Holds csv.now) (IsUnread csv.now) contents writer later Refuses ask given why
+              → ImportsFirst why
+          import_failed why (inl nothing) = nothing_told why nothing.0
+          import_failed why (inr unwritten) = telling_failed why unwritten.1.0 unwritten.0 unwritten.1.1
+              unwritten.1.2
+
+module _ {M K R W : Type 0} (memory : Keeping M) (stores : Keeping K)
+    (Begins : List ℕ → K → Type 0) (Ends : K → Closing → Type 0) (remaining : R → Option (List ℕ))
+    (contents : W → Option (List ℕ)) (none : StaysNone stores) (more : GoesOn)
+    (reader late_reader : CountedReader R) (writer later : CountedWriter W)
+    (Holds : List ℕ → List ℕ → Type 0) (IsUnread : List ℕ → ℕ → ProgramFault → Type 0) where
+  module _ (IsMade : List ℕ → State → ℕ → Type 0) where
+    -- Each program that did what it was asked for made one run of the store that it is over.
+    pub done_once : (t : Task) → EndsSo memory stores Begins Ends remaining contents reader late_reader
+        writer later Holds IsUnread IsMade t Done → RunsStore stores Begins (IsClosed Ends) (store_of t)
+    done_once (task.Run None) all = tt
+    done_once (task.Run (Some file)) all = lines_run stores (Begins file.now) (IsClosed Ends) none
+        remaining contents reader late_reader writer later all
+    done_once (task.Serve file port count given names) all = served_run stores (Begins file.now)
+        (IsClosed Ends) none given names port count all.2
+    done_once (task.Loop file input given names) all = looped_run stores (Begins file.now)
+        (IsClosed Ends) none given names all.1.2.0
+    done_once (task.Import file ring caller number csv given) all = table_run stores
+        (Begins file.now) Ends none more contents writer later (Holds csv.now) (IsUnread csv.now) _
+        given all.1
+    done_once (task.Table file ring) all = shown_run stores (Begins file.now) Ends none more contents
+        writer later [] [] (AsksShown (task.Table file ring)) all.1
+    done_once (task.Nodes file ring account container object names) all = shown_run stores
+        (Begins file.now) Ends none more contents writer later names.prefix.now names.suffix.now
+        (AsksShown (task.Nodes file ring account container object names)) all.1
+    done_once (task.Export file ring version written) all = shown_run stores (Begins file.now) Ends
+        none more contents writer later [] [] (AsksShown (task.Export file ring version written))
+        all.1
+    done_once (task.Renew file fresh) all = read_run stores (Begins file.now) (IsClosed Ends) none _
+        all.2
+
+    -- So did an import that was refused, unless its table tells no rows.
+    pub refused_once : (t : Task) → EndsSo memory stores Begins Ends remaining contents reader
+        late_reader writer later Holds IsUnread IsMade t Refused
+        → TellsBadTable contents writer later Holds IsUnread t
+        ⊎ RunsStore stores Begins (IsClosed Ends) (store_of t)
+    refused_once (task.Import file ring caller number csv given) all = refused_run stores
+        (Begins file.now) Ends none more contents writer later Holds IsUnread file ring caller number
+        csv _ given all.1
+    refused_once (task.Run file) all = absurd all
+    refused_once (task.Serve file port count given names) all = absurd all
+    refused_once (task.Loop file input given names) all = absurd all
+    refused_once (task.Table file ring) all = absurd all
+    refused_once (task.Nodes file ring account container object names) all = absurd all
+    refused_once (task.Export file ring version written) all = absurd all
+    refused_once (task.Renew file fresh) all = absurd all
+
+  module _ (Refuses : List ℕ → ProgramFault → Type 0)
+      (IsUnmade : List ℕ → State → ℕ → ProgramFault → Type 0) where
+    -- the work of a task failed
+    work_failed : (t : Task) (why : ProgramFault) → FailsToDo memory stores Begins Ends remaining
+        contents reader late_reader writer later Holds IsUnread Refuses IsUnmade t why
+        → FailsBefore contents writer later Holds IsUnread Refuses t why
+        ⊎ RunsStore stores Begins (WasClosed Ends) (store_of t)
+    work_failed (task.Run None) why all = inr tt
+    work_failed (task.Run (Some file)) why all = at_opening (lines_failed stores (Begins file.now) Ends
+        none more contents writer later (Refuses file.now) remaining reader late_reader why all)
+    work_failed (task.Serve file port count given names) why all = at_opening (serve_failed stores
+        (Begins file.now) Ends none more contents writer later (Refuses file.now) given names port
+        count why all.2)
+    work_failed (task.Loop file input given names) why all = at_file (input_failed stores
+        (Begins file.now) Ends none more contents writer later (Refuses file.now) Holds IsUnread file
+        input given names why all.1)
+    work_failed (task.Import file ring caller number csv given) why all = at_file (import_failed stores
+        (Begins file.now) Ends none more contents writer later (Refuses file.now) Holds IsUnread file
+        ring caller number csv given all.1.0 why all.1.2)
+    work_failed (task.Table file ring) why all = at_opening (show_failed stores (Begins file.now) Ends
+        none more contents writer later (Refuses file.now) [] [] (AsksShown (task.Table file ring)) why
+        all.1)
+    work_failed (task.Nodes file ring account container object names) why all = at_opening (show_failed
+        stores (Begins file.now) Ends none more contents writer later (Refuses file.now)
+        names.prefix.now names.suffix.now
+        (AsksShown (task.Nodes file ring account container object names)) why all.1)
+    work_failed (task.Export file ring version written) why all = at_opening (show_failed stores
+        (Begins file.now) Ends none more contents writer later (Refuses file.now) [] []
+        (AsksShown (task.Export file ring version written)) why all.1)
+    work_failed (task.Renew file fresh) why all = at_opening (renew_failed stores (Begins file.now) Ends
+        none more contents writer later (Refuses file.now) (IsUnmade fresh.now) why all.2)
+
+    -- Each program that failed made one run of its store too, or the fault came before.
+    pub failed_once : (t : Task) (why : ProgramFault) → FailsSo memory stores Begins Ends remaining
+        contents reader late_reader writer later Holds IsUnread Refuses IsUnmade t why
+        → FailsBefore contents writer later Holds IsUnread Refuses t why
+        ⊎ RunsStore stores Begins (WasClosed Ends) (store_of t)
+    failed_once t why (inl words) = inl (inl words.0)
+    failed_once t why (inr work) = work_failed t why work
 
 -- one more run after a life
 lives_on : (limits : Limits) (limit : ℕ) (first mid last : Held) (runs : List Calls) (calls : Calls)
@@ -251,27 +513,23 @@ lives_on limits limit first mid last (before ∷ later) calls lives run = (
 )
 
 -- the run of a program that found what the one before it left
-pub one_more : {K : Type 0} (g : Keeping K) (Begins Ends : K → Type 0) (limits : Limits) (limit : ℕ)
-    (first mid : Held) (runs : List Calls) (calls : Calls) → AreServiceLimits limits
-    → Lives limits limit first runs mid → (one : IsOneRun g Begins Ends calls) → g.sound one.later
-    → g.fault_count one.keeper ≡ 0 → g.limit one.keeper ≡ limit → g.content one.keeper ≡ mid
-    → Lives limits limit first (runs ++ calls ∷ []) (g.content one.later)
-one_more g Begins Ends limits limit first mid runs calls full lives one sound none keeps found =
-    lives_on limits limit first mid (g.content one.later) runs calls lives
-    (subst (λ c. Run (Step limits) limit false c calls (g.content one.later)) found
+pub one_more : {K : Type 0} (g : Keeping K) (Begins : List ℕ → K → Type 0) (Ends : K → Type 0)
+    → ((name : List ℕ) (keeper : K) → Begins name keeper
+    → (g.fault_count keeper ≡ 0) × (g.limit keeper ≡ most_numbers))
+    → GoesOnWithLife g Begins Ends
+one_more g Begins Ends whole = λ name limits first mid runs calls full lives one sound found.
+    let is = whole name one.keeper one.opened in
+    lives_on limits most_numbers first mid (g.content one.later) runs calls lives
+    (subst (λ c. Run (Step limits) most_numbers false c calls (g.content one.later)) found
     (subst (λ l. Run (Step limits) l false (g.content one.keeper) calls (g.content one.later))
-    keeps
+    is.1
     (subst (λ n. Run (Step limits) (g.limit one.keeper) (nat_lt 0 n) (g.content one.keeper)
-    calls (g.content one.later)) none (one.run limits full sound))))
+    calls (g.content one.later)) is.0 (one.run limits full sound))))
 
 -- what a crash leaves in a call is what a run leaves that ends with it
-pub crash_run : GoesOn → (limits : Limits) (limit : ℕ) (first mid : Held) (calls : Calls)
-    (call : Call Command Reply) (may_leave : Option Held → Type 0)
-    → Run (Step limits) limit false first calls mid → failed calls ≡ None
-    → CrashLeaves may_leave (Called (Step limits) limit false mid call)
-    → CrashLeaves may_leave (Run (Step limits) limit false first (calls ++ call ∷ []))
-crash_run more limits limit first mid calls call may_leave run none = leaves_map may_leave
-    (Called (Step limits) limit false mid call)
+pub crash_run : {K : Type 0} (g : Keeping K) → GoesOn → CrashEndsRun g
+crash_run g more = λ limits limit first mid calls call keeper run none. leaves_map
+    (g.may_leave keeper) (Called (Step limits) limit false mid call)
     (Run (Step limits) limit false first (calls ++ call ∷ []))
     (λ left called. more (record { limits = limits }) limit false first mid left calls call run
     (subst (λ b. Called (Step limits) limit b mid call left)

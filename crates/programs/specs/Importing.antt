@@ -24,11 +24,11 @@ use Rattle.ring_words.specs.declared.command.Act.TheVariants as act
 use Rattle.ring_words.specs.declared.command.Reply.{Reply}
 use Rattle.ring_words.specs.declared.device.Row.{Row}
 use Rattle.programs.specs.Begun.{IsBegun, IsStoreFault}
-use Rattle.programs.specs.Tables.{IsBadTable, IsLong, ReadsTable, longest_table}
+use Rattle.programs.specs.Serving.{TellsHour}
+use Rattle.programs.specs.Tables.{HoldsTable, IsBadTable, IsNoTable}
 use Rattle.programs.specs.declared.faults.ProgramFault.{ProgramFault}
 use Rattle.programs.specs.declared.faults.ProgramFault.TheVariants as fault
 use Rattle.programs.specs.declared.importing.ImportAsk.{ImportAsk}
-use Rattle.programs.specs.declared.importing.TableFault.TheVariants.{Csv}
 
 -- Words ask for an import into the ring of this name, as this caller's request of this number.
 pub record AsksImport (name caller_word number_word : List ℕ) (ask : ImportAsk) : Type 0 where
@@ -75,13 +75,6 @@ module _ {K : Type 0} (g : Keeping K) (Begins Ends : K → Type 0) where
         }) answer)
     pub told_is : t ≡ told_of answer
 
-  -- The import of the table that a reader gives is told this: the answer to its rows, or why it
-  -- tells none, and then nothing was opened.
-  abbrev pub TellsImport : Option (List ℕ) → ImportAsk → ℕ → Told → Type 0
-  TellsImport known ask hour t =
-      ((rows : List Row) × ReadsTable known rows × Imports ask rows hour t)
-      ⊎ ((why : CsvFault) × IsBadTable known (Csv why) × (t ≡ told_csv why))
-
   -- This fault of the store came of delivering rows: it wasn't opened, for that fault; or they were
   -- delivered, and it couldn't be closed.
   abbrev pub FailsToDeliver : (ProgramFault → Type 0) → ImportAsk → List Row → ℕ → ProgramFault
@@ -89,24 +82,33 @@ module _ {K : Type 0} (g : Keeping K) (Begins Ends : K → Type 0) where
   FailsToDeliver Refuses ask rows hour why = (Refuses why × IsStoreFault why)
       ⊎ ((why ≡ fault.StoreFault) × ((t : Told) × Imports ask rows hour t))
 
-  -- For this fault the import of the table that a reader gives is told nothing: the table is too
-  -- long, or the fault is one of the store, and came of delivering the table's rows.
-  abbrev pub TellsNothing : (ProgramFault → Type 0) → Option (List ℕ) → ImportAsk → ℕ → ProgramFault
-      → Type 0
-  TellsNothing Refuses known ask hour why = ((why ≡ fault.TooLong) × IsLong longest_table known)
-      ⊎ ((rows : List Row) × ReadsTable known rows × FailsToDeliver Refuses ask rows hour why)
+  -- A file may hold such a text, or give no text of at most so many bytes for such a fault.
+  module _ (Holds : List ℕ → Type 0) (IsUnread : ℕ → ProgramFault → Type 0) where
+    -- The import of the table in the file is told this: the answer to its rows, at the hour that was
+    -- given or that of the machine; or why it tells none, and then nothing was opened.
+    abbrev pub TellsImport : ImportAsk → Option ℕ → Told → Type 0
+    TellsImport ask given t =
+        ((rows : List Row) × (hour : ℕ) × HoldsTable Holds rows × TellsHour given hour
+        × Imports ask rows hour t)
+        ⊎ ((why : CsvFault) × IsBadTable IsUnread Holds why × (t ≡ told_csv why))
 
-  module _ {W : Type 0} (contents : W → Option (List ℕ)) (writer later : CountedWriter W) where
-    -- What the import is told was written, and this is its status.
-    abbrev pub AnswersImport : Option (List ℕ) → ImportAsk → ℕ → ℕ → Type 0
-    AnswersImport known ask hour status =
-        (t : Told) × TellsImport known ask hour t × WritesTold contents writer later t status
+    -- For this fault it is told nothing: the file can't be opened or has too many bytes, or the fault
+    -- is one of the store, and came of delivering the table's rows.
+    abbrev pub TellsNothing : (ProgramFault → Type 0) → ImportAsk → Option ℕ → ProgramFault → Type 0
+    TellsNothing Refuses ask given why = IsNoTable IsUnread why
+        ⊎ ((rows : List Row) × (hour : ℕ) × HoldsTable Holds rows × TellsHour given hour
+        × FailsToDeliver Refuses ask rows hour why)
 
-    -- This fault came of it: the import is told nothing, for that fault, and the writer wasn't
-    -- touched; or the writer failed and took a beginning of what the import is told.
-    abbrev pub FailsToImport : (ProgramFault → Type 0) → Option (List ℕ) → ImportAsk → ℕ
-        → ProgramFault → Type 0
-    FailsToImport Refuses known ask hour why =
-        (TellsNothing Refuses known ask hour why × (later ≡ writer))
-        ⊎ ((why ≡ fault.WriteFailed) × ((t : Told) × TellsImport known ask hour t
-        × FailsTold contents writer later t))
+    module _ {W : Type 0} (contents : W → Option (List ℕ)) (writer later : CountedWriter W) where
+      -- What the import is told was written, and this is its status.
+      abbrev pub AnswersImport : ImportAsk → Option ℕ → ℕ → Type 0
+      AnswersImport ask given status =
+          (t : Told) × TellsImport ask given t × WritesTold contents writer later t status
+
+      -- This fault came of it: the import is told nothing, for that fault, and the writer wasn't
+      -- touched; or the writer failed and took a beginning of what the import is told.
+      abbrev pub FailsToImport : (ProgramFault → Type 0) → ImportAsk → Option ℕ → ProgramFault → Type 0
+      FailsToImport Refuses ask given why =
+          (TellsNothing Refuses ask given why × (later ≡ writer))
+          ⊎ ((why ≡ fault.WriteFailed) × ((t : Told) × TellsImport ask given t
+          × FailsTold contents writer later t))

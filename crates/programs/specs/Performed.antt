@@ -1,11 +1,10 @@
 -- What a program does that words ask for.
-use Rattle.std.specs.Prelude.{◌≡◌, ◌≢◌, ◌⊎◌, ℕ, List, [], Option, None, Some, IfSome}
+use Rattle.std.specs.Prelude.{◌≡◌, ◌≢◌, ◌⊎◌, ℕ, List, [], Option, None, Some}
 use Rattle.std.specs.Borrow.{Bor}
 use Rattle.byte_streams.specs.declared.counted.CountedReader.{CountedReader}
 use Rattle.byte_streams.specs.declared.counted.CountedWriter.{CountedWriter}
 use Rattle.byte_streams.specs.declared.fault.StreamFault.{StreamFault}
 use Rattle.command_line.specs.Tasks.{AskFor}
-use Rattle.path_lookup.specs.declared.hash.HashNames.{HashNames}
 use Rattle.command_line.specs.declared.task.Task.{Task}
 use Rattle.command_line.specs.declared.task.Task.TheVariants as task
 use Rattle.programs.specs.Faults.{GetsText, fault_line, stream_fault}
@@ -41,26 +40,21 @@ module _ {K W : Type 0} (stores : Keeping K) (Begins : K → Type 0) (Ends : K �
   FailsToShowStore Refuses prefix suffix Asks why = (question : Question) × Asks question
       × FailsToShow stores Begins (WasClosed Ends) contents writer later prefix suffix Refuses question why
 
-  -- The table in a CSV file was imported as one request, at the hour that was given or any other,
-  -- into a store that was closed, and this is so of the status that was written.
-  abbrev pub ImportsFile : (ImportAsk → Type 0) → Option ℕ → (ℕ → Type 0) → Type 0
-  ImportsFile Asks given IsStatus = (ask : ImportAsk) × (hour : ℕ) × (status : ℕ) × Asks ask
-      × IfSome given (λ h. hour ≡ h) × IsStatus status
-      × AnswersImport stores Begins (IsClosed Ends) contents writer later None ask hour status
+  -- A file may hold such a text, or give no text of at most so many bytes for such a fault.
+  module _ (Holds : List ℕ → Type 0) (IsUnread : ℕ → ProgramFault → Type 0) where
+    -- The table in a CSV file was imported as one request, at the hour that was given or that of the
+    -- machine, into a store that was closed, and this is so of the status that was written.
+    abbrev pub ImportsFile : (ImportAsk → Type 0) → Option ℕ → (ℕ → Type 0) → Type 0
+    ImportsFile Asks given IsStatus = (ask : ImportAsk) × (status : ℕ) × Asks ask × IsStatus status
+        × AnswersImport stores Begins (IsClosed Ends) Holds IsUnread contents writer later ask given
+        status
 
-  -- This fault came of it: the CSV file can't be opened, or it is one of the import.
-  abbrev pub FailsToImportFile : (ProgramFault → Type 0) → (ImportAsk → Type 0) → Option ℕ
-      → ProgramFault → Type 0
-  FailsToImportFile Refuses Asks given why = (ask : ImportAsk) × Asks ask
-      × (((why ≡ fault.NoFile) × (later ≡ writer))
-      ⊎ ((hour : ℕ) × IfSome given (λ h. hour ≡ h)
-      × FailsToImport stores Begins (WasClosed Ends) contents writer later Refuses None ask hour why))
-
-  -- This fault came of a loop over the bytes of a file: it can't be opened, or one of the loop, or of
-  -- opening the store.
-  abbrev pub FailsToLoopFile : (ProgramFault → Type 0) → Option ℕ → HashNames → ProgramFault → Type 0
-  FailsToLoopFile Refuses given names why = ((why ≡ fault.NoFile) × (later ≡ writer))
-      ⊎ FailsToLoopInput stores Begins (WasClosed Ends) given names contents writer later Refuses None why
+    -- This fault came of it.
+    abbrev pub FailsToImportFile : (ProgramFault → Type 0) → (ImportAsk → Type 0) → Option ℕ
+        → ProgramFault → Type 0
+    FailsToImportFile Refuses Asks given why = (ask : ImportAsk) × Asks ask
+        × FailsToImport stores Begins (WasClosed Ends) Holds IsUnread contents writer later Refuses
+        ask given why
 
 -- The status of an import ends it so: 200 where it was done.
 abbrev pub EndsBy : Ending → ℕ → Type 0
@@ -88,70 +82,75 @@ module _ {M K R W : Type 0} (memory : Keeping M) (stores : Keeping K)
   FailsToRun Refuses (Some file) why = FailsLines stores (Begins file.now) (WasClosed Ends) remaining
       contents reader late_reader writer later (Refuses file.now) why
 
-  -- This is so where a store of a name was made of these rings and this hour.
-  module _ (IsMade : List ℕ → State → ℕ → Type 0) where
-    -- A task had no fault and ended so: what it asks for was done, or an import was refused. Only
-    -- `run` touches the reader.
-    abbrev pub EndsSo : Task → Ending → Type 0
-    EndsSo (task.Run file) Done = Runs file
-    EndsSo (task.Serve file port count given names) Done = (late_reader ≡ reader) × (later ≡ writer)
-        × ServesPort stores (Begins file.now) (IsClosed Ends) given names port count
-    EndsSo (task.Loop file input given names) Done = (late_reader ≡ reader)
-        × LoopsInput stores (Begins file.now) (IsClosed Ends) given names contents writer later None
-    EndsSo (task.Table file ring) Done = (late_reader ≡ reader)
-        × ShowsStore stores (Begins file.now) Ends contents writer later [] []
-        (AsksShown (task.Table file ring))
-    EndsSo (task.Export file ring version written) Done = (late_reader ≡ reader)
-        × ShowsStore stores (Begins file.now) Ends contents writer later [] []
-        (AsksShown (task.Export file ring version written))
-    EndsSo (task.Nodes file ring account container object names) Done = (late_reader ≡ reader)
-        × ShowsStore stores (Begins file.now) Ends contents writer later
-        names.prefix.now names.suffix.now
-        (AsksShown (task.Nodes file ring account container object names))
-    EndsSo (task.Import file ring caller number csv given) ending = (late_reader ≡ reader)
-        × ImportsFile stores (Begins file.now) Ends contents writer later
-        (AsksImport ring.now caller.now number.now) given (EndsBy ending)
-    EndsSo (task.Renew file fresh) Done = (late_reader ≡ reader) × (later ≡ writer)
-        × Renews stores (Begins file.now) (IsClosed Ends) (IsMade fresh.now)
-    EndsSo _ _ = ⊥
+  -- The file of a name may hold such a text, or give no text of at most so many bytes for such a
+  -- fault.
+  module _ (Holds : List ℕ → List ℕ → Type 0) (IsUnread : List ℕ → ℕ → ProgramFault → Type 0) where
+    -- This is so where a store of a name was made of these rings and this hour.
+    module _ (IsMade : List ℕ → State → ℕ → Type 0) where
+      -- A task had no fault and ended so: what it asks for was done, or an import was refused. Only
+      -- `run` touches the reader.
+      abbrev pub EndsSo : Task → Ending → Type 0
+      EndsSo (task.Run file) Done = Runs file
+      EndsSo (task.Serve file port count given names) Done = (late_reader ≡ reader) × (later ≡ writer)
+          × ServesPort stores (Begins file.now) (IsClosed Ends) given names port count
+      EndsSo (task.Loop file input given names) Done = (late_reader ≡ reader)
+          × LoopsInput stores (Begins file.now) (IsClosed Ends) given names contents writer later
+          (Holds input.now)
+      EndsSo (task.Table file ring) Done = (late_reader ≡ reader)
+          × ShowsStore stores (Begins file.now) Ends contents writer later [] []
+          (AsksShown (task.Table file ring))
+      EndsSo (task.Export file ring version written) Done = (late_reader ≡ reader)
+          × ShowsStore stores (Begins file.now) Ends contents writer later [] []
+          (AsksShown (task.Export file ring version written))
+      EndsSo (task.Nodes file ring account container object names) Done = (late_reader ≡ reader)
+          × ShowsStore stores (Begins file.now) Ends contents writer later
+          names.prefix.now names.suffix.now
+          (AsksShown (task.Nodes file ring account container object names))
+      EndsSo (task.Import file ring caller number csv given) ending = (late_reader ≡ reader)
+          × ImportsFile stores (Begins file.now) Ends contents writer later
+          (Holds csv.now) (IsUnread csv.now) (AsksImport ring.now caller.now number.now) given (EndsBy ending)
+      EndsSo (task.Renew file fresh) Done = (late_reader ≡ reader) × (later ≡ writer)
+          × Renews stores (Begins file.now) (IsClosed Ends) (IsMade fresh.now)
+      EndsSo _ _ = ⊥
 
-  -- For such a fault a store of a name isn't opened, or isn't made of these rings and this hour.
-  module _ (Refuses : List ℕ → ProgramFault → Type 0)
-      (IsUnmade : List ℕ → State → ℕ → ProgramFault → Type 0) where
-    -- This fault came of the work of a task, or of opening its store.
-    abbrev pub FailsToDo : Task → ProgramFault → Type 0
-    FailsToDo (task.Run file) why = FailsToRun Refuses file why
-    FailsToDo (task.Serve file port count given names) why = (late_reader ≡ reader)
-        × (later ≡ writer) × FailsToServePort stores (Begins file.now) (WasClosed Ends) given names
-        (Refuses file.now) port count why
-    FailsToDo (task.Loop file input given names) why = (late_reader ≡ reader)
-        × FailsToLoopFile stores (Begins file.now) Ends contents writer later (Refuses file.now) given
-        names why
-    FailsToDo (task.Table file ring) why = (late_reader ≡ reader)
-        × FailsToShowStore stores (Begins file.now) Ends contents writer later (Refuses file.now) [] []
-        (AsksShown (task.Table file ring)) why
-    FailsToDo (task.Export file ring version written) why = (late_reader ≡ reader)
-        × FailsToShowStore stores (Begins file.now) Ends contents writer later (Refuses file.now) [] []
-        (AsksShown (task.Export file ring version written)) why
-    FailsToDo (task.Renew file fresh) why = (late_reader ≡ reader) × (later ≡ writer)
-        × FailsToRenew stores (Begins file.now) Ends (Refuses file.now) (IsUnmade fresh.now) why
-    FailsToDo (task.Nodes file ring account container object names) why = (late_reader ≡ reader)
-        × FailsToShowStore stores (Begins file.now) Ends contents writer later (Refuses file.now)
-        names.prefix.now names.suffix.now
-        (AsksShown (task.Nodes file ring account container object names)) why
-    FailsToDo (task.Import file ring caller number csv given) why = (late_reader ≡ reader)
-        × FailsToImportFile stores (Begins file.now) Ends contents writer later (Refuses file.now)
-        (AsksImport ring.now caller.now number.now) given why
+    -- For such a fault a store of a name isn't opened, or isn't made of these rings and this hour.
+    module _ (Refuses : List ℕ → ProgramFault → Type 0)
+        (IsUnmade : List ℕ → State → ℕ → ProgramFault → Type 0) where
+      -- This fault came of the work of a task, or of opening its store.
+      abbrev pub FailsToDo : Task → ProgramFault → Type 0
+      FailsToDo (task.Run file) why = FailsToRun Refuses file why
+      FailsToDo (task.Serve file port count given names) why = (late_reader ≡ reader)
+          × (later ≡ writer) × FailsToServePort stores (Begins file.now) (WasClosed Ends) given names
+          (Refuses file.now) port count why
+      FailsToDo (task.Loop file input given names) why = (late_reader ≡ reader)
+          × FailsToLoopInput stores (Begins file.now) (WasClosed Ends) given names contents writer
+          later (Refuses file.now) (IsUnread input.now) why
+      FailsToDo (task.Table file ring) why = (late_reader ≡ reader)
+          × FailsToShowStore stores (Begins file.now) Ends contents writer later (Refuses file.now) [] []
+          (AsksShown (task.Table file ring)) why
+      FailsToDo (task.Export file ring version written) why = (late_reader ≡ reader)
+          × FailsToShowStore stores (Begins file.now) Ends contents writer later (Refuses file.now) [] []
+          (AsksShown (task.Export file ring version written)) why
+      FailsToDo (task.Renew file fresh) why = (late_reader ≡ reader) × (later ≡ writer)
+          × FailsToRenew stores (Begins file.now) Ends (Refuses file.now) (IsUnmade fresh.now) why
+      FailsToDo (task.Nodes file ring account container object names) why = (late_reader ≡ reader)
+          × FailsToShowStore stores (Begins file.now) Ends contents writer later (Refuses file.now)
+          names.prefix.now names.suffix.now
+          (AsksShown (task.Nodes file ring account container object names)) why
+      FailsToDo (task.Import file ring caller number csv given) why = (late_reader ≡ reader)
+          × FailsToImportFile stores (Begins file.now) Ends contents writer later
+          (Holds csv.now) (IsUnread csv.now) (Refuses file.now) (AsksImport ring.now caller.now number.now) given why
 
-    -- This fault came of a task: of its words, and then neither stream was touched, or of its work.
-    abbrev pub FailsSo : Task → ProgramFault → Type 0
-    FailsSo t why =
-        (IsFormFault (HasBadWord t) (IsPathless t) why × (late_reader ≡ reader) × (later ≡ writer))
-        ⊎ FailsToDo t why
+      -- This fault came of a task: of its words, and then neither stream was touched, or of its work.
+      abbrev pub FailsSo : Task → ProgramFault → Type 0
+      FailsSo t why =
+          (IsFormFault (HasBadWord t) (IsPathless t) why × (late_reader ≡ reader) × (later ≡ writer))
+          ⊎ FailsToDo t why
 
 -- The words of a command line are these, and a third stream tells of faults, before and after.
 module _ {M K R W E : Type 0} (memory : Keeping M) (stores : Keeping K)
     (Begins : List ℕ → K → Type 0) (Ends : K → Closing → Type 0)
+    (Holds : List ℕ → List ℕ → Type 0) (IsUnread : List ℕ → ℕ → ProgramFault → Type 0)
     (IsMade : List ℕ → State → ℕ → Type 0) (remaining : R → Option (List ℕ))
     (contents : W → Option (List ℕ)) (told : E → Option (List ℕ)) (words : List (List ℕ))
     (reader late_reader : CountedReader R)
@@ -159,7 +158,8 @@ module _ {M K R W E : Type 0} (memory : Keeping M) (stores : Keeping K)
   -- The words ask for a task, which was done, and no fault was told.
   abbrev pub DoesAsked : Type 0
   DoesAsked = (t : Task) × AskFor words t
-      × EndsSo memory stores Begins Ends remaining contents reader late_reader writer later IsMade t
+      × EndsSo memory stores Begins Ends remaining contents reader late_reader writer later Holds IsUnread
+      IsMade t
       Done × (late_errors ≡ errors)
 
   -- The words ask for a task, which had a fault that was told, or was an import that was refused,
@@ -168,10 +168,11 @@ module _ {M K R W E : Type 0} (memory : Keeping M) (stores : Keeping K)
   abbrev pub FailsAsked : (List ℕ → ProgramFault → Type 0)
       → (List ℕ → State → ℕ → ProgramFault → Type 0) → Type 0
   FailsAsked Refuses IsUnmade = ((t : Task) × AskFor words t × (((why : ProgramFault)
-      × FailsSo memory stores Begins Ends remaining contents reader late_reader writer later Refuses
-      IsUnmade t why
+      × FailsSo memory stores Begins Ends remaining contents reader late_reader writer later Holds IsUnread
+      Refuses IsUnmade t why
       × GetsText told errors late_errors (fault_line why))
-      ⊎ (EndsSo memory stores Begins Ends remaining contents reader late_reader writer later IsMade t
+      ⊎ (EndsSo memory stores Begins Ends remaining contents reader late_reader writer later Holds IsUnread
+      IsMade t
       Refused × (late_errors ≡ errors))))
       ⊎ ((late_reader ≡ reader) × (later ≡ writer)
       × GetsText told errors late_errors (fault_line fault.NoMemory))

@@ -22,7 +22,7 @@ use Rattle.path_lookup.specs.declared.hash.HashNames.{HashNames}
 use Rattle.request_book.specs.Book.{Parts}
 use Rattle.programs.specs.Faults.{serve_fault}
 use Rattle.programs.specs.Begun.{IsBegun, IsStoreFault}
-use Rattle.programs.specs.Tables.{IsShort, IsUnread}
+use Rattle.programs.specs.Tables.{HoldsShort, IsFileFault}
 use Rattle.programs.specs.declared.faults.ProgramFault.{ProgramFault}
 use Rattle.programs.specs.declared.faults.ProgramFault.TheVariants as fault
 use Rattle.ring_book.specs.Book.{Keeping}
@@ -47,6 +47,11 @@ accepts_tcp old stream new = AcceptsOne old new
 pub record IsSet (given : Option ℕ) (clock : MachineClock) : Type 0 where
   pub hour : given_hour clock ≡ given
   pub new : told_hour clock ≡ 0
+
+-- A clock that was given this hour to tell, or none, tells this one first.
+abbrev pub TellsHour : Option ℕ → ℕ → Type 0
+TellsHour given hour = (clock later : MachineClock) × IsSet given clock
+    × TellsGiven clock hour later
 
 -- a clock and a book
 abbrev pub Service : Type 0 → Type 0
@@ -135,12 +140,14 @@ module _ {K : Type 0} (g : Keeping K) (Begins Ends : K → Type 0) (given : Opti
         ⊎ ((cause : ServeFault) × (why ≡ serve_fault cause) × StopsLoop cause)
         ⊎ ((why ≡ fault.StoreFault) × LoopsOnce)
 
-    -- A reader that has these bytes left, where they are known, gave an input of no more
-    -- than such a connection carries, and one connection was served.
-    abbrev pub LoopsInput : Option (List ℕ) → Type 0
-    LoopsInput known = (input : List ℕ) × IsShort most_looped known input × LoopsOnce
+    -- A file held an input of no more than such a connection carries, and one connection was served.
+    abbrev pub LoopsInput : (List ℕ → Type 0) → Type 0
+    LoopsInput Holds = (input : List ℕ) × HoldsShort Holds most_looped input × LoopsOnce
 
-    -- This fault ended it: the input wasn't read, and the writer wasn't touched; or one of the rest.
-    abbrev pub FailsToLoopInput : (ProgramFault → Type 0) → Option (List ℕ) → ProgramFault → Type 0
-    FailsToLoopInput Refuses known why = (IsUnread most_looped known why × (later ≡ writer))
+    -- This fault ended it: the file gave no such input, for that fault, and the writer wasn't touched;
+    -- or one of the rest.
+    abbrev pub FailsToLoopInput : (ProgramFault → Type 0) → (ℕ → ProgramFault → Type 0) → ProgramFault
+        → Type 0
+    FailsToLoopInput Refuses IsUnread why =
+        (IsUnread most_looped why × IsFileFault why × (later ≡ writer))
         ⊎ FailsToLoop Refuses why

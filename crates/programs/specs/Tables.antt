@@ -1,49 +1,50 @@
--- Texts of a bounded length, and tables of rows as `import` reads them.
-use Rattle.std.specs.Prelude.{◌≡◌, ◌≤◌, ◌<◌, ⊤, ℕ, List, Option, Some, None, length}
+-- Files that are read, and tables of rows as `import` reads them.
+use Rattle.std.specs.Prelude.{◌≡◌, ◌≤◌, ◌⊎◌, ⊤, ℕ, List, length}
 use Rattle.csv_import.specs.Rows.{AreRows, IsWrong, records_of}
+use Rattle.csv_import.specs.declared.fault.CsvFault.{CsvFault}
 use Rattle.csv_import.specs.declared.fault.CsvFault.TheVariants as csv
 use Rattle.ring_words.specs.declared.device.Row.{Row}
 use Rattle.programs.specs.declared.faults.ProgramFault.{ProgramFault}
 use Rattle.programs.specs.declared.faults.ProgramFault.TheVariants as fault
-use Rattle.programs.specs.declared.importing.TableFault.{TableFault}
-use Rattle.programs.specs.declared.importing.TableFault.TheVariants.{TooLong, Csv}
 
--- A reader that has these bytes left, where they are known, may give this text.
-abbrev pub MayGive : Option (List ℕ) → List ℕ → Type 0
-MayGive None text = ⊤
-MayGive (Some known) text = known ≡ text
-
--- A reader gives this text, of at most so many bytes.
-abbrev pub IsShort : ℕ → Option (List ℕ) → List ℕ → Type 0
-IsShort most known text = MayGive known text × (length text ≤ most)
-
--- A reader has more bytes left than so many, if they are known.
-abbrev pub IsLong : ℕ → Option (List ℕ) → Type 0
-IsLong most None = ⊤
-IsLong most (Some known) = most < length known
-
--- This is why a reader gives no text of at most so many bytes. A read that failed and want of
--- memory say nothing of it.
-abbrev pub IsUnread : ℕ → Option (List ℕ) → ProgramFault → Type 0
-IsUnread most known fault.TooLong = IsLong most known
-IsUnread most known fault.ReadFailed = ⊤
-IsUnread most known fault.NoMemory = ⊤
-IsUnread most known _ = ⊥
+-- The fault is one of a file that is read: it can't be opened, reading it failed, it has too many
+-- bytes, or there is no memory for them.
+abbrev pub IsFileFault : ProgramFault → Type 0
+IsFileFault fault.NoFile = ⊤
+IsFileFault fault.ReadFailed = ⊤
+IsFileFault fault.TooLong = ⊤
+IsFileFault fault.NoMemory = ⊤
+IsFileFault _ = ⊥
 
 -- how many bytes a table of rows has at most
 abbrev pub longest_table : ℕ
 longest_table = 65536
 
--- The text that a reader gives has at most so many bytes, and tells these rows.
-abbrev pub ReadsTable : Option (List ℕ) → List Row → Type 0
-ReadsTable known rows = (text : List ℕ) × IsShort longest_table known text
-    × AreRows (records_of text) rows
+-- A file may hold such a text.
+module _ (Holds : List ℕ → Type 0) where
+  -- The file holds this text, of at most so many bytes.
+  abbrev pub HoldsShort : ℕ → List ℕ → Type 0
+  HoldsShort most text = Holds text × (length text ≤ most)
 
--- This is why the text that a reader gives tells no rows. A read that failed and want of memory say
--- nothing of it.
-abbrev pub IsBadTable : Option (List ℕ) → TableFault → Type 0
-IsBadTable known TooLong = IsLong longest_table known
-IsBadTable known (Csv csv.ReadFailed) = ⊤
-IsBadTable known (Csv csv.NoMemory) = ⊤
-IsBadTable known (Csv why) = (text : List ℕ) × IsShort longest_table known text
-    × IsWrong (records_of text) why
+  -- The text that the file holds is no longer than a table may be, and tells these rows.
+  abbrev pub HoldsTable : List Row → Type 0
+  HoldsTable rows = (text : List ℕ) × HoldsShort longest_table text × AreRows (records_of text) rows
+
+  -- It is no longer, but this is wrong with it.
+  abbrev pub HoldsWrong : CsvFault → Type 0
+  HoldsWrong why = (text : List ℕ) × HoldsShort longest_table text × IsWrong (records_of text) why
+
+-- For such a fault a file gives no text of at most so many bytes.
+module _ (IsUnread : ℕ → ProgramFault → Type 0) where
+  -- This is why a table is told nothing: its file can't be opened, or has too many bytes.
+  abbrev pub IsNoTable : ProgramFault → Type 0
+  IsNoTable why = ((why ≡ fault.NoFile) ⊎ (why ≡ fault.TooLong)) × IsUnread longest_table why
+
+  -- This is what a table is told that tells no rows: that reading its file failed, or what is wrong
+  -- with the text that the file holds. Want of memory says nothing.
+  abbrev pub IsBadTable : (List ℕ → Type 0) → CsvFault → Type 0
+  IsBadTable Holds csv.ReadFailed = IsUnread longest_table fault.ReadFailed
+  IsBadTable Holds csv.NoMemory = ⊤
+  IsBadTable Holds csv.BadHeader = HoldsWrong Holds csv.BadHeader
+  IsBadTable Holds (csv.BadRow row) = HoldsWrong Holds (csv.BadRow row)
+  IsBadTable Holds (csv.BadField row column) = HoldsWrong Holds (csv.BadField row column)

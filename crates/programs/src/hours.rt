@@ -1,16 +1,21 @@
-//! The hour of an import.
-ghost use Rattle.std.specs.Prelude.{◌≡◌, IfSome};
+//! The hours at which programs decide.
+ghost use Rattle.programs.specs.Serving.{IsSet, TellsHour};
 
-use http_sockets::machine_hour;
+use http_api::Clock;
+use http_sockets::HourClock;
 use ring_words::Hour;
-use std::time::Clock;
 
-/// The given hour, or else that of the machine, 0 where it can't tell it.
-pub(crate) fn hour_of<T: Clock>(time: &T, given: Option<Hour>) -> Hour
-    ensures { IfSome given (λ hour. result ≡ hour) }
+/// A clock that tells the given hour, or else that of the machine.
+pub(crate) fn new_clock(rt: &HostRuntime, given: Option<Hour>) -> HourClock<&HostRuntime>
+    ensures { IsSet given result }
 {
-    match given {
-        Some(hour) => hour,
-        None => machine_hour(time).unwrap_or(0),
-    }
+    HourClock::new(rt, given)
+}
+
+/// What such a clock tells first.
+pub(crate) fn hour_of(rt: &HostRuntime, given: Option<Hour>) -> Hour
+    ensures { TellsHour given result }
+{
+    let mut clock = new_clock(rt, given);
+    clock.hour()
 }

@@ -1,7 +1,8 @@
 //! The program `import`: one numbered import of a table.
 ghost use Rattle.std.specs.Prelude.{◌≡◌, ◌≢◌, ◌⊎◌, IfErr, IfOk, string_bytes};
 ghost use Rattle.csv_import.specs.Rows.{AreRows, IsWrong, records_of};
-ghost use Rattle.programs.specs.Tables.{IsBadTable, ReadsTable};
+ghost use Rattle.programs.specs.Tables.{HoldsTable};
+ghost use Rattle.programs.specs.Inner.Forms.{HasNoRows, text_fault};
 ghost use Rattle.byte_streams.specs.declared.fault.StreamFault.TheVariants.{WriteFailed};
 ghost use Rattle.programs.specs.Importing.{AsksImport, FailsTold, Imports, WritesTold};
 ghost use Rattle.programs.specs.Importing.{AnswersImport, FailsToImport, TellsImport};
@@ -11,8 +12,8 @@ ghost use Rattle.programs.specs.Begun.{IsClosed, WasClosed};
 
 use crate::book::open_book;
 use crate::faults::ProgramFault;
+use crate::hours::hour_of;
 use crate::stores::Stores;
-use crate::texts::read_short;
 use builder::{RingMachine, Told, status_of, told_text};
 use byte_streams::{CountedReader, CountedWriter, StreamFault, write_text};
 use csv_import::{CsvFault, read_rows};
@@ -21,7 +22,7 @@ use request_book::Keeper;
 use ring_book::told_of;
 use ring_words::{Act, Caller, Command, Hour, Key, RingName, Row, Rows, read_name, read_number};
 use std::alloc::{AllocError, Global};
-use std::io::{Read, Write};
+use std::io::Write;
 
 /// How many bytes a table may have.
 const MOST_BYTES: u32 = 65536;
@@ -59,9 +60,9 @@ pub(crate) fn ask_import(
 /// Why no rows are read.
 #[derive(Clone, Copy, Debug, PartialEq, Eq)]
 pub(crate) enum TableFault {
-    /// The table has more than 65,536 bytes.
-    TooLong,
-    /// It couldn't be read, or has no rows.
+    /// Its file can't be opened, or has more than 65,536 bytes.
+    Lost(ProgramFault),
+    /// Reading it failed, or it has no rows.
     Csv(CsvFault),
 }
 
@@ -72,20 +73,11 @@ impl From<ProgramFault> for TableFault {
 
     fn from(fault: ProgramFault) -> TableFault {
         match fault {
-            ProgramFault::TooLong => TableFault::TooLong,
+            ProgramFault::NoFile => TableFault::Lost(ProgramFault::NoFile),
+            ProgramFault::TooLong => TableFault::Lost(ProgramFault::TooLong),
             ProgramFault::NoMemory => TableFault::Csv(CsvFault::NoMemory),
             _ => TableFault::Csv(CsvFault::ReadFailed),
         }
-    }
-}
-
-impl From<CsvFault> for TableFault {
-    ghost use Rattle.programs.specs.declared.importing.TableFault.TheVariants.{Csv};
-
-    ghost from_gives = { λ cause fault. fault ≡ Csv cause };
-
-    fn from(fault: CsvFault) -> TableFault {
-        TableFault::Csv(fault)
     }
 }
 
@@ -98,13 +90,28 @@ fn rows_of(alloc: Global, text: &[u8]) -> Result<Vec<Row>, CsvFault>
     read_rows(alloc, &mut CountedReader::new(text))
 }
 
-/// The rows of the table that a reader gives, of at most 65,536 bytes.
-fn read_table<R: Read + Drop>(alloc: Global, reader: R) -> Result<Vec<Row>, TableFault>
-    ensures rows { IfOk result (λ rows. ReadsTable (R.remaining reader) rows.items) }
-    ensures wrong { IfErr result (IsBadTable (R.remaining reader)) }
+/// What the fault of a text is told as. Its reads don't fail, so that one is told as want of memory.
+fn text_fault(fault: CsvFault) -> CsvFault
+    ensures { result ≡ text_fault fault }
 {
-    let text = read_short(alloc, reader, MOST_BYTES)?;
-    Ok(rows_of(alloc, text.as_slice())?)
+    match fault {
+        CsvFault::BadHeader => CsvFault::BadHeader,
+        CsvFault::BadRow(row) => CsvFault::BadRow(row),
+        CsvFault::BadField(row, column) => CsvFault::BadField(row, column),
+        CsvFault::ReadFailed | CsvFault::NoMemory => CsvFault::NoMemory,
+    }
+}
+
+/// The rows of the table in a file, of at most 65,536 bytes.
+fn read_table<S: Stores>(rt: &HostRuntime, csv: &str) -> Result<Vec<Row>, TableFault>
+    ensures rows { IfOk result (λ rows. HoldsTable (S.holds csv.now) rows.items) }
+    ensures wrong { IfErr result (HasNoRows (S.holds csv.now) (S.is_unread csv.now)) }
+{
+    let text = S::read(rt, csv, MOST_BYTES)?;
+    match rows_of(rt.alloc(), text.as_slice()) {
+        Ok(rows) => Ok(rows),
+        Err(fault) => Err(TableFault::Csv(text_fault(fault))),
+    }
 }
 
 /// An answer as a line: its status, a space, its text and a line feed.
@@ -188,43 +195,44 @@ fn deliver_to_store<S: Stores>(
     Ok(told)
 }
 
-/// What the import of a table into a ring of the store is told.
-fn tell_import<S: Stores, R: Read + Drop>(
+/// What the import of the table in a file into a ring of the store is told.
+fn tell_import<S: Stores>(
     rt: &HostRuntime,
     file: &str,
-    table: R,
+    csv: &str,
     ask: ImportAsk,
-    hour: Hour,
+    given: Option<Hour>,
     stores: S,
 ) -> Result<Told, ProgramFault>
     ensures told { IfOk result (TellsImport S.Kept.Keeper (S.begins file.now) (IsClosed S.ends)
-        (R.remaining table) ask hour) }
+        (S.holds csv.now) (S.is_unread csv.now) ask given) }
     ensures fault { IfErr result (TellsNothing S.Kept.Keeper (S.begins file.now) (WasClosed S.ends)
-        (S.refuses file.now) (R.remaining table) ask hour) }
+        (S.holds csv.now) (S.is_unread csv.now) (S.refuses file.now) ask given) }
 {
-    match read_table(rt.alloc(), table) {
-        Ok(rows) => deliver_to_store(rt, file, ask, rows, hour, stores),
-        Err(TableFault::TooLong) => Err(ProgramFault::TooLong),
+    match read_table::<S>(rt, csv) {
+        Ok(rows) => deliver_to_store(rt, file, ask, rows, hour_of(rt, given), stores),
+        Err(TableFault::Lost(fault)) => Err(fault),
         Err(TableFault::Csv(fault)) => Ok(told_csv(fault)),
     }
 }
 
-/// Imports the table that a reader gives into a ring of the store, as one numbered
-/// request, and writes what that is told. Answers the status that was written.
-pub(crate) fn import_table<S: Stores, R: Read + Drop, W: Write>(
+/// Imports the table in a CSV file into a ring of the store, as one numbered request, and writes
+/// what that is told. Answers the status that was written.
+pub(crate) fn import_table<S: Stores, W: Write>(
     rt: &HostRuntime,
     file: &str,
-    table: R,
+    csv: &str,
     ask: ImportAsk,
-    hour: Hour,
+    given: Option<Hour>,
     writer: &mut CountedWriter<W>,
     stores: S,
 ) -> Result<u16, ProgramFault>
     ensures answered { IfOk result (AnswersImport S.Kept.Keeper (S.begins file.now) (IsClosed S.ends)
-        W.contents writer.old writer.new (R.remaining table) ask hour) }
+        (S.holds csv.now) (S.is_unread csv.now) W.contents writer.old writer.new ask given) }
     ensures failed { IfErr result (FailsToImport S.Kept.Keeper (S.begins file.now) (WasClosed S.ends)
-        W.contents writer.old writer.new (S.refuses file.now) (R.remaining table) ask hour) }
+        (S.holds csv.now) (S.is_unread csv.now) W.contents writer.old writer.new (S.refuses file.now)
+        ask given) }
 {
-    let told = tell_import(rt, file, table, ask, hour, stores)?;
+    let told = tell_import(rt, file, csv, ask, given, stores)?;
     Ok(write_told(rt.alloc(), writer, &told)?)
 }

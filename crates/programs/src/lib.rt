@@ -19,7 +19,6 @@ mod renewing;
 mod serving;
 mod showing;
 mod stores;
-mod texts;
 
 pub use faults::ProgramFault;
 pub use lines::MemoryKeeper;

@@ -1,23 +1,18 @@
 //! What the program does over three streams.
-ghost use Rattle.std.specs.Prelude.{◌≡◌, ◌⊎◌, ◌≤◌, Err, IfErr, IfOk, None, Ok, OnOk, map};
+ghost use Rattle.std.specs.Prelude.{◌≡◌, ◌⊎◌, ◌≤◌, Err, IfErr, IfOk, Ok, OnOk, map};
 ghost use Rattle.std.specs.Prelude.{string_bytes};
 ghost use Rattle.command_line.specs.Tasks.{AskForNothing};
-ghost use Rattle.programs.specs.Begun.{IsClosed};
-ghost use Rattle.programs.specs.Serving.{LoopsInput};
-ghost use Rattle.programs.specs.Showing.{AsksShown, HasBadWord, IsFormFault, IsPathless};
 ghost use Rattle.programs.specs.Performed.{DoesAsked, EndsBy, EndsSo, FailsAsked, FailsSo};
-ghost use Rattle.programs.specs.Performed.{FailsToImportFile, FailsToLoopFile, FailsToRun};
+ghost use Rattle.programs.specs.Performed.{FailsToImportFile, FailsToRun};
 ghost use Rattle.programs.specs.Performed.{FailsToShowStore, ImportsFile, Runs, ShowsStore};
-ghost use Rattle.programs.specs.Inner.Showing.{IsShowing, prefix_asked, shown_file};
-ghost use Rattle.programs.specs.Inner.Showing.{suffix_asked};
+ghost use Rattle.programs.specs.Inner.Showing.{FailsToShowTask, IsShowing, ShowsTask};
 ghost use Rattle.programs.specs.declared.performing.Ending.TheVariants.{Done};
 
 use crate::faults::{ProgramFault, tell_fault};
-use crate::hours::hour_of;
 use crate::importing::{ImportAsk, ask_import, import_table};
 use crate::lines::{MemoryKeeper, run_over_memory, run_over_store};
 use crate::renewing::renew_store;
-use crate::serving::{loop_reader, serve_store};
+use crate::serving::{loop_file, serve_store};
 use crate::showing::{ask_nodes, ask_published, ask_tables, show};
 use crate::stores::Stores;
 use builder::RingMachine;
@@ -27,7 +22,6 @@ use path_lookup::HashNames;
 use request_book::Keeper;
 use ring_reads::Question;
 use ring_words::Hour;
-use std::fs::File;
 use std::io::{Read, Write};
 
 /// The status of what was done.
@@ -99,14 +93,9 @@ fn show_task<S: Stores, W: Write>(
 ) -> Result<Ending, ProgramFault>
     requires { IsShowing task.now }
     ensures done { IfOk result (λ ending. (ending ≡ Done)
-        × ShowsStore S.Kept.Keeper (S.begins (shown_file task.now)) S.ends W.contents writer.old
-        writer.new
-        (prefix_asked task.now) (suffix_asked task.now) (AsksShown task.now)) }
-    ensures failed { IfErr result (λ why. (IsFormFault (HasBadWord task.now) (IsPathless task.now) why
-        × (writer.new ≡ writer.old))
-        ⊎ FailsToShowStore S.Kept.Keeper (S.begins (shown_file task.now)) S.ends W.contents writer.old
-        writer.new (S.refuses (shown_file task.now)) (prefix_asked task.now) (suffix_asked task.now)
-        (AsksShown task.now) why) }
+        × ShowsTask S.Kept.Keeper S.begins S.ends W.contents writer.old writer.new task.now) }
+    ensures failed { IfErr result (FailsToShowTask S.Kept.Keeper S.begins S.ends W.contents writer.old
+        writer.new S.refuses task.now) }
 {
     let alloc = rt.alloc();
     match task {
@@ -155,42 +144,19 @@ fn import<S: Stores, W: Write>(
     stores: S,
 ) -> Result<Ending, ProgramFault>
     ensures ended { IfOk result (λ ending. ImportsFile S.Kept.Keeper (S.begins file.now) S.ends
-        W.contents writer.old writer.new (λ ask. asked ≡ Ok ask) given (EndsBy ending)) }
+        W.contents writer.old writer.new (S.holds csv.now) (S.is_unread csv.now)
+        (λ ask. asked ≡ Ok ask) given (EndsBy ending)) }
     ensures failed { IfErr result (λ why. ((asked ≡ Err why) × (writer.new ≡ writer.old))
         ⊎ FailsToImportFile S.Kept.Keeper (S.begins file.now) S.ends W.contents writer.old writer.new
-        (S.refuses file.now) (λ ask. asked ≡ Ok ask) given why) }
+        (S.holds csv.now) (S.is_unread csv.now) (S.refuses file.now) (λ ask. asked ≡ Ok ask) given
+        why) }
 {
     let ask = asked?;
-    let Ok(table) = File::open(rt, csv) else {
-        return Err(ProgramFault::NoFile);
-    };
-    let hour = hour_of(rt, given);
-    if import_table(rt, file, table, ask, hour, writer, stores)? == DONE {
+    if import_table(rt, file, csv, ask, given, writer, stores)? == DONE {
         Ok(Ending::Done)
     } else {
         Ok(Ending::Refused)
     }
-}
-
-/// Answers the bytes of a file as those of one connection, over a store.
-fn loop_bytes<S: Stores, W: Write>(
-    rt: &HostRuntime,
-    file: &str,
-    input: &str,
-    given: Option<Hour>,
-    names: HashNames<'_>,
-    writer: &mut CountedWriter<W>,
-    stores: S,
-) -> Result<(), ProgramFault>
-    ensures done { OnOk result (LoopsInput S.Kept.Keeper (S.begins file.now) (IsClosed S.ends) given
-        names.entry W.contents writer.old writer.new None) }
-    ensures failed { IfErr result (FailsToLoopFile S.Kept.Keeper (S.begins file.now) S.ends W.contents
-        writer.old writer.new (S.refuses file.now) given names.entry) }
-{
-    let Ok(input) = File::open(rt, input) else {
-        return Err(ProgramFault::NoFile);
-    };
-    loop_reader(rt, file, input, given, names, writer, stores)
 }
 
 /// Does a task.
@@ -202,11 +168,11 @@ fn perform_task<S: Stores, R: Read, W: Write>(
     stores: S,
 ) -> Result<Ending, ProgramFault>
     ensures ended { IfOk result (EndsSo ⟦<MemoryKeeper as Keeper<RingMachine>>⟧ S.Kept.Keeper
-        S.begins S.ends R.remaining W.contents reader.old reader.new writer.old writer.new S.is_made
-        task.now) }
+        S.begins S.ends R.remaining W.contents reader.old reader.new writer.old writer.new S.holds
+        S.is_unread S.is_made task.now) }
     ensures failed { IfErr result (FailsSo ⟦<MemoryKeeper as Keeper<RingMachine>>⟧ S.Kept.Keeper
-        S.begins S.ends R.remaining W.contents reader.old reader.new writer.old writer.new S.refuses
-        S.is_unmade task.now) }
+        S.begins S.ends R.remaining W.contents reader.old reader.new writer.old writer.new S.holds
+        S.is_unread S.refuses S.is_unmade task.now) }
 {
     let alloc = rt.alloc();
     match task {
@@ -230,7 +196,7 @@ fn perform_task<S: Stores, R: Read, W: Write>(
             hour,
             names,
         } => {
-            loop_bytes(rt, *file, *input, *hour, *names, writer, stores)?;
+            loop_file(rt, *file, *input, *hour, *names, writer, stores)?;
             Ok(Ending::Done)
         }
         Task::Table { .. } | Task::Nodes { .. } | Task::Export { .. } => {
@@ -270,10 +236,12 @@ pub fn perform<S: Stores, R: Read, W: Write, E: Write>(
 ) -> u8
     ensures status { result ≤ 2 }
     ensures done { result ≡ 0 → DoesAsked ⟦<MemoryKeeper as Keeper<RingMachine>>⟧ S.Kept.Keeper
-        S.begins S.ends S.is_made R.remaining W.contents E.contents (map string_bytes words.now)
+        S.begins S.ends S.holds S.is_unread S.is_made R.remaining W.contents E.contents
+        (map string_bytes words.now)
         reader.old reader.new writer.old writer.new errors.old errors.new }
     ensures fault { result ≡ 1 → FailsAsked ⟦<MemoryKeeper as Keeper<RingMachine>>⟧ S.Kept.Keeper
-        S.begins S.ends S.is_made R.remaining W.contents E.contents (map string_bytes words.now)
+        S.begins S.ends S.holds S.is_unread S.is_made R.remaining W.contents E.contents
+        (map string_bytes words.now)
         reader.old reader.new writer.old writer.new errors.old errors.new S.refuses S.is_unmade }
     ensures nothing { result ≡ 2 → AskForNothing (map string_bytes words.now)
         × (reader.new ≡ reader.old) × (writer.new ≡ writer.old) }

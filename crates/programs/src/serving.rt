@@ -1,29 +1,21 @@
 //! The programs `serve` and `loop`: requests of HTTP over sockets of this machine.
 ghost use Rattle.std.specs.Prelude.{◌≡◌, MatchResult, IfErr, OnOk};
 ghost use Rattle.http_sockets.specs.declared.fault.ServeFault.TheVariants.{NetFailed};
-ghost use Rattle.programs.specs.Serving.{IsSet, LoopsOnce, ServesConnections, ServesFewer};
-ghost use Rattle.programs.specs.Serving.{StopsLoop, FailsToLoop, FailsToLoopInput};
-ghost use Rattle.programs.specs.Serving.{FailsToServe, LoopsInput};
+ghost use Rattle.programs.specs.Serving.{FailsToLoop, FailsToLoopInput, FailsToServe, LoopsInput};
+ghost use Rattle.programs.specs.Serving.{LoopsOnce, ServesConnections, ServesFewer, StopsLoop};
 ghost use Rattle.programs.specs.Begun.{IsClosed, WasClosed};
 
 use crate::book::open_book;
 use crate::faults::ProgramFault;
+use crate::hours::new_clock;
 use crate::stores::Stores;
-use crate::texts::read_short;
 use builder::RingMachine;
 use byte_streams::CountedWriter;
-use http_sockets::{HourClock, MOST_LOOPED, Ports, ServeFault, loop_over, serve_connections};
+use http_sockets::{MOST_LOOPED, Ports, ServeFault, loop_over, serve_connections};
 use path_lookup::HashNames;
 use request_book::Keeper;
 use ring_words::{Hour, Port};
-use std::io::{Read, Write};
-
-/// A clock that tells the given hour, or else that of the machine.
-fn new_clock(rt: &HostRuntime, given: Option<Hour>) -> HourClock<&HostRuntime>
-    ensures { IsSet given result }
-{
-    HourClock::new(rt, given)
-}
+use std::io::Write;
 
 /// Serves connections of a port over what a keeper holds, and gives the keeper back.
 fn serve_port<P: Ports, K: Keeper<RingMachine>>(
@@ -117,22 +109,23 @@ fn loop_store<S: Stores, W: Write>(
     closed
 }
 
-/// Serves the bytes that a reader gives, at most 32,768, as those of one connection over a store,
-/// and writes the answers.
-pub(crate) fn loop_reader<S: Stores, R: Read + Drop, W: Write>(
+/// Serves the bytes of a file, at most 32,768, as those of one connection over a store, and writes
+/// the answers.
+pub(crate) fn loop_file<S: Stores, W: Write>(
     rt: &HostRuntime,
     file: &str,
-    input: R,
+    input: &str,
     given: Option<Hour>,
     names: HashNames<'_>,
     writer: &mut CountedWriter<W>,
     stores: S,
 ) -> Result<(), ProgramFault>
     ensures looped { OnOk result (LoopsInput S.Kept.Keeper (S.begins file.now) (IsClosed S.ends) given
-        names.entry W.contents writer.old writer.new (R.remaining input)) }
+        names.entry W.contents writer.old writer.new (S.holds input.now)) }
     ensures failed { IfErr result (FailsToLoopInput S.Kept.Keeper (S.begins file.now) (WasClosed S.ends)
-        given names.entry W.contents writer.old writer.new (S.refuses file.now) (R.remaining input)) }
+        given names.entry W.contents writer.old writer.new (S.refuses file.now)
+        (S.is_unread input.now)) }
 {
-    let input = read_short(rt.alloc(), input, MOST_LOOPED as u32)?;
-    loop_store(rt, file, &input, given, names, writer, stores)
+    let bytes = S::read(rt, input, MOST_LOOPED as u32)?;
+    loop_store(rt, file, &bytes, given, names, writer, stores)
 }

@@ -1,7 +1,9 @@
-//! Where the programs find the stores that words name.
-ghost use Rattle.std.specs.Prelude.{◌≡◌, ℕ, IfErr, IfOk, List, OnOk};
+//! Where the programs find the stores and the files that words name.
+ghost use Rattle.std.specs.Prelude.{◌≡◌, ◌≤◌, ℕ, IfErr, IfOk, List, OnOk, length};
 ghost use Rattle.builder.specs.Step.{State};
+ghost use Rattle.ring_words.specs.Limits.{most_numbers};
 ghost use Rattle.programs.specs.Begun.{Closing, IsStoreFault};
+ghost use Rattle.programs.specs.Tables.{IsFileFault};
 ghost use Rattle.programs.specs.declared.faults.ProgramFault.{ProgramFault};
 ghost use Rattle.programs.specs.declared.faults.ProgramFault.TheVariants.{StoreFault};
 
@@ -11,7 +13,8 @@ use request_book::Keeper;
 use ring_model::Rings;
 use ring_words::Hour;
 
-/// The stores that words name. One that is opened is a keeper, which is closed in the end.
+/// The stores that words name, and the files that they name besides. A store that is opened is a
+/// keeper, which is closed in the end.
 pub trait Stores: Drop {
     /// The keeper of a store that was opened.
     type Kept: Keeper<RingMachine>;
@@ -32,6 +35,12 @@ pub trait Stores: Drop {
     /// Making a store of this name, of these rings and this hour, failed so.
     ghost is_unmade: { List ℕ → State → ℕ → ProgramFault → Type 0 };
 
+    /// The file of this name gave this text.
+    ghost holds: { List ℕ → List ℕ → Type 0 };
+
+    /// The file of this name gave no text of at most so many bytes, for this fault.
+    ghost is_unread: { List ℕ → ℕ → ProgramFault → Type 0 };
+
     /// Opens the store of this name, and makes it where it is missing.
     fn open(self, rt: &HostRuntime, name: &str) -> Result<Self::Kept, ProgramFault>
         ensures begins { IfOk result (begins name.now) }
@@ -50,4 +59,15 @@ pub trait Stores: Drop {
         ensures made { OnOk result (is_made name.now rings hour) }
         ensures unmade { IfErr result (is_unmade name.now rings hour) }
         ensures fault { IfErr result IsStoreFault };
+
+    /// The text of the file of this name, which is read to its end: at most so many bytes.
+    fn read(rt: &HostRuntime, name: &str, most: u32) -> Result<Vec<u8>, ProgramFault>
+        ensures text { IfOk result (λ text. holds name.now text.items) }
+        ensures short { IfOk result (λ text. length text.items ≤ most) }
+        ensures unread { IfErr result (is_unread name.now most) }
+        ensures fault { IfErr result IsFileFault };
+
+    /// A store that is opened has not failed, and keeps 100,000 requests.
+    ghost opens_whole: { (name : List ℕ) (keeper : Self.Kept) → begins name keeper
+        → (Self.Kept.fault_count keeper ≡ 0) × (Self.Kept.limit keeper ≡ most_numbers) };
 }

@@ -1,12 +1,12 @@
 -- What one call is answered and leaves: a run of that call alone, said without lists of calls.
-use Rattle.std.specs.Prelude.{◌++◌, ◌<◌, ◌≡◌, ◌∷◌, ◌⊎◌, Bool, Err, MatchOption, None, Ok, []}
-use Rattle.std.specs.Prelude.{length, max, ℕ}
+use Rattle.std.specs.Prelude.{◌++◌, ◌<◌, ◌≡◌, ◌∷◌, ◌⊎◌, ◌||◌, Bool, Err, List, MatchOption, None, Ok}
+use Rattle.std.specs.Prelude.{[], is_some, length, max, ℕ}
 use Rattle.ring_words.specs.declared.request.Delivery.{Delivery}
 use Rattle.request_book.specs.declared.book.Fault.TheVariants.{BookFull, Closed, NoMemory}
 use Rattle.request_book.specs.declared.book.Fault.TheVariants.{NumberReused, StoreFault}
-use Rattle.request_book.specs.Call.{Call, Deliver, Load}
+use Rattle.request_book.specs.Call.{Call, Deliver, Load, failed}
 use Rattle.request_book.specs.Content.{Content, entry_of}
-use Rattle.request_book.specs.Run.{MayAnswer}
+use Rattle.request_book.specs.Run.{MayAnswer, Run}
 
 -- The new content is the old one after this delivery's step at the greater of the hours, with its
 -- entry.
@@ -43,3 +43,10 @@ pub record Called {S C R : Type 0} (step : S → ℕ → C → R → S → Type 
     (old : Content S C R) (call : Call C R) (new : Content S C R) : Type 0 where
   pub may : MayAnswer limit closed old.book call
   pub leaves : LeavesContent step limit old call new
+
+-- A run goes on by any call that is made next.
+abbrev pub RunsGoOn : {S C R : Type 0} → (S → ℕ → C → R → S → Type 0) → Type 0
+RunsGoOn {S} {C} {R} step = (limit : ℕ) (closed : Bool) (old mid new : Content S C R)
+    (calls : List (Call C R)) (call : Call C R) → Run step limit closed old calls mid →
+    Called step limit (closed || is_some (failed calls)) mid call new →
+    Run step limit closed old (calls ++ call ∷ []) new

@@ -35,6 +35,12 @@ module _ {M S C R K : Type 0} (step : M → S → ℕ → C → R → S → Type
     pub run : sound new.keeper → Run (step old.machine) (limit old.keeper) (is_closed old)
         (content old.keeper) calls (content new.keeper)
 
+  -- The calls so far and one more are the calls that were made in all.
+  abbrev pub CallsGoOn : Type 0
+  CallsGoOn = (start mid new : Parts M K) (calls : List (Call C R)) (asked : Option (Call C R)) →
+      CallsMade start mid calls → CallMade mid new asked →
+      CallsMade start new (calls ++ option_to_list asked)
+
   -- the state that a call finds where one book becomes the other: the one that the first holds
   abbrev pub Finds : Parts M K → Parts M K → S → Type 0
   Finds old new state = sound new.keeper → state ≡ (content old.keeper).state

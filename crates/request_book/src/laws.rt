@@ -1,11 +1,10 @@
 //! What follows from the definitions alone.
-ghost use Rattle.std.specs.Prelude.{◌++◌, ◌∷◌, ◌||◌, [], Bool, List, Option, is_some, ℕ};
-ghost use Rattle.std.specs.Option.{option_to_list};
+ghost use Rattle.std.specs.Prelude.{[], Bool, List, ℕ};
 ghost use Rattle.request_book.specs.Book.{Parts};
-ghost use Rattle.request_book.specs.Call.{Call, failed};
-ghost use Rattle.request_book.specs.Called.{Called};
+ghost use Rattle.request_book.specs.Call.{Call};
+ghost use Rattle.request_book.specs.Called.{RunsGoOn};
 ghost use Rattle.request_book.specs.Content.{Content};
-ghost use Rattle.request_book.specs.Front.{CallMade, CallsMade};
+ghost use Rattle.request_book.specs.Front.{CallsGoOn, CallsMade};
 ghost use Rattle.request_book.specs.Run.{AnswersAlike, Run};
 
 use crate::keeper::Keeper;
@@ -15,11 +14,7 @@ use crate::machine::Machine;
 /// deliveries of a book are one run.
 #[tactic(auto, using(crate::proofs::Runs::run_snoc))]
 pub fn run_goes_on<M: Machine>()
-    ensures { (machine : M) (limit : ℕ) (closed : Bool) (old mid new : Content M.State M.Command
-        M.Reply) (calls : List (Call M.Command M.Reply)) (call : Call M.Command M.Reply) →
-        Run (M.step machine) limit closed old calls mid → Called (M.step machine) limit (closed ||
-        is_some (failed calls)) mid call new → Run (M.step machine) limit closed old (calls ++
-        call ∷ []) new }
+    ensures { (machine : M) → RunsGoOn (M.step machine) }
 {}
 
 /// In every run two replies to one key are one reply, to one command.
@@ -34,8 +29,5 @@ pub fn replies_are_alike<M: Machine>()
 pub fn calls_go_on<M: Machine, K: Keeper<M>>()
     ensures none { (book : Parts M K) → CallsMade M.step K.content K.sound K.limit K.fault_count
         book book [] }
-    ensures more { (start mid new : Parts M K) (calls : List (Call M.Command M.Reply))
-        (asked : Option (Call M.Command M.Reply))
-        → CallsMade M.step K.content K.sound K.limit K.fault_count start mid calls → CallMade M.step K.content K.sound K.limit K.fault_count mid new asked
-        → CallsMade M.step K.content K.sound K.limit K.fault_count start new (calls ++ option_to_list asked) }
+    ensures more { CallsGoOn M.step K.content K.sound K.limit K.fault_count }
 {}

@@ -1,5 +1,5 @@
 -- What a book tells of what is read of rings.
-use Rattle.std.specs.Prelude.{◌≡◌, ℕ, Err, List, Ok, Result}
+use Rattle.std.specs.Prelude.{◌≡◌, ℕ, Err, List, MatchResult, Ok, Result}
 use Rattle.builder.specs.Step.{State}
 use Rattle.request_book.specs.declared.book.Fault.{Fault}
 use Rattle.ring_messages.specs.declared.told.Told.{Told}
@@ -27,3 +27,10 @@ abbrev pub ReadTells : (State → ℕ → Type 0) → Question → Result (Unit 
 ReadTells Finds question (Ok ready) t =
     (rings : State) × (hour : ℕ) × Finds rings hour × TellsHidden rings question t
 ReadTells Finds question (Err fault) t = t ≡ told_fault fault
+
+-- So a question whose call was answered like this comes out: with bytes, or with what is told.
+abbrev pub IsReadAs : (State → ℕ → Type 0) → List ℕ → List ℕ → Question →
+    Result (Unit {0}) Fault → {A : Type 0} → Result A Told → (A → List ℕ) → Type 0
+IsReadAs Finds prefix suffix question answer result bytes_of = MatchResult result
+    (λ shown. ReadShows Finds prefix suffix question answer (bytes_of shown))
+    (λ told. ReadTells Finds question answer told)

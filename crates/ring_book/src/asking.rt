@@ -3,7 +3,7 @@ ghost use Rattle.std.specs.Prelude.{IfOk, IsUtf8, MatchResult, Result, Some};
 ghost use Rattle.request_book.specs.Call.{Load};
 ghost use Rattle.request_book.specs.declared.book.Fault.{Fault};
 ghost use Rattle.ring_book.specs.Book.{Delivers, Found, Made};
-ghost use Rattle.ring_book.specs.Reads.{ReadShows, ReadTells, TellsHidden};
+ghost use Rattle.ring_book.specs.Reads.{IsReadAs, TellsHidden};
 ghost use Rattle.ring_reads.specs.Reads.{IsText, Shows};
 
 use crate::telling::{told_fault, told_hidden, told_of};
@@ -60,11 +60,8 @@ pub fn read<K: Keeper<RingMachine>>(
 ) -> Result<Vec<u8>, Told>
     ensures told { (answer : Result (Unit {0}) Fault)
         × Made K.Keeper book.old book.new (Some (Load answer))
-        × MatchResult result
-        (λ bytes. ReadShows (Found K.Keeper book.old book.new)
-        names.entry.prefix.now names.entry.suffix.now question.now answer bytes.items)
-        (λ told. ReadTells (Found K.Keeper book.old book.new)
-        question.now answer told) }
+        × IsReadAs (Found K.Keeper book.old book.new) names.entry.prefix.now
+        names.entry.suffix.now question.now answer result (λ bytes. bytes.items) }
     // What is shown is text, unless it is a file of Swift's.
     ensures text { IfOk result (λ bytes. IsText question.now.read → IsUtf8 bytes.items) }
 {

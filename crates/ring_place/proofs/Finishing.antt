@@ -4,4 +4,5 @@ pub mod FinishedRing
 pub mod DealtRing
 pub mod DealtSeats
 pub mod FirstApart
+pub mod SettledRing
 pub mod UnchangedRing

@@ -13,3 +13,4 @@ pub mod ApartFirst
 pub mod ApartRing
 pub mod LaterPasses
 pub mod NoSurplus
+pub mod NoneOver

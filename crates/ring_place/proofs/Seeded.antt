@@ -9,7 +9,7 @@ use Rattle.ring_share.proofs.Determined.{same_wants}
 use Rattle.ring_room.specs.Load.{Load}
 use Rattle.ring_place.specs.Made.{Gathering, Placing, all_placed, left_of, order_of}
 use Rattle.ring_deal.specs.Draws.{draws_of}
-use Rattle.ring_place.specs.Made.{dealt_rows, is_dealt, put_rows, placed_after, rebalanced_rows}
+use Rattle.ring_place.specs.Made.{dealt_rows, is_dealt, is_settled, put_rows, placed_after, rebalanced_rows}
 use Rattle.ring_deal.specs.Draws.{shuffled}
 use Rattle.ring_place.specs.Seeded.{IsSeeded, rebalanced}
 
@@ -36,12 +36,22 @@ seeded_rows ring wanted hour seed first second items draws from count load seats
 pub rebalanced_dealt : (ring : RingRecord) (wanted : List ℕ) (hour seed : ℕ) → is_dealt ring wanted ≡
     true → dealt_rows ring wanted seed ≡ rebalanced_rows ring wanted hour seed
 rebalanced_dealt ring wanted hour seed is = sym (ap (λ b. if b then dealt_rows ring wanted seed else
-    put_rows ring wanted hour seed) is)
+    (if is_settled ring wanted then rows_of ring else put_rows ring wanted hour seed)) is)
 
 pub rebalanced_moved : (ring : RingRecord) (wanted : List ℕ) (hour seed : ℕ) → is_dealt ring wanted ≡
-    false → put_rows ring wanted hour seed ≡ rebalanced_rows ring wanted hour seed
-rebalanced_moved ring wanted hour seed is = sym (ap (λ b. if b then dealt_rows ring wanted seed else
-    put_rows ring wanted hour seed) is)
+    false → is_settled ring wanted ≡ false → put_rows ring wanted hour seed ≡ rebalanced_rows ring
+    wanted hour seed
+rebalanced_moved ring wanted hour seed is moves =
+    sym (ap (λ b. if b then dealt_rows ring wanted seed else (if is_settled ring wanted then
+    rows_of ring else put_rows ring wanted hour seed)) is
+    ∙ ap (λ b. if b then rows_of ring else put_rows ring wanted hour seed) moves)
+
+pub rebalanced_settled : (ring : RingRecord) (wanted : List ℕ) (hour seed : ℕ) → is_dealt ring wanted ≡
+    false → is_settled ring wanted ≡ true → rows_of ring ≡ rebalanced_rows ring wanted hour seed
+rebalanced_settled ring wanted hour seed is rests =
+    sym (ap (λ b. if b then dealt_rows ring wanted seed else (if is_settled ring wanted then
+    rows_of ring else put_rows ring wanted hour seed)) is
+    ∙ ap (λ b. if b then rows_of ring else put_rows ring wanted hour seed) rests)
 
 -- a seed gives one ring
 pub one_seeded : (old one other : RingRecord) (hour seed : ℕ) → IsSeeded old hour seed one →

@@ -607,6 +607,12 @@ dealt_rows ring wanted seed = rows_of (record ring {
   seats = dealt_seats ring.devices wanted ring.power ring.replicas (draws_of seed);
 })
 
+-- whether nothing is gathered: each seat has a device, none is marked to be removed, and none has
+-- room
+abbrev pub is_settled : RingRecord → List ℕ → Bool
+is_settled ring wanted = is_assigned ring && (not (list_any (λ device. device.removed) ring.devices) &&
+    not (nat_lt 0 (length (roomy_places (load_of ring wanted)))))
+
 -- the seats once those that were gathered are put
 abbrev pub put_rows : RingRecord → List ℕ → ℕ → ℕ → List (List (Option ℕ))
 put_rows ring wanted hour seed = (placed_after ring (order_of ring seed)
@@ -614,5 +620,5 @@ put_rows ring wanted hour seed = (placed_after ring (order_of ring seed)
 
 -- the seats that a rebalance gives
 abbrev pub rebalanced_rows : RingRecord → List ℕ → ℕ → ℕ → List (List (Option ℕ))
-rebalanced_rows ring wanted hour seed = if is_dealt ring wanted then
-    dealt_rows ring wanted seed else put_rows ring wanted hour seed
+rebalanced_rows ring wanted hour seed = if is_dealt ring wanted then dealt_rows ring wanted seed else
+    (if is_settled ring wanted then rows_of ring else put_rows ring wanted hour seed)

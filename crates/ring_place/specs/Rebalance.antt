@@ -254,3 +254,9 @@ Leaves old new partition replica = IsSeat old partition replica ×
 pub record IsAtRest (ring : RingRecord) (wanted : List ℕ) (partition replica id : ℕ) : Type 0 where
   pub uncrowded : has_less_crowded ring wanted partition replica id ≡ false
   pub no_surplus : has_free ring wanted partition ≡ true → have ring id ≤ want_of ring wanted id
+
+-- Each seat of a partition that isn't locked is at rest.
+abbrev pub UnlockedAreAtRest : RingRecord → ℕ → List ℕ → Type 0
+UnlockedAreAtRest ring hour wanted = (partition replica id : ℕ) → IsSeat ring partition replica →
+    is_locked ring hour partition ≡ false → seat ring partition replica ≡ Some id →
+    IsAtRest ring wanted partition replica id

@@ -1,5 +1,5 @@
 //! Which seats are gathered: each is lifted, which leaves it empty.
-ghost use Rattle.std.specs.Prelude.{◌≡◌, ◌≢◌, ◌<◌, ◌≤◌, ℕ, true, length, map, IfOk};
+ghost use Rattle.std.specs.Prelude.{◌≡◌, ◌≢◌, ◌<◌, ◌≤◌, ℕ, true, false, length, map, IfOk, slice_set};
 ghost use Rattle.ring_words.specs.Limits.{most_replicas};
 ghost use Rattle.std.specs.List.{list_any, range_with_len};
 ghost use Rattle.std.specs.List.Sorted.{IsPermutation};
@@ -12,8 +12,10 @@ ghost use Rattle.ring_place.specs.Rebalance.{is_recent};
 ghost use Rattle.ring_room.specs.Rows.{AreKnown};
 ghost use Rattle.ring_room.specs.Free.{has_free_in};
 ghost use Rattle.ring_place.specs.Inner.Gathering.{present_only, Takes, Falls};
-ghost use Rattle.ring_place.specs.Made.{is_lost_in};
-ghost use Rattle.ring_place.specs.Inner.Gathering.{IsFirst, IsLifting, IsPass};
+ghost use Rattle.ring_place.specs.Made.{is_lost_in, row_at};
+ghost use Rattle.ring_place.specs.Inner.Gathering.{IsFirst, IsLifting, IsPass, IsRoomOf, is_over_in};
+ghost use Rattle.ring_model.specs.Valid.{IsValid};
+ghost use Rattle.ring_share.specs.Crowd.{rows_of};
 ghost use Rattle.ring_place.specs.Inner.Gathering.{AreLater, AreRowsOfSeats, IsFilled, IsGathered};
 ghost use Rattle.ring_place.specs.Inner.Gathering.{gathered_in};
 ghost use Rattle.ring_place.specs.Made.{first_lifting, has_surplus, later_lifting, left_of, lifting};
@@ -23,7 +25,6 @@ use crate::seats::{Seats, has_empty, row_copy};
 use crate::surplus::{lift_best, may_leave};
 use ring_model::Ring;
 use ring_room::{Room, devices_on};
-use ring_share::wanted;
 use ring_words::{DeviceId, Hour};
 use std::alloc::{AllocError, Global};
 
@@ -82,6 +83,25 @@ fn lift_lost(kept: &mut Room, row: &mut [Option<DeviceId>])
     }
 }
 
+/// Whether the first pass may lift seats of a partition: it has a lost one, or it isn't locked and may
+/// have some that leave.
+fn may_lift_first(was: &Room, kept: &Room, locked: bool, row: &[Option<DeviceId>]) -> bool
+    requires same { kept.now.devices ≡ was.now.devices }
+    requires row { AreKnown was.now.devices row.now }
+    requires few { length row.now ≤ most_replicas }
+    ensures rests { result ≡ false → IsFirst was.now locked row.now row.now }
+    ensures by_name { result ≡ false → record { load = kept.now; row = row.now } ≡ first_lifting
+        was.now kept.now locked row.now }
+{
+    if has_lost(kept, row) {
+        return true;
+    }
+    if locked {
+        return false;
+    }
+    may_leave(was, row)
+}
+
 /// The first pass at a partition: lifts its lost seats or, if it has none and isn't locked, one on a
 /// device that wants nothing, while some device outside has room, or else one for which such a
 /// device is less crowded. Of several it is the one whose device keeps most above its want.
@@ -99,11 +119,35 @@ fn gather_first(was: &Room, kept: &mut Room, locked: bool, row: &mut [Option<Dev
 {
     if has_lost(kept, row) {
         lift_lost(kept, row);
-    } else if !locked && may_leave(was, row) {
+    } else if !locked {
         if let Some(device) = lift_best(Pass::First, was, kept, row) {
             kept.take(device);
         }
     }
+}
+
+/// Whether a seat is on a device that keeps more than it wants.
+fn is_over(kept: &Room, seat: Option<DeviceId>) -> bool
+    requires seat { ForSome seat (λ id. has_device id kept.now.devices ≡ true) }
+    ensures { result ≡ is_over_in kept.now seat }
+{
+    match seat {
+        None => false,
+        Some(device) => kept.is_over(device),
+    }
+}
+
+/// Whether a partition has such a seat.
+fn has_over(kept: &Room, row: &[Option<DeviceId>]) -> bool
+    requires row { AreKnown kept.now.devices row.now }
+    ensures { result ≡ list_any (is_over_in kept.now) row.now }
+{
+    for seat in row {
+        if is_over(kept, *seat) {
+            return true;
+        }
+    }
+    false
 }
 
 /// A pass after the first at a partition: if nothing was lifted from it, it isn't locked and a
@@ -167,6 +211,56 @@ fn gather_row(pass: Pass, was: &Room, kept: &mut Room, locked: bool, row: &mut [
     }
 }
 
+/// Whether a partition may have seats that a pass lifts. Mostly it shows at a glance that it has
+/// none.
+fn may_lift(pass: Pass, was: &Room, kept: &Room, locked: bool, row: &[Option<DeviceId>]) -> bool
+    requires same { kept.now.devices ≡ was.now.devices }
+    requires row { AreKnown was.now.devices row.now }
+    requires few { length row.now ≤ most_replicas }
+    ensures rests { result ≡ false → IsLifting pass was.now kept.now locked row.now row.now }
+    ensures by_name { result ≡ false → record { load = kept.now; row = row.now } ≡ lifting pass
+        was.now kept.now locked row.now }
+{
+    match pass {
+        Pass::First => may_lift_first(was, kept, locked, row),
+        _ => has_over(kept, row),
+    }
+}
+
+/// A pass at one partition, which is written only where something may be lifted of it.
+fn gather_at(
+    pass: Pass,
+    was: &Room,
+    kept: &mut Room,
+    locked: bool,
+    partition: usize,
+    seats: &mut Seats,
+)
+    requires load { IsLoad kept.old }
+    requires same { kept.old.devices ≡ was.now.devices }
+    requires partition { partition < length seats.old }
+    requires row { AreKnown was.now.devices (row_at seats.old partition) }
+    requires few { length (row_at seats.old partition) ≤ most_replicas }
+    requires has { (id : ℕ) → has_device id kept.old.devices ≡ true →
+        seats_on id (row_at seats.old partition) ≤ have_in kept.old id }
+    ensures others { seats.new ≡ slice_set seats.old partition (row_at seats.new partition) }
+    ensures lifted { IsLifting pass was.now kept.new locked (row_at seats.old partition)
+        (row_at seats.new partition) }
+    ensures by_name { record { load = kept.new; row = row_at seats.new partition } ≡ lifting pass
+        was.now kept.old locked (row_at seats.old partition) }
+    ensures takes { Takes kept.old kept.new (row_at seats.old partition)
+        (row_at seats.new partition) }
+    ensures falls { pass ≢ Pass.First → Falls kept.old kept.new }
+{
+    if !may_lift(pass, was, kept, locked, seats.row(partition)) {
+        return;
+    }
+    let (mut copy, count) = row_copy(seats.row(partition));
+    let row = &mut copy[..count];
+    gather_row(pass, was, kept, locked, row);
+    seats.set_row(partition, row);
+}
+
 /// A pass at all partitions, in an order.
 fn gather(
     pass: Pass,
@@ -187,10 +281,7 @@ fn gather(
     ensures falls { pass ≢ Pass.First → Falls kept.old kept.new }
 {
     for partition in order {
-        let (mut copy, count) = row_copy(seats.row(*partition));
-        let row = &mut copy[..count];
-        gather_row(pass, was, kept, locked[*partition], row);
-        seats.set_row(*partition, row);
+        gather_at(pass, was, kept, locked[*partition], *partition, seats);
     }
 }
 
@@ -275,29 +366,33 @@ fn locks(alloc: Global, ring: &Ring, hour: Hour) -> Result<Vec<bool>, AllocError
     Ok(locked)
 }
 
-/// The devices and the seats of a ring without what a rebalance at an hour gathers. The partitions
-/// are gone through in an order that has each once.
+/// The devices and the seats of a ring, `was` and `old`, without what a rebalance at an hour gathers.
+/// The partitions are gone through in an order that has each once.
 pub(crate) fn gathering(
     alloc: Global,
     ring: &Ring,
     hour: Hour,
     order: &[usize],
+    was: &Room,
+    old: &Seats,
 ) -> Result<(Room, Seats), AllocError>
-    requires { IsPermutation (range_with_len 0 (partition_count ring.now)) order.now }
+    requires valid { IsValid ring.now }
+    requires order { IsPermutation (range_with_len 0 (partition_count ring.now)) order.now }
+    requires was { IsRoomOf ring.now was.now }
+    requires old { old.now ≡ rows_of ring.now }
     ensures gathered { IfOk result (λ done. IsGathered ring.now hour done.0 done.1) }
+    ensures wanted { IfOk result (λ done. done.0.wanted ≡ was.now.wanted) }
     ensures apart { IfOk result (λ done. GivesApartFirst ring.now hour done.0.wanted
         (gathered_in done.1)) }
     ensures by_name { IfOk result (λ done. record { load = done.0; rows = done.1 } ≡ left_of
         ring.now done.0.wanted hour order.now) }
 {
-    let wanted = wanted(alloc, ring)?;
-    let was = Room::of(alloc, ring, wanted.as_slice())?;
     let mut kept = was.copy(alloc)?;
-    let mut seats = Seats::of(alloc, ring)?;
+    let mut seats = old.copy(alloc)?;
     let locked = locks(alloc, ring, hour)?;
     gather(
         Pass::First,
-        &was,
+        was,
         &mut kept,
         locked.as_slice(),
         order,
@@ -306,6 +401,6 @@ pub(crate) fn gathering(
     if !was.has_some_room() {
         return Ok((kept, seats));
     }
-    gather_surplus(&was, &mut kept, locked.as_slice(), order, &mut seats);
+    gather_surplus(was, &mut kept, locked.as_slice(), order, &mut seats);
     Ok((kept, seats))
 }

@@ -1,12 +1,12 @@
 //! What follows from the definitions alone.
-ghost use Rattle.std.specs.Prelude.{◌≡◌, ◌<◌, ◌≤◌, ℕ, List, Some, count_by, false};
+ghost use Rattle.std.specs.Prelude.{◌≡◌, ◌<◌, ◌≤◌, ℕ, List, count_by, false};
 ghost use Rattle.ring_words.specs.Limits.{long_count};
-ghost use Rattle.ring_model.specs.Ring.{RingRecord, seat};
+ghost use Rattle.ring_model.specs.Ring.{RingRecord};
 ghost use Rattle.ring_model.specs.Valid.{IsValid};
 ghost use Rattle.ring_share.specs.Want.{AreWanted, is_open};
 ghost use Rattle.ring_place.specs.First.{IsFirstApart};
-ghost use Rattle.ring_place.specs.Rebalance.{IsAtRest, IsLawfulRebalance, IsRebalance, IsSeat};
-ghost use Rattle.ring_place.specs.Rebalance.{Leaves, changed_seats, is_locked};
+ghost use Rattle.ring_place.specs.Rebalance.{IsLawfulRebalance, IsRebalance, Leaves};
+ghost use Rattle.ring_place.specs.Rebalance.{UnlockedAreAtRest, changed_seats, is_locked};
 ghost use Rattle.ring_place.specs.Seeded.{IsSeeded};
 
 /// A rebalance moves seats of no more than a lawful gathering.
@@ -38,8 +38,7 @@ pub fn one_replica_leaves()
 pub fn unchanged_is_settled()
     ensures { (old new : RingRecord) (hour : ℕ) (wanted : List ℕ) → hour < long_count →
         IsValid old → IsRebalance old hour new → AreWanted new wanted
-        → changed_seats old new ≡ 0 → (partition replica id : ℕ) → IsSeat new partition replica → is_locked new hour partition ≡ false
-        → seat new partition replica ≡ Some id → IsAtRest new wanted partition replica id }
+        → changed_seats old new ≡ 0 → UnlockedAreAtRest new hour wanted }
 {}
 
 /// A seed gives one ring: of the same ring at the same hour no rebalance gives another.

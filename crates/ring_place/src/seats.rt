@@ -129,6 +129,17 @@ impl Seats {
         })
     }
 
+    /// The same seats.
+    pub(crate) fn copy(&self, alloc: Global) -> Result<Seats, AllocError>
+        ensures { IfOk result (λ seats. seats ≡ self.now) }
+    {
+        Ok(Seats {
+            seats: Vec::from_slice(alloc, self.seats.as_slice())?,
+            partitions: self.partitions,
+            replicas: self.replicas,
+        })
+    }
+
     /// How many partitions there are.
     pub(crate) fn count(&self) -> usize
         ensures { result ≡ length self.now }

@@ -4,6 +4,7 @@ ghost use Rattle.std.specs.Prelude.{◌≡◌, ◌<◌};
 
 use crate::checker::{check, crowd_among, has_room};
 use crate::gather::gathering;
+use crate::seats::Seats;
 use crate::{PlaceError, Rebalanced, Room, rebalance};
 use rand_core::Rng;
 use rand_pcg::Pcg32;
@@ -123,7 +124,10 @@ fn checked_rebalance(
 ) -> Result<(Ring, u32), Fail> {
     let mut draws = draws_of(seed);
     let order = shuffled_order(alloc, partition_count(ring.power()), &mut draws)?;
-    let (_, lifted) = gathering(alloc, ring, hour, order.as_slice())?;
+    let old = Seats::of(alloc, ring)?;
+    let wanted = wanted(alloc, ring)?;
+    let was = Room::of(alloc, ring, wanted.as_slice())?;
+    let (_, lifted) = gathering(alloc, ring, hour, order.as_slice(), &was, &old)?;
     let done = ample_rebalance(alloc, ring, hour, seed)?;
     check(
         alloc,

@@ -1,7 +1,7 @@
 -- What seats counted by codes tell is what the crowds say.
 use Rattle.std.proofs.Common.{◌≡◌, ◌≢◌, ◌==◌, ◌&&◌, ◌+◌, ◌<◌, ◌≤◌, ℕ, suc, zero, Bool, true, false}
 use Rattle.std.proofs.Common.{cond, List, [], ◌∷◌, length, get_or, count_by, map, Option, Some, None}
-use Rattle.std.proofs.Common.{◌||◌, not, take, refl, sym, ap, subst, ◌∙◌, ⊎_elim, arith}
+use Rattle.std.proofs.Common.{◌||◌, not, take, refl, sym, ap, subst, ◌∙◌, ⊎_elim, arith, All}
 use Rattle.ring_words.specs.Limits.{most_devices}
 use Rattle.std.specs.Prelude.{slice_get}
 use Rattle.std.specs.List.{list_any}
@@ -10,9 +10,10 @@ use Rattle.std.proofs.lemmas.Bool.{and_from, and_left, and_right, cases_Bool, ca
 use Rattle.std.proofs.lemmas.Bool.Decides.{nat_tests}
 use Rattle.std.proofs.lemmas.List.{get_or-map, get_or-take, length-map, length-take-le}
 use Rattle.std.proofs.lemmas.List.Folds.{find_at, list_any_at, list_any_none}
-use Rattle.std.proofs.lemmas.List.Sums.{position_or_len_is, sum_by-cons, sum_by-set}
+use Rattle.std.proofs.lemmas.List.Sums.{position_or_len_is, sum_by-cons, sum_by_more, sum_by-set}
 use Rattle.std.proofs.lemmas.Option.{get_or_from_slice_get, slice_get-get_or}
 use Rattle.std.proofs.lemmas.Option.{slice_get_within}
+use Rattle.ring_model.specs.Ring.{has_device}
 use Rattle.ring_words.specs.declared.device.Device.{Device}
 use Rattle.ring_share.specs.declared.better.ByTier.{ByTier}
 use Rattle.ring_share.specs.declared.tiers.Tier.{Tier}
@@ -29,6 +30,7 @@ use Rattle.ring_share.specs.Want.{is_open}
 use Rattle.ring_share.proofs.Coding.{code_told}
 use Rattle.ring_share.proofs.Counting.{apart}
 use Rattle.ring_share.proofs.Rows.{none_below, some_below}
+use Rattle.ring_share.proofs.Standing.{found_device}
 
 -- ---- the device of a number
 
@@ -131,6 +133,30 @@ standing_front devices ids places few stand = record {
   stand = λ replica lt. subst (λ place. StandsAt devices (get_or ids replica 0) place)
       (sym (get_or-take (length ids) places replica 0 lt)) (stand replica lt);
 }
+
+-- the places of the devices of some numbers
+abbrev pub places_by_id : List Device → List ℕ → List ℕ
+places_by_id devices ids = map (λ id. place_of id devices) ids
+
+pub standing_by_id : (devices : List Device) → IsStrictlyIncreasing
+    (map (λ device. device.id) devices) → (ids : List ℕ) → All (λ id. has_device id devices ≡ true)
+    ids → AreStanding devices ids (places_by_id devices ids)
+standing_by_id devices rise ids known = record {
+  count = length-map ids (λ id. place_of id devices);
+  stand = λ replica lt.
+      let id = get_or ids replica 0 in
+      let found = found_device devices id (known replica 0 lt) in
+      subst (λ place. StandsAt devices id place) (sym (place_is devices rise id found.place
+      found.stands) ∙ sym (get_or-map (λ id. place_of id devices) ids replica 0 0 lt)) found.stands;
+}
+
+-- one more of these places has a code, or not
+pub coded_more : (codes places : List ℕ) (i place code : ℕ) → i < length places → get_or places i 0
+    ≡ place → coded codes (take (i + 1) places) code ≡ coded codes (take i places) code + cond
+    (code == get_or codes place 0) 1 0
+coded_more codes places i place code lt at =
+    sum_by_more (λ (k : ℕ). cond (code == get_or codes k 0) 1 0) places i 0 lt ∙ ap
+    (λ (k : ℕ). coded codes (take i places) code + cond (code == get_or codes k 0) 1 0) at
 
 -- how many seats share a tier of a kind with the device of a number
 abbrev pub near : Tier → List Device → List (Option ℕ) → ℕ → ℕ

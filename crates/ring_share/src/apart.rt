@@ -12,7 +12,7 @@ ghost use Rattle.ring_share.specs.declared.tiers.Tier.TheVariants.{Region, Zone}
 ghost use Rattle.ring_share.specs.Codes.{IsCode, AreCodes};
 ghost use Rattle.ring_share.specs.Inner.Coded.{coded};
 
-use crate::places::places_of;
+use crate::places::place_in;
 use crate::tiers::{Tier, shares};
 use ring_words::{Device, DeviceId, MOST_DEVICES};
 
@@ -67,24 +67,68 @@ pub(crate) fn count_at(
     }
 }
 
-/// The least of these counts at any of some places, 6 where there is none or none is less.
-fn fewest_at(counts: &[u8; MOST_DEVICES], codes: &[u8; MOST_DEVICES], places: &[usize]) -> u8
-    requires { All (λ place. place < most_devices) places.now }
-    ensures least { (index : ℕ) → index < length places.now →
-        result ≤ slice_index counts.now (slice_index codes.now (slice_index places.now index)) }
-    ensures few { result ≤ 6 }
+/// Whether no seat was counted at the code of a place so far. This one is then.
+fn is_first(counts: &mut [u8; MOST_DEVICES], codes: &[u8; MOST_DEVICES], place: usize) -> bool
+    requires place { place < most_devices }
+    requires one { (code : ℕ) → slice_index counts.old code ≤ 1 }
+    ensures counted { result ≡ true → (code : ℕ) → slice_index counts.new code ≡
+        slice_index counts.old code + (if code == slice_index codes.now place then 1 else 0) }
+    ensures one { (code : ℕ) → slice_index counts.new code ≤ 1 }
 {
-    let mut fewest = 6;
-    for place in places {
-        fewest = counts[usize::from(codes[*place])].min(fewest);
+    let code = usize::from(codes[place]);
+    if counts[code] > 0 {
+        return false;
     }
-    fewest
+    counts[code] = 1;
+    true
+}
+
+/// Counts one more seat at the code of a place, and tells how many the code with the most has now.
+/// Before it had `most`.
+fn count_one(
+    most: usize,
+    counts: &mut [u8; MOST_DEVICES],
+    codes: &[u8; MOST_DEVICES],
+    place: usize,
+) -> usize
+    requires place { place < most_devices }
+    requires most { (code : ℕ) → slice_index counts.old code ≤ most }
+    requires few { most < most_replicas }
+    ensures counted { (code : ℕ) → slice_index counts.new code ≡
+        slice_index counts.old code + (if code == slice_index codes.now place then 1 else 0) }
+    ensures most { (code : ℕ) → slice_index counts.new code ≤ result }
+    ensures few { result ≤ most + 1 }
+{
+    let code = usize::from(codes[place]);
+    let count = usize::from(counts[code]) + 1;
+    counts[code] = count as u8;
+    if count < most { most } else { count }
+}
+
+/// Whether the code of each of some places has `most` seats, or no more than one fewer.
+fn each_has_nearly(
+    most: usize,
+    counts: &[u8; MOST_DEVICES],
+    codes: &[u8; MOST_DEVICES],
+    places: &[usize],
+) -> bool
+    requires { All (λ place. place < most_devices) places.now }
+    ensures { result ≡ true → (index : ℕ) → index < length places.now → most ≤
+        slice_index counts.now (slice_index codes.now (slice_index places.now index)) + 1 }
+{
+    for place in places {
+        if usize::from(counts[usize::from(codes[*place])]) + 1 < most {
+            return false;
+        }
+    }
+    true
 }
 
 /// Whether each seat of a partition is alone in its zone, and in no region are two more of them
 /// than in any region that has an open device. `regions` has the place of a device in each of
 /// these; regions and zones are told by codes. Where it answers true no open device is less crowded
 /// for any of the seats.
+#[inline]
 pub fn stand_apart(
     devices: &[Device],
     regions: &[usize],
@@ -101,19 +145,15 @@ pub fn stand_apart(
     requires few { length row.now ≤ most_replicas }
     ensures { result ≡ true → has_crowded devices.now (map Some row.now) ≡ false }
 {
-    let places = places_of(devices, row);
-    let places = &places[..row.len()];
     let mut by_region: [u8; MOST_DEVICES] = no_codes();
-    count_at(&mut by_region, in_region, places);
     let mut by_zone: [u8; MOST_DEVICES] = no_codes();
-    count_at(&mut by_zone, in_zone, places);
-    let most = fewest_at(&by_region, in_region, regions) + 1;
-    for place in places {
-        let zone = usize::from(in_zone[*place]);
-        let region = usize::from(in_region[*place]);
-        if by_zone[zone] > 1 || by_region[region] > most {
+    let mut most = 0;
+    for id in row {
+        let place = place_in(devices, *id);
+        if !is_first(&mut by_zone, in_zone, place) {
             return false;
         }
+        most = count_one(most, &mut by_region, in_region, place);
     }
-    true
+    each_has_nearly(most, &by_region, in_region, regions)
 }

@@ -65,6 +65,7 @@ pub(crate) fn device_of(devices: &[Device], id: DeviceId) -> &Device
 }
 
 /// The place of the device of a number, looked for by halving.
+#[cold]
 fn place_by_halving(devices: &[Device], id: DeviceId) -> usize
     requires rise { IsStrictlyIncreasing (map (λ device. device.id) devices.now) }
     requires known { has_device id devices.now ≡ true }

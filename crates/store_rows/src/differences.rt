@@ -11,11 +11,11 @@ ghost use Rattle.store_model.specs.Contents.{device_of, part_of, published_of, r
 ghost use Rattle.store_rows.specs.Differences.{has_same, is_same_device, is_same_part};
 ghost use Rattle.store_rows.specs.Differences.{is_same_ring, is_same_text};
 ghost use Rattle.store_rows.specs.Inner.Lacking.{device_in, device_value, gone, lacking};
-ghost use Rattle.store_rows.specs.Inner.Lacking.{added_ring, part_in, part_value, ring_value};
+ghost use Rattle.store_rows.specs.Inner.Lacking.{added_ring, part_at, part_in, part_value, ring_value};
 ghost use Rattle.store_rows.specs.Inner.Lacking.{most_devices_in_all, rows_at, text_entries_of};
 ghost use Rattle.store_rows.specs.Inner.Lacking.{text_in};
 ghost use Rattle.store_rows.specs.RingRows.{device_entries, device_entry, part_entries};
-ghost use Rattle.store_rows.specs.RingRows.{part_entries_of, part_entry, published_entries};
+ghost use Rattle.store_rows.specs.RingRows.{part_entries_of, published_entries};
 ghost use Rattle.store_rows.specs.RingRows.{published_entry, ring_entries};
 
 use crate::ring_rows::{device_row, part_row, partition_seats, published_row, ring_row};
@@ -289,7 +289,7 @@ fn push_new_part(
     requires { partition < partition_count ring.now }
     ensures { OnOk result (map part_of into.new.items ≡ map part_of into.old.items
         ++ lacking name_number_cmp is_same_part (rows_at part_entries_of name.now (option_map (λ ring. ring.now) old.entry))
-        (part_entry name.now ring.now.replicas ring.now.seats (partition, slice_index_or ring.now.moved partition None) ∷ [])) }
+        (part_at name.now ring.now partition ∷ [])) }
 {
     if has_part(old, ring, partition) {
         return Ok(());

@@ -8,7 +8,7 @@ ghost use Rattle.store_model.specs.Contents.{device_key, device_of, published_of
 ghost use Rattle.store_model.specs.Contents.{with_device_row, with_published_row, with_request};
 ghost use Rattle.store_model.specs.Contents.{without_device, without_moved, without_seats};
 ghost use Rattle.store_tables.specs.Contents.{contents_of};
-ghost use Rattle.store_tables.specs.Inner.Writing.{Writes};
+ghost use Rattle.store_tables.specs.Inner.Writing.{Writes, WritesOver};
 ghost use Rattle.store_tables.specs.Store.{Becomes, SeesStore};
 
 use sqlite::types::ValueRef;
@@ -69,11 +69,8 @@ pub(crate) trait Replaces {
     fn set<S: Alter>(&self, tx: &mut Transaction<'_, S>) -> Result<usize, Error>
         requires { SeesStore (state S.Store tx.old.conn.now) }
         ensures same_reference { tx.new.conn.ghost_name ≡ tx.old.conn.ghost_name }
-        ensures set { HasCleanDisk (state S.Store tx.new.conn.now) → IfOk result (λ count. (count ≡ 0
-            → Becomes (state S.Store tx.new.conn.now).now
-            (contents_of (state S.Store tx.old.conn.now).now.trees))
-            × (0 < count → Becomes (state S.Store tx.new.conn.now).now
-            (with_row (contents_of (state S.Store tx.old.conn.now).now.trees) self.now))) }
+        ensures set { WritesOver (state S.Store tx.old.conn.now) (state S.Store tx.new.conn.now)
+            result (λ c. with_row c self.now) }
         ensures inside { HasCleanDisk (state S.Store tx.new.conn.now)
             → OnOk result ((state S.Store tx.new.conn.now).in_transaction
             ≡ (state S.Store tx.old.conn.now).in_transaction) }

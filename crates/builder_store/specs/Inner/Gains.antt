@@ -9,7 +9,7 @@ use Rattle.store_model.specs.declared.rows.MetaRow.{MetaRow}
 use Rattle.store_model.specs.declared.rows.RequestRow.{RequestRow}
 use Rattle.store_rows.specs.RingRows.{NamedRings}
 use Rattle.store_rows.specs.Differences.{with_state}
-use Rattle.store_rows.specs.Stands.{DecidedRequest, RingContent, gained}
+use Rattle.store_rows.specs.Stands.{DecidedRequest, IsHoldable, RingContent, contents_for, gained}
 use Rattle.builder_store.specs.Standing.{Stands, StandsAlone}
 
 -- The content has these rings, so many requests, fewer than it may have, and this hour. The key of
@@ -22,6 +22,24 @@ pub record MayGain (content : RingContent) (rings : NamedRings) (count limit hou
   pub room : count < limit
   pub unknown : entry_of entry.key content.book ≡ None
   pub later : content.hour ≤ entry.hour
+
+-- The request is the next in a content that a store can hold, that has these rings and so many
+-- requests: its key is new, and its hour is not before the content's.
+pub record IsNextIn (content : RingContent) (rings : NamedRings) (count : ℕ)
+    (entry : DecidedRequest) : Type 0 where
+  pub holdable : IsHoldable content
+  pub held : content.state ≡ rings
+  pub counted : length content.book ≡ count
+  pub unknown : entry_of entry.key content.book ≡ None
+  pub later : content.hour ≤ entry.hour
+
+-- Written over what stands for the one content, the changes and the rows of a request make what
+-- stands for the other, which a store can hold.
+pub record LeadOn (before after : RingContent) (changes : List RowChange) (request : RequestRow)
+    (meta : MetaRow) : Type 0 where
+  pub holdable : IsHoldable after
+  pub stands : with_decided (changed_all (contents_for before) changes) request meta
+      ≡ contents_for after
 
 -- If the old trees stand for a content that may gain the request, these stand for it with the
 -- request and the new rings.

@@ -1,7 +1,13 @@
 -- The tasks that show something of a store.
-use Rattle.std.specs.Prelude.{⊤, ℕ, List, []}
+use Rattle.std.specs.Prelude.{◌≡◌, ◌⊎◌, ⊤, ℕ, List, [], Option}
+use Rattle.byte_streams.specs.declared.counted.CountedWriter.{CountedWriter}
 use Rattle.command_line.specs.declared.task.Task.{Task}
 use Rattle.command_line.specs.declared.task.Task.TheVariants as task
+use Rattle.ring_book.specs.Book.{Keeping}
+use Rattle.programs.specs.Begun.{Closing}
+use Rattle.programs.specs.Performed.{FailsToShowStore, ShowsStore}
+use Rattle.programs.specs.Showing.{AsksShown, HasBadWord, IsFormFault, IsPathless}
+use Rattle.programs.specs.declared.faults.ProgramFault.{ProgramFault}
 
 -- The task asks to be shown a ring's tables, where a path is held, or a published ring.
 abbrev pub IsShowing : Task → Type 0
@@ -25,3 +31,21 @@ prefix_asked _ = []
 abbrev pub suffix_asked : Task → List ℕ
 suffix_asked (task.Nodes file ring account container object names) = names.suffix.now
 suffix_asked _ = []
+
+-- Keepers of stores are these, begin so, and end so with what closing them answers, and the writer is
+-- this, before and after.
+module _ {K W : Type 0} (stores : Keeping K) (Begins : List ℕ → K → Type 0)
+    (Ends : K → Closing → Type 0) (contents : W → Option (List ℕ)) (writer later : CountedWriter W)
+  where
+    -- What a task asks to be shown was shown.
+    abbrev pub ShowsTask : Task → Type 0
+    ShowsTask t = ShowsStore stores (Begins (shown_file t)) Ends contents writer later (prefix_asked t)
+        (suffix_asked t) (AsksShown t)
+
+    -- This fault came of the words of a task, and then the writer wasn't touched; or of showing what it
+    -- asks for, or of opening the store.
+    abbrev pub FailsToShowTask : (List ℕ → ProgramFault → Type 0) → Task → ProgramFault → Type 0
+    FailsToShowTask Refuses t why =
+        (IsFormFault (HasBadWord t) (IsPathless t) why × (later ≡ writer))
+        ⊎ FailsToShowStore stores (Begins (shown_file t)) Ends contents writer later
+        (Refuses (shown_file t)) (prefix_asked t) (suffix_asked t) (AsksShown t) why

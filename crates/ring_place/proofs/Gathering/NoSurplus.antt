@@ -35,7 +35,7 @@ none_over kept id none known =
     not_over want have never = grind (arith, nat_tests)
 
 -- so no seat may leave
-must_stay : (pass : Pass) (was kept : Load) (row : List (Option ℕ)) (replica id : ℕ) → pass ≢ First →
+pub must_stay : (pass : Pass) (was kept : Load) (row : List (Option ℕ)) (replica id : ℕ) → pass ≢ First →
     have_in kept id ≤ want_in kept id → MustStay pass was kept row replica id
 must_stay First was kept row replica id later few = absurd (later refl)
 must_stay Apart was kept row replica id later few =

@@ -4,11 +4,12 @@
 use Rattle.std.specs.Prelude.{◌≡◌, ℕ, ◌+◌, ◌<◌, ◌≤◌, ◌==◌, ◌⊎◌, ⊤, Bool, true, false}
 use Rattle.ring_words.specs.Limits.{most_replicas}
 use Rattle.std.specs.Prelude.{if◌then◌else◌, List, length, map, Option, Some, None, slice_get}
-use Rattle.std.specs.Prelude.{slice_index_or, slice_set, sum_by}
+use Rattle.std.specs.Prelude.{nat_lt, slice_index_or, slice_set, sum_by}
 use Rattle.std.specs.List.{list_any, range_with_len}
 use Rattle.ring_model.specs.Ring.{RingRecord, has_device, has_present, partition_count}
 use Rattle.ring_words.specs.declared.device.Device.{Device}
 use Rattle.ring_share.specs.Crowd.{is_less, others, seats_on}
+use Rattle.ring_share.specs.Room.{have}
 use Rattle.ring_share.specs.Want.{AreWanted}
 use Rattle.ring_deal.specs.Inner.Orders.{is_among}
 use Rattle.ring_place.specs.declared.gather.Pass.{Pass}
@@ -229,3 +230,15 @@ pub record IsGathered (ring : RingRecord) (hour : ℕ) (left : Load) (rows : Lis
   pub lawful : IsLawfulGathering ring hour (gathered_in rows)
   pub reasons : AreReasons ring left.wanted (gathered_in rows)
   pub whole : IsWhole ring hour left.wanted (gathered_in rows)
+
+-- These are the devices of a ring with what they want and have.
+pub record IsRoomOf (ring : RingRecord) (was : Load) : Type 0 where
+  pub devices : was.devices ≡ ring.devices
+  pub wanted : AreWanted ring was.wanted
+  pub counts : (id : ℕ) → has_device id ring.devices ≡ true → have_in was id ≡ have ring id
+  pub load : IsLoad was
+
+-- whether a seat is on a device that keeps more than it wants
+abbrev pub is_over_in : Load → Option ℕ → Bool
+is_over_in kept None = false
+is_over_in kept (Some id) = nat_lt (want_in kept id) (have_in kept id)

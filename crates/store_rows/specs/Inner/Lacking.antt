@@ -1,6 +1,6 @@
 -- What one list of entries lacks of another.
 use Rattle.std.specs.Prelude.{ℕ, ◌*◌, ◌==◌, Bool, not, List, [], ◌∷◌, filter, map, Option, Some, None}
-use Rattle.std.specs.Prelude.{is_none, slice_get}
+use Rattle.std.specs.Prelude.{is_none, slice_get, slice_index_or}
 use Rattle.std.specs.Prelude as prelude
 use Rattle.std.specs.Option.{option_map}
 use Rattle.std.specs.declared.cmp.Ordering.{Ordering}
@@ -46,6 +46,11 @@ device_in id devices = option_map device_value (prelude.find (λ device. device.
 -- The row of a partition without its key.
 abbrev pub part_value : RingRecord → ℕ → Option ℕ → rows.Part
 part_value ring partition hour = (part_entry [] ring.replicas ring.seats (partition, hour)).1
+
+-- The row of a partition of a ring.
+abbrev pub part_at : List ℕ → RingRecord → ℕ → rows.NameNumber × rows.Part
+part_at name ring partition = part_entry name ring.replicas ring.seats
+    (partition, slice_index_or ring.moved partition None)
 
 -- The row of a partition of a ring, without its key, if there is one.
 abbrev pub part_in : Option RingRecord → ℕ → Option rows.Part

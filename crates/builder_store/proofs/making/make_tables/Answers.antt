@@ -1,4 +1,4 @@
-use Rattle.std.proofs.Common.{◌∙◌, ap, sym}
+use Rattle.std.proofs.Common.{◌∙◌, ap, inl, inr, sym}
 use Rattle.sqlite.specs.Held.{state}
 use Rattle.sqlite.proofs.StateLemmas.{survives_then, survives_weaker}
 use Rattle.store_tables.specs.Contents.{contents_of}
@@ -48,3 +48,9 @@ returns-clause-survives g c =
 pub prepare_store-requires-clause-begun : goal.prepare_store-requires-clause-begun
 prepare_store-requires-clause-begun g c = λ clean. c.is_blank.ensures.begun c.if-not-is_blank.false
     (c.requires.fresh clean).is_open
+
+pub returns-clause-unjudged : goal.returns-clause-unjudged
+returns-clause-unjudged g c = λ bad. elim bad [
+  | inl rows ↦ c.refused.ensures.other.0 rows
+  | inr tables ↦ c.refused.ensures.other.1 tables
+]

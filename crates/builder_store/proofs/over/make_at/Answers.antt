@@ -1,14 +1,61 @@
-use Rattle.std.proofs.lemmas.Result.{IfOk-weaker}
+use Rattle.std.proofs.Common.{arith, inl, subst, sym}
+use Rattle.sqlite.specs.Files.{file_state}
+use Rattle.sqlite.specs.State.{HasCleanDisk}
+use Rattle.builder_store.specs.Opening.{AreDeclared}
 use Rattle.builder_store.proofs.over.make_at.Goals as goal
 
-pub returns-clause-limit : goal.returns-clause-limit
-returns-clause-limit g c = IfOk-weaker c.make_over.result _ _ (λ k is. is.limit)
-    c.make_over.ensures
+pub make_over-requires : goal.make_over-requires
+make_over-requires g c = c.in-Ok.ensures.made.made
 
-pub returns-clause-faults : goal.returns-clause-faults
-returns-clause-faults g c = IfOk-weaker c.make_over.result _ _ (λ k is. is.faults)
-    c.make_over.ensures
+pub returns-in-Ok-make_over-clause-limit : goal.returns-in-Ok-make_over-clause-limit
+returns-in-Ok-make_over-clause-limit g c = c.in-Ok-make_over.ensures.begins.limit
 
-pub returns-clause-made : goal.returns-clause-made
-returns-clause-made g c = IfOk-weaker c.make_over.result _ _ (λ k is. is.made)
-    c.make_over.ensures
+pub returns-in-Ok-make_over-clause-faults : goal.returns-in-Ok-make_over-clause-faults
+returns-in-Ok-make_over-clause-faults g c = c.in-Ok-make_over.ensures.begins.faults
+
+pub returns-in-Ok-make_over-clause-made : goal.returns-in-Ok-make_over-clause-made
+returns-in-Ok-make_over-clause-made g c = c.in-Ok-make_over.ensures.begins.made
+
+pub returns-in-Ok-make_over-clause-nothing : goal.returns-in-Ok-make_over-clause-nothing
+returns-in-Ok-make_over-clause-nothing g c = λ clean db held.
+    let before : HasCleanDisk (file_state c.in-Ok.conn) = omega
+    (arith, c.in-Ok-make_over.ensures.begins.clean, clean) in
+    subst (AreDeclared 0) ((c.in-Ok.ensures.made.found before).holds db held)
+    (c.in-Ok-make_over.ensures.begins.nothing clean)
+
+pub returns-in-Err-clause-unjudged : goal.returns-in-Err-clause-unjudged
+returns-in-Err-clause-unjudged g c = c.in-Err.ensures.unjudged
+
+pub returns-in-Err-make_over-clause-unjudged : goal.returns-in-Err-make_over-clause-unjudged
+returns-in-Err-make_over-clause-unjudged g c = c.in-Err-make_over.ensures.refused.unjudged
+
+pub returns-in-Err-make_over-clause-taken : goal.returns-in-Err-make_over-clause-taken
+returns-in-Err-make_over-clause-taken g c = λ is clean db held declared.
+    let before : HasCleanDisk (file_state c.in-Ok.conn) = omega
+    (arith, c.in-Err-make_over.ensures.refused.clean, clean) in
+    c.in-Err-make_over.ensures.refused.taken is clean (subst (AreDeclared 0)
+    (sym ((c.in-Ok.ensures.made.found before).holds db held)) declared)
+
+pub returns-in-Err-make_over-clause-stays : goal.returns-in-Err-make_over-clause-stays
+returns-in-Err-make_over-clause-stays g c = λ is clean db may.
+    let before : HasCleanDisk (file_state c.in-Ok.conn) = omega
+    (arith, c.in-Err-make_over.ensures.refused.clean, clean) in
+    let found = c.in-Ok.ensures.made.found before in
+    record {
+      trees = (file_state c.in-Ok.conn).committed.trees;
+      holds = found.holds;
+      reads = found.reads;
+      left = inl (c.in-Err-make_over.ensures.refused.stays is clean db may);
+    }
+
+pub returns-in-Err-make_over-clause-crash : goal.returns-in-Err-make_over-clause-crash
+returns-in-Err-make_over-clause-crash g c = λ clean db may.
+    let before : HasCleanDisk (file_state c.in-Ok.conn) = omega
+    (arith, c.in-Err-make_over.ensures.refused.clean, clean) in
+    let found = c.in-Ok.ensures.made.found before in
+    record {
+      trees = (file_state c.in-Ok.conn).committed.trees;
+      holds = found.holds;
+      reads = found.reads;
+      left = c.in-Err-make_over.ensures.refused.crash clean db may;
+    }

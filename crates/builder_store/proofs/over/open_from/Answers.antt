@@ -2,6 +2,7 @@ use Rattle.std.proofs.Common.{arith, inl, inr, subst, sym}
 use Rattle.sqlite.specs.Files.{file_state}
 use Rattle.sqlite.specs.State.{HasCleanDisk}
 use Rattle.builder_store.specs.Opening.{IsOpenedAs}
+use Rattle.builder_store.proofs.Causes.{same_cause}
 use Rattle.builder_store.proofs.over.open_from.Goals as goal
 
 pub over-requires : goal.over-requires
@@ -39,3 +40,27 @@ returns-in-Err-over-clause-bad g c = λ bad clean db held content opened.
       | inl rows ↦ c.in-Err-over.ensures.refused.rows rows clean content as_it_was
       | inr tables ↦ c.in-Err-over.ensures.refused.tables tables clean as_it_was.0 as_it_was.1
     ]
+
+pub returns-in-Err-over-clause-rows : goal.returns-in-Err-over-clause-rows
+returns-in-Err-over-clause-rows g c = λ bad clean db may.
+    let before : HasCleanDisk (file_state c.in-Ok.conn) = omega
+    (arith, c.in-Err-over.ensures.refused.clean, clean) in
+    let found = c.in-Ok.ensures.made.found before in
+    record {
+      trees = (file_state c.in-Ok.conn).committed.trees;
+      holds = found.holds;
+      reads = found.reads;
+      left = c.in-Err-over.ensures.refused.kept (same_cause _ _ bad) clean db may;
+    }
+
+pub returns-in-Err-over-clause-crash : goal.returns-in-Err-over-clause-crash
+returns-in-Err-over-clause-crash g c = λ clean db may.
+    let before : HasCleanDisk (file_state c.in-Ok.conn) = omega
+    (arith, c.in-Err-over.ensures.refused.clean, clean) in
+    let found = c.in-Ok.ensures.made.found before in
+    record {
+      trees = (file_state c.in-Ok.conn).committed.trees;
+      holds = found.holds;
+      reads = found.reads;
+      left = c.in-Err-over.ensures.refused.crash clean db may;
+    }

@@ -5,17 +5,18 @@ use Rattle.store_model.specs.Changes.{with_decided}
 use Rattle.builder_store.proofs.planning.planned.Goals as goal
 
 pub returns : goal.returns
-returns c = λ content holdable held counted unknown later.
+returns c = λ content next.
     let change = c.in_ok-change.ensures in
     let made = c.in_ok-rows.ensures in
     let rows = c.in_ok-rows.rows in
-    let after : RingContent = with_state content c.args.new.now in (
-      ap (λ x. with_decided x rows.request rows.meta) (change.leads.applied content held) ∙
-          made.rows after counted unknown,
-      made.holdable after (record {
+    let after : RingContent = with_state content c.args.new.now in
+    record {
+      holdable = made.holdable after (record {
         rings = change.rings;
-        book = holdable.book;
-        hour = holdable.hour;
-        small = holdable.small;
-      }) counted unknown later,
-    )
+        book = next.holdable.book;
+        hour = next.holdable.hour;
+        small = next.holdable.small;
+      }) next.counted next.unknown next.later;
+      stands = ap (λ x. with_decided x rows.request rows.meta) (change.leads.applied content
+          next.held) ∙ made.rows after next.counted next.unknown;
+    }

@@ -13,7 +13,8 @@ returns-in_err-write_told-clause-failed g c =
       p.2 ∙ ap stream_fault failed.0,
       (
         c.in_ok-told.told,
-        tells_left g.S.Kept.Keeper _ g.S.Stores.ends _ _ _ _ c.in_ok-told.ensures.told,
+        tells_left g.S.Kept.Keeper _ g.S.Stores.ends (g.S.Stores.holds c.args.csv.now)
+            (g.S.Stores.is_unread c.args.csv.now) _ _ _ c.in_ok-told.ensures.told,
         failed.1,
       ),
     ))

@@ -4,17 +4,13 @@ use Rattle.ring_model.specs.Ring.{has_device}
 use Rattle.ring_place.specs.Inner.Gathering.{Calm, Crowded, Drained, LostFirst}
 use Rattle.ring_place.specs.Made.{is_lost_in}
 use Rattle.ring_place.specs.Inner.Gathering.{present_only}
-use Rattle.ring_place.proofs.Gathering.BothPasses.{none_empty}
 use Rattle.ring_room.proofs.Searching.LessCrowded.{one_here}
 use Rattle.ring_place.proofs.Gathering.TakenSeats.{takes_one}
-use Rattle.ring_place.specs.Made.{best_seat, lifted_at}
+use Rattle.ring_place.specs.Made.{best_seat}
 use Rattle.ring_place.proofs.Gathering.ByName.{first_at, first_locked, first_lost, lifted_none}
 use Rattle.ring_place.proofs.Gathering.ByName.{lifted_some}
-use Rattle.ring_place.proofs.Gathering.BestSeats.{none_crowded}
 use Rattle.ring_place.specs.declared.gather.Pass.TheVariants.{First}
 use Rattle.ring_place.proofs.gather.gather_first.Goals as goal
-use
-    Rattle.ring_place.proofs.gather.gather_first.Goals.{else-not-locked-via-then-not-locked+else-may_leave, else-not-locked-via-else-not-locked}
 
 pub returns-then-has_lost-clause-first : goal.returns-then-has_lost-clause-first
 returns-then-has_lost-clause-first c = LostFirst
@@ -55,19 +51,11 @@ returns-in_default-clause-first c =
     c.has_lost.ensures ∙ c.if-has_lost.false)
     c.in_default.ensures.none.0 (λ unlocked. c.in_default.ensures.none.1)
 
-pub may_leave-requires-clause-full : goal.may_leave-requires-clause-full
-may_leave-requires-clause-full c = none_empty c.args.kept.now.devices c.args.row.now
-    (sym c.has_lost.ensures ∙ c.if-has_lost.false)
-
 pub returns-else-not-locked-clause-first : goal.returns-else-not-locked-clause-first
 returns-else-not-locked-clause-first c =
     Calm (ap (λ ds. list_any (is_lost_in ds) c.args.row.now) (sym c.requires.same) ∙ sym
     c.has_lost.ensures ∙ c.if-has_lost.false)
-    refl (λ unlocked. elim c.else-not-locked.branch [
-      | else-not-locked-via-then-not-locked+else-may_leave w ↦ w.may_leave.ensures
-          w.if-may_leave.false
-      | else-not-locked-via-else-not-locked w ↦ absurd (cc (unlocked, w.if-not-locked.false))
-    ])
+    refl (λ unlocked. absurd (let held = c.if-not-locked.false in cc (unlocked, held)))
 
 pub returns-then-has_lost-clause-by_name : goal.returns-then-has_lost-clause-by_name
 returns-then-has_lost-clause-by_name c = c.lift_lost.ensures.by_name ∙ first_lost c.args.was.now c.args.kept.now c.args.locked c.args.row.now
@@ -86,12 +74,5 @@ returns-in_default-clause-by_name c = lifted_none c.args.kept.now c.args.row.now
     ∙ first_at c.args.was.now c.args.kept.now c.args.locked c.args.row.now (sym c.has_lost.ensures ∙ c.if-has_lost.false) c.if-not-locked.true
 
 pub returns-else-not-locked-clause-by_name : goal.returns-else-not-locked-clause-by_name
-returns-else-not-locked-clause-by_name c = elim c.else-not-locked.branch [
-  | else-not-locked-via-then-not-locked+else-may_leave w ↦
-      ap (lifted_at c.args.kept.now c.args.row.now)
-      (none_crowded c.args.was.now c.args.kept.now c.args.row.now
-      (w.may_leave.ensures w.if-may_leave.false))
-      ∙ first_at c.args.was.now c.args.kept.now c.args.locked c.args.row.now (sym c.has_lost.ensures ∙ c.if-has_lost.false) w.if-not-locked.true
-  | else-not-locked-via-else-not-locked w ↦ first_locked c.args.was.now c.args.kept.now c.args.locked c.args.row.now
-      (sym c.has_lost.ensures ∙ c.if-has_lost.false) w.if-not-locked.false
-]
+returns-else-not-locked-clause-by_name c = first_locked c.args.was.now c.args.kept.now c.args.locked
+    c.args.row.now (sym c.has_lost.ensures ∙ c.if-has_lost.false) c.if-not-locked.false

@@ -3,7 +3,7 @@ use Rattle.std.specs.List.{range_with_len}
 use Rattle.std.specs.List.Sorted.{IsPermutation}
 use Rattle.ring_share.specs.Crowd.{rows_of}
 use Rattle.ring_place.specs.Inner.Placing.{AllPlaced, CanPlace}
-use Rattle.ring_place.specs.Made.{row_at}
+use Rattle.ring_place.specs.Made.{is_settled, row_at}
 use Rattle.ring_place.proofs.Finishing.NewRing.{is_rebalance_apart}
 use Rattle.ring_place.proofs.Placing.Placeable.{left_counts, open_want, partitions_are}
 use Rattle.ring_place.proofs.Placing.Placeable.{rows_few, rows_placeable, whole}
@@ -64,5 +64,6 @@ returns c =
           c.in_ok-order.ensures.by_name c.draws_of-draws.ensures
           (c.partition_count.ensures.value ∙ ap (λ (n : ℕ). 2 ^ n) c.power.ensures.value)
           c.in_ok-room.ensures.by_name
-          ∙ rebalanced_moved ring room.wanted hour c.args.seed (c.requires.not_dealt room.wanted gathered.wanted);
+          ∙ rebalanced_moved ring room.wanted hour c.args.seed (c.requires.not_dealt room.wanted gathered.wanted)
+          (ap (is_settled ring) c.in_ok-room.ensures.wanted ∙ c.requires.not_settled);
     }

@@ -1,52 +1,65 @@
-use Rattle.std.proofs.Common.{◌∙◌, Err, ap, refl, subst, sym}
+use Rattle.std.proofs.Common.{◌∙◌, ◌≤◌, Err, ap, arith, inl, inr, subst, sym}
+use Rattle.sqlite_trees.specs.View.{doubt}
 use Rattle.sqlite.specs.Held.{state}
+use Rattle.sqlite.specs.State.{HasCleanDisk}
 use Rattle.builder_store.specs.Opening.{IsOpenedAs}
-use Rattle.builder_store.specs.Standing.{StandsAlone}
-use Rattle.builder_store.specs.Inner.Known.{told_is}
 use Rattle.builder_store.proofs.Gained.{alone_from}
 use Rattle.builder_store.proofs.keeper.SqlKeeper.over.Goals as goal
 
-pub invariant_of-result : goal.invariant_of-result
-invariant_of-result g c =
-    let new = state g.S.Store c.open_tables.new.conn in
-    record {
-      small = c.args.limits.numbers_within;
-      idle = c.open_tables.ensures.mode;
-      tables = λ none clean. c.in-Ok.ensures.tables clean;
-      holds = λ clean.
-          let it = c.in-Ok.ensures.found clean in
-          let alone : StandsAlone new.committed.trees it.content = alone_from c.one_content.ensures
-          new.committed.trees it.content (record {
-            holdable = it.opens.2.holdable;
-            contents =
-                it.stands;
-          }) in
-          ∣ (it.content, alone, it.rings, it.count, it.hour) ∣₁;
-    }
+pub holding-requires-clause-holds : goal.holding-requires-clause-holds
+holding-requires-clause-holds g c = λ clean.
+    let it = c.in-Ok.ensures.found clean in
+    ∣ (
+      it.content,
+      alone_from c.one_content.ensures (state g.S.Store c.open_tables.new.conn).committed.trees
+          it.content (record { holdable = it.opens.2.holdable; contents = it.stands }),
+      it.rings,
+      it.count,
+      it.hour,
+    ) ∣₁
 
 pub returns-in-Ok-clause-begins : goal.returns-in-Ok-clause-begins
 returns-in-Ok-clause-begins g c =
     let old = state g.S.Store c.args.conn in
     let new = state g.S.Store c.open_tables.new.conn in
+    let is = c.holding.ensures in
     record {
-      limit = refl;
-      faults = refl;
-      clean = c.open_tables.ensures.survives.clean;
+      limit = is.limit;
+      faults = is.faults;
+      clean = subst (λ h. doubt old.is_clean ≤ doubt (state g.S.Store h).is_clean) (sym is.same)
+          c.open_tables.ensures.survives.clean;
       found = λ clean.
-          let it = c.in-Ok.ensures.found clean in
-          let alone : StandsAlone new.committed.trees it.content = alone_from c.one_content.ensures
-          new.committed.trees it.content (record {
+          let still : HasCleanDisk new = subst (λ h. HasCleanDisk (state g.S.Store h)) is.same
+          clean in
+          let it = c.in-Ok.ensures.found still in
+          let alone = alone_from c.one_content.ensures new.committed.trees it.content (record {
             holdable = it.opens.2.holdable;
-            contents =
-                it.stands;
+            contents = it.stands;
           }) in
-          subst (λ x. IsOpenedAs old.committed.trees x) (sym (told_is _ _ _ _ it.content clean
-          ∣ alone ∣₁)) it.opens;
+          subst (λ x. IsOpenedAs old.committed.trees x) (sym (is.content it.content clean alone))
+          it.opens;
     }
 
 pub returns-in-Err-clause-refused : goal.returns-in-Err-clause-refused
-returns-in-Err-clause-refused g c = record {
-  clean = c.open_tables.ensures.survives.clean;
-  rows = λ is. c.open_tables.ensures.bad (c.in-Err.is ∙ ap Err is);
-  tables = λ is. c.open_tables.ensures.missing (c.in-Err.is ∙ ap Err is);
-}
+returns-in-Err-clause-refused g c =
+    let old = state g.S.Store c.args.conn in
+    let new = state g.S.Store c.open_tables.new.conn in
+    let survives = c.open_tables.ensures.survives in
+    let before : HasCleanDisk new → HasCleanDisk old = λ clean. omega
+    (arith, survives.clean, clean) in
+    record {
+      clean = survives.clean;
+      rows = λ is. c.open_tables.ensures.bad (c.in-Err.is ∙ ap Err is);
+      tables = λ is. c.open_tables.ensures.missing (c.in-Err.is ∙ ap Err is);
+      kept = λ is clean db may. elim ((c.open_tables.ensures.quiet (c.in-Err.is ∙ ap Err is)).crash
+          clean db may) [
+            | inl was ↦ inl (g.met.S.Store.settled c.args.conn.store db (c.requires.fresh
+                (before clean)).is_open was)
+            | inr kept ↦ inr kept
+          ];
+      crash = λ clean db may. elim (survives.crash clean db may) [
+        | inl was ↦ inl (g.met.S.Store.settled c.args.conn.store db (c.requires.fresh
+            (before clean)).is_open was)
+        | inr made ↦ inr made
+      ];
+    }
