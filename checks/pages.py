@@ -10,6 +10,9 @@ A page writes the port 8642; the check takes a free one in its place. After a co
 somebody listens there. At the end of a page all that it started is stopped. A fenced block of the kind `file NAME` is a
 file of the folder, which stands there before the first command of the page.
 
+Where no page is named, the files of deploy/ are tried as well: each stands on a page, and systemd, nft and nginx take
+them, where they are on this machine.
+
 --write puts what the program prints in place of what a page shows, where the two differ. Read the difference before you
 keep it: the page then says what the program does, right or wrong.
 """
@@ -24,6 +27,7 @@ import time
 from pathlib import Path
 
 import common
+import deploy
 from common import TOP, Checks, free_port, has, is_listening, scratch, wait_until
 
 PORT = "8642"
@@ -159,7 +163,10 @@ def main():
         part.__doc__ = str(page.relative_to(TOP))
         return part
 
-    return checks.run(*(of(page) for page in pages if "```console" in page.read_text()))
+    parts = [of(page) for page in pages if "```console" in page.read_text()]
+    if len(pages) > 1:
+        parts += [deploy.are_shown, deploy.units, deploy.firewall, deploy.proxy]
+    return checks.run(*parts)
 
 
 if __name__ == "__main__":

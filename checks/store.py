@@ -20,7 +20,7 @@ from pathlib import Path
 import common
 from common import FIRST, FIRST_ANSWERS, FIRST_BALANCE, FIRST_DEVICES, FIRST_REPLIES, MANY, NOBODY, TINY, TINY_TEXT
 from common import has  # noqa: E402
-from common import Checks, fault, files_of, lines, message, run, rows_of, scratch
+from common import Checks, add, fault, files_of, lines, message, run, rows_of, scratch
 from tables import OLDER, OLDER_REPLIES, TABLES, canonical, make_older
 
 
@@ -108,6 +108,9 @@ def csv_import(checks):
         Path(table).write_text(head + "1,1,10.0.0.256,6200,d0,50.00\n")
         field = b'400 {"column":3,"fault":"BadField","row":1,"rule":42}\n'
         checks.same("a field that is none", run("import", file, "object", "ops", "7", table), (1, field, b""))
+        told = [run("import", f"{room}/{name}", "object", "ops", "7", table) for name in ("away/rings.db", "none.db")]
+        checks.same("it is told before FILE is looked at", told, [(1, field, b"")] * 2)
+        checks.show("and FILE is not made", not os.path.exists(f"{room}/none.db"))
         Path(table).write_bytes(b"")
         header = b'400 {"fault":"BadHeader","rule":40}\n'
         checks.same("an empty file", run("import", file, "object", "ops", "7", table), (1, header, b""))
@@ -461,6 +464,12 @@ def is_cut_off(told, want):
     return rest in ([], [FAILED_STORE, *[CLOSED_STORE] * (len(whole) - good - 1)]) and len(got) in (0, len(whole))
 
 
+def is_named(ended):
+    """Whether a run ended well, or with status 1 and the fault of a store."""
+    status, _, errors = ended
+    return (status, errors) in ((0, b""), fault("StoreFault", 24)[::2])
+
+
 def failing_writes(checks):
     """Writes that fail, at many sizes in turn."""
     with scratch() as room:
@@ -484,8 +493,7 @@ def failing_writes(checks):
                     os.remove(small + end)
             limited = run("run", "--file", small, given=lines(*MANY), **within(size))
             again = run("run", "--file", small, given=lines(*MANY))
-            is_named = limited[2] in (b"", b"ringd: StoreFault 24\n") and limited[0] == (1 if limited[2] else 0)
-            is_right = is_named and is_cut_off(limited[1], want) and again == (0, want, b"")
+            is_right = is_named(limited) and is_cut_off(limited[1], want) and again == (0, want, b"")
             is_right = is_right and rows_of(small) == rows and run("table", small, "object") == tables
             kind = "refused" if not limited[1] else "failed midway" if FAILED_STORE in limited[1] else "not met"
             told[kind] = told.get(kind, 0) + 1
@@ -502,9 +510,25 @@ def failing_writes(checks):
             shutil.copyfile(file, copy)
             limited = run("run", "--file", copy, given=lines(*MANY, more), **within(size))
             again = run("run", "--file", copy, given=lines(*MANY, more))
-            right = (0, want + b'200 {"done":"set_hours","version":11}\n', b"")
-            is_right = again[0] == 0 and again[1].startswith(want) and again[2] == b""
-            checks.show(f"a store that is there, and {size} bytes: then each delivery gets its one reply", is_right, (limited, again, right))
+            answers = want + b'200 {"done":"set_hours","version":13}\n'
+            is_right = is_named(limited) and is_cut_off(limited[1], answers) and again == (0, answers, b"")
+            checks.show(f"a store that is there, and {size} bytes: then each delivery gets its one reply", is_right, (limited, again, answers))
+
+
+def failing_close(checks):
+    """A close that fails, since the file may not be written so far behind, is told and loses nothing."""
+    with scratch() as room:
+        file, copy = f"{room}/rings.db", f"{room}/copy.db"
+        made = [(0, message(1, "create", power=14, replicas=1, min_hours=0)), (0, add(2, 0)), (0, message(3, "rebalance", seed=1)),
+                (0, add(4, 1, weight="0.05"))]
+        run("run", "--file", file, given=lines(*made))
+        shutil.copyfile(file, copy)
+        # some partitions move, whose rows lie all over the file; the log is short
+        more = lines((0, message(5, "rebalance", seed=1)))
+        _, done, _ = run("run", "--file", copy, given=more)
+        limited = run("run", "--file", file, given=more, **within(os.path.getsize(file) // 2))
+        checks.same("the request is answered, and the fault is told", limited, (1, done, fault("StoreFault", 24)[2]))
+        checks.same("sent again it gets its reply", run("run", "--file", file, given=more), (0, done, b""))
 
 
 def read_by_sqlite(checks):
@@ -547,7 +571,8 @@ def main():
     checks = Checks("store.py", 300)
     return checks.run(
         first_run, other_words, order_of_faults, one_device, csv_import, renewal, full_file, broken_streams, read_that_fails_midway,
-        two_programs, no_places, no_databases, bad_stores, older_schema, read_only, failing_writes, read_by_sqlite)
+        two_programs, no_places, no_databases, bad_stores, older_schema, read_only, failing_writes, failing_close,
+        read_by_sqlite)
 
 
 if __name__ == "__main__":

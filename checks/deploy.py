@@ -1,0 +1,121 @@
+"""The files of deploy/: each is shown by a page, and tried with the system's own tools, where this machine has them."""
+import os
+import re
+import shutil
+import subprocess
+from pathlib import Path
+
+from common import TOP, free_port, message, program, scratch, wait_until, is_listening
+
+FOLDER = TOP / "deploy"
+NAME = "rings.example.org"
+LOGINS = {"ops": "secret", "reader": "password"}
+
+
+def are_shown(checks):
+    """Each file that is to be installed stands on a page as it is."""
+    pages = "\n".join(page.read_text() for page in [TOP / "README.md", *sorted((TOP / "docs").glob("*.md"))])
+    for file in sorted(FOLDER.iterdir()):
+        block = re.search(rf"(?ms)^```\w+ deploy/{re.escape(file.name)}\n(.*?)^```$", pages)
+        checks.same(f"deploy/{file.name} stands on a page", block and block[1], file.read_text())
+
+
+def units(checks):
+    """The units, as systemd reads them."""
+    if not shutil.which("systemd-analyze"):
+        return checks.skip("systemd-analyze verify", "it is not on this machine")
+    with scratch() as room:
+        for file in [*FOLDER.glob("*.service"), *FOLDER.glob("*.timer")]:
+            text = re.sub(r"/usr/local/bin/\S+", "/bin/true", file.read_text())
+            Path(f"{room}/{file.name}").write_text(text)
+        for file in sorted(os.listdir(room)):
+            told = subprocess.run(["systemd-analyze", "verify", f"{room}/{file}"], capture_output=True, timeout=60)
+            wrong = [line for line in told.stderr.decode().splitlines() if room in line or file in line]
+            checks.show(f"systemd-analyze verify {file}", told.returncode == 0 and not wrong, told)
+
+
+def firewall(checks):
+    """The rule of the firewall, as nft reads it."""
+    if not shutil.which("nft"):
+        return checks.skip("nft --check", "nft is not on this machine")
+    told = subprocess.run(["nft", "--check", "--file", str(FOLDER / "ringd.nft")], capture_output=True, timeout=60)
+    if b"not permitted" in told.stderr:
+        return checks.skip("nft --check", "it may not look at this machine's rules")
+    checks.show("nft --check ringd.nft", told.returncode == 0, told)
+
+
+def proxy_files(room, port, tls):
+    """What nginx needs, in a folder: its configuration, a certificate and the files of users."""
+    made = ["openssl", "req", "-x509", "-newkey", "rsa:2048", "-nodes", "-days", "2", "-subj", f"/CN={NAME}",
+            "-keyout", f"{room}/key", "-out", f"{room}/certificate"]
+    subprocess.run(made, capture_output=True, check=True, timeout=60)
+    coded = {name: subprocess.run(["openssl", "passwd", "-apr1", word], capture_output=True, check=True, text=True).stdout.strip()
+             for name, word in LOGINS.items()}
+    for kind, names in (("readers", ["ops", "reader"]), ("operators", ["ops"])):
+        Path(f"{room}/{kind}").write_text("".join(f"{name}:{coded[name]}\n" for name in names))
+    text = (FOLDER / "nginx.conf").read_text().replace("8642", str(port)).replace("listen 443", f"listen 127.0.0.1:{tls}")
+    text = text.replace("/etc/ssl/rings.pem", f"{room}/certificate").replace("/etc/ssl/rings.key", f"{room}/key")
+    text = text.replace("/etc/nginx/rings.", f"{room}/")
+    Path(f"{room}/ringd.conf").write_text(text)
+    places = "".join(f"{kind}_temp_path {room}/{kind};\n" for kind in ("client_body", "proxy", "fastcgi", "uwsgi", "scgi"))
+    Path(f"{room}/nginx.conf").write_text(
+        f"daemon off;\npid {room}/pid;\nerror_log {room}/errors;\nevents {{}}\nhttp {{\naccess_log off;\n{places}include {room}/ringd.conf;\n}}\n")
+
+
+def asked(tls, path, *words, name=NAME):
+    """The status that the proxy answers with, 000 where there is no connection."""
+    words = ["curl", "-sk", "-o", os.devnull, "-w", "%{http_code}", "--max-time", "20", "--resolve", f"{name}:{tls}:127.0.0.1", *words]
+    return subprocess.run([*words, f"https://{name}:{tls}{path}"], capture_output=True, text=True, timeout=60).stdout
+
+
+def try_proxy(checks, tls):
+    """What the proxy lets through, and what not."""
+    ops, reader = ["-u", "ops:secret"], ["-u", "reader:password"]
+    create = ["-d", message(1, "create", ring="photos", power=4, replicas=1, min_hours=1)]
+    late = ["-d", message(2, "set_hours", ring="photos", min_hours=2)]
+    table = ["--data-binary", "region,zone,address,port,name,weight\n1,1,10.0.0.1,6200,d0,100.00\n"]
+    site = lambda where: ["-H", f"Sec-Fetch-Site: {where}"]
+    rows = [
+        ("a request without a login", "401", "/v1/requests", create),
+        ("an operator's request", "200", "/v1/requests", [*ops, *create]),
+        ("a reader's request", "401", "/v1/requests", [*reader, *late]),
+        ("a read without a login", "401", "/v1/rings/photos/devices", []),
+        ("a reader's read", "200", "/v1/rings/photos/devices", reader),
+        ("a read by hand in a browser", "200", "/v1/rings/photos/devices", [*reader, *site("none")]),
+        ("a read by a foreign page", "403", "/v1/rings/photos/devices", [*reader, *site("cross-site")]),
+        ("a request by a page, told by Origin", "403", "/v1/requests", [*ops, *late, "-H", "Origin: http://evil.example"]),
+        ("a request by a foreign page", "403", "/v1/requests", [*ops, *late, *site("cross-site")]),
+        ("a request by a page of the same origin", "403", "/v1/requests", [*ops, *late, *site("same-origin")]),
+        ("an import under another's name", "403", "/v1/import/photos?caller=other&number=2", [*ops, *table]),
+        ("an import under one's own", "200", "/v1/import/photos?caller=ops&number=2", [*ops, *table]),
+        ("another path", "404", "/", ops),
+    ]
+    for what, want, path, words in rows:
+        checks.same(what, asked(tls, path, *words), want)
+    checks.same("another name", asked(tls, "/v1/rings/photos/devices", *reader, name="evil.example"), "000")
+
+
+def proxy(checks):
+    """The proxy in front of the program, over TLS."""
+    lacking = [tool for tool in ("nginx", "openssl", "curl") if not shutil.which(tool)]
+    if lacking:
+        return checks.skip("the proxy", f"{', '.join(lacking)} is not on this machine")
+    with scratch() as room:
+        os.chmod(room, 0o755)
+        port, tls = free_port(), free_port()
+        proxy_files(room, port, tls)
+        told = subprocess.run(["nginx", "-t", "-c", f"{room}/nginx.conf"], capture_output=True, timeout=60)
+        if not checks.show("nginx -t", told.returncode == 0, told):
+            return
+        probe = [str(FOLDER / "ringd-probe"), str(port)]
+        served = subprocess.Popen([*program(), "serve", f"{room}/rings.db", str(port), "100"])
+        passed = subprocess.Popen(["nginx", "-c", f"{room}/nginx.conf"], stderr=subprocess.DEVNULL)
+        try:
+            if checks.show("both listen", wait_until(lambda: is_listening(port) and is_listening(tls))):
+                try_proxy(checks, tls)
+                checks.same("the probe of a service that runs", subprocess.run(probe, capture_output=True, timeout=60).returncode, 0)
+        finally:
+            for one in (passed, served):
+                one.terminate()
+                one.wait(timeout=20)
+        checks.same("and of one that is gone", subprocess.run(probe, capture_output=True, timeout=60).returncode, 1)
