@@ -3,7 +3,8 @@
 
 Commits a second of `run --file`, beside Python's sqlite3, which commits the same rows in WAL mode with synchronous=FULL
 on the same disk in turns with it; rebalances of the largest ring, decided and stored; opening a file with 100,000 numbers
-and such a ring, its time and memory; a delivery where the file has few numbers and where it has many. FOLDER is where the
+and such a ring, its time and memory; a delivery where the file has few numbers and where it has many, by the texts that are
+published, and by the rings beside. FOLDER is where the
 files lie (the current one where none is given). --small takes small sizes, --write puts the tables into docs/speed.md.
 """
 import json
@@ -21,6 +22,8 @@ COMMITS, ROUNDS = (200, 2) if SMALL else (3000, 5)
 POWER, REPLICAS, DEVICES = (8, 3, 32) if SMALL else (14, 5, 256)
 NUMBERS = 2000 if SMALL else 100000
 AT = [200, 1000] if SMALL else [1000, 10000, 90000]
+TEXTS = [0, 10] if SMALL else [0, 10, 100, 1000]
+RINGS = [1, 2] if SMALL else [1, 16]
 MILLI = 1000
 
 
@@ -172,6 +175,54 @@ def deliveries(room):
     tell("A delivery by the numbers that are kept", "bench/store.py", ["numbers", "a new number, stored", "a repeat"], told)
 
 
+def with_texts(file, rings, texts):
+    """A store with so many of the largest rings, in the first of which so many texts are published, all but one of them put
+    there by sqlite3."""
+    with start(file) as running:
+        number = 0
+        for ring in range(rings):
+            for do, more in [("create", {"power": POWER, "replicas": REPLICAS, "min_hours": 0}), ("import", rows(range(DEVICES))), ("rebalance", {"seed": 1})]:
+                number += 1
+                told, _ = ask(running, message(number, do, ring=f"ring{ring}", **(more if isinstance(more, dict) else {"rows": more})))
+        for _ in range(texts):
+            number += 1
+            ask(running, message(number, "set_hours", ring="ring0", min_hours=number % 7))
+        ask(running, message(number + 1, "publish", ring="ring0")) if texts else None
+        running.stdin.close()
+        running.wait()
+    with sqlite3.connect(file) as held:
+        held.execute("PRAGMA journal_mode = DELETE")
+        held.executemany("INSERT INTO published SELECT ring, ?, body FROM published WHERE version > ?", ((version, texts) for version in range(1, texts)))
+    held.close()
+
+
+def published(room):
+    """A delivery by the texts that are published, and by the rings beside."""
+    told = []
+    for count in RINGS:
+        for texts in TEXTS:
+            file = f"{room}/texts.db"
+            with_texts(file, count, texts)
+            begun = time.perf_counter()
+            with start(file) as running:
+                ask(running, "? devices nothing\n")
+                opened, memory = time.perf_counter() - begun, most_memory(running)
+                took = {"set_weight": [], "refused": [], "publish": []}
+                for it in range(5 if SMALL else 15):
+                    number = 100000 + 10 * it
+                    took["set_weight"].append(ask(running, message(number, "set_weight", ring="ring0", id=1, weight=f"{90 + it}.00"))[1])
+                    took["refused"].append(ask(running, message(number + 1, "remove", ring="ring0", id=60000))[1])
+                    if texts + it < 1000:
+                        took["publish"].append(ask(running, message(number + 2, "publish", ring="ring0"))[1])
+                running.stdin.close()
+            cells = [f"{MILLI * statistics.median(took[it]):.2f} ms" if took[it] else "" for it in took]
+            told.append([count, texts, *cells, f"{MILLI * opened:.0f} ms", f"{memory:.0f} MB"])
+            for end in ("", "-wal"):
+                os.remove(file + end) if os.path.exists(file + end) else None
+    tell(f"A delivery by the texts that are published, rings of power {POWER}", "bench/store.py",
+         ["rings", "texts", "`set_weight`", "a refusal", "`publish`", "opening", "memory"], told)
+
+
 def main():
     folder = next((word for word in sys.argv[1:] if not word.startswith("--")), ".")
     with tempfile.TemporaryDirectory(prefix="ringd-bench-", dir=folder) as room:
@@ -179,6 +230,7 @@ def main():
         rebalances(room)
         openings(room)
         deliveries(room)
+        published(room)
 
 
 if __name__ == "__main__":

@@ -90,7 +90,7 @@ pub gains_in : OneContent → (old : Trees) (rings state : NamedRings) (count li
     (entry : DecidedRequest) (b : Bool) → (b ≡ true → entry.hour ≡ hour)
     → (changes shown : List RowChange) (request : RequestRow)
     (meta : MetaRow) → shown ≡ changes
-    → ((content : RingContent) → IsNextIn content rings count entry
+    → ((content : RingContent) → IsNextIn content rings state count entry
     → LeadOn content (gained (with_state content state) entry) changes request meta)
     → (db : Trees) → contents_of db ≡ written b (contents_of old) shown request meta
     → GainsIn old rings count limit hour entry state db
@@ -102,6 +102,7 @@ gains_in one old rings state count limit hour entry b at changes shown request m
       counted = may.counted;
       unknown = may.unknown;
       later = may.later;
+      changed = may.changed;
     }) in
     gained_alone one old db content (gained (with_state content state) entry) b changes request meta
     stands (written_is b content state entry changes request meta (λ t. may.reached ∙ sym (at t))

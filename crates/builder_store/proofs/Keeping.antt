@@ -12,9 +12,11 @@ use Rattle.sqlite_trees.specs.declared.store.Store.{Ghosts}
 use Rattle.sqlite.specs.Held.{Held, state}
 use Rattle.sqlite.specs.State.{HasCleanDisk, Survives}
 use Rattle.request_book.specs.Content.{entry_of}
+use Rattle.builder.specs.Step.{Step}
+use Rattle.builder.specs.declared.machine.RingMachine.{RingMachine}
 use Rattle.store_rows.specs.RingRows.{NamedRings}
 use Rattle.store_rows.specs.Stands.{DecidedRequest, RingContent, gained}
-use Rattle.store_rows.specs.Differences.{with_state}
+use Rattle.store_rows.specs.Differences.{IsChangedAt, with_state}
 use Rattle.builder_store.specs.Keepers.{content_of_keeper}
 use Rattle.builder_store.specs.Standing.{Holds, IsKnown, MayLeave, StandsAlone, content_told}
 use Rattle.builder_store.specs.Standing.{stands_for_one}
@@ -23,6 +25,7 @@ use Rattle.builder_store.specs.Inner.Known.{told_agrees, told_is, told_stands, w
 use Rattle.builder_store.specs.Inner.Leaves.{quiet_leaves}
 use Rattle.builder_store.specs.Inner.Tables.{HasTables}
 use Rattle.builder_store.proofs.Settled.{quiet_commit}
+use Rattle.builder_store.proofs.StepChanges.{step_changes}
 use Rattle.builder_store.specs.declared.keeper.SqlKeeper.{SqlKeeper}
 
 -- a call whose store hasn't failed answers otherwise
@@ -105,9 +108,11 @@ module _ {S : Type 0} {g : Ghosts S} (k : SqlKeeper S g) where
       → HasCleanDisk (state g k.conn) → length (content_of_keeper k).book < k.limit
       → entry_of entry.key (content_of_keeper k).book ≡ None
       → (content_of_keeper k).hour ≤ entry.hour
+      → (machine : RingMachine) × Step machine.limits (content_of_keeper k).state entry.hour
+      entry.command entry.reply after
       → GainsIn (state g k.conn).committed.trees k.rings k.count k.limit k.hour entry after db
       → ∥ StandsAlone db (gained (with_state (content_of_keeper k) after) entry) ∥₁
-  gains_now none was room unknown later gains =
+  gains_now {entry} {after} none was room unknown later (machine, step) gains =
       let agrees = told_agrees (state g (cond
       (nat_lt 0 k.faults) k.last.value k.conn)).committed.trees (state g k.conn).is_clean k.rings
       k.count k.hour (λ it. k.holds it) (record { state = k.rings; book = []; hour = k.hour })
@@ -119,6 +124,9 @@ module _ {S : Type 0} {g : Ghosts S} (k : SqlKeeper S g) where
         room = omega (arith, agrees.1, room);
         unknown = unknown;
         later = later;
+        changed = subst (λ rings. IsChangedAt entry.command.ring rings after) agrees.0
+            (step_changes machine.limits (content_of_keeper k).state after entry.hour entry.command
+            entry.reply step);
       }))
 
   -- a call that commits nothing leaves the keeper's trees

@@ -12,4 +12,4 @@ pub mod Made
 pub mod Keeping
 pub mod Rising
 pub mod Orders
-pub mod StepGrows
+pub mod StepChanges

@@ -6,7 +6,7 @@ ghost use Rattle.ring_words.specs.declared.command.Command.{Command};
 ghost use Rattle.ring_words.specs.declared.command.Reply.{Reply};
 ghost use Rattle.ring_words.specs.declared.request.Limits.{Limits};
 ghost use Rattle.builder.specs.Step.{State, Step};
-ghost use Rattle.store_rows.specs.Differences.{Grows};
+ghost use Rattle.store_rows.specs.Differences.{IsChangedAt};
 ghost use Rattle.store_rows.specs.Stands.{RingContent};
 ghost use Rattle.builder_store.specs.Opening.{AreDeclared, IsOpenedAs};
 ghost use Rattle.builder_store.specs.Standing.{Stands};
@@ -26,9 +26,9 @@ pub fn opening_finds_what_is_left()
     one_content();
 }
 
-/// No step of the builder takes a ring, a partition or a published text away. So no step is told as a
-/// fault of the store for what it leaves.
-pub fn steps_grow()
+/// A step of the builder leaves every ring as it was that its command does not name, and takes no
+/// ring, no partition and no published text away. So a commit may look at the named ring alone.
+pub fn steps_change_one_ring()
     ensures { (limits : Limits) (old new : State) (hour : ℕ) (command : Command) (reply : Reply)
-        → Step limits old hour command reply new → Grows old new }
+        → Step limits old hour command reply new → IsChangedAt command.ring old new }
 {}

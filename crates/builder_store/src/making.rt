@@ -31,8 +31,7 @@ fn rows_alone(alloc: Global, rings: &Rings) -> Result<Change, AllocError>
         × IsHoldable (rings_alone rings.now hour)) }
 {
     nothing_is_holdable();
-    let none = Rings::new(alloc);
-    let change = Change::between(alloc, &none, rings)?;
+    let change = Change::making(alloc, rings)?;
     Ok(change)
 }
 

@@ -8,7 +8,7 @@ ghost use Rattle.store_tables.specs.Contents.{contents_of};
 ghost use Rattle.builder_store.specs.Inner.Gains.{GainsIn, IsNextIn, LeadOn, written};
 ghost use Rattle.builder_store.specs.Inner.Tables.{HasTables};
 ghost use Rattle.store_tables.specs.Store.{CommitsTables, SeesStore};
-ghost use Rattle.store_rows.specs.Differences.{Grows, with_state};
+ghost use Rattle.store_rows.specs.Differences.{with_state};
 ghost use Rattle.store_rows.specs.Stands.{RingContent, gained};
 
 use crate::calls::{cause, settle};
@@ -19,7 +19,7 @@ use sqlite::{Alter, Connection, Error};
 use std::alloc::{AllocError, Global};
 use store_model::RowChange;
 use store_rows::laws::one_content;
-use store_rows::{Change, DecidedRows, decided_rows, grows};
+use store_rows::{Change, DecidedRows, decided_rows};
 use store_tables::{commit_decided, commit_request};
 
 /// What a commit writes: the rows of rings that differ, and those of the request.
@@ -39,13 +39,12 @@ pub(crate) fn planned(
     count: u32,
     entry: &Entry<Command, Reply>,
 ) -> Result<Plan, AllocError>
-    requires room { count < most_numbers }
-    requires grows { Grows old.now new.now }
-    ensures { IfOk result (λ plan. (content : RingContent) → IsNextIn content old.now count entry.now
-        → LeadOn content (gained (with_state content new.now) entry.now) plan.change.0
+    requires { count < most_numbers }
+    ensures { IfOk result (λ plan. (content : RingContent) → IsNextIn content old.now new.now count
+        entry.now → LeadOn content (gained (with_state content new.now) entry.now) plan.change.0
         plan.rows.request plan.rows.meta) }
 {
-    let change = Change::between(alloc, old, new)?;
+    let change = Change::between(alloc, &entry.command.ring, old, new)?;
     let rows = decided_rows(
         alloc,
         count,
@@ -140,8 +139,8 @@ pub(crate) fn keep<S: Alter>(
         new.now) }
 {
     one_content();
-    // While the keeper is sound, the book that asks has found room, and no step takes a ring away.
-    if count >= limit as usize || !grows(old, new) {
+    // While the keeper is sound, the book that asks has found room.
+    if count >= limit as usize {
         return Err(KeepFault::Store);
     }
     let Ok(plan) = planned(alloc, old, new, count as u32, entry) else {

@@ -1,5 +1,5 @@
 //! The values that fields spell. A field that isn't UTF-8 spells none.
-ghost use Rattle.std.specs.Prelude.{◌≡◌, IsErrOf, IfNone, IfSome, IsUtf8};
+ghost use Rattle.std.specs.Prelude.{◌≡◌, true, IsErrOf, IfNone, IfSome, IsUtf8};
 ghost use Rattle.ring_words.specs.Limits.{greatest_short};
 ghost use Rattle.ring_words.specs.Spelling.{Reads, SpellsAddress, SpellsName, SpellsNumber};
 ghost use Rattle.ring_words.specs.Spelling.{SpellsWeight};
@@ -55,7 +55,8 @@ pub(crate) fn port_of(field: &[u8]) -> Result<Port, SpellingFault>
 
 /// The name.
 pub(crate) fn name_of(alloc: Global, field: &[u8]) -> Result<DeviceName, SpellingFault>
-    ensures { Reads (SpellsName is_device_name field.now) result }
+    ensures read { Reads (SpellsName is_device_name field.now) result }
+    ensures named { IsErrOf result SpellingFault.NoMemory → is_device_name field.now ≡ true }
 {
     let Some(text) = text_of(field) else {
         return Err(SpellingFault::Bad);

@@ -4,35 +4,36 @@ use Rattle.byte_streams.specs.declared.counted.CountedReader.{CountedReader}
 use Rattle.byte_streams.specs.declared.counted.CountedWriter.{CountedWriter}
 use Rattle.builder_store.specs.Making.{rings_alone}
 use Rattle.ring_book.specs.Book.{Keeping}
+use Rattle.sqlite_disk.specs.declared.Disk as disks
 use Rattle.sqlite_wal.specs.Recovery.{Image}
 use Rattle.programs.specs.Begun.{IsStoreFault}
 use Rattle.programs.specs.Performed.{DoesAsked, FailsAsked}
 use Rattle.programs.specs.Tables.{IsFileFault}
-use Rattle.file_stores.specs.Opened.{EndsSettled, IsKept, IsMade}
+use Rattle.file_stores.specs.Opened.{EndsIn, IsKept, IsMade}
 
--- Keepers over memory are these, those over files, which had this image as they were opened, and
--- those over files that are made. The words of a command line are these, and the streams are these,
+-- Keepers over memory are these, those over files on a disk, which had this image as they were
+-- opened, and those over files that are made. The words of a command line are these, and the streams are these,
 -- before and after.
-module _ {M K N R W E : Type 0} (memory : Keeping M) (files : Keeping K) (made : Keeping N)
-    (image : Image) (remaining : R → Option (List ℕ)) (contents : W → Option (List ℕ))
+module _ {M K N D F R W E : Type 0} (memory : Keeping M) (files : Keeping K) (disk : disks.Ghosts D)
+    (made : Keeping N) (new_disk : disks.Ghosts F) (image : Image) (remaining : R → Option (List ℕ)) (contents : W → Option (List ℕ))
     (told : E → Option (List ℕ)) (words : List (List ℕ)) (reader late_reader : CountedReader R)
     (writer later : CountedWriter W) (errors late_errors : CountedWriter E) where
   -- The words ask for a task, which was done over the stores in files: each begins with what its
-  -- files stand for, and is settled as it is closed; and one that is made has the rings and the hour
-  -- of another.
+  -- files stand for, and is in its files where closing it was done; and one that is made has the
+  -- rings and the hour of another, and is in its files.
   abbrev pub DoesOverFiles : Type 0
   DoesOverFiles = DoesAsked memory files (λ name. IsKept files image)
-      (λ keeper answer. EndsSettled files keeper) (λ name text. ⊤)
+      (λ keeper answer. EndsIn files disk keeper answer) (λ name text. ⊤)
       (λ name most why. IsFileFault why)
-      (λ name rings hour. IsMade made (rings_alone rings hour)) remaining contents told words reader
+      (λ name rings hour. IsMade made new_disk (rings_alone rings hour)) remaining contents told words reader
       late_reader writer later errors late_errors
 
   -- The words ask for a task, which failed over the stores in files or was an import that was
   -- refused, or there was no memory to read the words.
   abbrev pub FailsOverFiles : Type 0
   FailsOverFiles = FailsAsked memory files (λ name. IsKept files image)
-      (λ keeper answer. EndsSettled files keeper) (λ name text. ⊤)
+      (λ keeper answer. EndsIn files disk keeper answer) (λ name text. ⊤)
       (λ name most why. IsFileFault why)
-      (λ name rings hour. IsMade made (rings_alone rings hour)) remaining contents told words reader
+      (λ name rings hour. IsMade made new_disk (rings_alone rings hour)) remaining contents told words reader
       late_reader writer later errors late_errors (λ name why. IsStoreFault why)
       (λ name rings hour why. IsStoreFault why)

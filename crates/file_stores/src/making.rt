@@ -12,7 +12,8 @@ use programs::ProgramFault;
 use request_book::Keeper;
 use ring_model::Rings;
 use ring_words::{Hour, Limits};
-use sqlite::Start;
+use sqlite::{FileFrom, Start};
+use sqlite_disk::Disk;
 use std::marker::PhantomData;
 
 /// Stands for files that are made, and so are empty. What a write that is cut short may leave is
@@ -59,7 +60,7 @@ pub(crate) fn make_store<S: Start>(
     hour: Hour,
 ) -> Result<(), ProgramFault>
     ensures made { OnOk result (IsMade ⟦<NewKeeper<S> as Keeper<RingMachine>>⟧
-        (rings_alone rings hour)) }
+        ⟦<FileFrom<NewFiles<S>> as Disk>⟧ (rings_alone rings hour)) }
     ensures fault { IfErr result IsStoreFault }
 {
     let files: NewFiles<S> = NewFiles { like: PhantomData };

@@ -2,7 +2,7 @@
 ghost use Rattle.std.specs.Prelude.{◌≡◌, IfErr, IfOk};
 ghost use Rattle.sqlite_wal.specs.Files.{image_at};
 ghost use Rattle.programs.specs.Begun.{IsStoreFault};
-ghost use Rattle.file_stores.specs.Opened.{EndsSettled, IsKept};
+ghost use Rattle.file_stores.specs.Opened.{EndsIn, EndsSettled, IsKept};
 ghost use Rattle.file_stores.specs.Inner.Unopened.{open_fault};
 ghost use Rattle.programs.specs.declared.faults.ProgramFault.TheVariants.{StoreFault};
 
@@ -12,6 +12,7 @@ use programs::ProgramFault;
 use request_book::Keeper;
 use ring_words::Limits;
 use sqlite::{FileFrom, FileStore, Start};
+use sqlite_disk::Disk;
 
 /// Keeps rings and requests in a file and the log beside it.
 pub(crate) type FileKeeper<S> = SqlKeeper<FileStore<FileFrom<S>>>;
@@ -58,9 +59,10 @@ fn stands<K: Keeper<RingMachine>>(keeper: K) -> K
     keeper
 }
 
-/// Closes a store, so that all that it holds is in its file.
+/// Closes a store, so that all that it holds is in its file, and says so only where it is.
 pub(crate) fn close_store<S: Start>(keeper: FileKeeper<S>) -> Result<(), ProgramFault>
-    ensures ended { EndsSettled ⟦<FileKeeper<S> as Keeper<RingMachine>>⟧ keeper }
+    ensures ended { EndsIn ⟦<FileKeeper<S> as Keeper<RingMachine>>⟧ ⟦<FileFrom<S> as Disk>⟧ keeper
+        result }
     ensures fault { IfErr result (λ why. why ≡ StoreFault) }
 {
     match close_keeper(stands(keeper)) {

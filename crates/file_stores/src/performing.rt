@@ -4,14 +4,15 @@ ghost use Rattle.command_line.specs.Tasks.{AskForNothing};
 ghost use Rattle.sqlite_wal.specs.Files.{image_at};
 ghost use Rattle.file_stores.specs.Done.{DoesOverFiles, FailsOverFiles};
 
-use crate::making::NewKeeper;
+use crate::making::{NewFiles, NewKeeper};
 use crate::opening::FileKeeper;
 use crate::stores::StoreFiles;
 use builder::RingMachine;
 use byte_streams::{CountedReader, CountedWriter};
 use programs::{MemoryKeeper, perform};
 use request_book::Keeper;
-use sqlite::Start;
+use sqlite::{FileFrom, Start};
+use sqlite_disk::Disk;
 use std::io::{Read, Write};
 
 /// Does what the words ask for, as `perform` does, over the stores in files. `start` stands for what
@@ -27,12 +28,12 @@ pub fn perform_over_files<S: Start, R: Read, W: Write, E: Write>(
 ) -> u8
     ensures status { result ≤ 2 }
     ensures done { result ≡ 0 → DoesOverFiles ⟦<MemoryKeeper as Keeper<RingMachine>>⟧
-        ⟦<FileKeeper<S> as Keeper<RingMachine>>⟧ ⟦<NewKeeper<S> as Keeper<RingMachine>>⟧
-        (image_at S.Start) R.remaining W.contents E.contents (map string_bytes words.now)
+        ⟦<FileKeeper<S> as Keeper<RingMachine>>⟧ ⟦<FileFrom<S> as Disk>⟧
+        ⟦<NewKeeper<S> as Keeper<RingMachine>>⟧ ⟦<FileFrom<NewFiles<S>> as Disk>⟧ (image_at S.Start) R.remaining W.contents E.contents (map string_bytes words.now)
         reader.old reader.new writer.old writer.new errors.old errors.new }
     ensures fault { result ≡ 1 → FailsOverFiles ⟦<MemoryKeeper as Keeper<RingMachine>>⟧
-        ⟦<FileKeeper<S> as Keeper<RingMachine>>⟧ ⟦<NewKeeper<S> as Keeper<RingMachine>>⟧
-        (image_at S.Start) R.remaining W.contents E.contents (map string_bytes words.now)
+        ⟦<FileKeeper<S> as Keeper<RingMachine>>⟧ ⟦<FileFrom<S> as Disk>⟧
+        ⟦<NewKeeper<S> as Keeper<RingMachine>>⟧ ⟦<FileFrom<NewFiles<S>> as Disk>⟧ (image_at S.Start) R.remaining W.contents E.contents (map string_bytes words.now)
         reader.old reader.new writer.old writer.new errors.old errors.new }
     ensures nothing { result ≡ 2 → AskForNothing (map string_bytes words.now)
         × (reader.new ≡ reader.old) × (writer.new ≡ writer.old) }

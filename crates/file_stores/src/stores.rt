@@ -2,11 +2,11 @@
 ghost use Rattle.std.specs.Prelude.{⊤};
 ghost use Rattle.sqlite_wal.specs.Files.{image_at};
 ghost use Rattle.builder_store.specs.Making.{rings_alone};
-ghost use Rattle.file_stores.specs.Opened.{EndsSettled, IsKept, IsMade};
+ghost use Rattle.file_stores.specs.Opened.{EndsIn, IsKept, IsMade};
 ghost use Rattle.programs.specs.Begun.{IsStoreFault};
 ghost use Rattle.programs.specs.Tables.{IsFileFault};
 
-use crate::making::{NewKeeper, make_store};
+use crate::making::{NewFiles, NewKeeper, make_store};
 use crate::opening::{FileKeeper, close_store, open_store};
 use crate::reading::read_file;
 use builder::RingMachine;
@@ -14,7 +14,8 @@ use programs::{ProgramFault, Stores};
 use request_book::Keeper;
 use ring_model::Rings;
 use ring_words::Hour;
-use sqlite::Start;
+use sqlite::{FileFrom, Start};
+use sqlite_disk::Disk;
 
 /// Stores in files, which are named by their paths. `start` stands for what the files hold.
 #[derive(Drop)]
@@ -29,10 +30,11 @@ impl<S: Start> Stores for StoreFiles<S> {
 
     ghost refuses = { λ name why. IsStoreFault why };
 
-    ghost ends = { λ keeper answer. EndsSettled ⟦<FileKeeper<S> as Keeper<RingMachine>>⟧ keeper };
+    ghost ends = { λ keeper answer. EndsIn ⟦<FileKeeper<S> as Keeper<RingMachine>>⟧
+        ⟦<FileFrom<S> as Disk>⟧ keeper answer };
 
     ghost is_made = { λ name rings hour. IsMade ⟦<NewKeeper<S> as Keeper<RingMachine>>⟧
-        (rings_alone rings hour) };
+        ⟦<FileFrom<NewFiles<S>> as Disk>⟧ (rings_alone rings hour) };
 
     ghost is_unmade = { λ name rings hour why. IsStoreFault why };
 

@@ -163,3 +163,16 @@ fn answers_are_written_before_more_is_read(rt: HostRuntime) -> Result<(), Fail> 
     assert!(rt; is_written_at_once(rt.alloc(), &mut book)?);
     Ok(())
 }
+
+/// A request that says that it is the last.
+static LAST: &str = "GET /v2 HTTP/1.1\r\nHost: a\r\nConnection: close\r\n\r\n";
+
+#[test]
+fn nothing_is_read_behind_the_last_request(rt: HostRuntime) -> Result<(), Fail> {
+    let mut book = open(rt.alloc(), Limits::full());
+    let taker = Taker::new(rt.alloc(), 1000, u32::MAX);
+    // A second read would fail.
+    let came = serve(rt.alloc(), &mut book, LAST, (1000, 2), taker)?;
+    assert!(rt; came.fault.is_none() && came.read_faults == 0 && !came.text.is_empty());
+    Ok(())
+}

@@ -68,11 +68,11 @@ IsNoName word = (name : List ℕ) → SpellsName is_label word name → ⊥
 abbrev pub IsNoNumber : List ℕ → Type 0
 IsNoNumber word = (number : ℕ) → SpellsNumber word 0 greatest_long number → ⊥
 
--- The fault tells a word that isn't of its form, or names that make no path. Want of memory says
--- nothing.
+-- The fault tells a word that isn't of its form or, where all words are of theirs, names that make
+-- no path. Want of memory says nothing.
 abbrev pub IsFormFault : Type 0 → Type 0 → ProgramFault → Type 0
 IsFormFault malformed pathless fault.Unreadable = malformed
-IsFormFault malformed pathless fault.BadPath = pathless
+IsFormFault malformed pathless fault.BadPath = pathless × (malformed → ⊥)
 IsFormFault malformed pathless fault.NoMemory = ⊤
 IsFormFault malformed pathless _ = ⊥
 

@@ -83,10 +83,10 @@ pub(crate) fn ask_nodes(
     ensures fault { IfErr result (IsFormFault (IsNoName ring.now)
         (is_path (names_given account.entry container.entry object.entry) ≢ true)) }
 {
-    let ring = read_name(alloc, ring)?;
+    let name = read_name(alloc, ring)?;
     let path = path_given(alloc, account, container, object)?;
     Ok(Question {
-        ring,
+        ring: name,
         read: Read::Nodes(path),
     })
 }

@@ -1,14 +1,11 @@
 //! The one text of a reply, and back.
 ghost use Rattle.std.specs.Prelude.{◌∷◌, [], ◌≡◌, ◌≢◌, IfOk, IfSome, IfNone, Some, codes};
 ghost use Rattle.std.specs.Prelude.{string_bytes};
-ghost use Rattle.serde_json.specs.Data.{string};
 ghost use Rattle.serde_json.specs.Find.{get};
 ghost use Rattle.serde_json.specs.View.{view};
 ghost use Rattle.ring_words.specs.declared.command.Refusal.{Refusal};
 ghost use Rattle.ring_words.specs.declared.command.RowCause.{RowCause};
 ghost use Rattle.ring_words.specs.declared.command.Deed.TheVariants as deed;
-ghost use Rattle.ring_words.specs.Kinds.{deed_kind};
-ghost use Rattle.ring_messages.specs.Words.{kind_word};
 ghost use Rattle.ring_words.specs.Spelling.{Reads};
 ghost use Rattle.ring_messages.specs.Fields.{AreProper};
 ghost use Rattle.ring_messages.specs.Replies.{deed_fields, done_data, done_object, done_fields};
@@ -16,15 +13,15 @@ ghost use Rattle.ring_messages.specs.Replies.{version_field};
 ghost use Rattle.ring_messages.specs.Replies.{IsProperRefusal, IsProperReply, cause_rule};
 ghost use Rattle.ring_messages.specs.Replies.{refusal_rule, refused_data, refusal_data};
 ghost use Rattle.ring_messages.specs.Replies.{row_refused_data, reply_data, reply_text};
-ghost use Rattle.ring_messages.specs.Inner.Says.{HasFields, SaysDone, SaysRefusal, SaysReply};
+ghost use Rattle.ring_messages.specs.Inner.Says.{SaysDone, SaysRefusal, SaysReply};
 ghost use Rattle.ring_messages.specs.Inner.Says.{SaysWhy};
 
 use crate::MessageFault;
 use crate::objects::Scalar::{Number, Text};
 use crate::objects::object;
-use crate::parts::{number, number16, number32, value_of};
-use crate::words::{kind_at, word_of};
-use ring_words::{Deed, DeviceId, Done, Kind, Refusal, Reply, RowCause};
+use crate::parts::{number, number32, value_of};
+use crate::words::{deed_of, kind_at, word_of};
+use ring_words::{Deed, DeviceId, Done, Refusal, Reply, RowCause};
 use serde_json::Value;
 use std::alloc::{AllocError, Global};
 
@@ -182,36 +179,6 @@ pub fn reply_text(alloc: Global, reply: &Reply) -> Result<String, AllocError>
     ensures { IfOk result (λ s. string_bytes s ≡ reply_text reply.now) }
 {
     reply_value(alloc, *reply)?.to_string(alloc)
-}
-
-/// What a reply with this command's word under the key `done` tells that was done.
-fn deed_of(value: &Value, kind: Kind) -> Result<Deed, MessageFault>
-    requires word { get (codes "done") (view value.now) ≡ Some (string (kind_word kind)) }
-    ensures { Reads (λ x. (get (codes "done") (view value.now)
-        ≡ Some (string (kind_word (deed_kind x))))
-        × HasFields (view value.now) (deed_fields x)) result }
-{
-    match kind {
-        Kind::Create => Ok(Deed::Create),
-        Kind::Add => Ok(Deed::Add {
-            id: number16(value.get("id"))?,
-        }),
-        Kind::SetWeight => Ok(Deed::SetWeight),
-        Kind::Remove => Ok(Deed::Remove),
-        Kind::SetHours => Ok(Deed::SetHours),
-        Kind::PretendPassed => Ok(Deed::PretendPassed),
-        Kind::RaisePower => Ok(Deed::RaisePower),
-        Kind::Publish => Ok(Deed::Publish),
-        Kind::Rebalance => Ok(Deed::Rebalance {
-            balance: number32(value.get("balance"))?,
-            changed: number32(value.get("changed"))?,
-            dispersion: number32(value.get("dispersion"))?,
-        }),
-        Kind::Import => Ok(Deed::Import {
-            added: number(value.get("added"), u64::MAX)?,
-            reweighted: number(value.get("reweighted"), u64::MAX)?,
-        }),
-    }
 }
 
 fn done(value: &Value) -> Result<Done, MessageFault>

@@ -1,13 +1,18 @@
-//! The words of commands, in messages and in replies.
-ghost use Rattle.std.specs.Prelude.{◌≡◌, IfSome, IfNone, Some};
+//! The words of commands, in messages and in replies, and what a reply with such a word tells.
+ghost use Rattle.std.specs.Prelude.{◌≡◌, IfSome, IfNone, Some, codes};
 ghost use Rattle.serde_json.specs.Data.{string};
 ghost use Rattle.serde_json.specs.Find.{get};
 ghost use Rattle.serde_json.specs.View.{view};
 ghost use Rattle.ring_words.specs.declared.command.Kind.{Kind};
+ghost use Rattle.ring_words.specs.Kinds.{deed_kind};
+ghost use Rattle.ring_words.specs.Spelling.{Reads};
+ghost use Rattle.ring_messages.specs.Inner.Says.{HasFields};
+ghost use Rattle.ring_messages.specs.Replies.{deed_fields};
 ghost use Rattle.ring_messages.specs.Words.{kind_word};
 
-use crate::parts::text;
-use ring_words::Kind;
+use crate::MessageFault;
+use crate::parts::{number, number16, number32, text};
+use ring_words::{Deed, Kind};
 use serde_json::Value;
 
 /// The word of a command.
@@ -56,4 +61,34 @@ pub(crate) fn kind_at(value: &Value, key: &str) -> Option<Kind>
         ≡ Some (string (kind_word kind)) → ⊥) }
 {
     kind_of(text(value.get(key))?)
+}
+
+/// What a reply with this command's word under the key `done` tells that was done.
+pub(crate) fn deed_of(value: &Value, kind: Kind) -> Result<Deed, MessageFault>
+    requires word { get (codes "done") (view value.now) ≡ Some (string (kind_word kind)) }
+    ensures { Reads (λ x. (get (codes "done") (view value.now)
+        ≡ Some (string (kind_word (deed_kind x))))
+        × HasFields (view value.now) (deed_fields x)) result }
+{
+    match kind {
+        Kind::Create => Ok(Deed::Create),
+        Kind::Add => Ok(Deed::Add {
+            id: number16(value.get("id"))?,
+        }),
+        Kind::SetWeight => Ok(Deed::SetWeight),
+        Kind::Remove => Ok(Deed::Remove),
+        Kind::SetHours => Ok(Deed::SetHours),
+        Kind::PretendPassed => Ok(Deed::PretendPassed),
+        Kind::RaisePower => Ok(Deed::RaisePower),
+        Kind::Publish => Ok(Deed::Publish),
+        Kind::Rebalance => Ok(Deed::Rebalance {
+            balance: number32(value.get("balance"))?,
+            changed: number32(value.get("changed"))?,
+            dispersion: number32(value.get("dispersion"))?,
+        }),
+        Kind::Import => Ok(Deed::Import {
+            added: number(value.get("added"), u64::MAX)?,
+            reweighted: number(value.get("reweighted"), u64::MAX)?,
+        }),
+    }
 }

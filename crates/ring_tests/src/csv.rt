@@ -122,7 +122,7 @@ const OTHER_NAMES: [Told; 9] = [
 ];
 
 /// Records of another length, which are no rows.
-const OTHER_LENGTHS: [Told; 4] = [
+const OTHER_LENGTHS: [Told; 5] = [
     (
         "a second record too short",
         NAMES,
@@ -133,6 +133,12 @@ const OTHER_LENGTHS: [Told; 4] = [
         "a record too long",
         NAMES,
         b"1,1,10.0.0.1,6200,d0,50.00,\n",
+        Err(CsvFault::BadRow(1)),
+    ),
+    (
+        "a record of eight fields",
+        NAMES,
+        b"1,1,10.0.0.1,6200,d0,50.00,,\n",
         Err(CsvFault::BadRow(1)),
     ),
     ("one field", NAMES, b"\"\"\n", Err(CsvFault::BadRow(1))),

@@ -9,9 +9,9 @@ use Rattle.std.proofs.lemmas.List.{get_or-map, length-map, map_more, map_push}
 use Rattle.std.proofs.lemmas.List.Elements.{All-push, All-head, All-tail, All-get_or, All-weaker}
 use Rattle.std.proofs.lemmas.List.Elements.{All-from_recursion}
 use Rattle.std.proofs.lemmas.List.Splits.{join_with_byte-slice_split}
+use Rattle.ring_words.specs.Rows.{IsProperRow}
 use Rattle.ring_words.specs.declared.device.Device.{Device}
 use Rattle.ring_words.specs.declared.device.Row.{Row}
-use Rattle.ring_text.specs.Snapshot.{IsWithinLimits}
 use Rattle.ring_text.specs.Spelling.{device_line, state_word}
 use Rattle.ring_words.specs.Spelling.{SpellsNumber}
 use Rattle.ring_text.specs.Inner.Reading.{text_at, IsDevice, IsDeviceLine, AreDeviceLines}
@@ -20,6 +20,9 @@ use Rattle.ring_words.proofs.Spelled.{one_number, one_weight, one_address}
 use Rattle.ring_text.proofs.Graphic.{AreGraphic, Lacks, graphic-decimal, graphic-address}
 use Rattle.ring_text.proofs.Graphic.{graphic-weight, graphic-state, graphic-device_name}
 use Rattle.ring_text.proofs.Graphic.{lacks_of_graphic, parts-joined}
+
+abbrev IsProperDevice : Device → Type 0
+IsProperDevice device = IsProperRow device.row
 
 -- eight words, one by one
 eight : (ws : List (List ℕ)) → length ws ≡ 8 → ws ≡ text_at ws 0 ∷ text_at ws 1 ∷ text_at ws 2 ∷
@@ -39,7 +42,7 @@ words_of_device ws d h = eight ws h.count ∙ rw (
   h.name.is,
 ) refl
 
-limits_of_device : (ws : List (List ℕ)) (d : Device) → IsDevice ws d → IsWithinLimits d
+limits_of_device : (ws : List (List ℕ)) (d : Device) → IsDevice ws d → IsProperDevice d
 limits_of_device ws d h = record {
   region = omega (arith, h.region.below);
   zone = omega (arith, h.zone.below);
@@ -53,7 +56,7 @@ number_of : (w : List ℕ) (n : ℕ) → w ≡ decimal n → n < 2 ^ 16 → Spel
 number_of w n e lt = record { is = e; above = omega arith; below = omega arith }
 
 device_of_words : (ws : List (List ℕ)) (d : Device) → ws ≡ device_line d → d.id < 2 ^ 16 →
-    IsWithinLimits d → IsDevice ws d
+    IsProperDevice d → IsDevice ws d
 device_of_words ws d e id limits = record {
   count = ap (λ (x : List (List ℕ)). length x) e;
   id = number_of _ d.id (ap (λ (x : List (List ℕ)). text_at x 0) e) id;
@@ -74,7 +77,7 @@ device_of_words ws d e id limits = record {
 small : (n : ℕ) → n < 2 ^ 16 → AreGraphic (decimal n)
 small n lt = graphic-decimal n (omega arith)
 
-pub graphic-device : (d : Device) → d.id < 2 ^ 16 → IsWithinLimits d →
+pub graphic-device : (d : Device) → d.id < 2 ^ 16 → IsProperDevice d →
     All AreGraphic (device_line d)
 graphic-device d id limits =
     All-from_recursion AreGraphic (device_line d) (
@@ -100,12 +103,12 @@ graphic-device d id limits =
       ),
     )
 
-device_lacks : (d : Device) → d.id < 2 ^ 16 → IsWithinLimits d → All (Lacks 32) (device_line d)
+device_lacks : (d : Device) → d.id < 2 ^ 16 → IsProperDevice d → All (Lacks 32) (device_line d)
 device_lacks d id limits = All-weaker AreGraphic (Lacks 32) (λ w g. lacks_of_graphic 32 w (lit≤ tt)
     g) (device_line d) (graphic-device d id limits)
 
 -- the words of a device's line
-pub split-device : (d : Device) → d.id < 2 ^ 16 → IsWithinLimits d →
+pub split-device : (d : Device) → d.id < 2 ^ 16 → IsProperDevice d →
     slice_split (λ b. b == 32) (join_with_byte 32 (device_line d)) ≡ device_line d
 split-device d id limits = parts-joined 32 (decimal d.id) _ (device_lacks d id limits)
 
@@ -176,7 +179,7 @@ more_devices texts ds text d are is = record {
     is.is,
   ) refl;
   ids = All-push (λ (x : Device). x.id < 2 ^ 16) ds d are.ids is.id;
-  limits = All-push IsWithinLimits ds d are.limits is.limits;
+  limits = All-push IsProperDevice ds d are.limits is.limits;
 }
 
 no_row : Row
@@ -200,7 +203,7 @@ device_within texts ds i lt are =
       record {
         is = at;
         id = All-get_or (λ (x : Device). x.id < 2 ^ 16) ds i none below are.ids;
-        limits = All-get_or IsWithinLimits ds i none below are.limits;
+        limits = All-get_or IsProperDevice ds i none below are.limits;
       },
     )
 
@@ -211,7 +214,7 @@ same_devices texts ds es a b = go ds es (sym a.are ∙ b.are) a.ids b.ids a.limi
   where
     go : (ds es : List Device) → map joined (map device_line ds) ≡ map joined (map device_line es) →
         All (λ device. device.id < 2 ^ 16) ds → All (λ device. device.id < 2 ^ 16) es →
-        All IsWithinLimits ds → All IsWithinLimits es → ds ≡ es
+        All IsProperDevice ds → All IsProperDevice es → ds ≡ es
     go [] [] e i j l m = refl
     go [] (x ∷ xs) e i j l m = cc
     go (x ∷ xs) [] e i j l m = cc
@@ -225,14 +228,14 @@ same_devices texts ds es a b = go ds es (sym a.are ∙ b.are) a.ids b.ids a.limi
           is = refl;
           id =
               All-head ids x xs i;
-          limits = All-head IsWithinLimits x xs l;
+          limits = All-head IsProperDevice x xs l;
         }) (record {
           is = head;
           id = All-head ids y ys j;
-          limits = All-head IsWithinLimits y ys m;
+          limits = All-head IsProperDevice y ys m;
         }) in
         let rest = go xs ys tail (All-tail ids x xs i) (All-tail ids y ys j)
-        (All-tail IsWithinLimits x xs l) (All-tail IsWithinLimits y ys m) in
+        (All-tail IsProperDevice x xs l) (All-tail IsProperDevice y ys m) in
         ap₂ (λ (a : Device) (more : List Device). a ∷ more) first rest
 
 pub devices_pushed : (lines : List (Bor (List ℕ))) (i : ℕ) (line : Bor (List ℕ)) (ds : List Device)

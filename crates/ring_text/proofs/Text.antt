@@ -90,7 +90,7 @@ one_word a g = All-cons AreWords (a ∷ []) [] (All-cons AreGraphic a [] g (All-
 
 device_words : (s : SnapshotRecord) → IsValidSnapshot s → All AreWords (map device_line s.devices)
 device_words s v = All-map AreWords device_line s.devices (λ k d lt. graphic-device _
-    (v.devices.below k d lt) (v.limits k d lt))
+    (v.devices.below k d lt) (v.devices.proper k d lt))
 
 partition_words : (s : SnapshotRecord) → IsValidSnapshot s →
     All AreWords (partition_lines (2 ^ s.power) s.replicas s.seats)

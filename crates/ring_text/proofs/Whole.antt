@@ -138,7 +138,7 @@ parts_are ts g x s tells cut are =
     let replicas : g.replicas ≡ s.replicas = ap (λ (h : Head). h.replicas) same in
     record {
       head = same;
-      devices = record { are = pair.0; ids = λ k d lt. v.devices.below k d lt; limits = v.limits };
+      devices = record { are = pair.0; ids = λ k d lt. v.devices.below k d lt; limits = v.devices.proper };
       seats = rw replicas (record {
         are = rw count pair.1;
         count = rw count v.taken;

@@ -1,9 +1,8 @@
 -- A snapshot of a ring: what its text tells.
-use Rattle.std.specs.Prelude.{◌≡◌, ℕ, ◌*◌, ◌^◌, ◌<◌, ◌≤◌, List, length, All, IsTrue}
-use Rattle.ring_words.specs.Limits.{greatest_power, most_ids, most_replicas, short_count}
-use Rattle.ring_words.specs.Limits.{long_count}
+use Rattle.std.specs.Prelude.{◌≡◌, ℕ, ◌*◌, ◌^◌, ◌<◌, ◌≤◌, List, length, IsTrue}
+use Rattle.ring_words.specs.Limits.{greatest_power, long_count, most_ids, most_replicas}
 use Rattle.ring_model.specs.Ring.{RingRecord}
-use Rattle.ring_words.specs.Texts.{is_label, is_device_name, greatest_weight, address_limit}
+use Rattle.ring_words.specs.Texts.{is_label}
 use Rattle.ring_model.specs.Valid.{AreDevices, AreSeats}
 use Rattle.ring_words.specs.declared.device.Device.{Device}
 
@@ -20,15 +19,6 @@ pub record SnapshotRecord : Type 0 where
   -- which device is on each seat, by partition and then by replica
   pub seats : List ℕ
 
--- The device has an address, a port, a name and a weight such as there are.
-pub record IsWithinLimits (device : Device) : Type 0 where
-  pub region : device.row.region < short_count
-  pub zone : device.row.zone < short_count
-  pub address : device.row.address < address_limit
-  pub port : (1 ≤ device.row.port) × (device.row.port < short_count)
-  pub name : IsTrue (is_device_name device.row.name)
-  pub weight : device.row.weight ≤ greatest_weight
-
 -- Such a snapshot there is: each word is of its form, and all seats are taken by devices that the
 -- rules of a ring allow.
 pub record IsValidSnapshot (snapshot : SnapshotRecord) : Type 0 where
@@ -37,7 +27,6 @@ pub record IsValidSnapshot (snapshot : SnapshotRecord) : Type 0 where
   pub power : (1 ≤ snapshot.power) × (snapshot.power ≤ greatest_power)
   pub replicas : (1 ≤ snapshot.replicas) × (snapshot.replicas ≤ most_replicas)
   pub devices : AreDevices most_ids snapshot.devices
-  pub limits : All IsWithinLimits snapshot.devices
   pub taken : length snapshot.seats ≡ 2 ^ snapshot.power * snapshot.replicas
   pub seats : AreSeats (2 ^ snapshot.power) snapshot.replicas snapshot.devices snapshot.seats
 

@@ -1,8 +1,9 @@
 //! The words of a line, and what follows a key at its front.
-ghost use Rattle.std.specs.Prelude.{◌≡◌, ◌<◌, ◌++◌, ◌==◌, [], IfOk, length, map};
+ghost use Rattle.std.specs.Prelude.{◌≡◌, ◌<◌, ◌++◌, ◌==◌, [], IfOk, IsErrOf, length, map};
 ghost use Rattle.std.specs.List.{slice_split};
 ghost use Rattle.ring_text.specs.Inner.Reading.{IsNumberAfter, IsNameAfter, text_at};
 ghost use Rattle.ring_words.specs.Spelling.{Reads};
+ghost use Rattle.ring_words.specs.declared.spelling.SpellingFault.TheVariants.{NoMemory};
 ghost use Rattle.ring_words.specs.Inner.ReadsAs.{ReadsAs};
 ghost use Rattle.ring_text.specs.Spelling.{state_word};
 
@@ -29,7 +30,8 @@ pub(crate) fn text_at<'a>(texts: &[&'a str], place: usize) -> &'a str
 
 /// Whether a device is marked to be removed.
 pub(crate) fn state(word: &str) -> Result<bool, TextFault>
-    ensures { Reads (λ removed. word.now ≡ state_word removed) result }
+    ensures read { Reads (λ removed. word.now ≡ state_word removed) result }
+    ensures memory { IsErrOf result NoMemory → ⊥ }
 {
     match word {
         "present" => Ok(false),
@@ -38,15 +40,18 @@ pub(crate) fn state(word: &str) -> Result<bool, TextFault>
     }
 }
 
-/// What follows a key at the front of a line.
+/// What follows a key at the front of a line. It asks for no memory, as all of this file that take
+/// no allocator.
 fn after<'a>(line: &'a str, key: &str) -> Result<&'a str, TextFault>
-    ensures { ReadsAs (λ rest. rest.now) (λ rest. line.now ≡ key.now ++ rest) result }
+    ensures read { ReadsAs (λ rest. rest.now) (λ rest. line.now ≡ key.now ++ rest) result }
+    ensures memory { IsErrOf result NoMemory → ⊥ }
 {
     line.strip_prefix(key).ok_or(TextFault::Bad)
 }
 
 pub(crate) fn number_after(line: &str, key: &str, most: u32) -> Result<u32, TextFault>
-    ensures { Reads (IsNumberAfter key.now line.now 0 most) result }
+    ensures read { Reads (IsNumberAfter key.now line.now 0 most) result }
+    ensures memory { IsErrOf result NoMemory → ⊥ }
 {
     let rest = after(line, key)?;
     read_number(rest, most)
@@ -56,7 +61,8 @@ pub(crate) fn bounded_after<const LEAST: u16, const MOST: u16>(
     line: &str,
     key: &str,
 ) -> Result<Bounded<LEAST, MOST>, TextFault>
-    ensures { Reads (IsNumberAfter key.now line.now LEAST MOST) result }
+    ensures read { Reads (IsNumberAfter key.now line.now LEAST MOST) result }
+    ensures memory { IsErrOf result NoMemory → ⊥ }
 {
     let rest = after(line, key)?;
     read_bounded(rest)

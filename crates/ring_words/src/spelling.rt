@@ -2,7 +2,7 @@
 //!
 //! Ring texts, tables, messages and routes read their words here, so a value has the same one
 //! spelling everywhere. What takes no memory never answers that memory was refused.
-ghost use Rattle.std.specs.Prelude.{◌≡◌, IsErrOf};
+ghost use Rattle.std.specs.Prelude.{◌≡◌, ◌≢◌, ◌↔◌, true, IsErrOf};
 ghost use Rattle.ring_words.specs.Limits.{greatest_short};
 ghost use Rattle.ring_words.specs.Spelling.{Reads, SpellsAddress, SpellsName, SpellsNumber};
 ghost use Rattle.ring_words.specs.Spelling.{SpellsWeight};
@@ -80,7 +80,8 @@ pub fn read_bounded<const LEAST: u16, const MOST: u16>(
 
 /// The name that a word is.
 pub fn read_name<K: NameKind>(alloc: Global, word: &str) -> Result<Name<K>, SpellingFault>
-    ensures { Reads (SpellsName K.allows word.now) result }
+    ensures read { Reads (SpellsName K.allows word.now) result }
+    ensures bad { IsErrOf result SpellingFault.Bad ↔ (K.allows word.now ≢ true) }
 {
     Name::new(alloc, word)
 }

@@ -40,7 +40,7 @@ use Rattle.store_rows.specs.RingRows.{NamedRings, ring_entries, device_entries, 
 use Rattle.store_rows.specs.RingRows.{part_entries_of, part_entries, published_entry}
 use Rattle.store_rows.specs.RingRows.{published_entries}
 use Rattle.store_rows.specs.Stands.{AreRings, IsNamedRing, RingContent, contents_for}
-use Rattle.store_rows.specs.Differences.{Grows, WritesDifferences, is_same_ring, is_same_device}
+use Rattle.store_rows.specs.Differences.{Grows, KeepsTexts, WritesDifferences, is_same_ring, is_same_device}
 use Rattle.store_rows.specs.Differences.{is_same_part, is_same_text, with_state, ring_written}
 use Rattle.store_rows.specs.Differences.{device_written, device_dropped, part_written, text_written}
 use Rattle.store_rows.specs.Differences.{differing_rows, gone_entries, new_entries}
@@ -86,7 +86,7 @@ ring_one v w t =
       version = version_is i;
     }
 
-ring_itself : (v : rows.Ring) → is_same_ring v v ≡ true
+pub ring_itself : (v : rows.Ring) → is_same_ring v v ≡ true
 ring_itself v = and_from _ _ (same_int v.power) (and_from _ _ (same_int v.replicas)
     (and_from _ _ (same_int v.min_hours) (and_from _ _ (same_int v.next_id) (same_int v.version))))
 
@@ -136,7 +136,7 @@ text_one v w t = (bytes_eq-Decides v w).0 t
 
 -- ---- no key goes
 
-valid_at : (name : List ℕ) (rings : NamedRings) → AreRings rings →
+pub valid_at : (name : List ℕ) (rings : NamedRings) → AreRings rings →
     IfSome (ring_at name rings) IsValid
 valid_at name rings held = go (std.find (λ (x : List ℕ × RingRecord). pointwise nat_eq x.0 name)
     rings) (holds_of_found IsNamedRing _ rings (recursion_from_All IsNamedRing rings held.each))
@@ -212,10 +212,9 @@ no_part_before old new p q less n none =
     le_trans : {a b d : ℕ} → a ≤ b → b ≤ d → a ≤ d
     le_trans h l = omega arith
 
-abbrev Later : Option RingRecord → RingRecord → Type 0
-Later new ring = IsSomeAnd new (λ later. (ring.power ≤ later.power) ×
-    ((version : ℕ) → IsTrue (is_some (published_at ring version)) →
-    IsTrue (is_some (published_at later version))))
+-- a ring is there with all partitions and published texts
+abbrev pub Later : Option RingRecord → RingRecord → Type 0
+Later new ring = IsSomeAnd new (λ later. (ring.power ≤ later.power) × KeepsTexts ring later)
 
 none_in_rings : (old new : Option RingRecord) → ((ring : RingRecord) → old ≡ Some ring →
     Later new ring) → option_map ring_value new ≡ None → option_map ring_value old ≡ None
@@ -232,20 +231,15 @@ none_in_parts (Some ring) None p q more n gone = absurd (more ring refl)
 none_in_parts (Some ring) (Some later) p q more n gone =
     no_part_before ring later p q (more ring refl).0 n gone
 
-no_text : (o : Option (List ℕ)) → is_some o ≡ false → o ≡ None
-no_text None h = refl
-no_text (Some t) h = let e : true ≡ false = h in cc
-
 none_in_texts : (old new : Option RingRecord) → ((ring : RingRecord) → old ≡ Some ring →
     Later new ring) → (n : ℕ) → text_in new n ≡ None → text_in old n ≡ None
 none_in_texts None new more n gone = refl
 none_in_texts (Some ring) None more n gone = absurd (more ring refl)
-none_in_texts (Some ring) (Some later) more n gone =
-    elim (cases_Bool (is_some (published_at ring n))) [
-      | inl some ↦ absurd (let kept = (more ring refl).1 n some in let h : true ≡ false =
-          sym kept ∙ ap is_some gone in cc)
-      | inr gone_too ↦ no_text (published_at ring n) gone_too
-    ]
+none_in_texts (Some ring) (Some later) more n gone = by (published_at ring n) refl
+  where
+    by : (o : Option (List ℕ)) → published_at ring n ≡ o → published_at ring n ≡ None
+    by None at = at
+    by (Some text) at = let kept : None ≡ Some text = sym gone ∙ (more ring refl).1 n text at in cc
 
 module _ (old new : NamedRings) (p : AreRings old) (q : AreRings new) (grows : Grows old new) where
   rings_kept : (name : List ℕ) → find name_cmp name (ring_entries new) ≡ None →

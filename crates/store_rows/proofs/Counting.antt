@@ -1,31 +1,23 @@
 -- How many rows a change of rings concerns.
-use Rattle.std.proofs.Common.{◌≡◌, inl, inr, ℕ, suc, ◌+◌, ◌<◌, pos, Bool, true, false, not, cond}
-use Rattle.std.proofs.Common.{List, [], ◌∷◌, ◌++◌, map, filter, length, take, get_or, Option, Some}
+use Rattle.std.proofs.Common.{◌≡◌, inl, inr, ℕ, suc, Bool, true, false, not, cond}
+use Rattle.std.proofs.Common.{List, [], ◌∷◌, map, filter, length, Option, Some}
 use Rattle.std.proofs.Common.{None, Ordering, refl, sym, ap, ◌∙◌, is_some, is_none}
 use Rattle.std.specs.List.{AllByRecursion, count_by}
 use Rattle.std.specs.Ordering.{eq_by_cmp, is_eq}
 use Rattle.std.specs.Cmp.{IsTotalOrder}
 use Rattle.std.specs.FinMap.{find, from_entries, get, get-from_entries, is_sorted, IsAntisymmetric}
-use Rattle.std.specs.declared.rc.Rc.{Rc}
-use Rattle.std.specs.declared.alloc.Global.{Global}
 use Rattle.std.proofs.lemmas.Bool.{cases_Bool}
 use Rattle.std.proofs.lemmas.Cmp.{tied_itself}
-use Rattle.std.proofs.lemmas.List.{length-append}
-use Rattle.std.proofs.lemmas.List.Elements.{filter-append}
 use Rattle.std.proofs.lemmas.List.Sums.{length-filter}
-use Rattle.ring_model.specs.Ring.{RingRecord}
-use Rattle.ring_model.specs.Rings.{AreByName, ring_at, seen}
-use Rattle.ring_model.specs.declared.ring.Ring.{Ring}
 use Rattle.ring_words.specs.declared.device.Device.{Device}
 use Rattle.store_model.specs.Entries as rows
 use Rattle.store_model.specs.Entries.{NameNumber, name_number_cmp}
-use Rattle.store_rows.specs.RingRows.{NamedRings, device_entry, device_entries}
+use Rattle.store_rows.specs.RingRows.{device_entry}
 use Rattle.store_rows.specs.Differences.{gone_entries}
-use Rattle.store_rows.specs.Inner.Lacking.{device_in, gone, rows_at}
+use Rattle.store_rows.specs.Inner.Lacking.{device_in, gone}
 use Rattle.store_rows.proofs.Maps.{entries_of}
-use Rattle.store_rows.proofs.Ordered.{rising, devices_named, weaker}
-use Rattle.store_rows.proofs.Blocks.{find_in}
-use Rattle.store_rows.proofs.Steps.{find_device, others_are, seen_step}
+use Rattle.store_rows.proofs.Ordered.{weaker}
+use Rattle.store_rows.proofs.Steps.{find_device}
 
 none_or_some : {X : Type 0} (o : Option X) → is_none o ≡ not (is_some o)
 none_or_some None = refl
@@ -89,45 +81,12 @@ count_mapped p q f same (x ∷ xs) =
     ap (λ t. length (cond t (f x ∷ filter p (map f xs)) (filter p (map f xs)))) (same x)
     ∙ alike_lengths (q x) (f x) (filter p (map f xs)) x (filter q xs) (count_mapped p q f same xs)
 
--- the devices of one ring that the new rings have not
-module _ (new : NamedRings) (by_name : AreByName new) where
-  abbrev IsGone : NameNumber × rows.Device → Bool
-  IsGone e = is_none (find name_number_cmp e.0 (device_entries new))
-
-  at_ring : (name : List ℕ) (d : Device) → IsGone (device_entry name d) ≡ is_none
-      (device_in d.id (rows_at (λ (e : List ℕ × RingRecord). e.1.devices) [] (ring_at name new)))
-  at_ring name d = ap is_none (
-      find_in (λ e. map (device_entry e.0) e.1.devices) devices_named (name, pos d.id) new
-      (rising new by_name)
-      ∙ ap (find name_number_cmp (name, pos d.id)) (sym (others_are name (ring_at name new)))
-      ∙ find_device name d.id (rows_at (λ (e : List ℕ × RingRecord). e.1.devices) []
-      (ring_at name new)))
-
-  pub gone_of : (e : List ℕ × RingRecord) →
-      length (gone name_number_cmp (map (device_entry e.0) e.1.devices) (device_entries new))
-      ≡ count_by (λ (d : Device). is_none
-      (device_in d.id (rows_at (λ (x : List ℕ × RingRecord). x.1.devices) []
-      (ring_at e.0 new)))) e.1.devices
-  gone_of e = count_mapped IsGone _ (device_entry e.0) (at_ring e.0) e.1.devices ∙ length-filter _
-      e.1.devices
-
-  pub gone_step : (xs : List (List ℕ × Rc Ring Global)) (i : ℕ) (x : List ℕ × Rc Ring Global) →
-      i < length xs → x ≡ get_or xs i x → (count more : ℕ)
-      → count ≡ length (gone name_number_cmp (device_entries (seen (take i xs)))
-      (device_entries new))
-      → more ≡ count_by (λ (d : Device). is_none
-      (device_in d.id (rows_at (λ (e : List ℕ × RingRecord). e.1.devices) []
-      (ring_at x.0 new)))) x.1.value.devices
-      → count + more ≡ length (gone name_number_cmp (device_entries (seen (take (i + 1) xs)))
-      (device_entries new))
-  gone_step xs i x lt is count more so_far here =
-      let front = device_entries (seen (take i xs)) in
-      let block = map (device_entry x.0) x.1.value.devices in
-      let all : front ++ block ≡ device_entries (seen (take (i + 1) xs)) =
-      seen_step (λ e. map (device_entry e.0) e.1.devices) xs i x lt is front (front ++ block)
-      refl refl in
-      let split : length (filter IsGone (front ++ block)) ≡ length (filter IsGone front) + length
-      (filter IsGone block) = ap length (filter-append IsGone front block) ∙ length-append
-      (filter IsGone front) (filter IsGone block) in
-      let last = here ∙ sym (gone_of (x.0, x.1.value)) in
-      (λ j. so_far j + last j) ∙ sym split ∙ ap (λ es. length (filter IsGone es)) all
+-- how many devices of a ring have numbers that are not among others
+pub gone_count : (name : List ℕ) (devices others : List Device) →
+    length (gone name_number_cmp (map (device_entry name) devices) (map (device_entry name) others))
+    ≡ count_by (λ (d : Device). is_none (device_in d.id others)) devices
+gone_count name devices others =
+    count_mapped (λ (e : NameNumber × rows.Device). is_none (find name_number_cmp e.0
+    (map (device_entry name) others))) (λ (d : Device). is_none (device_in d.id others))
+    (device_entry name) (λ d. ap is_none (find_device name d.id others)) devices
+    ∙ length-filter _ devices

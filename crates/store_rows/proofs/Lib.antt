@@ -15,10 +15,11 @@ pub mod BookOpens
 pub mod FoundRows
 pub mod FirstOrdered
 pub mod Opens
-pub mod KeptRings
 pub mod Counting
 pub mod Reading
 pub mod Places
 pub mod RingParts
 pub mod Parting
 pub mod Unchanged
+pub mod KeptTexts
+pub mod AtName

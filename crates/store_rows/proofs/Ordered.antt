@@ -186,24 +186,34 @@ pub rings_sorted : (rings : NamedRings) → Rising rings → is_sorted name_cmp 
 rings_sorted [] up = refl
 rings_sorted (e ∷ es) up = and_from _ _ (below_names e.0 es up.0) (rings_sorted es up.1)
 
+pub devices_of_sorted : (e : List ℕ × RingRecord) → IsNamedRing e →
+    is_sorted name_number_cmp (map (device_entry e.0) e.1.devices) ≡ true
+devices_of_sorted e h = sorted_rows e.0 (λ (d : Device). d.id) (λ d. (device_entry e.0 d).1)
+    e.1.devices (up_of (map (λ (d : Device). d.id) e.1.devices) h.valid.devices.rise)
+
+pub texts_of_sorted : (e : List ℕ × RingRecord) → IsNamedRing e →
+    is_sorted name_number_cmp (map (published_entry e.0) e.1.published) ≡ true
+texts_of_sorted e h = sorted_rows e.0 (λ (t : ℕ × List ℕ). t.0) (λ t. t.1) e.1.published
+    (up_of (map (λ (t : ℕ × List ℕ). t.0) e.1.published) h.valid.published.rise)
+
+pub parts_of_sorted : (e : List ℕ × RingRecord) → IsNamedRing e →
+    is_sorted name_number_cmp (part_entries_of e) ≡ true
+parts_of_sorted e h = sorted_rows e.0 (λ (p : ℕ × Option ℕ). p.0)
+    (λ p. (part_entry e.0 e.1.replicas e.1.seats p).1) (enumerate_from 0 e.1.moved)
+    (places_up 0 e.1.moved)
+
 module _ (rings : NamedRings) (held : AreRings rings) where
   pub up : Rising rings
   up = rising rings held.by_name
 
   pub devices_sorted : is_sorted name_number_cmp (device_entries rings) ≡ true
   devices_sorted = sorted (λ e. map (device_entry e.0) e.1.devices) devices_named rings up
-      (each_of {P = IsNamedRing} _ (λ e h. sorted_rows e.0 (λ (d : Device). d.id)
-      (λ d. (device_entry e.0 d).1) e.1.devices (up_of (map (λ (d : Device). d.id) e.1.devices)
-      h.valid.devices.rise)) rings held.each)
+      (each_of {P = IsNamedRing} _ devices_of_sorted rings held.each)
 
   pub texts_sorted : is_sorted name_number_cmp (published_entries rings) ≡ true
   texts_sorted = sorted (λ e. map (published_entry e.0) e.1.published) texts_named rings up
-      (each_of {P = IsNamedRing} _ (λ e h. sorted_rows e.0 (λ (t : ℕ × List ℕ). t.0) (λ t. t.1)
-      e.1.published (up_of (map (λ (t : ℕ × List ℕ). t.0) e.1.published)
-      h.valid.published.rise)) rings held.each)
+      (each_of {P = IsNamedRing} _ texts_of_sorted rings held.each)
 
   pub parts_sorted : is_sorted name_number_cmp (part_entries rings) ≡ true
   parts_sorted = sorted part_entries_of parts_named rings up
-      (each_of {P = IsNamedRing} _ (λ e h. sorted_rows e.0 (λ (p : ℕ × Option ℕ). p.0)
-      (λ p. (part_entry e.0 e.1.replicas e.1.seats p).1) (enumerate_from 0 e.1.moved)
-      (places_up 0 e.1.moved)) rings held.each)
+      (each_of {P = IsNamedRing} _ parts_of_sorted rings held.each)

@@ -28,13 +28,11 @@ use Rattle.store_model.proofs.Keys.{name_number_exact, name_number_total, tied}
 use Rattle.std.specs.declared.rc.Rc.{Rc}
 use Rattle.std.specs.declared.alloc.Global.{Global}
 use Rattle.ring_model.specs.declared.ring.Ring.{Ring}
-use Rattle.ring_model.specs.Rings.{AreByName, ring_at, seen}
-use Rattle.store_rows.proofs.Ordered.{NamedAs, rising}
-use Rattle.store_rows.proofs.Blocks.{lacking_of}
+use Rattle.ring_model.specs.Rings.{ring_at, seen}
 use Rattle.store_rows.specs.RingRows.{NamedRings, ring_entry, ring_entries, device_entry}
 use Rattle.store_rows.specs.RingRows.{part_entry, part_entries_of, published_entry}
-use Rattle.store_rows.specs.Differences.{has_same, is_same_ring}
-use Rattle.store_rows.specs.Inner.Lacking.{lacking, rows_at, ring_value, added_ring, device_in}
+use Rattle.store_rows.specs.Differences.{has_same}
+use Rattle.store_rows.specs.Inner.Lacking.{lacking, rows_at, ring_value, device_in}
 use Rattle.store_rows.specs.Inner.Lacking.{device_value, part_in, part_value, text_in}
 use Rattle.store_rows.specs.Inner.Lacking.{text_entries_of}
 
@@ -68,12 +66,6 @@ module _ {K V : Type 0} (R : K → K → Ordering) (same : V → V → Bool) (ol
   entries_more entry xs x = ap (lacking R same old) (map_append entry xs (x ∷ [])) ∙ filter-append _
       (map entry xs) (entry x ∷ [])
 
-  pub blocks_more : {X : Type 0} (rows_of : X → List (K × V)) (xs : List X) (x : X) →
-      lacking R same old (flat_map rows_of (xs ++ x ∷ [])) ≡ lacking R same old
-      (flat_map rows_of xs) ++ lacking R same old (rows_of x)
-  blocks_more rows_of xs x = ap (lacking R same old) (flat_append rows_of xs x) ∙ filter-append _
-      (flat_map rows_of xs) (rows_of x)
-
   pub lacking_none : (e : K × V) (xs : List (K × V)) (o : Option V) → find R e.0 old ≡ o →
       true ≡ has_same same o e.1 → xs ≡ xs ++ lacking R same old (e ∷ [])
   lacking_none e xs o is has =
@@ -95,28 +87,6 @@ module _ {K V : Type 0} (R : K → K → Ordering) (same : V → V → Bool) (ol
   pushed_one of before after row e o pushed is found has =
       ap (map of) pushed ∙ map_append of before (row ∷ []) ∙ ap (λ x. map of before ++ x ∷ []) is ∙
       lacking_one e (map of before) o found has
-
--- what one more of shared rings adds to what the old rings lack
-module _ {V : Type 0} (same : V → V → Bool) (rows_of : List ℕ × RingRecord → List (NameNumber × V))
-    (named : (e : List ℕ × RingRecord) → NamedAs e.0 (rows_of e))
-    (old : NamedRings) (by_name : AreByName old) where
-  pub rings_step : (xs : List (List ℕ × Rc Ring Global)) (i : ℕ) (x : List ℕ × Rc Ring Global) →
-      i < length xs → x ≡ get_or xs i x → (into after : List (NameNumber × V))
-      → into ≡ lacking name_number_cmp same (flat_map rows_of old)
-      (flat_map rows_of (seen (take i xs)))
-      → after ≡ into ++ lacking name_number_cmp same (rows_at rows_of x.0 (ring_at x.0 old))
-      (rows_of (x.0, x.1.value))
-      → after ≡ lacking name_number_cmp same (flat_map rows_of old)
-      (flat_map rows_of (seen (take (i + 1) xs)))
-  rings_step xs i x lt is into after so_far more =
-      step_more {X = List ℕ × Rc Ring Global} (λ ys. lacking name_number_cmp same
-      (flat_map rows_of old) (flat_map rows_of (seen ys))) (λ y. lacking name_number_cmp same
-      (flat_map rows_of old) (rows_of (y.0, y.1.value)))
-      (λ ys y. ap (λ zs. lacking name_number_cmp same (flat_map rows_of old) (flat_map rows_of zs))
-      (map_append (λ (z : List ℕ × Rc Ring Global). (z.0, z.1.value)) ys (y ∷ [])) ∙ blocks_more
-      name_number_cmp same (flat_map rows_of old) rows_of (seen ys) (y.0, y.1.value))
-      xs i x lt is [] into after so_far (more ∙ ap (λ ys. into ++
-      ys) (sym (lacking_of rows_of named same old (x.0, x.1.value) (rising old by_name))))
 
 -- ---- what the rows of one ring have at a key
 
@@ -233,23 +203,16 @@ find_ring name (e ∷ es) =
     pushed true = refl
     pushed false = refl
 
-pub ring_step : (old : NamedRings) (xs : List (List ℕ × Rc Ring Global)) (i : ℕ) (x : List ℕ ×
-    Rc Ring Global) → i < length xs → x ≡ get_or xs i x → (into after : List (List ℕ × rows.Ring))
-    → into ≡ lacking name_cmp is_same_ring (ring_entries old) (ring_entries (seen (take i xs)))
-    → after ≡ into ++ added_ring (ring_at x.0 old) (x.0, x.1.value)
-    → after ≡ lacking name_cmp is_same_ring (ring_entries old)
-    (ring_entries (seen (take (i + 1) xs)))
-ring_step old xs i x lt is into after so_far more =
-    step_more {X = List ℕ × Rc Ring Global} (λ ys. lacking name_cmp is_same_ring (ring_entries old)
-    (ring_entries (seen ys))) (λ y. lacking name_cmp is_same_ring (ring_entries old)
-    (ring_entry (y.0, y.1.value) ∷ []))
-    (λ ys y. ap (λ zs. lacking name_cmp is_same_ring (ring_entries old) (ring_entries zs))
-    (map_append (λ (z : List ℕ × Rc Ring Global). (z.0, z.1.value)) ys (y ∷ [])) ∙ entries_more
-    name_cmp is_same_ring (ring_entries old) ring_entry (seen ys) (y.0, y.1.value))
-    xs i x lt is [] into after so_far
-    (more ∙ ap (λ (o : Option rows.Ring). into ++
-    cond (not (has_same is_same_ring o (ring_value x.1.value))) (ring_entry (x.0, x.1.value) ∷
-    []) []) (sym (find_ring x.0 old)))
+pub ring_step : (xs : List (List ℕ × Rc Ring Global)) (i : ℕ) (x : List ℕ × Rc Ring Global) →
+    i < length xs → x ≡ get_or xs i x → (into after : List (List ℕ × rows.Ring))
+    → into ≡ ring_entries (seen (take i xs)) → after ≡ into ++ ring_entry (x.0, x.1.value) ∷ []
+    → after ≡ ring_entries (seen (take (i + 1) xs))
+ring_step xs i x lt is into after so_far more =
+    step_more {X = List ℕ × Rc Ring Global} (λ ys. ring_entries (seen ys)) (λ y. ring_entry
+    (y.0, y.1.value) ∷ [])
+    (λ ys y. ap ring_entries (map_append (λ (z : List ℕ × Rc Ring Global). (z.0, z.1.value))
+    ys (y ∷ [])) ∙ map_append ring_entry (seen ys) ((y.0, y.1.value) ∷ []))
+    xs i x lt is [] into after so_far more
 
 pub others_are : (name : List ℕ) (o : Option RingRecord) →
     map (device_entry name) (rows_at (λ (e : List ℕ × RingRecord). e.1.devices) [] o) ≡ rows_at

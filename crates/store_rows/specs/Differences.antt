@@ -1,6 +1,6 @@
 -- What the change from some rings to others writes.
 use Rattle.std.specs.Prelude.{◌≡◌, ◌+◌, ◌≤◌, ◌&&◌, ℕ, Bool, false, not, nat_eq, List, [], ◌∷◌}
-use Rattle.std.specs.Prelude.{length, map, filter, Option, Some, None, IsTrue, is_some, IsSomeAnd}
+use Rattle.std.specs.Prelude.{length, map, filter, Option, Some, None, IsSomeAnd}
 use Rattle.std.specs.List.{flat_map}
 use Rattle.std.specs.Ordering.{int_eq}
 use Rattle.std.specs.Cmp.Lexicographic.{pointwise}
@@ -21,15 +21,21 @@ use Rattle.store_rows.specs.Stands.{RingContent, contents_for}
 
 -- ---- which rings a change may lead to
 
--- Each text that the ring published is still there, under its version.
+-- Each text that the ring published is still there as it was, under its version.
 abbrev pub KeepsTexts : RingRecord → RingRecord → Type 0
-KeepsTexts old new = (version : ℕ) → IsTrue (is_some (published_at old version)) →
-    IsTrue (is_some (published_at new version))
+KeepsTexts old new = (version : ℕ) (text : List ℕ) → published_at old version ≡ Some text →
+    published_at new version ≡ Some text
 
--- No ring, no partition and no published text went. So it is after each step of the builder.
+-- No ring, no partition and no published text went.
 abbrev pub Grows : NamedRings → NamedRings → Type 0
 Grows old new = (name : List ℕ) (ring : RingRecord) → ring_at name old ≡ Some ring →
     IsSomeAnd (ring_at name new) (λ later. (ring.power ≤ later.power) × KeepsTexts ring later)
+
+-- Every ring but the one of this name is as it was, and no ring, no partition and no published text
+-- went. So it is after each step of the builder whose command names this ring.
+pub record IsChangedAt (name : List ℕ) (old new : NamedRings) : Type 0 where
+  pub others : (other : List ℕ) → (other ≡ name → ⊥) → ring_at other new ≡ ring_at other old
+  pub grows : Grows old new
 
 -- ---- what the changes write
 

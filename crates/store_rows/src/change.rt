@@ -4,12 +4,12 @@ ghost use Rattle.store_model.specs.Contents.{device_key, device_of};
 ghost use Rattle.store_model.specs.declared.change.RowChange.TheVariants.{AddDevice, DropDevice};
 ghost use Rattle.store_model.specs.declared.change.RowChange.TheVariants.{PutPart, PutPublished};
 ghost use Rattle.store_model.specs.declared.change.RowChange.TheVariants.{PutRing};
-ghost use Rattle.store_rows.specs.Differences.{Grows, IsChange, differing_rows, with_state};
-ghost use Rattle.store_rows.specs.Stands.{AreRings, RingContent, contents_for};
 
-use crate::differences::{gone_devices, new_devices, new_parts, new_rings, new_texts};
+use crate::differences::{count_gone, devices_of};
 use crate::proper::rings_are_proper;
+use crate::written::WrittenRows;
 use ring_model::Rings;
+use ring_words::RingName;
 use std::alloc::{AllocError, Global};
 use std::marker::Model;
 use store_model::{DeviceKey, DeviceRow, PartRow, PublishedRow, RingRow, RowChange};
@@ -83,15 +83,20 @@ fn push_texts(into: &mut Vec<RowChange>, rows: Vec<PublishedRow>) -> Result<(), 
 fn all_changes(
     alloc: Global,
     keys: Vec<DeviceKey>,
-    rings: Vec<RingRow>,
-    devices: Vec<DeviceRow>,
-    parts: Vec<PartRow>,
-    texts: Vec<PublishedRow>,
+    rows: WrittenRows,
 ) -> Result<Vec<RowChange>, AllocError>
     ensures { IfOk result (λ all. all.items ≡
-        (((map DropDevice keys.items ++ map PutRing rings.items)
-        ++ map AddDevice devices.items) ++ map PutPart parts.items) ++ map PutPublished texts.items) }
+        (((map DropDevice keys.items ++ map PutRing rows.rings.items)
+        ++ map AddDevice rows.devices.items) ++ map PutPart rows.parts.items)
+        ++ map PutPublished rows.texts.items) }
 {
+    let WrittenRows {
+        dropped: _,
+        rings,
+        devices,
+        parts,
+        texts,
+    } = rows;
     let mut all = Vec::new(alloc);
     push_drops(&mut all, keys)?;
     push_rings(&mut all, rings)?;
@@ -119,29 +124,73 @@ impl Model for Change {
 }
 
 impl Change {
-    /// The change from the old rings to the new. It asks that no ring, no partition and no
-    /// published text went.
+    ghost use Rattle.std.specs.Prelude.{◌≡◌, ◌≤◌, [], IfOk, length};
+    ghost use Rattle.ring_words.specs.Limits.{most_devices};
+    ghost use Rattle.store_model.specs.Entries.{name_number_cmp};
+    ghost use Rattle.store_rows.specs.Differences.{Grows, IsChange, IsChangedAt, differing_rows};
+    ghost use Rattle.store_rows.specs.Differences.{with_state};
+    ghost use Rattle.store_rows.specs.Inner.Written.{AreRowsBetween};
+    ghost use Rattle.store_rows.specs.Inner.Lacking.{gone};
+    ghost use Rattle.store_rows.specs.RingRows.{NamedRings, device_entries};
+    ghost use Rattle.store_rows.specs.Stands.{AreRings, RingContent, contents_for};
+
+    /// The change of the rows by which rings differ, where so many devices are there no more.
+    fn of_rows(alloc: Global, rows: WrittenRows, gone_devices: usize) -> Result<Change, AllocError>
+        requires { gone_devices ≤ most_devices }
+        ensures leads { IfOk result (λ change. (old new : NamedRings) → AreRings old → AreRings new
+            → Grows old new → AreRowsBetween old new rows → IsChange old new change.0) }
+        ensures counted { IfOk result (λ change. (old new : NamedRings) → AreRings old → AreRings new
+            → Grows old new → AreRowsBetween old new rows
+            → gone_devices ≡ length (gone name_number_cmp (device_entries old) (device_entries new))
+            → (content : RingContent) → content.state ≡ old → change.1 ≡ differing_rows
+            (contents_for content) (contents_for (with_state content new))) }
+    {
+        let keys = keys_of(alloc, &rows.dropped)?;
+        let written = rows.rings.len() + rows.devices.len() + rows.parts.len() + rows.texts.len();
+        let len = written + gone_devices;
+        let rows = all_changes(alloc, keys, rows)?;
+        Ok(Change { rows, len })
+    }
+
+    /// The change from the old rings to the new, where every ring but the one of this name is as it
+    /// was, and no ring, no partition and no published text went. So no other ring is looked at, and
+    /// no text that was published before.
     ///
     /// Each row that differs is written once, and no row that stays.
-    pub fn between(alloc: Global, old: &Rings, new: &Rings) -> Result<Change, AllocError>
-        requires { Grows old.now new.now }
-        ensures leads { IfOk result (λ change. IsChange old.now new.now change.0) }
-        ensures counted { IfOk result (λ change. (content : RingContent) → content.state ≡ old.now
-            → change.1 ≡ differing_rows (contents_for content) (contents_for
-            (with_state content new.now))) }
+    pub fn between(
+        alloc: Global,
+        name: &RingName,
+        old: &Rings,
+        new: &Rings,
+    ) -> Result<Change, AllocError>
+        ensures leads { IfOk result (λ change. IsChangedAt name.now old.now new.now
+            → IsChange old.now new.now change.0) }
+        ensures counted { IfOk result (λ change. IsChangedAt name.now old.now new.now
+            → (content : RingContent) → content.state ≡ old.now → change.1 ≡ differing_rows
+            (contents_for content) (contents_for (with_state content new.now))) }
         ensures rings { IfOk result (λ _. AreRings new.now) }
     {
         rings_are_proper(old);
         rings_are_proper(new);
-        let keys = keys_of(alloc, &new_devices(alloc, new, old)?)?;
-        let rings = new_rings(alloc, old, new)?;
-        let devices = new_devices(alloc, old, new)?;
-        let parts = new_parts(alloc, old, new)?;
-        let texts = new_texts(alloc, old, new)?;
-        let written = rings.len() + devices.len() + parts.len() + texts.len();
-        let len = written + gone_devices(old, new);
-        let rows = all_changes(alloc, keys, rings, devices, parts, texts)?;
-        Ok(Change { rows, len })
+        let before = old.get(name);
+        let Some(ring) = new.get(name) else {
+            return Change::of_rows(alloc, WrittenRows::none(alloc), 0);
+        };
+        let rows = WrittenRows::of_ring(alloc, name, before, ring)?;
+        let gone = count_gone(ring.devices(), devices_of(before));
+        Change::of_rows(alloc, rows, gone)
+    }
+
+    /// The change that makes these rings where there is none. It writes all their rows.
+    pub fn making(alloc: Global, rings: &Rings) -> Result<Change, AllocError>
+        ensures leads { IfOk result (λ change. IsChange [] rings.now change.0) }
+        ensures counted { IfOk result (λ change. (content : RingContent) → content.state ≡ []
+            → change.1 ≡ differing_rows (contents_for content) (contents_for
+            (with_state content rings.now))) }
+        ensures rings { IfOk result (λ _. AreRings rings.now) }
+    {
+        rings_are_proper(rings);
+        Change::of_rows(alloc, WrittenRows::of_all(alloc, rings)?, 0)
     }
 
     /// How many rows differ: those that only one of the two has, and those of which each has

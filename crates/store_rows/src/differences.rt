@@ -1,25 +1,24 @@
-//! The rows that a change of rings writes.
-ghost use Rattle.std.specs.Prelude.{[], ◌∷◌, ◌≡◌, ◌++◌, ◌*◌, ◌<◌, ◌≤◌, ◌==◌, ◌↔◌, IfOk, IsTrue};
-ghost use Rattle.std.specs.Prelude.{OnOk, count_by, drop, is_none, length, find, map, slice_get};
-ghost use Rattle.std.specs.Prelude.{slice_index_or, take, None, IsSomeAnd};
+//! The rows that a ring has and an old ring has not.
+ghost use Rattle.std.specs.Prelude.{[], ◌∷◌, ◌≡◌, ◌++◌, ◌*◌, ◌<◌, ◌≤◌, ◌==◌, ◌↔◌, ℕ, IfOk, IfSome};
+ghost use Rattle.std.specs.Prelude.{IsTrue, List, OnOk, count_by, drop, is_none, length, find, map};
+ghost use Rattle.std.specs.Prelude.{slice_get, slice_index_or, take, None, IsSomeAnd};
 ghost use Rattle.std.specs.Option.{option_copied, option_map};
 ghost use Rattle.std.specs.Rc.{rc_str_bytes};
 ghost use Rattle.ring_model.specs.Ring.{partition_count};
+ghost use Rattle.ring_words.specs.Limits.{most_devices};
 ghost use Rattle.ring_words.specs.Texts.{address_limit};
 ghost use Rattle.store_model.specs.Entries.{name_cmp, name_number_cmp};
 ghost use Rattle.store_model.specs.Contents.{device_of, part_of, published_of, ring_of};
 ghost use Rattle.store_rows.specs.Differences.{has_same, is_same_device, is_same_part};
 ghost use Rattle.store_rows.specs.Differences.{is_same_ring, is_same_text};
-ghost use Rattle.store_rows.specs.Inner.Lacking.{device_in, device_value, gone, lacking};
-ghost use Rattle.store_rows.specs.Inner.Lacking.{added_ring, part_at, part_in, part_value, ring_value};
-ghost use Rattle.store_rows.specs.Inner.Lacking.{most_devices_in_all, rows_at, text_entries_of};
-ghost use Rattle.store_rows.specs.Inner.Lacking.{text_in};
-ghost use Rattle.store_rows.specs.RingRows.{device_entries, device_entry, part_entries};
-ghost use Rattle.store_rows.specs.RingRows.{part_entries_of, published_entries};
-ghost use Rattle.store_rows.specs.RingRows.{published_entry, ring_entries};
+ghost use Rattle.store_rows.specs.Inner.Lacking.{Succeeds, added_ring, device_entries_of};
+ghost use Rattle.store_rows.specs.Inner.Lacking.{device_in, device_value, is_kept_text, lacking};
+ghost use Rattle.store_rows.specs.Inner.Lacking.{part_at, part_in, part_value, ring_value, rows_at};
+ghost use Rattle.store_rows.specs.Inner.Lacking.{text_entries_of, text_in};
+ghost use Rattle.store_rows.specs.RingRows.{device_entry, part_entries_of, published_entry};
 
 use crate::ring_rows::{device_row, part_row, partition_seats, published_row, ring_row};
-use ring_model::{Ring, Rings};
+use ring_model::Ring;
 use ring_words::{Device, DeviceId, Hour, RingName};
 use std::alloc::{AllocError, Global};
 use std::rc::RcStr;
@@ -50,7 +49,7 @@ fn has_ring(old: Option<&Ring>, ring: &Ring) -> bool
 }
 
 /// Adds the row of a ring if the old ring has it not.
-fn push_new_ring(
+pub(crate) fn push_new_ring(
     alloc: Global,
     into: &mut Vec<RingRow>,
     name: &RingName,
@@ -67,30 +66,13 @@ fn push_new_ring(
     Ok(())
 }
 
-/// The rows of `ring` that the new rings have and the old ones have not.
-pub(crate) fn new_rings(alloc: Global, old: &Rings, new: &Rings) -> Result<Vec<RingRow>, AllocError>
-    ensures { IfOk result (λ rows. map ring_of rows.items ≡ lacking name_cmp is_same_ring
-        (ring_entries old.now) (ring_entries new.now)) }
-{
-    let _known = old.list();
-    let mut rows = Vec::new(alloc);
-    for entry in new.list() {
-        push_new_ring(
-            alloc,
-            &mut rows,
-            &entry.0,
-            old.get(&entry.0),
-            entry.1.as_ref(),
-        )?;
-    }
-    Ok(rows)
-}
-
 // ---- devices
 
 /// The devices of a ring, none where there is no ring.
-fn devices_of(ring: Option<&Ring>) -> &[Device]
-    ensures { result.now ≡ rows_at (λ e. e.1.devices) [] (option_map (λ ring. ring.now) ring.entry) }
+pub(crate) fn devices_of(ring: Option<&Ring>) -> &[Device]
+    ensures value { result.now ≡ rows_at (λ e. e.1.devices) [] (option_map (λ ring. ring.now)
+        ring.entry) }
+    ensures few { length result.now ≤ most_devices }
 {
     match ring {
         Some(ring) => ring.devices(),
@@ -146,7 +128,7 @@ fn push_new_device(
 }
 
 /// Adds the rows of a ring's devices that are not among others.
-fn push_devices(
+pub(crate) fn push_devices(
     alloc: Global,
     into: &mut Vec<DeviceRow>,
     name: &RingName,
@@ -164,7 +146,7 @@ fn push_devices(
 }
 
 /// Adds the rows of a ring's devices that are not among others, none where these are the same.
-fn push_changed_devices(
+pub(crate) fn push_changed_devices(
     alloc: Global,
     into: &mut Vec<DeviceRow>,
     name: &RingName,
@@ -182,22 +164,22 @@ fn push_changed_devices(
     push_devices(alloc, into, name, others, devices)
 }
 
-/// The rows of `device` that the new rings have and the old ones have not.
-pub(crate) fn new_devices(
+/// Adds the rows of an old ring's devices that are not among others.
+pub(crate) fn push_dropped_devices(
     alloc: Global,
-    old: &Rings,
-    new: &Rings,
-) -> Result<Vec<DeviceRow>, AllocError>
-    ensures { IfOk result (λ rows. map device_of rows.items ≡ lacking name_number_cmp is_same_device
-        (device_entries old.now) (device_entries new.now)) }
+    into: &mut Vec<DeviceRow>,
+    name: &RingName,
+    others: &[Device],
+    old: Option<&Ring>,
+) -> Result<(), AllocError>
+    ensures { OnOk result (map device_of into.new.items ≡ map device_of into.old.items ++
+        lacking name_number_cmp is_same_device (map (device_entry name.now) others.now)
+        (rows_at device_entries_of name.now (option_map (λ ring. ring.now) old.entry))) }
 {
-    let _known = old.list();
-    let mut rows = Vec::new(alloc);
-    for entry in new.list() {
-        let others = devices_of(old.get(&entry.0));
-        push_changed_devices(alloc, &mut rows, &entry.0, others, entry.1.as_ref())?;
+    match old {
+        Some(before) => push_changed_devices(alloc, into, name, others, before),
+        None => Ok(()),
     }
-    Ok(rows)
 }
 
 /// Whether a device has a number that is not among others.
@@ -208,7 +190,7 @@ fn is_gone(others: &[Device], device: &Device) -> bool
 }
 
 /// How many devices of a ring have a number that is not among others, 0 where these are the same.
-fn count_gone(others: &[Device], devices: &[Device]) -> usize
+pub(crate) fn count_gone(others: &[Device], devices: &[Device]) -> usize
     ensures value { result ≡ count_by (λ device. is_none (device_in device.id others.now))
         devices.now }
     ensures small { result ≤ length devices.now }
@@ -220,21 +202,6 @@ fn count_gone(others: &[Device], devices: &[Device]) -> usize
         .iter()
         .filter(|device| is_gone(others, device))
         .count()
-}
-
-/// How many devices the old rings have that the new ones have not, neither so nor otherwise.
-pub(crate) fn gone_devices(old: &Rings, new: &Rings) -> usize
-    ensures value { result ≡ length (gone name_number_cmp (device_entries old.now)
-        (device_entries new.now)) }
-    ensures small { result ≤ most_devices_in_all }
-{
-    let _known = new.list();
-    let mut count = 0;
-    for entry in old.list() {
-        let others = devices_of(new.get(&entry.0));
-        count += count_gone(others, entry.1.devices());
-    }
-    count
 }
 
 // ---- partitions
@@ -329,7 +296,7 @@ fn has_same_places(old: Option<&Ring>, ring: &Ring) -> bool
 
 /// Adds the rows of a ring's partitions that the old ring has not. Where neither a seat nor a last
 /// move changed, one comparison of the whole lists tells it.
-fn push_parts(
+pub(crate) fn push_parts(
     alloc: Global,
     into: &mut Vec<PartRow>,
     name: &RingName,
@@ -349,39 +316,20 @@ fn push_parts(
     Ok(())
 }
 
-/// The rows of `part` that the new rings have and the old ones have not.
-pub(crate) fn new_parts(alloc: Global, old: &Rings, new: &Rings) -> Result<Vec<PartRow>, AllocError>
-    ensures { IfOk result (λ rows. map part_of rows.items ≡ lacking name_number_cmp is_same_part
-        (part_entries old.now) (part_entries new.now)) }
-{
-    let _known = old.list();
-    let mut rows = Vec::new(alloc);
-    for entry in new.list() {
-        push_parts(
-            alloc,
-            &mut rows,
-            &entry.0,
-            old.get(&entry.0),
-            entry.1.as_ref(),
-        )?;
-    }
-    Ok(rows)
-}
-
 // ---- published texts
 
-/// Whether an old ring has published this text under this version.
-fn has_text(old: Option<&Ring>, text: &(u32, RcStr)) -> bool
-    ensures { result ≡ has_same is_same_text (text_in (option_map (λ ring. ring.now) old.entry)
-        text.now.0) (rc_str_bytes text.now.1) }
+/// Whether an old ring has published a text under a version.
+fn has_text(old: Option<&Ring>, version: u32) -> bool
+    ensures { (text : List ℕ) → result ≡ has_same is_kept_text
+        (text_in (option_map (λ ring. ring.now) old.entry) version) text }
 {
     match old {
-        Some(before) => before.published(text.0) == Some(text.1.as_str()),
+        Some(before) => before.published(version).is_some(),
         None => false,
     }
 }
 
-/// Adds the row of a published text that the old ring has not.
+/// Adds the row of a published text where the old ring has published none under its version.
 fn push_new_text(
     alloc: Global,
     into: &mut Vec<PublishedRow>,
@@ -390,54 +338,47 @@ fn push_new_text(
     text: &(u32, RcStr),
 ) -> Result<(), AllocError>
     ensures { OnOk result (map published_of into.new.items ≡ map published_of into.old.items
-        ++ lacking name_number_cmp is_same_text (rows_at text_entries_of name.now (option_map (λ ring. ring.now) old.entry))
+        ++ lacking name_number_cmp is_kept_text (rows_at text_entries_of name.now (option_map (λ ring. ring.now) old.entry))
         (published_entry name.now (text.now.0, rc_str_bytes text.now.1) ∷ [])) }
 {
-    if has_text(old, text) {
+    if has_text(old, text.0) {
         return Ok(());
     }
     into.push(published_row(alloc, name, text)?)?;
     Ok(())
 }
 
-/// Adds the rows of a ring's published texts that the old ring has not.
-fn push_texts(
+/// Whether an old ring has published as many texts as a ring.
+fn has_as_many_texts(old: Option<&Ring>, ring: &Ring) -> bool
+    ensures { IsTrue result → IsSomeAnd (option_map (λ ring. ring.now) old.entry) (λ before.
+        length before.published ≡ length ring.now.published) }
+{
+    match old {
+        Some(before) => before.published_list().len() == ring.published_list().len(),
+        None => false,
+    }
+}
+
+/// Adds the rows of a ring's published texts that the old ring has not, where each text that the old
+/// ring published is still there. So a text is new where its version is, and none is new where there
+/// are as many as there were. No text is read but a new one.
+pub(crate) fn push_texts(
     alloc: Global,
     into: &mut Vec<PublishedRow>,
     name: &RingName,
     old: Option<&Ring>,
     ring: &Ring,
 ) -> Result<(), AllocError>
-    ensures { OnOk result (map published_of into.new.items ≡ map published_of into.old.items ++
+    ensures { OnOk result (IfSome (option_map (λ ring. ring.now) old.entry) (λ before. Succeeds
+        before ring.now) → map published_of into.new.items ≡ map published_of into.old.items ++
         lacking name_number_cmp is_same_text (rows_at text_entries_of name.now
-        (option_map (λ ring. ring.now) old.entry)) (map (published_entry name.now)
-        ring.now.published)) }
+        (option_map (λ ring. ring.now) old.entry)) (text_entries_of (name.now, ring.now))) }
 {
+    if has_as_many_texts(old, ring) {
+        return Ok(());
+    }
     for text in ring.published_list() {
         push_new_text(alloc, into, name, old, text)?;
     }
     Ok(())
-}
-
-/// The rows of `published` that the new rings have and the old ones have not.
-pub(crate) fn new_texts(
-    alloc: Global,
-    old: &Rings,
-    new: &Rings,
-) -> Result<Vec<PublishedRow>, AllocError>
-    ensures { IfOk result (λ rows. map published_of rows.items ≡ lacking name_number_cmp
-        is_same_text (published_entries old.now) (published_entries new.now)) }
-{
-    let _known = old.list();
-    let mut rows = Vec::new(alloc);
-    for entry in new.list() {
-        push_texts(
-            alloc,
-            &mut rows,
-            &entry.0,
-            old.get(&entry.0),
-            entry.1.as_ref(),
-        )?;
-    }
-    Ok(rows)
 }

@@ -14,10 +14,10 @@ ghost use Rattle.store_rows.specs.RingRows.{part_entries};
 ghost use Rattle.store_rows.specs.Inner.Sayings.{SayPlaces, SayRings};
 ghost use Rattle.store_rows.specs.Judging.{AreRowsOf, Judges};
 
+use crate::all_rows::{device_rows, part_rows, published_rows, ring_rows};
 use crate::books::judge_book;
 use crate::change::push_parts;
 use crate::comparing::are_alike;
-use crate::differences::{new_devices, new_parts, new_rings, new_texts};
 use crate::first_rows::{moved_rows, seat_rows};
 use crate::naming::RingTables;
 use crate::numbers::number32;
@@ -95,8 +95,7 @@ fn are_first_places(alloc: Global, rows: &StoreRows, rings: &Rings) -> Result<bo
 fn are_parts(alloc: Global, rows: &StoreRows, rings: &Rings) -> Result<bool, AllocError>
     ensures { IfOk result (λ same. IsTrue same ↔ SayPlaces false rows.now rings.now) }
 {
-    let none = Rings::new(alloc);
-    let parts = new_parts(alloc, &none, rings)?;
+    let parts = part_rows(alloc, rings)?;
     if !rows.seats.is_empty() || !rows.moved.is_empty() {
         return Ok(false);
     }
@@ -128,10 +127,9 @@ fn are_rings(
 ) -> Result<bool, AllocError>
     ensures { IfOk result (λ same. IsTrue same ↔ SayRings is_first rows.now rings.now) }
 {
-    let none = Rings::new(alloc);
-    let made = new_rings(alloc, &none, rings)?;
-    let devices = new_devices(alloc, &none, rings)?;
-    let texts = new_texts(alloc, &none, rings)?;
+    let made = ring_rows(alloc, rings)?;
+    let devices = device_rows(alloc, rings)?;
+    let texts = published_rows(alloc, rings)?;
     if !are_alike(rows.rings.as_slice(), made.as_slice()) {
         return Ok(false);
     }
@@ -178,8 +176,7 @@ fn migration(
         return Ok(None);
     }
     let mut changes = Vec::new(alloc);
-    let none = Rings::new(alloc);
-    let parts = new_parts(alloc, &none, rings)?;
+    let parts = part_rows(alloc, rings)?;
     push_parts(&mut changes, parts)?;
     Ok(Some(changes))
 }

@@ -6,12 +6,12 @@
 //! content.
 #![tactic(auto)]
 
+mod all_rows;
 mod books;
 mod change;
 mod comparing;
 mod differences;
 mod first_rows;
-mod growing;
 mod judging;
 pub mod laws;
 mod naming;
@@ -22,8 +22,8 @@ mod ring_reading;
 mod ring_rows;
 mod rings_reading;
 mod row_reading;
+mod written;
 
 pub use change::Change;
-pub use growing::grows;
 pub use judging::{Judged, StoreRows, judge};
 pub use requests::{DecidedRows, decided_rows, meta_row, read_found};

@@ -5,14 +5,11 @@ use ring_words::{Power, Replicas, RingName};
 use std::alloc::Global;
 use std::test::Fail;
 use store_model::RowChange;
-use store_rows::{Change, grows};
+use store_rows::Change;
 
-/// How many rows differ, and how many changes of rows there are.
+/// How many rows of the ring `object` differ, and how many changes of rows there are.
 fn between(alloc: Global, old: &Rings, new: &Rings) -> Result<(usize, usize), Fail> {
-    if !grows(old, new) {
-        return Err(Fail::from("nothing goes"));
-    }
-    let change = Change::between(alloc, old, new)?;
+    let change = Change::between(alloc, &RingName::new(alloc, "object")?, old, new)?;
     Ok((change.len(), change.rows().len()))
 }
 
@@ -135,35 +132,12 @@ fn equal_rings_write_nothing(rt: HostRuntime) -> Result<(), Fail> {
 /// Whether the row of a ring is the first that is put.
 fn puts_the_ring_first(alloc: Global) -> Result<bool, Fail> {
     let new = object(alloc, &FIFTH)?;
-    let change = Change::between(alloc, &Rings::new(alloc), &new)?;
+    let change = Change::making(alloc, &new)?;
     Ok(matches!(change.rows().first(), Some(RowChange::PutRing(_))))
 }
 
 #[test]
 fn a_ring_is_put_before_what_stands_in_it(rt: HostRuntime) -> Result<(), Fail> {
     assert!(rt; puts_the_ring_first(rt.alloc())?);
-    Ok(())
-}
-
-/// Whether, of two lists of rings, the second only adds to the first, a ring and a text.
-fn only_adds(alloc: Global, old: Shape, new: Shape) -> Result<bool, Fail> {
-    Ok(grows(&object(alloc, &old)?, &object(alloc, &new)?))
-}
-
-#[test]
-fn a_text_that_goes_is_no_change_of_a_store(rt: HostRuntime) -> Result<(), Fail> {
-    let without = Shape {
-        published: None,
-        ..FIFTH
-    };
-    assert!(rt; only_adds(rt.alloc(), without, FIFTH)?);
-    assert!(rt; !only_adds(rt.alloc(), FIFTH, without)?);
-    Ok(())
-}
-
-#[test]
-fn a_ring_that_goes_is_no_change_of_a_store(rt: HostRuntime) -> Result<(), Fail> {
-    let alloc = rt.alloc();
-    assert!(rt; !grows(&object(alloc, &FIFTH)?, &Rings::new(alloc)));
     Ok(())
 }

@@ -9,9 +9,10 @@ use Rattle.std.proofs.lemmas.Bool.{and_parts, leb-true}
 use Rattle.std.proofs.lemmas.Fmt.{length-decimal-le}
 use Rattle.std.proofs.lemmas.List.Elements.{recursion_from_All}
 use Rattle.std.proofs.lemmas.List.FromFn.{length-map-range_with_len}
+use Rattle.ring_words.specs.Rows.{IsProperRow}
 use Rattle.ring_words.specs.Texts.{address_text, is_device_name, two_digits}
 use Rattle.ring_words.specs.declared.device.Device.{Device}
-use Rattle.ring_text.specs.Snapshot.{SnapshotRecord, IsValidSnapshot, IsWithinLimits}
+use Rattle.ring_text.specs.Snapshot.{SnapshotRecord, IsValidSnapshot}
 use Rattle.swift_ring.specs.Json.{array, hundredths, listed, member, object, quoted}
 use Rattle.swift_ring.specs.SwiftFile.{after, device_members, entries, device_text, number_count}
 use Rattle.swift_ring.specs.SwiftFile.{number_entry, ring_json}
@@ -103,7 +104,7 @@ hundredths_size h small =
 
 -- The device has what a snapshot's devices have.
 pub record IsSized (device : Device) : Type 0 where
-  pub limits : IsWithinLimits device
+  pub limits : IsProperRow device.row
   pub id : device.id < most_ids
 
 name_size : (name : List ℕ) → IsTrue (is_device_name name) → length name ≤ 32
@@ -199,7 +200,7 @@ entries_size devices all =
           devices) 0 (number_count devices),
     ))
 
-sized_devices : (devices : List Device) → All IsWithinLimits devices → All (λ device. device.id <
+sized_devices : (devices : List Device) → All (λ device. IsProperRow device.row) devices → All (λ device. device.id <
     most_ids) devices → All IsSized devices
 sized_devices devices limits below = λ k d lt. record { limits = limits k d lt; id = below k d lt }
 
@@ -207,7 +208,7 @@ sized_devices devices limits below = λ k d lt. record { limits = limits k d lt;
 pub json_size : (snapshot : SnapshotRecord) → IsValidSnapshot snapshot → length (ring_json snapshot)
     < 2 ^ 32
 json_size snapshot valid =
-    let all = recursion_from_All IsSized snapshot.devices (sized_devices snapshot.devices valid.limits
+    let all = recursion_from_All IsSized snapshot.devices (sized_devices snapshot.devices valid.devices.proper
     valid.devices.below) in
     let most : ℕ = most_ids * 604 + 100 in
     let order : length (member (codes "byteorder") (quoted (codes "little"))) ≤ most =

@@ -1,7 +1,7 @@
 //! A snapshot of a ring as Swift's own ring file, version 1, before it is compressed: what Swift
 //! reads once `gzip` has been over it.
 //!
-//! The bytes are those that Swift's ring builder would write of the same ring. The file tells no
+//! Swift that has loaded the file writes these very bytes again. The file tells no
 //! name of the ring, no hours, and not which devices are marked to be removed: as long as such a
 //! device has seats it stands there with its weight.
 #![tactic(auto)]

@@ -8,13 +8,14 @@ use Rattle.store_model.specs.declared.change.RowChange.{RowChange}
 use Rattle.store_model.specs.declared.rows.MetaRow.{MetaRow}
 use Rattle.store_model.specs.declared.rows.RequestRow.{RequestRow}
 use Rattle.store_rows.specs.RingRows.{NamedRings}
-use Rattle.store_rows.specs.Differences.{with_state}
+use Rattle.store_rows.specs.Differences.{IsChangedAt, with_state}
 use Rattle.store_rows.specs.Stands.{DecidedRequest, IsHoldable, RingContent, contents_for, gained}
 use Rattle.builder_store.specs.Standing.{Stands, StandsAlone}
 
 -- The content has these rings, so many requests, fewer than it may have, and this hour. The key of
--- the request is new, and its hour is not before the content's.
-pub record MayGain (content : RingContent) (rings : NamedRings) (count limit hour : ℕ)
+-- the request is new, its hour is not before the content's, and the ring of its command is the only
+-- one that the new rings may have otherwise.
+pub record MayGain (content : RingContent) (rings state : NamedRings) (count limit hour : ℕ)
     (entry : DecidedRequest) : Type 0 where
   pub held : content.state ≡ rings
   pub counted : length content.book ≡ count
@@ -22,16 +23,19 @@ pub record MayGain (content : RingContent) (rings : NamedRings) (count limit hou
   pub room : count < limit
   pub unknown : entry_of entry.key content.book ≡ None
   pub later : content.hour ≤ entry.hour
+  pub changed : IsChangedAt entry.command.ring rings state
 
 -- The request is the next in a content that a store can hold, that has these rings and so many
--- requests: its key is new, and its hour is not before the content's.
-pub record IsNextIn (content : RingContent) (rings : NamedRings) (count : ℕ)
+-- requests: its key is new, its hour is not before the content's, and the ring of its command is
+-- the only one that the new rings may have otherwise.
+pub record IsNextIn (content : RingContent) (rings state : NamedRings) (count : ℕ)
     (entry : DecidedRequest) : Type 0 where
   pub holdable : IsHoldable content
   pub held : content.state ≡ rings
   pub counted : length content.book ≡ count
   pub unknown : entry_of entry.key content.book ≡ None
   pub later : content.hour ≤ entry.hour
+  pub changed : IsChangedAt entry.command.ring rings state
 
 -- Written over what stands for the one content, the changes and the rows of a request make what
 -- stands for the other, which a store can hold.
@@ -45,7 +49,7 @@ pub record LeadOn (before after : RingContent) (changes : List RowChange) (reque
 -- request and the new rings.
 abbrev pub GainsIn : Trees → NamedRings → ℕ → ℕ → ℕ → DecidedRequest → NamedRings → Trees → Type 0
 GainsIn old rings count limit hour entry state db = (content : RingContent) → Stands old content
-    → MayGain content rings count limit hour entry
+    → MayGain content rings state count limit hour entry
     → StandsAlone db (gained (with_state content state) entry)
 
 -- What the changes and the request make of the contents, with the row on the whole store unless its

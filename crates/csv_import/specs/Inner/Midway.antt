@@ -1,5 +1,5 @@
 -- A text that is read in part.
-use Rattle.std.specs.Prelude.{◌≡◌, ◌≢◌, ⊤, true, ℕ, codes, List, ◌∷◌, length, Option, Some}
+use Rattle.std.specs.Prelude.{◌≡◌, ◌≢◌, ◌<◌, ◌≤◌, true, ℕ, codes, List, ◌∷◌, length, Option, Some}
 use Rattle.csv.specs.Reading.{Ready, Reached, default_config, is_flexible, reader_config}
 use Rattle.csv.specs.Reading.{reader_state, reader_trim, source_of, strip_bom}
 use Rattle.csv.specs.declared.parser.State.TheVariants as st
@@ -7,7 +7,7 @@ use Rattle.csv.specs.declared.reader.Reader.{Reader}
 use Rattle.csv.specs.declared.reader.Trim.TheVariants as trim
 use Rattle.std.specs.List.{AllZip}
 use Rattle.ring_words.specs.declared.device.Row.{Row}
-use Rattle.csv_import.specs.Fields.{IsFirstBad, IsRow, field_in, header}
+use Rattle.csv_import.specs.Fields.{HasForm, IsFirstBad, IsRow, field_in, header}
 use Rattle.csv_import.specs.declared.fault.CsvFault.{CsvFault}
 use Rattle.csv_import.specs.declared.fault.CsvFault.TheVariants.{BadHeader, BadRow, BadField}
 use Rattle.csv_import.specs.declared.fault.CsvFault.TheVariants.{ReadFailed, NoMemory}
@@ -32,12 +32,14 @@ pub record HasGivenRows {R : Type 0} (remaining : R → Option (List ℕ)) (text
   pub given : HasGiven remaining text (header ∷ good) reader
   pub are_rows : AllZip IsRow good rows
 
--- This is what is wrong with the fields of the record of this number.
+-- This is what is wrong with the fields of the record of this number. Memory is asked for the name
+-- alone, once the columns up to it are seen to have their form.
 abbrev pub IsWrongWith : List (List ℕ) → ℕ → CsvFault → Type 0
 IsWrongWith fields number (BadRow n) = (n ≡ number) × (length fields ≢ 6)
 IsWrongWith fields number (BadField n column) = (n ≡ number) × (length fields ≡ 6) ×
     IsFirstBad fields column
-IsWrongWith fields number NoMemory = ⊤
+IsWrongWith fields number NoMemory = (length fields ≡ 6) ×
+    ((column : ℕ) → 1 ≤ column → column < 6 → HasForm fields column)
 IsWrongWith fields number ReadFailed = ⊥
 IsWrongWith fields number BadHeader = ⊥
 

@@ -4,9 +4,10 @@ use Rattle.ring_words.specs.Limits.{greatest_long, greatest_power, greatest_shor
 use Rattle.ring_words.specs.Limits.{most_replicas}
 use Rattle.std.specs.Prelude.{slice_index_or, IsTrue, All, codes, decimal}
 use Rattle.std.specs.List.{join_with_byte}
+use Rattle.ring_words.specs.Rows.{IsProperRow}
 use Rattle.ring_words.specs.Texts.{is_label, is_device_name}
 use Rattle.ring_words.specs.declared.device.Device.{Device}
-use Rattle.ring_text.specs.Snapshot.{SnapshotRecord, IsValidSnapshot, IsWithinLimits}
+use Rattle.ring_text.specs.Snapshot.{SnapshotRecord, IsValidSnapshot}
 use Rattle.ring_text.specs.Spelling.{lines_of, device_line, partition_lines, state_word}
 use Rattle.ring_words.specs.Spelling.{SpellsNumber, SpellsName, SpellsAddress, SpellsWeight}
 use Rattle.ring_text.specs.declared.head.Head.{Head}
@@ -52,13 +53,13 @@ pub record IsDevice (words : List (List ℕ)) (device : Device) : Type 0 where
 pub record IsDeviceLine (text : List ℕ) (device : Device) : Type 0 where
   pub is : text ≡ join_with_byte 32 (device_line device)
   pub id : device.id < short_count
-  pub limits : IsWithinLimits device
+  pub limits : IsProperRow device.row
 
 -- These are the lines of these devices.
 pub record AreDeviceLines (texts : List (List ℕ)) (devices : List Device) : Type 0 where
   pub are : texts ≡ map (join_with_byte 32) (map device_line devices)
   pub ids : All (λ device. device.id < short_count) devices
-  pub limits : All IsWithinLimits devices
+  pub limits : All (λ device. IsProperRow device.row) devices
 
 -- The words are these numbers of devices.
 pub record AreNumbers (words : List (List ℕ)) (numbers : List ℕ) : Type 0 where

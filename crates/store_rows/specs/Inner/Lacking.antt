@@ -1,16 +1,16 @@
 -- What one list of entries lacks of another.
-use Rattle.std.specs.Prelude.{ℕ, ◌*◌, ◌==◌, Bool, not, List, [], ◌∷◌, filter, map, Option, Some, None}
+use Rattle.std.specs.Prelude.{ℕ, ◌==◌, Bool, true, not, List, [], ◌∷◌, filter, map, Option, Some, None}
 use Rattle.std.specs.Prelude.{is_none, slice_get, slice_index_or}
 use Rattle.std.specs.Prelude as prelude
 use Rattle.std.specs.Option.{option_map}
 use Rattle.std.specs.declared.cmp.Ordering.{Ordering}
 use Rattle.std.specs.FinMap.{find}
-use Rattle.ring_words.specs.Limits.{most_devices, most_rings}
 use Rattle.ring_model.specs.Ring.{RingRecord, published_at}
+use Rattle.ring_model.specs.Valid.{IsValid}
 use Rattle.ring_words.specs.declared.device.Device.{Device}
 use Rattle.store_model.specs.Entries as rows
 use Rattle.store_rows.specs.RingRows.{ring_entry, device_entry, part_entry, published_entry}
-use Rattle.store_rows.specs.Differences.{has_same, is_same_ring}
+use Rattle.store_rows.specs.Differences.{KeepsTexts, has_same, is_same_ring}
 
 -- The new entries that the old ones do not have, or have otherwise.
 abbrev pub lacking : {K V : Type 0} → (K → K → Ordering) → (V → V → Bool) → List (K × V) →
@@ -20,10 +20,6 @@ lacking R same old new = filter (λ e. not (has_same same (find R e.0 old) e.1))
 -- The old entries whose keys the new ones do not have.
 abbrev pub gone : {K V : Type 0} → (K → K → Ordering) → List (K × V) → List (K × V) → List (K × V)
 gone R old new = filter (λ e. is_none (find R e.0 new)) old
-
--- All rings together have at most so many devices.
-abbrev pub most_devices_in_all : ℕ
-most_devices_in_all = most_rings * most_devices
 
 -- The rows of the ring of a name, none where there is no ring.
 abbrev pub rows_at : {E : Type 0} → (List ℕ × RingRecord → List E) → List ℕ → Option RingRecord →
@@ -63,9 +59,23 @@ abbrev pub text_in : Option RingRecord → ℕ → Option (List ℕ)
 text_in None version = None
 text_in (Some ring) version = published_at ring version
 
+-- The rows of the devices of one ring.
+abbrev pub device_entries_of : List ℕ × RingRecord → List (rows.NameNumber × rows.Device)
+device_entries_of e = map (device_entry e.0) e.1.devices
+
 -- The rows of the published texts of one ring.
 abbrev pub text_entries_of : List ℕ × RingRecord → List (rows.NameNumber × List ℕ)
 text_entries_of e = map (published_entry e.0) e.1.published
+
+-- Two published texts under one version are taken for the same, where no published text changes.
+abbrev pub is_kept_text : List ℕ → List ℕ → Bool
+is_kept_text a b = true
+
+-- A valid ring, which has each text that an earlier valid one published.
+pub record Succeeds (old ring : RingRecord) : Type 0 where
+  pub before : IsValid old
+  pub valid : IsValid ring
+  pub texts : KeepsTexts old ring
 
 -- The row of a ring where the old ring has it not.
 abbrev pub added_ring : Option RingRecord → List ℕ × RingRecord → List (List ℕ × rows.Ring)

@@ -10,7 +10,7 @@ use ring_words::{Hour, Limits};
 use sqlite::{Alter, Connection};
 use std::alloc::Global;
 use std::test::Fail;
-use store_rows::{Change, grows};
+use store_rows::Change;
 use test_fixtures::rows::WorkedRow;
 
 /// What a deed leaves of a connection.
@@ -42,9 +42,15 @@ pub struct Found {
     pub hour: Hour,
 }
 
+/// All rows of rings as a text.
+fn rows_text(alloc: Global, rings: &Rings) -> Result<String, Fail> {
+    let change = Change::making(alloc, rings)?;
+    Ok(format!(in alloc; "{:?}", change.rows())?)
+}
+
 /// Whether two lists of rings are one: no row of the store tells them apart.
 fn are_same(alloc: Global, one: &Rings, other: &Rings) -> Result<bool, Fail> {
-    Ok(grows(one, other) && Change::between(alloc, one, other)?.len() == 0)
+    Ok(rows_text(alloc, one)? == rows_text(alloc, other)?)
 }
 
 impl Found {

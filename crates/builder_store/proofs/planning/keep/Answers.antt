@@ -39,11 +39,8 @@ returns-then-count-limit-clause-tables g c = λ clean other. absurd (other refl)
 pub returns-in_default-clause-tables : goal.returns-in_default-clause-tables
 returns-in_default-clause-tables g c = λ clean _. c.requires.tables clean
 
-pub planned-requires-clause-room : goal.planned-requires-clause-room
-planned-requires-clause-room g c = omega (arith, c.if-count-limit.false, c.requires.small)
-
-pub planned-requires-clause-grows : goal.planned-requires-clause-grows
-planned-requires-clause-grows g c = c.grows.ensures.0 c.if-not-grows.false
+pub planned-requires : goal.planned-requires
+planned-requires g c = omega (arith, c.if-count-limit.false, c.requires.small)
 
 pub returns-clause-tables : goal.returns-clause-tables
 returns-clause-tables g c = c.write.ensures.tables

@@ -17,6 +17,6 @@ returns c = λ content next.
         hour = next.holdable.hour;
         small = next.holdable.small;
       }) next.counted next.unknown next.later;
-      stands = ap (λ x. with_decided x rows.request rows.meta) (change.leads.applied content
-          next.held) ∙ made.rows after next.counted next.unknown;
+      stands = ap (λ x. with_decided x rows.request rows.meta) ((change.leads next.changed).applied
+          content next.held) ∙ made.rows after next.counted next.unknown;
     }

@@ -1,7 +1,5 @@
 use Rattle.std.proofs.Common.{◌≡◌, refl, rules, arith}
 use Rattle.std.proofs.lemmas.List.{take_more}
-use Rattle.std.proofs.lemmas.List.Elements.{All-more}
-use Rattle.ring_text.specs.Snapshot.{IsWithinLimits}
 use Rattle.ring_text.proofs.taking.copied.Goals as goal
 
 pub loop-device-preserved : goal.loop-device-preserved
@@ -16,7 +14,4 @@ loop-device-preserved c =
         c.loop-device.invariant.same,
         same,
       ) refl;
-      limits = All-more IsWithinLimits c.args.devices.now c.loop-device.device-index
-          c.device-item.result (omega arith) c.loop-device.invariant.limits (rw (← c.device-item.is)
-          c.device_is_within_limits.ensures);
     }

@@ -1,10 +1,7 @@
 use Rattle.std.proofs.Common.{◌≡◌, take}
-use Rattle.std.specs.Prelude.{All}
-use Rattle.ring_text.specs.Snapshot.{IsWithinLimits}
 use Rattle.ring_text.proofs.taking.copied.Given as goal
 
 abbrev pub invariant-loop-device : goal.invariant-loop-device
 invariant-loop-device l = record {
   same : l.copy.items ≡ take l.device-index l.devices;
-  limits : All IsWithinLimits (take l.device-index l.devices);
 }

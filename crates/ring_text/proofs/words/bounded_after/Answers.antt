@@ -4,12 +4,12 @@ use Rattle.ring_words.proofs.Spelled.{reads_same}
 use Rattle.ring_text.proofs.Keys.{number_after_of, number_of_after}
 use Rattle.ring_text.proofs.words.bounded_after.Goals as goal
 
-pub returns : goal.returns
-returns g c =
+pub returns-clause-read : goal.returns-clause-read
+returns-clause-read g c =
     let key = c.args.key.now in
     let line = c.args.line.now in
     let rest = c.in_ok-rest.rest.now in
-    let cut = c.in_ok-rest.ensures in
+    let cut = c.in_ok-rest.ensures.read in
     let least = g.row.LEAST in
     let most = g.row.MOST in
     reads_same (SpellsNumber rest least most) (IsNumberAfter key line least most)

@@ -10,8 +10,8 @@ returns c =
     let key = c.args.key.now in
     let line = c.args.line.now in
     let rest = c.in_ok-rest.rest.now in
-    let cut = c.in_ok-rest.ensures in
+    let cut = c.in_ok-rest.ensures.read in
     reads_same (SpellsName is_label rest) (IsNameAfter key line) c.read_name.result
     (λ name. name_after_of key line rest name cut)
     (λ name. name_of_after key line rest name cut)
-    c.read_name.ensures
+    c.read_name.ensures.read

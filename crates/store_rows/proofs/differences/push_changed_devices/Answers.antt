@@ -1,4 +1,4 @@
-use Rattle.std.proofs.Common.{map, ap, sym, ◌∙◌}
+use Rattle.std.proofs.Common.{map, ◌∙◌}
 use Rattle.store_model.specs.Contents.{device_of}
 use Rattle.store_rows.proofs.Unchanged.{adds_no_device, same_devices}
 use Rattle.store_rows.proofs.differences.push_changed_devices.Goals as goal

@@ -2,11 +2,7 @@ use Rattle.std.proofs.Common.{map, ap, sym, ◌∙◌}
 use Rattle.std.proofs.Common.{arith}
 use Rattle.std.specs.Vec.{vec_len}
 use Rattle.store_model.specs.Contents.{seat_of, moved_of, part_of}
-use Rattle.store_model.specs.Entries.{name_number_cmp}
-use Rattle.store_rows.specs.RingRows.{part_entries}
-use Rattle.store_rows.specs.Differences.{is_same_part}
-use Rattle.store_rows.specs.Inner.Lacking.{lacking}
-use Rattle.store_rows.proofs.Steps.{alike_by, alike_map, lacking_nothing}
+use Rattle.store_rows.proofs.Steps.{alike_by, alike_map}
 use Rattle.store_rows.proofs.FoundRows.{empty_of}
 use Rattle.store_rows.proofs.judging.are_parts.Goals as goal
 
@@ -19,14 +15,10 @@ returns c = (
         (omega arith) (sym c.is_empty-else-not-is_empty.ensures ∙ c.if-not-is_empty-2.false));
     parts = ap (map part_of) (sym c.as_slice.ensures.value) ∙ alike_map part_of c.as_slice.result.now
         c.as_slice-2.result.now (c.are_alike.ensures.0 same) ∙ ap (map part_of)
-        c.as_slice-2.ensures.value ∙ (c.in_ok-parts.ensures ∙ ap (λ rs. lacking name_number_cmp
-        is_same_part (part_entries rs) (part_entries c.args.rings.now)) c.new-none.ensures ∙
-        lacking_nothing name_number_cmp is_same_part (part_entries c.args.rings.now));
+        c.as_slice-2.ensures.value ∙ c.in_ok-parts.ensures;
   },
   λ says. c.are_alike.ensures.1 (alike_by part_of c.as_slice.result.now c.as_slice-2.result.now
       (ap (map part_of) c.as_slice.ensures.value ∙ says.parts
-      ∙ sym (c.in_ok-parts.ensures ∙ ap (λ rs. lacking name_number_cmp is_same_part (part_entries rs)
-      (part_entries c.args.rings.now)) c.new-none.ensures ∙ lacking_nothing name_number_cmp
-      is_same_part (part_entries c.args.rings.now)) ∙ ap (map part_of)
+      ∙ sym c.in_ok-parts.ensures ∙ ap (map part_of)
       (sym c.as_slice-2.ensures.value))),
 )

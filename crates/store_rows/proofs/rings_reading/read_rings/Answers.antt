@@ -12,7 +12,7 @@ pub returns-in_err-name : goal.returns-in_err-name
 returns-in_err-name c =
     let p = err_from_is_err_and c.from_residual.result c.from_residual.ensures.1 in
     rw (p.1, p.2) (reads_likewise _ (λ (rings : NamedRings). rings) _ c.in_err-name.field-0.0
-    c.in_err-name.ensures (λ all s. let n = next_ring c.args.is_first c.args.rows.now
+    c.in_err-name.ensures.read (λ all s. let n = next_ring c.args.is_first c.args.rows.now
     c.row-item.result c.args.tables c.loop-row.rest all c.loop-row.row-index s c.loop-row-test.true
     c.row-item.is (c.loop-row.invariant all s).1 in (
       n.e.0,
@@ -42,7 +42,7 @@ returns-in_err-rings c =
     (λ bad all s. let inv = c.loop-row.invariant all s in let n = next_ring
     c.args.is_first c.args.rows.now c.row-item.result c.args.tables c.loop-row.rest all
     c.loop-row.row-index s c.loop-row-test.true c.row-item.is inv.1 in
-    let name = sym c.in_ok-name.ensures.is ∙ c.as_str-in-loop-row.ensures.value
+    let name = sym c.in_ok-name.ensures.read.is ∙ c.as_str-in-loop-row.ensures.value
     ∙ named_as_row c.row-item.result n.e n.is in
     let none = c.in_err-rings.ensures.memory (subst (λ (rings : NamedRings). length rings < 16)
     (sym inv.0) n.few) (subst (λ (rings : NamedRings). All (λ (x : List ℕ × RingRecord).
@@ -55,7 +55,7 @@ loop-row-preserved c = λ all s.
     let inv = c.loop-row.invariant all s in
     let n = next_ring c.args.is_first c.args.rows.now c.row-item.result c.args.tables
     c.loop-row.rest all c.loop-row.row-index s c.loop-row-test.true c.row-item.is inv.1 in
-    let name = sym c.in_ok-name.ensures.is ∙ c.as_str-in-loop-row.ensures.value
+    let name = sym c.in_ok-name.ensures.read.is ∙ c.as_str-in-loop-row.ensures.value
     ∙ named_as_row c.row-item.result n.e n.is in
     let parts = c.split.ensures c.args.is_first n.e (drop (c.loop-row.row-index + 1) all) n.by
     (sym (c.as_str.ensures.value ∙ named_as_row c.row-item.result n.e n.is)) n.say in

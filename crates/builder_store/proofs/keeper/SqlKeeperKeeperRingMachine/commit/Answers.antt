@@ -43,7 +43,8 @@ invariant_of-self g c =
       holds = λ clean.
           let was : HasCleanDisk old = omega (arith, c.keep.ensures.survives.clean, clean) in
           let made = gains_now k c.requires.faults was (c.requires.room was)
-          (c.requires.unknown was) (c.requires.hour was) (c.in-Ok.ensures.done clean) in
+          (c.requires.unknown was) (c.requires.hour was) (c.requires.step was)
+          (c.in-Ok.ensures.done clean) in
           subst (λ db. Holds db c.args.state (k.count + 1) c.args.hour) (sym
           (whole_trees g.S.Store k.faults c.of.result.value c.keep.new.conn c.requires.faults))
           (∥∥₁_map made (λ h. (
@@ -61,7 +62,8 @@ returns-in-Ok-clause-commits g c = λ clean.
     let old = state g.S.Store k.conn in
     let was : HasCleanDisk old = omega (arith, c.keep.ensures.survives.clean, clean) in
     let made = gains_now k c.requires.faults was (c.requires.room was)
-    (c.requires.unknown was) (c.requires.hour was) (c.in-Ok.ensures.done clean) in
+    (c.requires.unknown was) (c.requires.hour was) (c.requires.step was)
+    (c.in-Ok.ensures.done clean) in
     gains_told _ _ _ _ _ (content_of_keeper k) _ c.args.state (whole_trees g.S.Store k.faults
     c.of.result.value c.keep.new.conn c.requires.faults) clean made
 
@@ -72,7 +74,8 @@ returns-in-Ok-clause-left g c = λ clean.
     let new = state g.S.Store c.keep.new.conn in
     let was : HasCleanDisk old = omega (arith, c.keep.ensures.survives.clean, clean) in
     let made = gains_now k c.requires.faults was (c.requires.room was)
-    (c.requires.unknown was) (c.requires.hour was) (c.in-Ok.ensures.done clean) in
+    (c.requires.unknown was) (c.requires.hour was) (c.requires.step was)
+    (c.in-Ok.ensures.done clean) in
     let has = c.keep.ensures.tables clean (not_failed c.in-Ok.is) in
     open_leaves new _ _ (λ db may. g.met.S.Store.settled c.keep.new.conn.store db has.0 may)
     (g.met.S.Store.stays c.keep.new.conn.store has.0) made
@@ -159,7 +162,7 @@ returns-clause-left g c = λ clean.
     (λ db left. subst (λ t. ∥ StandsAlone t content ∥₁) (sym (g.met.S.Store.settled k.conn.store db
     (k.tables c.requires.faults was).0 left)) stands)
     (λ db gains. gains_now k c.requires.faults was (c.requires.room was)
-    (c.requires.unknown was) (c.requires.hour was) gains))
+    (c.requires.unknown was) (c.requires.hour was) (c.requires.step was) gains))
     (inl refl) (inr (record { appended = refl; reached = refl; latest = refl }))
 
 pub returns-in-Ok-clause-sound : goal.returns-in-Ok-clause-sound

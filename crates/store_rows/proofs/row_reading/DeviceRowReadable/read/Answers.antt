@@ -8,5 +8,5 @@ returns c = λ v s.
     c.in_ok-number16-2.ensures.0 c.in_ok-number16-3.ensures.0
     (sym c.as_str.ensures.value ∙ c.in_ok-read_address.ensures.read.is)
     c.in_ok-read_address.ensures.read.valid c.in_ok-bounded.ensures.0
-    (sym c.as_str-2.ensures.value ∙ c.in_ok-read_name.ensures.is) c.in_ok-weight.ensures.0
+    (sym c.as_str-2.ensures.value ∙ c.in_ok-read_name.ensures.read.is) c.in_ok-weight.ensures.0
     c.in_ok-mark.ensures
