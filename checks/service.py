@@ -205,6 +205,54 @@ def refusals(checks):
         checks.same("a body of 65536 bytes", server.raw(request("POST", "/v1/requests", body)), answer(200, "OK", FIRST_REPLIES[0]))
 
 
+NO_ROUTE = answer(404, "Not Found", '{"fault":"NoRoute","status":404}')
+NO_HEAD = refused(400, "Bad Request", "BadHead")
+AWAY = request("GET", "/v2")
+# Heads that clients and proxies may send, and what a GET of no route behind each is told with it.
+HEADS = {
+    "lines that end with LF alone": (b"GET /v2 HTTP/1.1\nHost: a\n\n", NO_ROUTE * 2),
+    "CR LF before the first line": (b"\r\n" + AWAY, NO_ROUTE * 2),
+    "a field that is folded": (b"GET /v2 HTTP/1.1\r\nHost: a\r\nX: b\r\n c\r\n\r\n", NO_HEAD),
+    "a space before the colon": (b"GET /v2 HTTP/1.1\r\nHost : a\r\n\r\n", NO_HEAD),
+    "NUL in a value": (b"GET /v2 HTTP/1.1\r\nHost: a\0b\r\n\r\n", NO_HEAD),
+    "two spaces in the first line": (b"GET  /v2 HTTP/1.1\r\nHost: a\r\n\r\n", NO_HEAD),
+    "HTTP/1.2": (request("GET", "/v2", version="HTTP/1.2"), NO_HEAD),
+    "Connection: TE, close": (b"GET /v2 HTTP/1.1\r\nHost: a\r\nConnection: TE, close\r\n\r\n", NO_ROUTE * 2),
+    "a target with a scheme and a host": (request("GET", "http://a/v1/rings/x/devices"), NO_ROUTE * 2),
+    "Transfer-Encoding: identity": (b"POST /v1/requests HTTP/1.1\r\nHost: a\r\nTransfer-Encoding: identity\r\n\r\n",
+                                    refused(501, "Not Implemented", "NoTransferCoding")),
+    "a whole head of 8192 bytes": (b"GET /v2 HTTP/1.1\r\nHost: a\r\nX: " + b"x" * 8158 + b"\r\n\r\n", NO_ROUTE * 2),
+    "one of 8193 bytes": (b"GET /v2 HTTP/1.1\r\nHost: a\r\nX: " + b"x" * 8159 + b"\r\n\r\n", NO_HEAD),
+}
+
+
+def heads(checks):
+    """Heads that clients and proxies may send."""
+    with scratch() as room, Server(f"{room}/rings.db") as server:
+        for what, (head, want) in HEADS.items():
+            checks.same(what, server.raw(head + AWAY), want)
+
+
+def of_account(account):
+    """The nodes of an account in the ring `tiny`."""
+    return 200, common.tiny_nodes(hashlib.md5(b"/" + account).digest()[0] >> 7)
+
+
+def queries(checks):
+    """A plus in a query, and bytes that are no UTF-8."""
+    # a letter for which the two readings have other nodes
+    apart = lambda one, other: next(letter for letter in b"abcdefghijklmnopqrstuvwxyz"
+                                    if of_account(bytes([letter]) + one) != of_account(bytes([letter]) + other))
+    with scratch() as room:
+        run("run", "--file", f"{room}/rings.db", given=lines(*TINY))
+        with Server(f"{room}/rings.db") as server:
+            for what, sent, means, other in [("a plus is a space", "+", b" ", b"+"), ("%2B is a plus", "%2B", b"+", b" "),
+                                             ("a byte that is no UTF-8 is U+FFFD", "%FF", "\ufffd".encode(), b"\xff")]:
+                letter = apart(means, other)
+                told = server.ask("GET", f"/v1/rings/tiny/nodes?account={chr(letter)}{sent}")
+                checks.same(what, told, of_account(bytes([letter]) + means))
+
+
 def curl(*words):
     """What curl prints, and its status."""
     done = subprocess.run(["curl", "-s", "--max-time", "20", *words], capture_output=True, timeout=30)
@@ -586,7 +634,7 @@ def main():
         print("0 passed, 0 failed")
         return 0
     return checks.run(
-        words, routes, refusals, at_full_size, by_curl, by_http_client, stopped_and_started, broken_off, thousand_connections,
+        words, routes, refusals, heads, queries, at_full_size, by_curl, by_http_client, stopped_and_started, broken_off, thousand_connections,
         random_requests, slow_ones)
 
 
