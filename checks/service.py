@@ -360,13 +360,21 @@ def at_full_size(checks):
             rows = filled.count("\n") - 1
             bad = f'{{"column":6,"fault":"BadField","row":{rows},"rule":42}}'.encode()
             checks.same("a table of 65536 bytes is read to its last field", (len(filled), *long_weight), (65536, 400, bad))
+            rows = [*filled.split("\n")[:-2], f"{row}77.00", ""]
+            room_left = 65536 - len("\n".join(rows))
+            largest = "\n".join(line + "\r" * (place < room_left) for place, line in enumerate(rows))
+            told = server.ask("POST", "/v1/import/object?caller=ops&number=8", largest.encode())
+            decided = f'{{"added":0,"done":"import","reweighted":{len(rows) - 2},"version":2}}'.encode()
+            checks.same("a table of 65536 bytes is decided", (len(largest), *told), (65536, 200, decided))
+            told = server.ask("POST", "/v1/import/object?caller=ops&number=9", largest.encode() + b"\n")
+            checks.same("one of 65537 bytes is too large", told, (413, b'{"fault":"TooLarge","status":413}'))
             checks.show("a rebalance", server.post(message(6, "rebalance", seed=1))[0] == 200)
-            checks.same("its text", server.post(message(7, "publish")), (200, b'{"done":"publish","version":2}'))
-            status, text = server.ask("GET", "/v1/rings/object/text/2")
+            checks.same("its text", server.post(message(7, "publish")), (200, b'{"done":"publish","version":3}'))
+            status, text = server.ask("GET", "/v1/rings/object/text/3")
             checks.show("a text of power 14 with 5 replicas", status == 200 and len(text.splitlines()) > 16384, (status, len(text)))
             name = "x" * 1024
             spelt = server.ask("GET", "/v1/rings/object/nodes?account=a&container=c&object=" + "%78" * 1024)
-        checks.same("the same text by export", run("export", file, "object", "2")[1], text)
+        checks.same("the same text by export", run("export", file, "object", "3")[1], text)
         nodes = run("nodes", file, "object", "a", "--container", "c", "--object", name)[1]
         checks.same("a name of 1024 bytes, all percent-encoded", (spelt[0], spelt[1] + b"\n"), (200, nodes))
 
@@ -503,6 +511,107 @@ def never_reads(checks):
             checks.show(f"the other is answered after {took:.1f} seconds", told == 404 and took < 18, (told, took, sent))
 
 
+def never_stops(checks):
+    """A client that never stops asking on one connection holds the others about 10 seconds."""
+    with scratch() as room, Server(f"{room}/rings.db") as server, server.connect() as one:
+        stop, told = threading.Event(), []
+
+        def ask_on():
+            while not stop.is_set():
+                try:
+                    one.sendall(request("GET", "/v2"))
+                    more = one.recv(4096)
+                except OSError:
+                    return
+                if not more:
+                    return
+                told.append(more)
+                stop.wait(0.2)
+
+        asking = threading.Thread(target=ask_on)
+        asking.start()
+        time.sleep(0.5)
+        begun = time.monotonic()
+        answered = server.ask("GET", "/v2", seconds=45)[0]
+        took = time.monotonic() - begun
+        stop.set()
+        asking.join()
+        whole = {answer(404, "Not Found", '{"fault":"NoRoute","status":404}')}
+        checks.show(f"the other is answered after {took:.1f} seconds", answered == 404 and 7 < took < 13, (answered, took))
+        checks.show(f"and each of the {len(told)} answers of the first is whole", set(told) == whole and len(told) > 10, told[-1:])
+
+
+def alone(checks):
+    """A client that is alone keeps its connection beyond 10 seconds."""
+    with scratch() as room, Server(f"{room}/rings.db") as server, server.connect() as one:
+        begun, count = time.monotonic(), 0
+        while time.monotonic() - begun < 13:
+            one.sendall(request("GET", "/v2"))
+            count += bool(one.recv(4096))
+            time.sleep(0.5)
+        checks.show(f"{count} answers on one connection in 13 seconds", count >= 15, count)
+
+
+def reads_slowly(checks):
+    """A client that reads 4 KB a second of long answers holds the others about 10 seconds."""
+    with scratch() as room:
+        file = f"{room}/rings.db"
+        run("run", "--file", file, given=lines(*FIRST))
+        with Server(file) as server, socket.socket() as one:
+            one.setsockopt(socket.SOL_SOCKET, socket.SO_RCVBUF, 4096)
+            one.settimeout(30)
+            one.connect(("127.0.0.1", server.port))
+            stop = threading.Event()
+
+            def sip():
+                try:
+                    one.sendall(request("GET", "/v1/rings/object/devices") * 20000)
+                    while not stop.wait(1) and one.recv(4096):
+                        pass
+                except OSError:
+                    return
+
+            sipping = threading.Thread(target=sip)
+            sipping.start()
+            time.sleep(0.5)
+            begun = time.monotonic()
+            answered = server.ask("GET", "/v2", seconds=60)[0]
+            took = time.monotonic() - begun
+            stop.set()
+            one.close()
+            sipping.join()
+            checks.show(f"the other is answered after {took:.1f} seconds", answered == 404 and took < 25, (answered, took))
+
+
+def in_line(checks):
+    """Twenty idle clients in line before one that asks: each costs about a second."""
+    with scratch() as room, Server(f"{room}/rings.db") as server:
+        idle = [server.connect() for _ in range(20)]
+        begun = time.monotonic()
+        answered = server.ask("GET", "/v2", seconds=90)[0]
+        took = time.monotonic() - begun
+        for one in idle:
+            one.close()
+        checks.show(f"the one behind them is answered after {took:.1f} seconds", answered == 404 and 15 < took < 30, (answered, took))
+
+
+def address(checks):
+    """It listens on 127.0.0.1 alone, and nowhere else."""
+    with scratch() as room, Server(f"{room}/rings.db") as server:
+        table = [line.split() for line in Path("/proc/net/tcp").read_text().splitlines()[1:]]
+        bound = [one[1] for one in table if one[3] == "0A" and one[1].endswith(f":{server.port:04X}")]
+        checks.same("the address that is bound", bound, [f"0100007F:{server.port:04X}"])
+        six = Path("/proc/net/tcp6")
+        others = [line.split()[1] for line in six.read_text().splitlines()[1:]] if six.exists() else []
+        checks.same("none of IPv6", [one for one in others if one.endswith(f":{server.port:04X}")], [])
+        try:
+            socket.create_connection(("127.0.0.2", server.port), timeout=5).close()
+            is_refused = False
+        except ConnectionRefusedError:
+            is_refused = True
+        checks.show("another address of the machine is refused", is_refused)
+
+
 def broken_off(checks):
     """Clients that reset their connection."""
     whole = request("POST", "/v1/requests", CREATE)
@@ -593,7 +702,7 @@ def random_requests(checks):
         checks.show(f"the version went up to {version}, once for each number that was decided", is_once, (version, replies))
 
 
-SLOW = [silent, halfway, drop_by_drop, never_reads, at_once, under_load]
+SLOW = [silent, halfway, drop_by_drop, never_reads, never_stops, alone, reads_slowly, in_line, at_once, under_load]
 
 
 def slow_ones(checks):
@@ -634,8 +743,8 @@ def main():
         print("0 passed, 0 failed")
         return 0
     return checks.run(
-        words, routes, refusals, heads, queries, at_full_size, by_curl, by_http_client, stopped_and_started, broken_off, thousand_connections,
-        random_requests, slow_ones)
+        words, routes, refusals, heads, queries, at_full_size, by_curl, by_http_client, stopped_and_started, address, broken_off,
+        thousand_connections, random_requests, slow_ones)
 
 
 if __name__ == "__main__":

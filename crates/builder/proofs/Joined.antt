@@ -10,7 +10,7 @@ use Rattle.request_book.specs.Content.{Content}
 use Rattle.request_book.specs.Once.{once}
 use Rattle.request_book.specs.Run.{Chain, Leads, Run, kept, last_hour}
 use Rattle.request_book.proofs.Once.{kept-append}
-use Rattle.builder.specs.Safety.{Entries, IsSafeRun}
+use Rattle.builder.specs.Safety.{Entries, LeadsSafely}
 use Rattle.builder.specs.Step.{State, Step}
 use Rattle.builder.proofs.Safe.{safe_leads}
 
@@ -51,7 +51,7 @@ leads_on limits old mid new before after first second =
 pub safe_runs : (limits : Limits) (limit more : ℕ) (closed later : Bool)
     (old mid new : Content State Command Reply) (first second : List (Call Command Reply))
     → Run (Step limits) limit closed old first mid → Run (Step limits) more later mid second new
-    → IsSafeRun limits old new
+    → LeadsSafely limits old new
 safe_runs limits limit more closed later old mid new first second one two =
     let before : Entries = once old.book first ++ option_to_list one.doubt in
     let after : Entries = once mid.book second ++ option_to_list two.doubt in

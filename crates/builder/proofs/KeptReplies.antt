@@ -12,9 +12,9 @@ use Rattle.request_book.specs.Run.{Run}
 use Rattle.request_book.specs.declared.entry.Entry.{Entry}
 use Rattle.request_book.proofs.Alike.{kept_on, kept_reply}
 use Rattle.builder.specs.Life.{KeepsReply, Lives}
-use Rattle.builder.specs.Safety.{Entries, IsSafeRun}
+use Rattle.builder.specs.Safety.{Entries, LeadsSafely}
 use Rattle.builder.specs.Step.{State, Step}
-use Rattle.builder.proofs.Lives.{safe_life}
+use Rattle.builder.proofs.Lives.{led_life}
 
 -- what is kept stays kept as the book grows
 keeps_on : (book more : Entries) (call : Call Command Reply) → KeepsReply book call
@@ -55,7 +55,7 @@ pub life_keeps : (limits : Limits) (limit : ℕ) (old new : Content State Comman
     → All (All (KeepsReply new.book)) runs
 life_keeps limits limit old new [] same = All-nil (All (KeepsReply new.book))
 life_keeps limits limit old new (calls ∷ later) lives =
-    let rest : IsSafeRun limits lives.0 new = safe_life limits limit lives.0 new later lives.2 in
+    let rest : LeadsSafely limits lives.0 new = led_life limits limit lives.0 new later lives.2 in
     All-cons (All (KeepsReply new.book)) calls later
     (All-weaker (KeepsReply lives.0.book) (KeepsReply new.book)
     (λ call keeps. subst (λ (b : Entries). KeepsReply b call) (sym rest.book)

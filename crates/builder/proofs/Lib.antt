@@ -16,3 +16,5 @@ pub mod KeptReplies
 pub mod Previews
 pub mod Functions
 pub mod OneBook
+pub mod OneLife
+pub mod Nothing

@@ -2,28 +2,26 @@
 use Rattle.std.proofs.Common.{◌≡◌, ◌∙◌, ℕ, ◌<◌, ◌≤◌, ◌++◌, List, [], ◌∷◌, Option, Some, None, false}
 use Rattle.std.proofs.Common.{true, sym, ap, append-nil, append_assoc, arith, length, max, refl}
 use Rattle.std.proofs.Common.{subst}
-use Rattle.std.specs.Prelude.{All, Err, MatchOption, Ok, Result, cond, is_some}
-use Rattle.std.specs.List.{AllByRecursion, flat_map}
+use Rattle.std.specs.Prelude.{All, Err, MatchOption, Ok, Result, is_some}
+use Rattle.std.specs.List.{AllByRecursion}
 use Rattle.std.specs.Option.{option_or, option_to_list}
 use Rattle.std.proofs.lemmas.List.Elements.{recursion_from_All}
 use Rattle.std.proofs.lemmas.List.Folds.{find-append}
 use Rattle.ring_words.specs.declared.request.Delivery.{Delivery}
-use Rattle.ring_words.specs.declared.request.Key.{Key}
 use Rattle.ring_words.specs.declared.request.Limits.{Limits}
 use Rattle.ring_words.specs.declared.command.Command.{Command}
 use Rattle.ring_words.specs.declared.command.Reply.{Reply}
-use Rattle.ring_messages.specs.Commands.{IsProperCommand}
 use Rattle.ring_words.specs.Limits.{long_count}
 use Rattle.request_book.specs.Call.{Call, Deliver, calls_of, failed}
-use Rattle.request_book.specs.Content.{Content, entry_of, is_known, same_key}
-use Rattle.request_book.specs.Once.{decision, firsts, once}
+use Rattle.request_book.specs.Content.{Content, entry_of, is_known}
+use Rattle.request_book.specs.Once.{once}
 use Rattle.request_book.specs.Run.{IsInDoubt, Leads, MayAnswer, Run, kept}
 use Rattle.request_book.specs.declared.book.Fault.{Fault}
 use Rattle.request_book.specs.declared.book.Fault.TheVariants.{BookFull, Closed, NoMemory}
 use Rattle.request_book.specs.declared.book.Fault.TheVariants.{NumberReused, StoreFault}
 use Rattle.request_book.specs.declared.entry.Entry.{Entry}
-use Rattle.request_book.proofs.Once.{known_kept}
-use Rattle.builder.specs.Life.{IsSure}
+use Rattle.request_book.proofs.FirstCalls.{entry, known_once, new_once}
+use Rattle.builder.specs.Life.{IsProperDelivery, IsSure}
 use Rattle.builder.specs.Safety.{AreValid, Entries}
 use Rattle.builder.specs.Step.{State, Step}
 use Rattle.builder.proofs.Functions.{step_is_one}
@@ -83,43 +81,10 @@ never_failed (d ∷ ds) (Err Closed ∷ more) sure = absurd sure.0
 
 -- ---- which entries are decided, from the front
 
-some_or : (x y z : Option (Entry Command Reply)) → is_some x ≡ is_some y
-    → is_some (option_or x z) ≡ is_some (option_or y z)
-some_or None None z same = refl
-some_or (Some a) (Some b) z same = refl
-some_or None (Some b) z same = absurd (cc)
-some_or (Some a) None z same = absurd (cc)
-
--- two books that know the same keys
-abbrev KnowAlike : Entries → Entries → Type 0
-KnowAlike one other = (key : Key) → is_known key one ≡ is_known key other
-
-know_one_more : (one other : Entries) (e : Entry Command Reply) → KnowAlike one other
-    → KnowAlike (one ++ e ∷ []) (other ++ e ∷ [])
-know_one_more one other e alike key =
-    ap is_some (find-append (λ x. same_key x.key key) one (e ∷ []))
-    ∙ some_or (entry_of key one) (entry_of key other) (entry_of key (e ∷ [])) (alike key)
-    ∙ ap is_some (sym (find-append (λ x. same_key x.key key) other (e ∷ [])))
-
-same_firsts : (one other es : Entries) → KnowAlike one other → firsts one es ≡ firsts other es
-same_firsts one other [] alike = refl
-same_firsts one other (e ∷ es) alike =
-    ap (λ b. cond b (firsts one es) (e ∷ firsts (one ++ e ∷ []) es)) (alike e.key)
-    ∙ ap (λ (xs : Entries). cond (is_known e.key other) xs (e ∷ firsts (one ++ e ∷ []) es))
-    (same_firsts one other es alike)
-    ∙ ap (λ (xs : Entries). cond (is_known e.key other) (firsts other es) (e ∷ xs))
-    (same_firsts (one ++ e ∷ []) (other ++ e ∷ []) es (know_one_more one other e alike))
-
--- the entry of a delivery
-abbrev entry : Delivery Command → Reply → Entry Command Reply
-entry d reply = record { key = d.key; hour = d.hour; command = d.command; reply = reply }
-
 -- a call that decides nothing new in front of others
 still_once : (book : Entries) (d : Delivery Command) (a : Result Reply Fault)
     → is_known d.key book ≡ true → (more : Calls) → once book (Deliver d a ∷ more) ≡ once book more
-still_once book d (Ok reply) known more =
-    ap (λ b. cond b (once book more) (entry d reply ∷ firsts (book ++ entry d reply ∷ [])
-    (flat_map decision more))) known
+still_once book d (Ok reply) known more = known_once book d reply known more
 still_once book d (Err why) known more = refl
 
 -- what a delivery's step leaves
@@ -130,19 +95,6 @@ left old d reply mid = record {
   book = old.book ++ kept old.hour (entry d reply ∷ []);
   hour = max old.hour d.hour;
 }
-
--- a delivery of a new key in front of others
-new_once : (old : Content State Command Reply) (d : Delivery Command) (reply : Reply) (mid : State)
-    → is_known d.key old.book ≡ false → (more : Calls)
-    → once old.book (Deliver d (Ok reply) ∷ more)
-    ≡ entry d reply ∷ once (left old d reply mid).book more
-new_once old d reply mid new more =
-    let e : Entry Command Reply = entry d reply in
-    ap (λ b. cond b (once old.book more) (e ∷ firsts (old.book ++ e ∷ [])
-    (flat_map decision more))) new
-    ∙ ap (λ (es : Entries). e ∷ es) (same_firsts (old.book ++ e ∷ [])
-    (old.book ++ kept old.hour (e ∷ [])) (flat_map decision more)
-    (λ key. sym (known_kept key old.book old.hour (e ∷ []))))
 
 -- ---- one call in front of a run
 
@@ -177,7 +129,7 @@ goes_on limits limit old d reply calls new fresh run =
     let here : Entries = kept old.hour (e ∷ []) in
     let leads : Leads (Step limits) old (e ∷ once (old.book ++ here) calls) new =
     subst (λ (es : Entries). Leads (Step limits) old es new)
-    (new_once old d reply old.state fresh calls) run.leads in
+    (new_once old.book old.hour d reply fresh calls) run.leads in
     record {
       mid = leads.chain.0;
       step = leads.chain.1;
@@ -190,17 +142,13 @@ goes_on limits limit old d reply calls new fresh run =
         answers =
             λ before c after is. subst (λ (b : Entries). MayAnswer limit false b c)
             (ap (λ (es : Entries). old.book ++ kept old.hour es)
-            (new_once old d reply old.state fresh before) ∙ sym (append_assoc old.book here _))
+            (new_once old.book old.hour d reply fresh before) ∙ sym (append_assoc old.book here _))
             (run.answers (Deliver d (Ok reply) ∷ before) c after (ap (λ (cs : Calls).
             Deliver d (Ok reply) ∷ cs) is));
       };
     }
 
 -- ---- two runs from one content
-
--- a delivery of a proper command at an hour of 32 bits
-abbrev pub IsProperDelivery : Delivery Command → Type 0
-IsProperDelivery d = IsProperCommand d.command × (d.hour < long_count)
 
 -- valid rings at an hour of 32 bits
 abbrev IsSound : Content State Command Reply → Type 0

@@ -1,5 +1,5 @@
 -- The commands of a run's entries are those of its calls.
-use Rattle.std.proofs.Common.{◌≡◌, ℕ, ◌<◌, ◌≤◌, ◌++◌, Bool, true, false, cond, List, [], ◌∷◌, length}
+use Rattle.std.proofs.Common.{◌≡◌, ℕ, ◌<◌, ◌++◌, Bool, true, false, cond, List, [], ◌∷◌}
 use Rattle.std.proofs.Common.{Option, Some, None, refl, sym, subst, ◌∙◌, max, arith}
 use Rattle.std.specs.Prelude.{All, Err, MatchOption, Ok}
 use Rattle.std.specs.List.{AllByRecursion, flat_map}
@@ -18,7 +18,9 @@ use Rattle.request_book.specs.Once.{decision, firsts, once}
 use Rattle.request_book.specs.Run.{IsInDoubt, Run, kept, last_hour}
 use Rattle.request_book.specs.declared.entry.Entry.{Entry}
 use Rattle.builder.specs.Life.{IsProperCall}
-use Rattle.builder.specs.Safety.{AreValid, Entries, IsProperEntry, IsSafeRun}
+use Rattle.builder.specs.Safety.{AreValid, AreValidOnTheWay, Entries, IsProperEntry, IsSafeRun}
+use Rattle.builder.specs.Safety.{LeadsSafely}
+use Rattle.builder.proofs.Safe.{led_run, valid_on_the_way}
 use Rattle.ring_words.specs.Limits.{long_count}
 use Rattle.builder.specs.Step.{State, Step}
 
@@ -103,12 +105,12 @@ proper_decided limits limit closed old new calls run small proper =
 pub proper_entries : (limits : Limits) (limit : ℕ) (closed : Bool)
     (old new : Content State Command Reply) (calls : List (Call Command Reply))
     → Run (Step limits) limit closed old calls new → old.hour < long_count → All IsProperCall calls
-    → (safe : IsSafeRun limits old new) → All IsProperEntry safe.entries
-proper_entries limits limit closed old new calls run small proper safe =
+    → (led : LeadsSafely limits old new) → All IsProperEntry led.entries
+proper_entries limits limit closed old new calls run small proper led =
     let decided : Entries = once old.book calls ++ option_to_list run.doubt in
-    let same : kept old.hour decided ≡ safe.entries =
-    append_cancel_left old.book (kept old.hour decided) safe.entries
-    (sym run.leads.book ∙ safe.book) in
+    let same : kept old.hour decided ≡ led.entries =
+    append_cancel_left old.book (kept old.hour decided) led.entries
+    (sym run.leads.book ∙ led.book) in
     subst (All IsProperEntry) same
     (proper_decided limits limit closed old new calls run small proper)
 
@@ -131,9 +133,19 @@ small_after limits limit closed old new calls run small proper =
 pub valid_run : (limits : Limits) (limit : ℕ) (closed : Bool)
     (old new : Content State Command Reply) (calls : List (Call Command Reply))
     → Run (Step limits) limit closed old calls new → old.hour < long_count → All IsProperCall calls
-    → AreValid old.state
-    → (safe : IsSafeRun limits old new) → (n : ℕ) → n ≤ length safe.entries
-    → AreValid (safe.rings n)
-valid_run limits limit closed old new calls run small proper valid safe =
-    safe.safe.valid valid (proper_entries limits limit closed old new calls run small proper
-    safe)
+    → AreValid old.state → (led : LeadsSafely limits old new) → AreValidOnTheWay led
+valid_run limits limit closed old new calls run small proper valid led =
+    valid_on_the_way limits old.state new.state led.entries led.rings led.safe.way valid
+    (proper_entries limits limit closed old new calls run small proper led)
+
+-- A run of proper calls is safe.
+pub safe_run : (limits : Limits) (limit : ℕ) (closed : Bool) (old new : Content State Command Reply)
+    (calls : List (Call Command Reply)) → Run (Step limits) limit closed old calls new
+    → All IsProperCall calls → IsSafeRun limits old new
+safe_run limits limit closed old new calls run proper =
+    let led : LeadsSafely limits old new = led_run limits limit closed old new calls run in
+    record {
+      led = led;
+      valid = λ valid small. valid_run limits limit closed old new calls run small proper valid led;
+      hour = λ small. small_after limits limit closed old new calls run small proper;
+    }

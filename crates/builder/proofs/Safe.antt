@@ -13,8 +13,8 @@ use Rattle.request_book.specs.Content.{Content}
 use Rattle.request_book.specs.Once.{once}
 use Rattle.request_book.specs.Run.{Leads, Run, kept}
 use Rattle.request_book.specs.declared.entry.Entry.{Entry}
-use Rattle.builder.specs.Safety.{AreValid, DoNotFall, Entries, FewLeft, IsDone, IsSafe, IsSafeRun}
-use Rattle.builder.specs.Safety.{IsProperEntry, IsWay}
+use Rattle.builder.specs.Safety.{AreValid, DoNotFall, Entries, FewLeft, IsDone, IsProperEntry, IsSafe}
+use Rattle.builder.specs.Safety.{IsWay, LeadsSafely}
 use Rattle.builder.specs.Step.{State, Step}
 use Rattle.builder.proofs.Few.{few_left_of}
 use Rattle.builder.proofs.Hours.{kept_do_not_fall}
@@ -29,7 +29,8 @@ pub few_left_on_the_way : (limits : Limits) (old new : State) (entries : Entries
 few_left_on_the_way limits old new entries rings way name n seed entry there is =
     few_left_of limits (rings n) (rings (n + 1)) name seed entry is (way.steps n entry there)
 
-valid_on_the_way : (limits : Limits) (old new : State) (entries : Entries)
+-- Where the first rings are valid and the entries proper, so are all rings on the way.
+pub valid_on_the_way : (limits : Limits) (old new : State) (entries : Entries)
     (rings : ℕ → State) → IsWay limits old entries new rings → AreValid old
     → All IsProperEntry entries → (n : ℕ) → n ≤ length entries
     → AreValid (rings n)
@@ -57,13 +58,12 @@ safe_way limits old entries new rings way rise = record {
   hours = rise;
   few = few_left_on_the_way limits old new entries rings way;
   rest = rests limits old new entries rings way rise;
-  valid = valid_on_the_way limits old new entries rings way;
 }
 
 -- What decided requests lead to is reached safely.
 pub safe_leads : (limits : Limits) (old new : Content State Command Reply)
     (decided : Entries) → Leads (Step limits) old decided new
-    → IsSafeRun limits old new
+    → LeadsSafely limits old new
 safe_leads limits old new decided leads =
     let entries : Entries = kept old.hour decided in
     record {
@@ -76,8 +76,9 @@ safe_leads limits old new decided leads =
           decided);
     }
 
-pub safe_run : (limits : Limits) (limit : ℕ) (closed : Bool) (old new : Content State Command Reply)
+-- Whatever is called, a run leads safely.
+pub led_run : (limits : Limits) (limit : ℕ) (closed : Bool) (old new : Content State Command Reply)
     (calls : List (Call Command Reply)) → Run (Step limits) limit closed old calls new
-    → IsSafeRun limits old new
-safe_run limits limit closed old new calls run =
+    → LeadsSafely limits old new
+led_run limits limit closed old new calls run =
     safe_leads limits old new (once old.book calls ++ option_to_list run.doubt) run.leads

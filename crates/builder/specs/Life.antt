@@ -1,10 +1,11 @@
 -- The life of a store, from one start of a program to the next.
-use Rattle.std.specs.Prelude.{◌≡◌, ⊤, ℕ, List, [], ◌∷◌, All, Err, IsSomeAnd, Ok, Result, false}
-use Rattle.std.specs.Prelude.{length, ◌<◌}
+use Rattle.std.specs.Prelude.{◌≡◌, ⊤, ℕ, List, [], ◌∷◌, All, Err, IsSomeAnd, None, Ok, Result, false}
+use Rattle.std.specs.Prelude.{flat_map, length, ◌<◌}
 use Rattle.ring_words.specs.Limits.{long_count}
-use Rattle.request_book.specs.Call.{Call, Deliver, Load, calls_of}
+use Rattle.request_book.specs.Call.{Call, Deliver, Load, calls_of, failed}
 use Rattle.request_book.specs.Content.{Content, entry_of}
 use Rattle.request_book.specs.Run.{Run}
+use Rattle.request_book.specs.Settled.{ComeTo}
 use Rattle.request_book.specs.declared.book.Fault.{Fault}
 use Rattle.request_book.specs.declared.book.Fault.TheVariants.{BookFull, Closed, NoMemory}
 use Rattle.request_book.specs.declared.book.Fault.TheVariants.{NumberReused, StoreFault}
@@ -38,6 +39,24 @@ abbrev pub Lives : Limits → ℕ → BookContent → List BookCalls → BookCon
 Lives limits limit old [] new = new ≡ old
 Lives limits limit old (calls ∷ later) new = (mid : BookContent)
     × Run (Step limits) limit false old calls mid × Lives limits limit mid later new
+
+-- what a store holds before its first request: no ring, no request, and hour 0
+abbrev pub nothing_held : BookContent
+nothing_held = record { state = []; book = []; hour = 0 }
+
+-- the calls of all runs of a life, in their order
+abbrev pub all_calls : List BookCalls → BookCalls
+all_calls runs = flat_map (λ calls. calls) runs
+
+-- The calls of all runs, in their order, come to one run of an open book whose store never failed.
+pub record IsOneLife (limits : Limits) (limit : ℕ) (old : BookContent) (runs : List BookCalls)
+    (new : BookContent) : Type 0 where
+  pub settled : BookCalls
+  pub comes : ComeTo (all_calls runs) settled
+  pub run : Run (Step limits) limit false old settled new
+  pub unfailed : failed settled ≡ None
+  -- Where the store failed in none of the calls, these are they.
+  pub whole : failed (all_calls runs) ≡ None → settled ≡ all_calls runs
 
 -- The command is such as there are, and the hour has 32 bits.
 abbrev pub IsProperDelivery : Delivery Command → Type 0

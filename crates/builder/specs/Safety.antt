@@ -151,18 +151,22 @@ pub record IsSafe (limits : Limits) (old : State) (entries : Entries) (new : Sta
       has_changed move.old move.new (origin move.old later.old partition) ≡ true →
       Leaves later.old later.new partition replica →
       move.entry.hour + later.old.min_hours ≤ later.entry.hour
-  -- The rings stay valid, if the old ones are and the commands and hours such as there are.
-  pub valid : AreValid old → All IsProperEntry entries →
-      (n : ℕ) → n ≤ length entries → AreValid (rings n)
 
 -- The new book is the old one and entries that lead safely from the old rings to the new ones.
-pub record IsSafeRun (limits : Limits) (old new : Content State Command Reply) : Type 0 where
+pub record LeadsSafely (limits : Limits) (old new : Content State Command Reply) : Type 0 where
   pub entries : Entries
   pub book : new.book ≡ old.book ++ entries
   pub rings : ℕ → State
   pub safe : IsSafe limits old.state entries new.state rings
 
--- All rings on the way of the run are valid.
-abbrev pub AreValidOnTheWay : {limits : Limits} {old new : Content State Command Reply} → IsSafeRun limits old new →
-    Type 0
-AreValidOnTheWay run = (n : ℕ) → n ≤ length run.entries → AreValid (run.rings n)
+-- All rings on the way of a run are valid.
+abbrev pub AreValidOnTheWay : {limits : Limits} {old new : Content State Command Reply} →
+    LeadsSafely limits old new → Type 0
+AreValidOnTheWay led = (n : ℕ) → n ≤ length led.entries → AreValid (led.rings n)
+
+-- A run leads safely from the old content to the new one. Where the old rings are valid and the old
+-- hour has 32 bits, all rings on its way are valid, and the new hour has 32 bits too.
+pub record IsSafeRun (limits : Limits) (old new : Content State Command Reply) : Type 0 where
+  pub led : LeadsSafely limits old new
+  pub valid : AreValid old.state → old.hour < long_count → AreValidOnTheWay led
+  pub hour : old.hour < long_count → new.hour < long_count

@@ -2,13 +2,15 @@
 ghost use Rattle.std.specs.Prelude.{◌≡◌, ◌≢◌, ◌+◌, ◌<◌, ◌≤◌, ℕ, Bool, List, length, slice_get};
 ghost use Rattle.std.specs.Prelude.{All, Some, true};
 ghost use Rattle.builder.specs.Life.{BeginsProperly, BookAnswers, BookCalls, BookContent};
-ghost use Rattle.builder.specs.Life.{Deliveries, IsProperCall, IsSureRun, KeepsReply, Lives};
+ghost use Rattle.builder.specs.Life.{Deliveries, IsOneLife, IsProperCall, IsSureRun, KeepsReply};
+ghost use Rattle.builder.specs.Life.{Lives, all_calls, nothing_held};
 ghost use Rattle.builder.specs.Preview.{Rebalances};
 ghost use Rattle.builder.specs.Safety.{AreValid, AreValidOnTheWay, BookEntry, DoNotFall, Entries};
-ghost use Rattle.builder.specs.Safety.{FewLeft, IsDone, IsSafeRun, IsWay, LockStays};
+ghost use Rattle.builder.specs.Safety.{FewLeft, IsDone, IsProperEntry, IsSafeRun, IsWay};
+ghost use Rattle.builder.specs.Safety.{LeadsSafely, LockStays};
 ghost use Rattle.builder.specs.Safety.{NeverFewerHours, NeverPretended, RestsFor};
 ghost use Rattle.builder.specs.Step.{State, Step};
-ghost use Rattle.request_book.specs.Run.{Run};
+ghost use Rattle.request_book.specs.Run.{AnswersAlike, RepeatsAreKept, Run};
 ghost use Rattle.ring_messages.specs.Commands.{IsProperCommand};
 ghost use Rattle.ring_model.specs.Ring.{RingRecord, partition_count};
 ghost use Rattle.ring_model.specs.Rings.{ring_at};
@@ -33,6 +35,13 @@ pub fn valid_rings_stay_valid()
     ensures { (limits : Limits) (rings after : State) (hour : ℕ) (command : Command) (reply : Reply)
         → hour < long_count → Step limits rings hour command reply after → IsProperCommand command
         → AreValid rings → AreValid after }
+{}
+
+/// So valid rings stay valid all the way, where each command and hour is such as there are.
+pub fn valid_rings_stay_valid_in_a_run()
+    ensures { (limits : Limits) (old new : State) (entries : Entries) (rings : ℕ → State)
+        → IsWay limits old entries new rings → AreValid old → All IsProperEntry entries
+        → (n : ℕ) → n ≤ length entries → AreValid (rings n) }
 {}
 
 /// In each rebalance at most one replica of a partition leaves a device that remains, and none
@@ -99,56 +108,83 @@ pub fn a_seed_decides_reply_and_ring()
         → ring_at name left ≡ ring_at name after }
 {}
 
-/// Whatever calls come, a run is safe: on its way few replicas leave in each rebalance, moved
-/// partitions rest, and valid rings stay valid.
+/// Whatever calls come, a run leads safely: on its way few replicas leave in each rebalance, and
+/// moved partitions rest. A run of calls such as there are is safe: valid rings stay valid too.
 pub fn a_run_is_safe()
-    ensures { (limits : Limits) (limit : ℕ) (closed : Bool) (old new : BookContent)
+    ensures led { (limits : Limits) (limit : ℕ) (closed : Bool) (old new : BookContent)
         (calls : BookCalls)
-        → Run (Step limits) limit closed old calls new → IsSafeRun limits old new }
+        → Run (Step limits) limit closed old calls new → LeadsSafely limits old new }
+    ensures safe { (limits : Limits) (limit : ℕ) (closed : Bool) (old new : BookContent)
+        (calls : BookCalls)
+        → Run (Step limits) limit closed old calls new → All IsProperCall calls
+        → IsSafeRun limits old new }
 {}
 
 /// Where the old rings are valid and each command is proper, all rings on the way of a run are
-/// valid.
+/// valid, whichever way that is.
 pub fn a_run_stays_valid()
     ensures { (limits : Limits) (limit : ℕ) (closed : Bool) (old new : BookContent)
         (calls : BookCalls)
         → Run (Step limits) limit closed old calls new → old.hour < long_count
         → All IsProperCall calls → AreValid old.state
-        → (safe : IsSafeRun limits old new) → AreValidOnTheWay safe }
+        → (led : LeadsSafely limits old new) → AreValidOnTheWay led }
 {}
 
-/// Two runs, of which the one begins with what the other left, are one safe run.
+/// Two runs, of which the one begins with what the other left, lead safely as one.
 pub fn runs_are_safe_together()
     ensures { (limits : Limits) (limit more : ℕ) (closed later : Bool)
         (old mid new : BookContent) (first second : BookCalls)
         → Run (Step limits) limit closed old first mid → Run (Step limits) more later mid second new
+        → LeadsSafely limits old new }
+{}
+
+/// All calls of a life, in their order, come to one run, as if one book had been open all the time:
+/// where the store failed in a delivery, or a crash cut it off, the run has that delivery with a
+/// reply, which nobody got, or does not have it.
+pub fn a_life_is_one_run()
+    ensures { (limits : Limits) (limit : ℕ) (old new : BookContent) (runs : List BookCalls)
+        → Lives limits limit old runs new → IsOneLife limits limit old runs new }
+{}
+
+/// The life of a store leads safely, however often a program is started over it: on its way few
+/// replicas leave in each rebalance, and moved partitions rest, also from one start to the next. A
+/// life of calls such as there are is one safe run.
+pub fn a_life_is_safe()
+    ensures led { (limits : Limits) (limit : ℕ) (old new : BookContent) (runs : List BookCalls)
+        → Lives limits limit old runs new → LeadsSafely limits old new }
+    ensures safe { (limits : Limits) (limit : ℕ) (old new : BookContent) (runs : List BookCalls)
+        → Lives limits limit old runs new → All (All IsProperCall) runs
         → IsSafeRun limits old new }
 {}
 
-/// The life of a store is one safe run, however often a program is started over it: on its way few
-/// replicas leave in each rebalance, and moved partitions rest, also from one start to the next.
-pub fn a_life_is_safe()
-    ensures { (limits : Limits) (limit : ℕ) (old new : BookContent)
-        (runs : List BookCalls)
-        → Lives limits limit old runs new → IsSafeRun limits old new }
-{}
-
-/// And where the rings were valid at first and each command is proper, they are at each place.
+/// Where the rings were valid at first and each command is proper, they are at each place of a
+/// life. So they are in each life of proper commands that begins with nothing.
 pub fn a_life_stays_valid()
-    ensures { (limits : Limits) (limit : ℕ) (old new : BookContent)
+    ensures valid { (limits : Limits) (limit : ℕ) (old new : BookContent)
         (runs : List BookCalls)
         → Lives limits limit old runs new → old.hour < long_count
         → All (All IsProperCall) runs → AreValid old.state
-        → (safe : IsSafeRun limits old new) → AreValidOnTheWay safe }
+        → (led : LeadsSafely limits old new) → AreValidOnTheWay led }
+    ensures from_nothing { (limits : Limits) (limit : ℕ) (new : BookContent)
+        (runs : List BookCalls) → Lives limits limit nothing_held runs new
+        → All (All IsProperCall) runs
+        → (led : LeadsSafely limits nothing_held new) → AreValidOnTheWay led }
 {}
 
 /// Each reply that was given in any run of a life is the one that the book of its end keeps under
-/// that key and for that command. So a repeat gets the reply of the first, however often the
-/// program was started in between.
+/// that key and for that command. So two replies to one key are one reply, to one command, and a
+/// repeat gets the reply of the first, however often the program was started in between, as long as
+/// there is memory and the store works.
 pub fn a_life_keeps_its_replies()
-    ensures { (limits : Limits) (limit : ℕ) (old new : BookContent)
+    ensures kept { (limits : Limits) (limit : ℕ) (old new : BookContent)
         (runs : List BookCalls)
         → Lives limits limit old runs new → All (All (KeepsReply new.book)) runs }
+    ensures alike { (limits : Limits) (limit : ℕ) (old new : BookContent)
+        (runs : List BookCalls)
+        → Lives limits limit old runs new → AnswersAlike (all_calls runs) }
+    ensures repeats { (limits : Limits) (limit : ℕ) (old new : BookContent)
+        (runs : List BookCalls)
+        → Lives limits limit old runs new → RepeatsAreKept (all_calls runs) }
 {}
 
 /// Each step is a function: of the same valid rings, at the same hour, one command is given one

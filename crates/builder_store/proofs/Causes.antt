@@ -1,6 +1,5 @@
 -- Faults of files tell their causes.
 use Rattle.std.proofs.Common.{◌≡◌}
-use Rattle.builder_store.specs.declared.fault.FileFault.{FileFault}
 use Rattle.builder_store.specs.declared.fault.FileFault.TheVariants.{Opening}
 use Rattle.builder_store.specs.declared.fault.OpenFault.{OpenFault}
 

@@ -1,5 +1,5 @@
 -- What a closed store leaves in its files.
-use Rattle.std.proofs.Common.{◌≡◌, ◌∙◌, [], arith, false, inl, inr, refl, subst, sym, true≢false}
+use Rattle.std.proofs.Common.{◌≡◌, ◌∙◌, ◌≤◌, [], arith, inl, inr, refl, subst, sym, true≢false}
 use Rattle.std.specs.Prelude.{◌⊎◌, IsTrue}
 use Rattle.std.proofs.Math.Logic.{∥∥₁_elim, ∥∥₁_map}
 use mathlib.Core.Logic.{∥∥₁_prop}
@@ -14,50 +14,34 @@ use Rattle.sqlite_wal.specs.Reads.{AreClean}
 use Rattle.sqlite_wal.specs.Recovery.{Image}
 use Rattle.sqlite.specs.Closing.{IsCopied}
 use Rattle.sqlite.specs.Closing as kit
-use Rattle.sqlite.specs.Effect.{Database, IsDatabase}
 use Rattle.sqlite.specs.Files.{ExcusesClose, FailsToClose, HoldsDatabase, IsClosed, file_state}
 use Rattle.sqlite.specs.Files.{over_files}
 use Rattle.sqlite.specs.Held.{Held}
-use Rattle.sqlite.specs.State.{HasCleanDisk, State, store_error}
+use Rattle.sqlite.specs.State.{HasCleanDisk, store_error}
 use Rattle.sqlite.specs.declared.error.Error.{Error}
 use Rattle.sqlite.specs.declared.error.Error.TheVariants.{SqliteFailure}
 use Rattle.sqlite.specs.declared.error.ErrorCode.TheVariants.{OutOfMemory}
-use Rattle.sqlite_store.specs.FileStore.{faults, view}
+use Rattle.sqlite_store.specs.FileStore.{faults, recovers, view}
+use Rattle.sqlite_store.specs.FileStore.{files as store_files}
 use Rattle.sqlite_store.specs.declared.store.FileStore.{FileStore}
 use Rattle.store_rows.specs.Stands.{RingContent}
-use Rattle.store_tables.proofs.Living.{lives_in}
-use Rattle.builder_store.specs.Closing.{AreLeftWith, HoldsAlone, HoldsContent, IsUnclosed}
+use Rattle.builder_store.specs.Closing.{AreFilesOf, AreLeftWith, HoldsAlone, HoldsContent}
+use Rattle.builder_store.specs.Closing.{IsUnclosed}
 use Rattle.builder_store.specs.Inner.Codes.{content_set}
-use Rattle.builder_store.specs.Inner.Tables.{HasTables, IsSettledState}
 use Rattle.builder_store.specs.Keepers.{content_of_keeper}
-use Rattle.builder_store.specs.Opening.{AreDeclared, IsOpenedAs}
+use Rattle.builder_store.specs.Opening.{IsOpenedAs}
+use Rattle.builder_store.specs.Inner.Finding.{stands_opens}
 use Rattle.builder_store.specs.Standing.{StandsAlone}
-use Rattle.builder_store.proofs.Finds.{left_only, left_opens}
-use Rattle.builder_store.proofs.Gained.{OneContent}
 use Rattle.builder_store.proofs.Keeping.{told_now}
 use Rattle.builder_store.specs.declared.keeper.SqlKeeper.{SqlKeeper}
 
--- who sees a store has it declared in what is committed
-pub settled_declared : (s : State) → IsSettledState s → AreDeclared 8 s.committed.trees
-settled_declared s is =
-    let lives = lives_in s.now is.store in (
-      omega arith,
-      subst (λ schema. IsDatabase (record { schema = schema; trees = s.committed.trees }))
-          lives.schema_is
-          (subst (λ (d : Database). IsDatabase (record {
-            schema = s.now.schema;
-            trees = d.trees;
-          })) is.committed lives.sound),
-    )
-
-module _ (one : OneContent) (db : Trees) (content : RingContent) (declared : AreDeclared 8 db)
-    (stands : ∥ StandsAlone db content ∥₁) where
+module _ (db : Trees) (content : RingContent) (stands : ∥ StandsAlone db content ∥₁) where
   holds_content : (image : Image) → ∥ HoldsDatabase image db ∥₁ → HoldsContent image content
   holds_content image held = record {
     database = ∥∥₁_elim stands ∥∥₁_prop (λ s. ∥∥₁_map held (λ h.
-        (db, h, left_opens db content declared s.0)));
+        (db, h, stands_opens db content s.0)));
     only = λ found from. ∥∥₁_elim stands (content_set found content) (λ s. ∥∥₁_elim held
-        (content_set found content) (λ h. left_only one db content found declared s.0
+        (content_set found content) (λ h. s.1 found
         (subst (λ t. IsOpenedAs t found) (from.holds db h) from.opens)));
   }
 
@@ -68,44 +52,31 @@ module _ (one : OneContent) (db : Trees) (content : RingContent) (declared : Are
   )
 
 -- files to which the last commit was copied hold the content for which that stands
-pub copied_left : OneContent → {D : Type 0} {g : disk.Ghosts D} (conn : Held (FileStore D g))
+pub copied_left : {D : Type 0} {g : disk.Ghosts D} (conn : Held (FileStore D g))
     (files : Files D) (content : RingContent) → IsCopied conn files
-    → AreDeclared 8 (file_state conn).committed.trees
     → ∥ StandsAlone (file_state conn).committed.trees content ∥₁ → AreLeftWith g files content
-copied_left one {g = g} conn files content copied declared stands = record {
-  seen = holds_alone one (file_state conn).committed.trees content declared stands _ copied.seen;
-  left = λ image may. holds_alone one (file_state conn).committed.trees content declared stands image
+copied_left {g = g} conn files content copied stands = record {
+  seen = holds_alone (file_state conn).committed.trees content stands _ copied.seen;
+  left = λ image may. holds_alone (file_state conn).committed.trees content stands image
       (copied.left image may);
 }
 
--- what is known of a connection as it is closed, and of the files that it gives back
-record IsClosing {D : Type 0} {g : disk.Ghosts D} (files : Files D) (conn : Held (FileStore D g)) :
-    Type 0 where
-  settled : conn.in_transaction ≡ false → HasTables (file_state conn)
-      → IsSettledState (file_state conn)
-  copied : AreClean g files.log files.db → IsCopied conn files
-
-keeper_left : OneContent → {D : Type 0} {g : disk.Ghosts D}
-    (k : SqlKeeper (FileStore D g) over_files) (files : Files D) → IsClosing files k.conn
+keeper_left : {D : Type 0} {g : disk.Ghosts D} (k : SqlKeeper (FileStore D g) over_files)
+    (files : Files D) → (AreClean g files.log files.db → IsCopied k.conn files)
     → k.faults ≡ 0 → AreClean g files.log files.db → AreLeftWith g files (content_of_keeper k)
-keeper_left one k files closing none clean =
-    let copied = closing.copied clean in
-    let settled = closing.settled k.idle (k.tables none copied.was_clean) in
-    copied_left one k.conn files (content_of_keeper k) copied
-    (settled_declared (file_state k.conn) settled)
+keeper_left k files closing none clean =
+    let copied = closing clean in
+    copied_left k.conn files (content_of_keeper k) copied
     (told_now over_files k.faults k.last.value k.conn k.rings k.count k.hour k.holds
     (record { state = k.rings; book = []; hour = k.hour }) none copied.was_clean)
 
 -- the files of a keeper whose connection was closed hold the content that it had
-pub closed_left : OneContent → {D : Type 0} {g : disk.Ghosts D}
-    (k : SqlKeeper (FileStore D g) over_files) (conn : Held (FileStore D g)) (files : Files D)
-    → conn ≡ k.conn
-    → (conn.in_transaction ≡ false → HasTables (file_state conn)
-    → IsSettledState (file_state conn))
+pub closed_left : {D : Type 0} {g : disk.Ghosts D} (k : SqlKeeper (FileStore D g) over_files)
+    (conn : Held (FileStore D g)) (files : Files D) → conn ≡ k.conn
     → (AreClean g files.log files.db → IsCopied conn files) → k.faults ≡ 0
     → AreClean g files.log files.db → AreLeftWith g files (content_of_keeper k)
-closed_left one k conn files same settled copied = keeper_left one k files
-    (subst (IsClosing files) same (record { settled = settled; copied = copied }))
+closed_left {g = g} k conn files same copied = keeper_left k files
+    (subst (λ c. AreClean g files.log files.db → IsCopied c files) same copied)
 
 -- an open store that isn't closed has met a fault, or memory was wanted
 excused : {D : Type 0} {g : disk.Ghosts D} (c : Held (FileStore D g)) (last : FileStore D g)
@@ -146,3 +117,14 @@ pub unclosed : {D : Type 0} {g : disk.Ghosts D} (k : SqlKeeper (FileStore D g) o
 unclosed k conn last error same closed failed = unclosed_keeper k last error
     (subst (λ c. IsClosed c last) same closed)
     (subst (λ c. IsClean (view last) → FailsToClose c last error) same failed)
+
+-- the files that are given back are those of the store that was closed
+pub files_of : {D : Type 0} {g : disk.Ghosts D} (store : FileStore D g) (conn : Held (FileStore D g))
+    (files : Files D) → conn.store ≡ store → (last : FileStore D g)
+    → store_files last ≡ (files.log, files.db) → IsClosed conn last → AreFilesOf store files
+files_of store conn files same last files_are closed = record {
+  last = last;
+  same = files_are;
+  counted = subst (λ s. faults s ≤ faults last) same closed.quiet.counts;
+  crash = λ db may. subst (λ s. recovers s db) same (closed.quiet.outcomes db may);
+}

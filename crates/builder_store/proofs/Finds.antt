@@ -1,5 +1,5 @@
 -- An opening of what was left.
-use Rattle.std.proofs.Common.{◌≡◌, ◌∙◌, ◌∷◌, None, Option, Some, [], ap, arith, inl, inr, subst}
+use Rattle.std.proofs.Common.{◌≡◌, ◌∙◌, ◌∷◌, None, Option, Some, [], ap, inl, inr, subst}
 use Rattle.std.proofs.Common.{sym, ℕ, ℤ}
 use Rattle.std.specs.Prelude.{pos}
 use Rattle.std.specs.Cmp.{int_cmp_total}
@@ -13,12 +13,24 @@ use Rattle.store_tables.specs.Contents.{contents_of}
 use Rattle.store_model.specs.Entries.{Meta}
 use Rattle.store_tables.specs.Store.{begun_contents}
 use Rattle.store_tables.specs.Tables.{schema_of_first}
-use Rattle.store_rows.specs.Stands.{RingContent, meta_value}
-use Rattle.builder_store.specs.Opening.{AreDeclared, IsOpenedAs, OpensAs}
-use Rattle.builder_store.specs.Standing.{Stands}
+use Rattle.store_rows.specs.Stands.{IsHoldable, RingContent, contents_for, first_contents_for}
+use Rattle.store_rows.specs.Stands.{meta_value}
+use Rattle.builder_store.specs.Opening.{AreDeclared, IsMadeOf, IsOpenedAs, KeepsRows, OpensAs}
+use Rattle.builder_store.specs.Opening.{Stands}
+use Rattle.builder_store.specs.Standing.{StandsAlone}
+use Rattle.builder_store.specs.Inner.Finding.{stands_opens}
 use Rattle.builder_store.proofs.Declared.{made_once}
-use Rattle.builder_store.proofs.Gained.{OneContent}
-use Rattle.builder_store.proofs.Nothing.{one_row}
+use Rattle.builder_store.proofs.Nothing.{nothing_only, one_row}
+
+-- that no store stands for two contents
+abbrev pub OneContent : Type 0
+OneContent = (a b : RingContent) → IsHoldable a → IsHoldable b → contents_for a ≡ contents_for b
+    → a ≡ b
+
+-- nor any of schema 1
+abbrev pub OneFirst : Type 0
+OneFirst = (a b : RingContent) → IsHoldable a → IsHoldable b
+    → first_contents_for a ≡ first_contents_for b → a ≡ b
 
 abbrev schema_in : Option Meta → ℤ
 schema_in None = pos 0
@@ -35,25 +47,22 @@ schemas_apart hour other is =
     ((pos 1, meta_value 1 other) ∷ []) (pos 1)) in
     cc
 
-pub left_opens : (db : Trees) (content : RingContent) → AreDeclared 8 db → Stands db content
-    → IsOpenedAs db content
-left_opens db content declared stands = (
-  8,
-  declared,
-  record {
-    holdable = stands.holdable;
-    stands =
-        inl stands.contents;
-  },
-)
+-- as many tables are declared as in one way only
+pub as_many : (db : Trees) (made other : ℕ) → AreDeclared made db → AreDeclared other db
+    → made ≡ other
+as_many db made other is also = made_once made other is.0 also.0 (lists_once (db catalog_tree)
+    (schema_of_first made) (schema_of_first other) is.1.lists also.1.lists)
 
-pub left_only : OneContent → (db : Trees) (content other : RingContent) → AreDeclared 8 db
-    → Stands db content → IsOpenedAs db other → other ≡ content
-left_only one db content other declared stands it =
-    let made : it.0 ≡ 8 = made_once it.0 8 it.1.0 (omega arith) (lists_once (db catalog_tree)
-    (schema_of_first it.0) (schema_of_first 8) it.1.1.lists declared.1.lists) in
-    let opens : OpensAs (contents_of db) other = subst (λ n. OpensAs
-    (begun_contents n db) other) made it.2 in
+-- what is opened of trees in which so many tables are declared
+pub opened_of : (db : Trees) (made : ℕ) (content : RingContent) → AreDeclared made db
+    → IsOpenedAs db content → OpensAs (begun_contents made db) content
+opened_of db made content declared it = subst (λ n. OpensAs (begun_contents n db) content)
+    (as_many db it.0 made it.1 declared) it.2
+
+pub left_only : OneContent → (db : Trees) (content other : RingContent) → Stands db content
+    → IsOpenedAs db other → other ≡ content
+left_only one db content other stands it =
+    let opens : OpensAs (contents_of db) other = opened_of db 8 other stands.declared it in
     elim opens.stands [
       | inl is ↦ one other content opens.holdable stands.holdable (sym is ∙ stands.contents)
       | inr more ↦ elim more [
@@ -63,3 +72,69 @@ left_only one db content other declared stands it =
             ∙ none.0)))
       ]
     ]
+
+-- who stands for a content stands for it alone
+pub alone_from : OneContent → (db : Trees) (content : RingContent) → Stands db content
+    → StandsAlone db content
+alone_from one db content is = (is, λ other it. left_only one db content other is it)
+
+-- tables that were made beside the rows are opened as these were
+pub kept_opens : (old db : Trees) (content : RingContent) → KeepsRows old db
+    → IsOpenedAs old content → IsOpenedAs db content
+kept_opens old db content kept it = (
+  8,
+  kept.are,
+  subst (λ c. OpensAs c content) (sym kept.rows) (opened_of old kept.made content kept.were it),
+)
+
+kept_opened : (old db : Trees) (content : RingContent) → KeepsRows old db
+    → IsOpenedAs db content → IsOpenedAs old content
+kept_opened old db content kept it = (
+  kept.made,
+  kept.were,
+  subst (λ c. OpensAs c content) kept.rows (opened_of db 8 content kept.are it),
+)
+
+-- what an opening finds of what an earlier one made, it would have found before
+pub made_opened : OneContent → (old db : Trees) (content : RingContent) → IsMadeOf old db
+    → IsOpenedAs db content → IsOpenedAs old content
+made_opened one old db content made it = elim made [
+  | inl kept ↦ kept_opened old db content kept it
+  | inr leads ↦ subst (IsOpenedAs old) (sym (left_only one db leads.0 content leads.2 it)) leads.1
+]
+
+-- of whatever trees an opening finds one content at most
+pub opened_once : OneContent → OneFirst → (db : Trees) (a b : RingContent) → IsOpenedAs db a
+    → IsOpenedAs db b → b ≡ a
+opened_once one first db a b it other =
+    let opens = it.2 in
+    let also : OpensAs (begun_contents it.0 db) b = opened_of db it.0 b it.1 other in
+    let meta = λ (c : Contents). c.meta in
+    elim opens.stands [
+      | inl is ↦ elim also.stands [
+        | inl same ↦ one b a also.holdable opens.holdable (sym same ∙ is)
+        | inr more ↦ elim more [
+          | inl same ↦ absurd (schemas_apart a.hour b.hour (ap meta (sym is ∙ same)))
+          | inr none ↦ absurd (one_row _ _ (ap meta (sym is ∙ none.0)))
+        ]
+      ]
+      | inr more ↦ elim more [
+        | inl is ↦ elim also.stands [
+          | inl same ↦ absurd (schemas_apart b.hour a.hour (ap meta (sym same ∙ is)))
+          | inr more ↦ elim more [
+            | inl same ↦ first b a also.holdable opens.holdable (sym same ∙ is)
+            | inr none ↦ absurd (one_row _ _ (ap meta (sym is ∙ none.0)))
+          ]
+        ]
+        | inr none ↦ nothing_only b (subst (λ c. OpensAs c b) none.0 also) ∙ sym none.1
+      ]
+    ]
+
+-- and all that it would have found
+pub made_opens : OneContent → OneFirst → (old db : Trees) (content : RingContent) → IsMadeOf old db
+    → IsOpenedAs old content → IsOpenedAs db content
+made_opens one first old db content made it = elim made [
+  | inl kept ↦ kept_opens old db content kept it
+  | inr leads ↦ subst (IsOpenedAs db) (opened_once one first old content leads.0 it leads.1)
+      (stands_opens db leads.0 leads.2)
+]

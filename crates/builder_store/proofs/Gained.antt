@@ -1,7 +1,7 @@
 -- What stands for a content once it gained a request.
 use Rattle.std.proofs.Common.{◌≡◌, ◌∙◌, ◌∷◌, [], Bool, List, ap, false, pos}
 use Rattle.std.proofs.Common.{refl}
-use Rattle.std.proofs.Common.{sym, true, ℕ}
+use Rattle.std.proofs.Common.{subst, sym, true, ℕ}
 use Rattle.std.specs.FinMap.{from_entries}
 use Rattle.std.specs.Ordering.{int_cmp}
 use Rattle.sqlite_trees.specs.Tree.{Trees}
@@ -21,21 +21,11 @@ use Rattle.store_rows.specs.RingRows.{NamedRings}
 use Rattle.store_rows.specs.Stands.{DecidedRequest, IsHoldable, RingContent, contents_for, gained}
 use Rattle.store_rows.specs.Stands.{meta_value}
 use Rattle.builder_store.specs.Inner.Gains.{GainsIn, IsNextIn, LeadOn, written}
-use Rattle.builder_store.specs.Standing.{Stands, StandsAlone}
-
--- that no store stands for two contents
-abbrev pub OneContent : Type 0
-OneContent = (a b : RingContent) → IsHoldable a → IsHoldable b → contents_for a ≡ contents_for b
-    → a ≡ b
-
--- who stands for a content stands for it alone
-pub alone_from : OneContent → (db : Trees) (content : RingContent) → Stands db content
-    → StandsAlone db content
-alone_from one db content is = (
-  is,
-  λ other also. one other content also.holdable is.holdable
-      (sym also.contents ∙ is.contents),
-)
+use Rattle.builder_store.specs.Opening.{Stands}
+use Rattle.builder_store.specs.Standing.{StandsAlone}
+use Rattle.builder_store.proofs.Finds.{OneContent, alone_from}
+use Rattle.builder_store.proofs.Settled.{declared_in}
+use Rattle.store_tables.specs.Store.{IsStoreWith}
 
 -- no change of rows touches the row on the whole store
 meta_stays : (changes : List RowChange) (c : Contents) → (changed_all c changes).meta ≡ c.meta
@@ -77,12 +67,13 @@ pub gained_alone : OneContent → (old db : Trees) (content more : RingContent)
     → Stands old content
     → written b (contents_for content) changes request meta ≡ contents_for more
     → IsHoldable more
-    → contents_of db ≡ written b (contents_of old) changes request meta
+    → IsStoreWith (written b (contents_of old) changes request meta) db
     → StandsAlone db more
 gained_alone one old db content more b changes request meta was planned holdable is =
     alone_from one db more (record {
+      declared = declared_in _ db is;
       holdable = holdable;
-      contents = is ∙ ap (λ x. written b x changes request meta) was.contents ∙ planned;
+      contents = is.contents ∙ ap (λ x. written b x changes request meta) was.contents ∙ planned;
     })
 
 -- so a commit gains the request
@@ -92,7 +83,7 @@ pub gains_in : OneContent → (old : Trees) (rings state : NamedRings) (count li
     (meta : MetaRow) → shown ≡ changes
     → ((content : RingContent) → IsNextIn content rings state count entry
     → LeadOn content (gained (with_state content state) entry) changes request meta)
-    → (db : Trees) → contents_of db ≡ written b (contents_of old) shown request meta
+    → (db : Trees) → IsStoreWith (written b (contents_of old) shown request meta) db
     → GainsIn old rings count limit hour entry state db
 gains_in one old rings state count limit hour entry b at changes shown request meta same planned db
     is content stands may =
@@ -107,4 +98,4 @@ gains_in one old rings state count limit hour entry b at changes shown request m
     gained_alone one old db content (gained (with_state content state) entry) b changes request meta
     stands (written_is b content state entry changes request meta (λ t. may.reached ∙ sym (at t))
     made.stands) made.holdable
-    (is ∙ ap (λ x. written b (contents_of old) x request meta) same)
+    (subst (λ x. IsStoreWith (written b (contents_of old) x request meta) db) same is)

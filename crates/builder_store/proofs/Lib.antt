@@ -9,6 +9,7 @@ pub mod Empty
 pub mod Found
 pub mod Gained
 pub mod Made
+pub mod Rests
 pub mod Keeping
 pub mod Rising
 pub mod Orders

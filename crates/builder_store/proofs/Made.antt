@@ -6,7 +6,6 @@ use Rattle.std.specs.Ordering.{int_cmp}
 use Rattle.sqlite_trees.specs.Tree.{Trees}
 use Rattle.store_model.specs.Changes.{with_change, changed_all, prepared}
 use Rattle.store_model.specs.Contents.{Contents}
-use Rattle.store_tables.specs.Contents.{contents_of}
 use Rattle.store_model.specs.Entries.{Meta}
 use Rattle.store_model.specs.declared.change.RowChange.{RowChange}
 use Rattle.store_model.specs.declared.change.RowChange.TheVariants.{AddDevice, DropDevice}
@@ -16,11 +15,11 @@ use Rattle.store_rows.specs.Differences.{IsChange}
 use Rattle.store_rows.specs.Judging.{meta_now}
 use Rattle.store_rows.specs.RingRows.{NamedRings}
 use Rattle.store_model.specs.declared.rows.MetaRow.{MetaRow}
-use Rattle.store_tables.specs.Store.{begun_contents}
+use Rattle.store_tables.specs.Store.{IsStoreWith, begun_contents}
 use Rattle.store_rows.specs.Stands.{IsHoldable, contents_for, meta_value}
 use Rattle.builder_store.specs.Making.{rings_alone}
-use Rattle.builder_store.specs.Opening.{no_contents}
-use Rattle.builder_store.specs.Standing.{Stands}
+use Rattle.builder_store.specs.Opening.{Stands, no_contents}
+use Rattle.builder_store.proofs.Settled.{declared_in}
 
 -- changes of rows leave the row on the whole store
 meta_stays : (c : Contents) (m : FinMap int_cmp Meta) (changes : List RowChange)
@@ -59,10 +58,11 @@ pub made_stands : (db before : Trees) (rings : NamedRings) (hour : ℕ)
     (changes shown : List RowChange) (meta : MetaRow) → shown ≡ changes → meta ≡ meta_now hour
     → (prepared no_contents changes (meta_now hour) ≡ contents_for (rings_alone rings hour))
     × IsHoldable (rings_alone rings hour)
-    → contents_of db ≡ prepared (begun_contents 0 before) shown meta
+    → IsStoreWith (prepared (begun_contents 0 before) shown meta) db
     → Stands db (rings_alone rings hour)
 made_stands db before rings hour changes shown meta same is planned holds = record {
+  declared = declared_in _ db holds;
   holdable = planned.1;
-  contents = holds ∙ ap (λ xs. prepared no_contents xs meta) same ∙ ap
+  contents = holds.contents ∙ ap (λ xs. prepared no_contents xs meta) same ∙ ap
       (prepared no_contents changes) is ∙ planned.0;
 }

@@ -12,17 +12,17 @@ use Rattle.store_model.specs.declared.change.RowChange.{RowChange}
 use Rattle.store_model.specs.declared.rows.MetaRow.{MetaRow}
 use Rattle.store_model.specs.Changes.{prepared}
 use Rattle.store_model.specs.Contents.{Contents}
-use Rattle.store_tables.specs.Contents.{contents_of}
-use Rattle.store_tables.specs.Store.{AreOrdered, HasMadeTables, IsStore}
+use Rattle.store_tables.specs.Store.{AreOrdered, HasMadeTables, IsStore, IsStoreWith}
 use Rattle.store_tables.specs.Tables.{schema_of_first}
 use Rattle.store_tables.proofs.Living.{lives_in}
 use Rattle.store_rows.specs.Judging.{IsFoundIn, meta_now}
 use Rattle.store_rows.specs.Stands.{IsHoldable, RingContent, contents_for, first_contents_for}
 use Rattle.store_rows.specs.declared.judging.Judged.{Judged}
-use Rattle.builder_store.specs.Opening.{AreDeclared, OpensAs, no_contents, nothing}
+use Rattle.builder_store.specs.Opening.{AreDeclared, OpensAs, Stands, no_contents, nothing}
 use Rattle.builder_store.specs.Inner.Opened.{IsFresh, LeadsInStore, LeadsTo, OpensRows}
 use Rattle.builder_store.specs.declared.fault.OpenFault.{OpenFault}
 use Rattle.builder_store.specs.declared.reading.Opened.{Opened}
+use Rattle.builder_store.proofs.Settled.{declared_in}
 
 -- a store has all tables
 pub begun_store : (db : Database) → IsStore db → HasMadeTables 8 db
@@ -48,9 +48,13 @@ pub nothing_opens : IsHoldable nothing → OpensAs no_contents nothing
 nothing_opens holdable = record { holdable = holdable; stands = inr (inr (refl, refl)) }
 
 -- and what is made of them stands for it too
-pub begun_is : (x : Contents) (meta : MetaRow) → x ≡ no_contents → meta ≡ meta_now 0
-    → prepared x [] meta ≡ contents_for nothing
-begun_is x meta empty is = ap (λ y. prepared y [] meta) empty ∙ ap (prepared no_contents []) is
+pub begun_stands : (x : Contents) (meta : MetaRow) (db : Trees) → IsHoldable nothing
+    → x ≡ no_contents → meta ≡ meta_now 0 → IsStoreWith (prepared x [] meta) db → Stands db nothing
+begun_stands x meta db holdable empty is made = record {
+  declared = declared_in _ db made;
+  holdable = holdable;
+  contents = made.contents ∙ ap (λ y. prepared y [] meta) empty ∙ ap (prepared no_contents []) is;
+}
 
 -- one step after a step that commits nothing
 pub opens_after : (c d : Contents) (old mid new : State) (r : Result Opened OpenFault)
@@ -84,7 +88,7 @@ found_opens c content judged found = record {
 
 -- and what is held of it, where these tables stand for it
 pub found_leads : (c : Contents) (content : RingContent) (judged : Judged) (db : Trees)
-    → IsFoundIn c content judged → contents_of db ≡ contents_for content
+    → IsFoundIn c content judged → Stands db content
     → LeadsTo c db (record { rings = judged.rings; count = judged.count; hour = judged.hour })
 found_leads c content judged db found stands = record {
   content = content;
@@ -102,20 +106,24 @@ found_stands c content judged none found = subst (λ o. MatchOption o (c ≡ con
     (xs : Vec RowChange Global). (c ≡ first_contents_for content) × (prepared c xs.items
     (meta_now content.hour) ≡ contents_for content))) none found.stands
 
--- and tables that were migrated do
+-- and a store that was migrated does
 pub migrated_stands : (c : Contents) (judged : Judged) (changes : Vec RowChange Global)
     (made : List RowChange) (meta : MetaRow) (db : Trees) → judged.migration ≡ Some changes
     → made ≡ changes.items → meta ≡ meta_now judged.hour
-    → contents_of db ≡ prepared c made meta → (content : RingContent) → IsFoundIn c content judged
-    → contents_of db ≡ contents_for content
+    → IsStoreWith (prepared c made meta) db → (content : RingContent) → IsFoundIn c content judged
+    → Stands db content
 migrated_stands c judged changes made meta db some same is stands content found =
     let both : (c ≡ first_contents_for content) × (prepared c changes.items
     (meta_now content.hour) ≡ contents_for content) =
     subst (λ o. MatchOption o (c ≡ contents_for content) (λ (xs : Vec RowChange Global).
     (c ≡ first_contents_for content) × (prepared c xs.items
     (meta_now content.hour) ≡ contents_for content))) some found.stands in
-    stands ∙ ap (λ xs. prepared c xs meta) same ∙ ap
-    (prepared c changes.items) (is ∙ ap meta_now found.hour) ∙ both.1
+    record {
+      declared = declared_in _ db stands;
+      holdable = found.holdable;
+      contents = stands.contents ∙ ap (λ xs. prepared c xs meta) same ∙ ap
+          (prepared c changes.items) (is ∙ ap meta_now found.hour) ∙ both.1;
+    }
 
 -- tables that were counted are declared in what is committed
 pub declared_as : (s : State) (found : Option ℕ) (made : ℕ) → found ≡ Some made

@@ -1,5 +1,6 @@
 -- What is known of a connection that sees the tables.
-use Rattle.std.proofs.Common.{◌≡◌, ◌∙◌, ◌≢◌, Bool, ap, false, inl, inr, refl, subst, sym, true}
+use Rattle.std.proofs.Common.{◌≡◌, ◌∙◌, ◌≢◌, Bool, ap, arith, false, inl, inr, refl, subst, sym}
+use Rattle.std.proofs.Common.{true}
 use Rattle.std.proofs.Common.{true≢false}
 use Rattle.std.specs.Prelude.{IsTrue}
 use Rattle.request_book.specs.declared.keeper.KeepFault.{KeepFault}
@@ -11,10 +12,14 @@ use Rattle.sqlite_trees.specs.declared.store.Shape.TheVariants as shape
 use Rattle.sqlite_catalog.specs.Listing.{Lists}
 use Rattle.sqlite_catalog.proofs.ReadLemmas.{lists_once}
 use Rattle.sqlite_rules.specs.Lists.{Has}
+use Rattle.sqlite.specs.Effect.{Database, IsDatabase}
 use Rattle.sqlite.specs.State.{HasCleanDisk, IsLive, State, Survives}
+use Rattle.store_model.specs.Contents.{Contents}
+use Rattle.store_tables.specs.Store.{Becomes, IsStoreWith}
 use Rattle.store_tables.specs.Tables.{store_schema}
-use Rattle.store_tables.proofs.Living.{lives_in, store_of}
+use Rattle.store_tables.proofs.Living.{lives_in, store_of, stored_as}
 use Rattle.builder_store.specs.Inner.Tables.{HasTables, IsSettledState}
+use Rattle.builder_store.specs.Opening.{AreDeclared}
 
 -- who sees the tables while it is open sees a store
 pub settled_from : (s : State) → IsLive s → (IsTrue s.is_open → s.now ≡ s.committed) → HasTables s
@@ -79,3 +84,26 @@ pub open_if : (is_open broken : Bool) → (is_open ≡ false → IsTrue broken) 
     → IsTrue is_open
 open_if true broken shut whole = refl
 open_if false broken shut whole = absurd (true≢false (sym (shut refl) ∙ whole))
+
+-- the trees of a store have all tables declared
+pub declared_in : (after : Contents) (db : Trees) → IsStoreWith after db → AreDeclared 8 db
+declared_in after db is = (omega arith, (lives_in _ is.store).sound)
+
+-- who sees a store has it declared in what is committed
+pub settled_declared : (s : State) → IsSettledState s → AreDeclared 8 s.committed.trees
+settled_declared s is =
+    let lives = lives_in s.now is.store in (
+      omega arith,
+      subst (λ schema. IsDatabase (record { schema = schema; trees = s.committed.trees }))
+          lives.schema_is
+          (subst (λ (d : Database). IsDatabase (record {
+            schema = s.now.schema;
+            trees = d.trees;
+          })) is.committed lives.sound),
+    )
+
+-- a store that was made in a transaction of its own is committed
+pub committed_store : (s : State) (after : Contents) → s.now ≡ s.committed → Becomes s.now after
+    → IsStoreWith after s.committed.trees
+committed_store s after same is = stored_as s.now after is s.committed.trees
+    (ap (λ (d : Database). d.trees) (sym same))

@@ -8,6 +8,7 @@ use Rattle.sqlite_trees.specs.View.{Tells}
 use Rattle.sqlite_trees.specs.declared.error.StoreError.{StoreError}
 use Rattle.sqlite_store.specs.declared.store.FileStore.{FileStore}
 use Rattle.sqlite_store.specs.FileStore.{blamed, faults, recovers}
+use Rattle.sqlite_store.specs.FileStore.{files as store_files}
 use Rattle.sqlite_wal.specs.Files.{outcomes}
 use Rattle.sqlite_wal.specs.Recovery.{Image}
 use Rattle.sqlite.specs.Files.{HoldsDatabase, image_of}
@@ -37,6 +38,15 @@ pub record IsUnclosed {D : Type 0} {g : disk.Ghosts D} (store last : FileStore D
   pub counted : faults store ≤ faults last
   pub cause : (error ≡ SqliteFailure OutOfMemory) ⊎ MoreFaults (faults store) (faults last)
   pub named : (kind : StoreError) × (error ≡ store_error kind) × Tells (blamed last) kind
+  pub crash : (db : Trees) → recovers last db → recovers store db
+
+-- These are the files of that store as it is closed: each call of the disk that failed is counted,
+-- and a crash leaves nothing that it could not leave before.
+pub record AreFilesOf {D : Type 0} {g : disk.Ghosts D} (store : FileStore D g) (files : Files D) :
+    Type 0 where
+  pub last : FileStore D g
+  pub same : store_files last ≡ (files.log, files.db)
+  pub counted : faults store ≤ faults last
   pub crash : (db : Trees) → recovers last db → recovers store db
 
 -- Files hold a store of this content, as they read now and after a crash.

@@ -1,7 +1,9 @@
 -- Words of contracts of private functions and of proofs. No public contract rests on them.
+pub mod Answering
 pub mod Codes
 pub mod Begins
 pub mod Faults
+pub mod Finding
 pub mod Gains
 pub mod Known
 pub mod Leaves

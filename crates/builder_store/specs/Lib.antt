@@ -4,4 +4,6 @@ pub mod Opening
 pub mod Closing
 pub mod Making
 pub mod Keepers
+pub mod Faults
+pub mod Left
 pub mod Inner

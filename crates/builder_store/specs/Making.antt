@@ -4,7 +4,7 @@ use Rattle.store_rows.specs.RingRows.{NamedRings}
 use Rattle.store_rows.specs.Stands.{RingContent}
 use Rattle.builder_store.specs.Opening.{IsBadStore}
 use Rattle.builder_store.specs.declared.fault.MakeFault.{MakeFault}
-use Rattle.builder_store.specs.declared.fault.MakeFault.TheVariants.{Opening, Taken}
+use Rattle.builder_store.specs.declared.fault.MakeFault.TheVariants.{Opening, PathTaken, Taken}
 
 -- These rings, no request, and this as the hour from which the book goes on.
 abbrev pub rings_alone : NamedRings → ℕ → RingContent
@@ -12,5 +12,6 @@ rings_alone rings hour = record { state = rings; book = []; hour = hour }
 
 -- The fault judges what is there: it tells that it stands for nothing.
 abbrev pub IsJudgement : MakeFault → Type 0
+IsJudgement PathTaken = ⊥
 IsJudgement Taken = ⊥
 IsJudgement (Opening why) = IsBadStore why

@@ -47,6 +47,13 @@ AreDeclared made db =
 abbrev pub IsOpenedAs : Trees → RingContent → Type 0
 IsOpenedAs db content = (made : ℕ) × AreDeclared made db × OpensAs (begun_contents made db) content
 
+-- These are the tables of a store that stand for this content: all of them are there, a store can
+-- hold the content, and they contain what they do where it is held.
+pub record Stands (db : Trees) (content : RingContent) : Type 0 where
+  pub declared : AreDeclared table_count db
+  pub holdable : IsHoldable content
+  pub contents : contents_of db ≡ contents_for content
+
 -- An opening of files that held this finds this content: it opens the trees that they recover to,
 -- which are those of the database that they hold, if they hold one.
 pub record IsOpenedFrom (image : Image) (content : RingContent) : Type 0 where
@@ -81,13 +88,15 @@ HoldsNoTable image = (db : Trees) → HoldsDatabase image db → AreDeclared 0 d
 abbrev pub HoldsTables : Image → Type 0
 HoldsTables image = (db : Trees) → HoldsDatabase image db → AreDeclared 0 db → ⊥
 
--- The tables that were missing are there, and no row is another.
-abbrev pub KeepsRows : Trees → Trees → Type 0
-KeepsRows old db = (made : ℕ) × AreDeclared made old × (contents_of db ≡ begun_contents made old)
+-- The first tables of the store were there, all of them are, and no row is another.
+pub record KeepsRows (old db : Trees) : Type 0 where
+  pub made : ℕ
+  pub were : AreDeclared made old
+  pub are : AreDeclared table_count db
+  pub rows : contents_of db ≡ begun_contents made old
 
 -- What an opening makes of the old trees: the tables that were missing, with no row changed; or the
 -- tables that stand for the content that it finds.
 abbrev pub IsMadeOf : Trees → Trees → Type 0
 IsMadeOf old db = KeepsRows old db
-    ⊎ ((made : ℕ) × AreDeclared made old × ((content : RingContent) × OpensAs
-    (begun_contents made old) content × (contents_of db ≡ contents_for content)))
+    ⊎ ((content : RingContent) × IsOpenedAs old content × Stands db content)

@@ -6,21 +6,16 @@ use mathlib.Core.HLevel.{Σ_prop_path}
 use Rattle.sqlite_trees.specs.Tree.{Trees}
 use Rattle.sqlite_trees.specs.View.{doubt}
 use Rattle.sqlite.specs.State.{State}
-use Rattle.store_tables.specs.Contents.{contents_of}
 use Rattle.store_rows.specs.RingRows.{NamedRings}
-use Rattle.store_rows.specs.Stands.{IsHoldable, RingContent, contents_for}
+use Rattle.store_rows.specs.Stands.{RingContent}
+use Rattle.builder_store.specs.Opening.{IsOpenedAs, Stands}
+use Rattle.builder_store.specs.Inner.Finding.{stands_opens}
 use Rattle.builder_store.specs.Inner.Codes.{content_set}
 use Rattle.builder_store.specs.Doubt.{undoubted}
 
--- The tables in these trees stand for this content: a store can hold it, and they contain what they
--- do where it is held.
-pub record Stands (db : Trees) (content : RingContent) : Type 0 where
-  pub holdable : IsHoldable content
-  pub contents : contents_of db ≡ contents_for content
-
--- They stand for this content and for no other.
+-- The tables in these trees stand for this content, and an opening of them finds no other.
 abbrev pub StandsAlone : Trees → RingContent → Type 0
-StandsAlone db content = Stands db content × ((other : RingContent) → Stands db other
+StandsAlone db content = Stands db content × ((other : RingContent) → IsOpenedAs db other
     → other ≡ content)
 
 -- They stand for one content.
@@ -28,7 +23,8 @@ abbrev pub IsKnown : Trees → Type 0
 IsKnown db = ∥ ((content : RingContent) × StandsAlone db content) ∥₁
 
 alike : (db : Trees) (c d : RingContent) → ∥ StandsAlone db c ∥₁ → ∥ StandsAlone db d ∥₁ → c ≡ d
-alike db c d p q = ∥∥₁_elim p (content_set c d) (λ h. ∥∥₁_elim q (content_set c d) (λ k. k.1 c h.0))
+alike db c d p q = ∥∥₁_elim p (content_set c d) (λ h. ∥∥₁_elim q (content_set c d)
+    (λ k. k.1 c (stands_opens db c h.0)))
 
 only_one : (db : Trees) → IsProp ((c : RingContent) × ∥ StandsAlone db c ∥₁)
 only_one db u v = Σ_prop_path (λ c. ∥∥₁_prop) (alike db u.0 v.0 u.1 v.1)
@@ -54,11 +50,10 @@ abbrev pub stands_for_one : {db : Trees} {rings : NamedRings} {count hour : ℕ}
     → Holds db rings count hour → IsKnown db
 stands_for_one held = ∥∥₁_map held (λ h. (h.0, h.1))
 
--- What an opening finds of trees: the content for which they stand, or nothing where they stand for
--- none.
+-- An opening of these trees finds this content, or, as None, it finds none.
 abbrev pub WouldFind : Trees → Option RingContent → Type 0
-WouldFind db None = (content : RingContent) → ¬ Stands db content
-WouldFind db (Some content) = Stands db content
+WouldFind db None = (content : RingContent) → ¬ IsOpenedAs db content
+WouldFind db (Some content) = IsOpenedAs db content
 
 -- A crash may leave trees of which an opening finds this.
 abbrev pub MayLeave : State → Option RingContent → Type 0

@@ -75,6 +75,12 @@ pub(crate) fn fault_of(error: &Error) -> OpenFault
 {
     match error {
         Error::SqliteFailure(ErrorCode::OutOfMemory) => OpenFault::NoMemory,
-        _ => OpenFault::Store,
+        Error::SqliteFailure(
+            ErrorCode::SystemIoFailure
+            | ErrorCode::DatabaseCorrupt
+            | ErrorCode::DiskFull
+            | ErrorCode::Closed,
+        ) => OpenFault::Store,
+        _ => OpenFault::Refused,
     }
 }

@@ -1,6 +1,7 @@
 //! What the keeper asks of its connection.
 
-ghost use Rattle.std.specs.Prelude.{◌≡◌, ◌≢◌, false, Err, IfOk, IsTrue};
+ghost use Rattle.std.specs.Prelude.{◌≡◌, ◌≢◌, ◌↔◌, false, Err, IfOk, IsTrue};
+ghost use Rattle.ring_words.specs.declared.spelling.SpellingFault.TheVariants as spelling;
 ghost use Rattle.sqlite.specs.Held.{state};
 ghost use Rattle.sqlite.specs.State.{HasCleanDisk, IsLive, IsUnchanged, Survives};
 ghost use Rattle.sqlite.specs.declared.error.Error.TheVariants.{SqliteFailure};
@@ -9,7 +10,8 @@ ghost use Rattle.request_book.specs.Content.{entry_of};
 ghost use Rattle.request_book.specs.Keeper.{IsFound};
 ghost use Rattle.request_book.specs.declared.keeper.KeepFault.TheVariants.{NoMemory, Store};
 ghost use Rattle.store_rows.specs.Stands.{RingContent};
-ghost use Rattle.builder_store.specs.Standing.{Stands};
+ghost use Rattle.builder_store.specs.Opening.{Stands};
+ghost use Rattle.builder_store.specs.Inner.Answering.{IsUnanswered};
 ghost use Rattle.builder_store.specs.Inner.Tables.{HasTables, IsSettledState};
 
 use request_book::{Found, KeepFault};
@@ -32,18 +34,7 @@ pub(crate) fn settle<S: Alter>(conn: &Connection<S>)
     let _ended = conn.is_autocommit();
 }
 
-/// Whether the store still answers. It asks for nothing and changes nothing.
-fn answers<S: Alter>(conn: &mut Connection<S>) -> bool
-    requires { conn.old.in_transaction ≡ false }
-    ensures mode { conn.new.in_transaction ≡ false }
-    ensures same { HasCleanDisk (state S.Store conn.new) → IsTrue result
-        → IsUnchanged (state S.Store conn.old) (state S.Store conn.new) }
-    ensures survives { Survives (state S.Store conn.old) (state S.Store conn.new) (λ _. ⊥) }
-{
-    conn.prepare("SELECT hour FROM meta").is_ok()
-}
-
-/// What a failed statement comes to: want of memory where the store is still open, and else the
+/// What a failed statement comes to: want of memory where the store still answers, and else the
 /// store has failed.
 ///
 /// Want of memory may come with the store shut, and then nobody knows what was committed.
@@ -53,13 +44,29 @@ pub(crate) fn cause<S: Alter>(conn: &mut Connection<S>, error: &Error) -> KeepFa
     ensures same { HasCleanDisk (state S.Store conn.new) → result ≡ NoMemory
         → IsUnchanged (state S.Store conn.old) (state S.Store conn.new) }
     ensures memory { result ≡ NoMemory → error.now ≡ SqliteFailure OutOfMemory }
+    ensures store { HasCleanDisk (state S.Store conn.new) → result ≡ Store
+        → error.now ≡ SqliteFailure OutOfMemory
+        → IsUnanswered (state S.Store conn.old) (state S.Store conn.new) }
     ensures survives { Survives (state S.Store conn.old) (state S.Store conn.new) (λ _. ⊥) }
 {
-    let wants_memory = matches!(error, Error::SqliteFailure(ErrorCode::OutOfMemory));
-    if wants_memory && answers(conn) {
-        KeepFault::NoMemory
-    } else {
-        KeepFault::Store
+    if !matches!(error, Error::SqliteFailure(ErrorCode::OutOfMemory)) {
+        return KeepFault::Store;
+    }
+    // It asks for nothing and changes nothing.
+    match conn.prepare("SELECT hour FROM meta") {
+        Ok(_) => {}
+        Err(_) => return KeepFault::Store,
+    }
+    KeepFault::NoMemory
+}
+
+/// What a row comes to that isn't read: memory was wanted, or it is no row of a store.
+fn unread(fault: SpellingFault) -> KeepFault
+    ensures { (result ≡ NoMemory) ↔ (fault ≡ spelling.NoMemory) }
+{
+    match fault {
+        SpellingFault::NoMemory => KeepFault::NoMemory,
+        SpellingFault::Bad => KeepFault::Store,
     }
 }
 
@@ -92,7 +99,6 @@ pub(crate) fn find<S: Alter>(
     };
     match read_found(alloc, kept, command) {
         Ok(found) => Ok(found),
-        Err(SpellingFault::NoMemory) => Err(KeepFault::NoMemory),
-        Err(SpellingFault::Bad) => Err(KeepFault::Store),
+        Err(fault) => Err(unread(fault)),
     }
 }

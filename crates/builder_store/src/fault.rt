@@ -5,8 +5,10 @@
 pub enum OpenFault {
     /// A growth of memory was refused.
     NoMemory,
-    /// The connection couldn't be made, or a statement was refused for another cause than memory.
+    /// The disk failed or refused, or the connection was shut.
     Store,
+    /// A statement was refused, or an answer was no row of a store.
+    Refused,
     /// The rows stand for no rings and requests. No row was changed.
     BadRows,
     /// There are other tables than those of the store, or they are declared otherwise. Nothing was
@@ -23,6 +25,10 @@ pub enum FileFault {
     CannotOpen,
     /// They hold no database.
     NoDatabase,
+    /// A growth of memory was refused before they were open.
+    NoMemory,
+    /// Their disk failed or refused before they were open, or they are damaged.
+    Store,
     /// They were opened, and what they hold isn't opened for this cause.
     Opening(OpenFault),
 }
@@ -30,7 +36,9 @@ pub enum FileFault {
 /// Why no store is made.
 #[derive(Clone, Copy, Debug, PartialEq, Eq)]
 pub enum MakeFault {
-    /// There is something already. It stays as it was.
+    /// There is something at the path already. It stays as it was.
+    PathTaken,
+    /// There are tables already. They stay as they were.
     Taken,
     /// It couldn't be opened or written, for this cause.
     Opening(FileFault),

@@ -199,8 +199,7 @@ impl<S: Alter + Drop> SqlKeeper<S> {
     ghost use Rattle.sqlite_trees.specs.View.{doubt};
     ghost use Rattle.builder_store.specs.Keepers.{IsCleanLeft, content_of_keeper, left_may_leave};
     ghost use Rattle.builder_store.specs.Making.{IsJudgement, rings_alone};
-    ghost use Rattle.builder_store.specs.Opening.{AreDeclared};
-    ghost use Rattle.builder_store.specs.Standing.{Stands};
+    ghost use Rattle.builder_store.specs.Opening.{AreDeclared, Stands};
     ghost use Rattle.builder_store.specs.declared.fault.MakeFault.TheVariants.{Taken};
 
     /// Makes a store of these rings over a connection whose last commit holds nothing, and keeps at

@@ -1,6 +1,5 @@
 //! What follows from the definitions alone.
-ghost use Rattle.std.specs.Prelude.{◌≡◌, ℕ};
-ghost use Rattle.store_tables.specs.Tables.{table_count};
+ghost use Rattle.std.specs.Prelude.{◌≡◌, ◌↔◌, ℕ};
 ghost use Rattle.sqlite_trees.specs.Tree.{Trees};
 ghost use Rattle.ring_words.specs.declared.command.Command.{Command};
 ghost use Rattle.ring_words.specs.declared.command.Reply.{Reply};
@@ -8,22 +7,23 @@ ghost use Rattle.ring_words.specs.declared.request.Limits.{Limits};
 ghost use Rattle.builder.specs.Step.{State, Step};
 ghost use Rattle.store_rows.specs.Differences.{IsChangedAt};
 ghost use Rattle.store_rows.specs.Stands.{RingContent};
-ghost use Rattle.builder_store.specs.Opening.{AreDeclared, IsOpenedAs};
-ghost use Rattle.builder_store.specs.Standing.{Stands};
+ghost use Rattle.builder_store.specs.Opening.{IsMadeOf, IsOpenedAs, Stands};
 
-use store_rows::laws::one_content;
+use store_rows::laws::{one_content, one_first_content};
 
-/// Of tables that are declared as the store's and stand for a content, an opening finds that
-/// content and no other. So what a crash leaves of a keeper is opened as the content that may be
-/// left.
+/// What a crash leaves is what an opening finds. Of tables that stand for a content it finds that
+/// content, and of whatever tables, of either schema, it finds one at most. Of what an earlier
+/// opening made of tables it finds what it would have found of those.
 pub fn opening_finds_what_is_left()
-    ensures opens { (db : Trees) (content : RingContent) → AreDeclared table_count db
-        → Stands db content → IsOpenedAs db content }
-    ensures only { (db : Trees) (content other : RingContent) → AreDeclared table_count db
-        → Stands db content → IsOpenedAs db other
-        → other ≡ content }
+    ensures opens { (db : Trees) (content : RingContent) → Stands db content
+        → IsOpenedAs db content }
+    ensures only { (db : Trees) (content other : RingContent) → IsOpenedAs db content
+        → IsOpenedAs db other → other ≡ content }
+    ensures made { (old db : Trees) (content : RingContent) → IsMadeOf old db
+        → IsOpenedAs db content ↔ IsOpenedAs old content }
 {
     one_content();
+    one_first_content();
 }
 
 /// A step of the builder leaves every ring as it was that its command does not name, and takes no

@@ -19,4 +19,4 @@ pub use adopting::Left;
 pub use closing::close_keeper;
 pub use fault::{FileFault, MakeFault, OpenFault};
 pub use keeper::SqlKeeper;
-pub use over::{FileConnection, make_at, open_from, open_memory};
+pub use over::{FilesLeft, make_at, open_from, open_memory};

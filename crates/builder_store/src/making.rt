@@ -7,15 +7,15 @@ ghost use Rattle.store_model.specs.Changes.{prepared};
 ghost use Rattle.store_tables.specs.Tables.{no_tables};
 ghost use Rattle.store_rows.specs.Judging.{meta_now};
 ghost use Rattle.store_rows.specs.Stands.{IsHoldable, contents_for};
+ghost use Rattle.builder_store.specs.Left.{IsMadeOfConnection};
 ghost use Rattle.builder_store.specs.Making.{IsJudgement, rings_alone};
-ghost use Rattle.builder_store.specs.Opening.{no_contents};
-ghost use Rattle.builder_store.specs.Standing.{Stands};
+ghost use Rattle.builder_store.specs.Opening.{Stands, no_contents};
 ghost use Rattle.builder_store.specs.Inner.Opened.{IsFresh};
 ghost use Rattle.builder_store.specs.Inner.Tables.{HasTables};
 ghost use Rattle.builder_store.specs.declared.fault.MakeFault.TheVariants.{Taken};
 
+use crate::adopting::fault_of;
 use crate::fault::{FileFault, MakeFault, OpenFault};
-use crate::opening::refused;
 use ring_model::Rings;
 use ring_words::Hour;
 use sqlite::{Alter, Connection};
@@ -53,6 +53,7 @@ pub(crate) fn make_tables<S: Alter>(
         (Stands (state S.Store conn.new).committed.trees (rings_alone rings.now hour)) }
     ensures taken { result ≡ Err Taken → (conn.new ≡ conn.old) × (conn.old.schema ≢ no_tables) }
     ensures unjudged { IfErr result (λ why. IsJudgement why → ⊥) }
+    ensures of_connection { IfErr result IsMadeOfConnection }
     ensures survives { Survives (state S.Store conn.old) (state S.Store conn.new)
         (λ db. Stands db (rings_alone rings.now hour)) }
 {
@@ -65,6 +66,6 @@ pub(crate) fn make_tables<S: Alter>(
     let meta = meta_row(hour);
     match prepare_store(conn, 0, change.rows(), &meta) {
         Ok(()) => Ok(()),
-        Err(error) => Err(MakeFault::Opening(FileFault::Opening(refused(conn, &error)))),
+        Err(error) => Err(MakeFault::Opening(FileFault::Opening(fault_of(&error)))),
     }
 }

@@ -3,8 +3,6 @@ ghost use Rattle.std.specs.Prelude.{◌≡◌, ◌≢◌, ◌≤◌, false, Err,
 ghost use Rattle.store_tables.specs.Tables.{table_count};
 ghost use Rattle.sqlite.specs.Held.{state};
 ghost use Rattle.sqlite.specs.State.{HasCleanDisk, Survives};
-ghost use Rattle.sqlite.specs.declared.error.Error.TheVariants.{SqliteFailure};
-ghost use Rattle.sqlite.specs.declared.error.ErrorCode.TheVariants.{OutOfMemory};
 ghost use Rattle.store_tables.specs.Contents.{contents_of};
 ghost use Rattle.store_tables.specs.Store.{CommitsTables, HasMadeTables, begun_contents};
 ghost use Rattle.store_rows.specs.Judging.{IsFoundIn};
@@ -13,12 +11,10 @@ ghost use Rattle.builder_store.specs.Opening.{OpensAs, no_contents};
 ghost use Rattle.builder_store.specs.Inner.Opened.{LeadsInStore, LeadsTo, OpensRows};
 ghost use Rattle.builder_store.specs.Inner.Tables.{HasTables, IsSettledState};
 ghost use Rattle.builder_store.specs.declared.fault.OpenFault.TheVariants.{BadRows, BadTables};
-ghost use Rattle.builder_store.specs.declared.fault.OpenFault.TheVariants.{NoMemory};
 
-use crate::calls::cause;
+use crate::adopting::fault_of;
 use crate::fault::OpenFault;
 use crate::reading::{Opened, is_empty, read_rows};
-use request_book::KeepFault;
 use ring_model::Rings;
 use ring_words::SpellingFault;
 use sqlite::{Alter, Connection, Error};
@@ -41,20 +37,6 @@ pub(crate) fn make_missing<S: Alter>(conn: &mut Connection<S>, made: usize) -> R
     let mut tx = conn.transaction();
     create_missing(&mut tx, made)?;
     tx.commit()
-}
-
-/// Why a failed statement ends an opening.
-pub(crate) fn refused<S: Alter>(conn: &mut Connection<S>, error: &Error) -> OpenFault
-    requires { conn.old.in_transaction ≡ false }
-    ensures mode { conn.new.in_transaction ≡ false }
-    ensures other { (result ≢ BadRows) × (result ≢ BadTables) }
-    ensures memory { result ≡ NoMemory → error.now ≡ SqliteFailure OutOfMemory }
-    ensures survives { Survives (state S.Store conn.old) (state S.Store conn.new) (λ _. ⊥) }
-{
-    match cause(conn, error) {
-        KeepFault::NoMemory => OpenFault::NoMemory,
-        KeepFault::Store => OpenFault::Store,
-    }
 }
 
 /// Makes a store of no rings and no request, where the first `made` tables are there and have no
@@ -82,7 +64,7 @@ pub(crate) fn begin<S: Alter>(
             count: 0,
             hour: 0,
         }),
-        Err(error) => Err(refused(conn, &error)),
+        Err(error) => Err(fault_of(&error)),
     }
 }
 
@@ -115,7 +97,7 @@ fn migrate<S: Alter>(conn: &mut Connection<S>, judged: Judged) -> Result<Opened,
     let meta = meta_row(hour);
     match prepare_store(conn, TABLE_COUNT, &changes, &meta) {
         Ok(()) => Ok(Opened { rings, count, hour }),
-        Err(error) => Err(refused(conn, &error)),
+        Err(error) => Err(fault_of(&error)),
     }
 }
 
@@ -139,7 +121,7 @@ pub(crate) fn open_rows<S: Alter>(
 {
     let rows = match read_rows(alloc, conn) {
         Ok(rows) => rows,
-        Err(error) => return Err(refused(conn, &error)),
+        Err(error) => return Err(fault_of(&error)),
     };
     if is_empty(&rows) {
         return begin(alloc, conn, TABLE_COUNT);

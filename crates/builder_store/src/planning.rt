@@ -7,7 +7,7 @@ ghost use Rattle.request_book.specs.declared.keeper.KeepFault.TheVariants.{NoMem
 ghost use Rattle.store_tables.specs.Contents.{contents_of};
 ghost use Rattle.builder_store.specs.Inner.Gains.{GainsIn, IsNextIn, LeadOn, written};
 ghost use Rattle.builder_store.specs.Inner.Tables.{HasTables};
-ghost use Rattle.store_tables.specs.Store.{CommitsTables, SeesStore};
+ghost use Rattle.store_tables.specs.Store.{CommitsTables, IsStoreWith, SeesStore};
 ghost use Rattle.store_rows.specs.Differences.{with_state};
 ghost use Rattle.store_rows.specs.Stands.{RingContent, gained};
 
@@ -90,15 +90,14 @@ fn write<S: Alter>(
     ensures tables { HasCleanDisk (state S.Store conn.new) → result ≢ Err Store
         → HasTables (state S.Store conn.new) }
     ensures done { HasCleanDisk (state S.Store conn.new)
-        → OnOk result (contents_of (state S.Store conn.new).committed.trees
-        ≡ written is_same_hour (contents_of (state S.Store conn.old).committed.trees) changes.now
-        rows.now.request rows.now.meta) }
+        → OnOk result (IsStoreWith (written is_same_hour
+        (contents_of (state S.Store conn.old).committed.trees) changes.now rows.now.request
+        rows.now.meta) (state S.Store conn.new).committed.trees) }
     ensures none { HasCleanDisk (state S.Store conn.new) → result ≡ Err NoMemory
         → (state S.Store conn.new).committed ≡ (state S.Store conn.old).committed }
     ensures survives { Survives (state S.Store conn.old) (state S.Store conn.new)
-        (λ trees. contents_of trees
-        ≡ written is_same_hour (contents_of (state S.Store conn.old).committed.trees) changes.now
-        rows.now.request rows.now.meta) }
+        (IsStoreWith (written is_same_hour (contents_of (state S.Store conn.old).committed.trees)
+        changes.now rows.now.request rows.now.meta)) }
 {
     settle(conn);
     let done = commit_rows(conn, changes, rows, is_same_hour);

@@ -3,17 +3,16 @@ ghost use Rattle.std.specs.Prelude.{◌≡◌, ◌≢◌, ◌⊎◌, ◌≤◌, 
 ghost use Rattle.store_tables.specs.Tables.{table_count};
 ghost use Rattle.sqlite.specs.Held.{state};
 ghost use Rattle.sqlite.specs.State.{HasCleanDisk, Survives};
-ghost use Rattle.store_tables.specs.Contents.{contents_of};
-ghost use Rattle.store_tables.specs.Store.{HasMadeTables, begun_contents};
+ghost use Rattle.store_tables.specs.Store.{HasMadeTables, IsStoreWith, begun_contents};
 ghost use Rattle.builder_store.specs.Opening.{AreDeclared, IsMadeOf, IsOpenedAs, KeepsRows, OpensAs};
 ghost use Rattle.store_rows.specs.Stands.{RingContent};
 ghost use Rattle.builder_store.specs.Inner.Opened.{IsFresh, IsOpenedTo, LeadsInStore, LeadsTo};
 ghost use Rattle.builder_store.specs.Inner.Tables.{HasTables};
 ghost use Rattle.builder_store.specs.declared.fault.OpenFault.TheVariants.{BadRows, BadTables};
 
-use crate::calls::settle;
+use crate::adopting::fault_of;
 use crate::fault::OpenFault;
-use crate::opening::{begin, make_missing, open_rows, refused};
+use crate::opening::{begin, make_missing, open_rows};
 use crate::reading::Opened;
 use sqlite::{Alter, Connection};
 use std::alloc::Global;
@@ -37,13 +36,13 @@ fn open_begun<S: Alter>(
         (LeadsTo (begun_contents made (state S.Store conn.old).now.trees) (state S.Store conn.new).committed.trees) }
     ensures quiet { result ≡ Err BadRows → Survives (state S.Store conn.old)
         (state S.Store conn.new)
-        (λ trees. contents_of trees ≡ begun_contents made (state S.Store conn.old).now.trees) }
+        (IsStoreWith (begun_contents made (state S.Store conn.old).now.trees)) }
     ensures bad { result ≡ Err BadRows → HasCleanDisk (state S.Store conn.new)
         → (content : RingContent)
         → OpensAs (begun_contents made (state S.Store conn.old).now.trees) content → ⊥ }
     ensures other { result ≢ Err BadTables }
     ensures survives { Survives (state S.Store conn.old) (state S.Store conn.new)
-        (λ trees. (contents_of trees ≡ begun_contents made (state S.Store conn.old).now.trees)
+        (λ trees. IsStoreWith (begun_contents made (state S.Store conn.old).now.trees) trees
         ⊎ LeadsInStore (begun_contents made (state S.Store conn.old).now.trees) trees) }
 {
     if made == 0 {
@@ -54,7 +53,7 @@ fn open_begun<S: Alter>(
     }
     match make_missing(conn, made) {
         Ok(()) => open_rows(alloc, conn),
-        Err(error) => Err(refused(conn, &error)),
+        Err(error) => Err(fault_of(&error)),
     }
 }
 
@@ -83,6 +82,6 @@ pub(crate) fn open_tables<S: Alter>(
     match tables_made(alloc, conn) {
         Ok(Some(made)) => open_begun(alloc, conn, made),
         Ok(None) => Err(OpenFault::BadTables),
-        Err(error) => Err(refused(conn, &error)),
+        Err(error) => Err(fault_of(&error)),
     }
 }

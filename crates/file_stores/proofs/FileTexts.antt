@@ -8,7 +8,7 @@ use Rattle.programs.specs.Faults.{stream_fault}
 use Rattle.programs.specs.Tables.{IsFileFault}
 use Rattle.programs.specs.declared.faults.ProgramFault.{ProgramFault}
 use Rattle.programs.specs.declared.faults.ProgramFault.TheVariants as fault
-use Rattle.file_stores.specs.Inner.Unread.{IsUnshort}
+use Rattle.file_stores.specs.Unopened.{IsUnshort}
 
 -- a fault of reading all that a reader gives
 pub read_fault : {R : Type 0} (remaining : R → Option (List ℕ)) (reader later : CountedReader R)

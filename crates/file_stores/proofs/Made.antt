@@ -1,20 +1,24 @@
 -- What making a store comes to.
-use Rattle.std.proofs.Common.{◌≡◌, Ok, Err, subst}
+use Rattle.std.proofs.Common.{◌≡◌, Ok, Err, inr, subst}
 use Rattle.ring_words.specs.Limits.{most_numbers}
-use Rattle.std.specs.Prelude.{OnOk}
+use Rattle.std.specs.Prelude.{IfErr, OnOk}
 use Rattle.request_book.specs.Keeper.{LeavesOnly}
 use Rattle.store_rows.specs.Stands.{RingContent}
 use Rattle.file_stores.specs.Opened.{EndsIn, IsMade}
 use Rattle.programs.specs.Begun.{Closing}
+use Rattle.programs.specs.declared.faults.ProgramFault.TheVariants.{StoreFault}
+use Rattle.file_stores.specs.Unopened.{IsNotMade}
 use Rattle.ring_book.specs.Book.{Keeping}
 use Rattle.sqlite_disk.specs.declared.Disk as disk
+use Rattle.sqlite_store.specs.declared.store.FileStore.{FileStore}
 
 -- a store was made whose keeper has this content
-pub is_made : {K D : Type 0} (g : Keeping K) (d : disk.Ghosts D) (content : RingContent)
+pub is_made : {K D : Type 0} (g : Keeping K) (d : disk.Ghosts D) (store : K → FileStore D d)
+    (content : RingContent)
     (result : Closing) (keeper : K) → g.limit keeper ≡ most_numbers → g.fault_count keeper ≡ 0
     → (g.sound keeper → g.content keeper ≡ content)
-    → EndsIn g d keeper result → OnOk result (IsMade g d content)
-is_made g d content (Ok value) keeper limit faults is ends = record {
+    → EndsIn g d store keeper result → OnOk result (IsMade g d content)
+is_made g d store content (Ok value) keeper limit faults is ends = record {
   keeper = keeper;
   closed = ends.closed;
   limit = limit;
@@ -22,4 +26,22 @@ is_made g d content (Ok value) keeper limit faults is ends = record {
   is = is;
   left = λ sound. subst (LeavesOnly (g.may_leave keeper)) (is sound) (ends.settled.left sound faults);
 }
-is_made g d content (Err why) keeper limit faults is ends = tt
+is_made g d store content (Err why) keeper limit faults is ends = tt
+
+-- and one that couldn't be closed
+pub is_open : {K D : Type 0} (g : Keeping K) (d : disk.Ghosts D) (store : K → FileStore D d)
+    (content : RingContent) (result : Closing) (keeper : K) → g.limit keeper ≡ most_numbers
+    → g.fault_count keeper ≡ 0 → (g.sound keeper → g.content keeper ≡ content)
+    → EndsIn g d store keeper result → IfErr result (λ why. why ≡ StoreFault)
+    → IfErr result (IsNotMade g store content)
+is_open g d store content (Ok value) keeper limit faults is ends fault = tt
+is_open g d store content (Err why) keeper limit faults is ends fault = inr (
+  fault,
+  record {
+    keeper = keeper;
+    limit = limit;
+    faults = faults;
+    is = is;
+    unclosed = ends.unclosed;
+  },
+)

@@ -1,3 +1,4 @@
-pub mod Inner
 pub mod Opened
+pub mod Unopened
 pub mod Done
+pub mod Inner

@@ -1,16 +1,27 @@
 -- The store in a file as programs open it, and as they make it.
-use Rattle.std.specs.Prelude.{◌≡◌, OnOk}
+use Rattle.std.specs.Prelude.{◌≡◌, IfErr, OnOk, ℕ}
 use Rattle.ring_words.specs.Limits.{most_numbers}
 use Rattle.sqlite_disk.specs.declared.Disk as disk
 use Rattle.sqlite_disk.specs.declared.Files.{Files}
+use Rattle.sqlite.specs.declared.error.Error.{Error}
+use Rattle.sqlite_store.specs.declared.store.FileStore.{FileStore}
+use Rattle.sqlite_store.specs.FileStore.{view}
+use Rattle.sqlite_trees.specs.View.{IsClean}
+use Rattle.sqlite_trees.specs.declared.store.Store.{Ghosts}
 use Rattle.sqlite_wal.specs.Reads.{AreClean}
 use Rattle.sqlite_wal.specs.Recovery.{Image}
-use Rattle.builder_store.specs.Closing.{AreLeftWith}
+use Rattle.builder_store.specs.Closing.{AreLeftWith, IsUnclosed}
 use Rattle.builder_store.specs.Opening.{IsOpenedFrom}
+use Rattle.builder_store.specs.declared.keeper.SqlKeeper.{SqlKeeper}
 use Rattle.programs.specs.Begun.{Closing}
+use Rattle.file_stores.specs.declared.stores.StoreFiles.{StoreFiles}
 use Rattle.request_book.specs.Keeper.{LeavesOnly}
 use Rattle.store_rows.specs.Stands.{RingContent}
 use Rattle.ring_book.specs.Book.{Keeping}
+
+-- how often a store in files was opened or made, or was to be
+abbrev pub openings_of : {S : Type 0} → StoreFiles S → ℕ
+openings_of stores = stores.openings
 
 -- A keeper over files begins with the content for which the files stood as they were opened, if
 -- their disk returned what was written, and keeps 100,000 requests. Its store has not failed.
@@ -32,12 +43,34 @@ pub record IsInFiles {K D : Type 0} (g : Keeping K) (d : disk.Ghosts D) (keeper 
   pub hold : g.fault_count keeper ≡ 0 → AreClean d files.log files.db →
       AreLeftWith d files (g.content keeper)
 
+-- the store of a keeper
+abbrev pub store_of_keeper : {S : Type 0} {g : Ghosts S} → SqlKeeper S g → S
+store_of_keeper keeper = keeper.conn.store
+
+-- A keeper over this store couldn't be closed. Where it had not failed and the disk returned what was
+-- written, memory was wanted or the disk failed or refused once more.
+pub record IsStillOpen {K D : Type 0} (g : Keeping K) {d : disk.Ghosts D} (store : FileStore D d)
+    (keeper : K) : Type 0 where
+  pub last : FileStore D d
+  pub error : Error
+  pub cause : g.fault_count keeper ≡ 0 → IsClean (view last) → IsUnclosed store last error
+
+-- A keeper was made that has this content and keeps 100,000 requests, and couldn't be closed.
+pub record IsMadeOpen {K D : Type 0} (g : Keeping K) {d : disk.Ghosts D} (store : K → FileStore D d)
+    (content : RingContent) : Type 0 where
+  pub keeper : K
+  pub limit : g.limit keeper ≡ most_numbers
+  pub faults : g.fault_count keeper ≡ 0
+  pub is : g.sound keeper → g.content keeper ≡ content
+  pub unclosed : IsStillOpen g (store keeper) keeper
+
 -- A keeper was closed, which answered so. That it was done is answered only where the keeper is in
--- its files.
-pub record EndsIn {K D : Type 0} (g : Keeping K) (d : disk.Ghosts D) (keeper : K) (answer : Closing) :
-    Type 0 where
+-- its files, and that it failed only where it couldn't be closed.
+pub record EndsIn {K D : Type 0} (g : Keeping K) (d : disk.Ghosts D) (store : K → FileStore D d)
+    (keeper : K) (answer : Closing) : Type 0 where
   pub settled : EndsSettled g keeper
   pub closed : OnOk answer (IsInFiles g d keeper)
+  pub unclosed : IfErr answer (λ why. IsStillOpen g (store keeper) keeper)
 
 -- A keeper was made that has this content and keeps 100,000 requests. Its store has not failed, a
 -- crash leaves this content and nothing else, and it is in its files.

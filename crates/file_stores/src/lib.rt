@@ -14,3 +14,4 @@ mod reading;
 mod stores;
 
 pub use performing::perform_over_files;
+pub use stores::StoreFiles;

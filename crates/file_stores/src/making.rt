@@ -2,8 +2,8 @@
 ghost use Rattle.std.specs.Prelude.{◌≡◌, IfErr, OnOk};
 ghost use Rattle.builder_store.specs.Making.{rings_alone};
 ghost use Rattle.programs.specs.Begun.{IsStoreFault};
-ghost use Rattle.file_stores.specs.Opened.{IsMade};
-ghost use Rattle.file_stores.specs.Inner.Unopened.{make_fault};
+ghost use Rattle.file_stores.specs.Opened.{IsMade, store_of_keeper};
+ghost use Rattle.file_stores.specs.Unopened.{IsNotMade, make_fault};
 
 use crate::opening::{FileKeeper, close_store, open_fault};
 use builder::RingMachine;
@@ -46,7 +46,7 @@ fn make_fault(fault: MakeFault) -> ProgramFault
     ensures { result ≡ make_fault fault }
 {
     match fault {
-        MakeFault::Taken => ProgramFault::StoreFault,
+        MakeFault::PathTaken | MakeFault::Taken => ProgramFault::StoreFault,
         MakeFault::Opening(cause) => open_fault(cause),
     }
 }
@@ -61,6 +61,8 @@ pub(crate) fn make_store<S: Start>(
 ) -> Result<(), ProgramFault>
     ensures made { OnOk result (IsMade ⟦<NewKeeper<S> as Keeper<RingMachine>>⟧
         ⟦<FileFrom<NewFiles<S>> as Disk>⟧ (rings_alone rings hour)) }
+    ensures unmade { IfErr result (IsNotMade ⟦<NewKeeper<S> as Keeper<RingMachine>>⟧ store_of_keeper
+        (rings_alone rings hour)) }
     ensures fault { IfErr result IsStoreFault }
 {
     let files: NewFiles<S> = NewFiles { like: PhantomData };

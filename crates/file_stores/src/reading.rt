@@ -1,13 +1,14 @@
 //! Reading the files that words name beside stores.
 ghost use Rattle.std.specs.Prelude.{◌≤◌, IfErr, IfOk, length};
 ghost use Rattle.programs.specs.Tables.{IsFileFault};
-ghost use Rattle.file_stores.specs.Inner.Unread.{IsUnshort, GivesShort};
+ghost use Rattle.file_stores.specs.Unopened.{IsUnreadFile, IsUnshort};
+ghost use Rattle.file_stores.specs.Inner.Unread.{GivesShort};
 
 use byte_streams::{CountedReader, read_all};
 use programs::ProgramFault;
 use std::alloc::Global;
 use std::fs::File;
-use std::io::Read;
+use std::io::{Read, Take};
 
 /// All that a reader gives, if it is no more than so many bytes.
 fn read_short<R: Read>(
@@ -29,6 +30,7 @@ fn read_short<R: Read>(
 /// The text of a file, of at most so many bytes. No more than one byte behind them is read.
 pub(crate) fn read_file(rt: &HostRuntime, name: &str, most: u32) -> Result<Vec<u8>, ProgramFault>
     ensures short { IfOk result (λ text. length text.items ≤ most) }
+    ensures unread { IfErr result (IsUnreadFile ⟦<Take<File> as Read>⟧.remaining most) }
     ensures fault { IfErr result IsFileFault }
 {
     let Ok(file) = File::open(rt, name) else {

@@ -49,14 +49,14 @@ module _ {K C : Type 0} (kept : Keeping K)
   message_answered (Some (Deliver delivery answer)) asks made told (Ok text) is = (
     Some (Deliver delivery answer),
     (
-      inl (asks, told.1),
+      (told.3, inl (asks, told.1)),
       told.0,
       is ∙ ap (told_answer ask.is_last) told.2,
     ),
     made,
   )
   message_answered (Some (Deliver delivery answer)) asks made told (Err refused) is =
-      (Some (Deliver delivery answer), (inl (asks, told.1), told.0), made)
+      (Some (Deliver delivery answer), ((told.3, inl (asks, told.1)), told.0), made)
   message_answered (Some (Load answer)) asks made told result is = absurd told
 
   pub import_answered : (asked : Asked) (ring : List ℕ) (key : Key) →
@@ -86,7 +86,7 @@ module _ {K C : Type 0} (kept : Keeping K)
       (sym told.1) asks in (
         Some (Deliver delivery answer),
         (
-          inr (ring, told.2.0, same, told.2.1, told.2.2),
+          (told.4, inr (ring, told.2.0, same, told.2.1, told.2.2)),
           told.0,
           is ∙ ap (told_answer ask.is_last) told.3,
         ),
@@ -96,7 +96,7 @@ module _ {K C : Type 0} (kept : Keeping K)
       let same = subst (λ (k : Key). TargetAsks ask.target ask.method (target.Import ring k))
       (sym told.1) asks in (
         Some (Deliver delivery answer),
-        (inr (ring, told.2.0, same, told.2.1, told.2.2), told.0),
+        ((told.4, inr (ring, told.2.0, same, told.2.1, told.2.2)), told.0),
         made,
       )
   import_answered (Some (Load answer)) ring key asks made told result is = absurd told

@@ -10,6 +10,7 @@ use Rattle.http_routes.specs.declared.target.TargetAsk.TheVariants as target
 use Rattle.http_routes.specs.declared.target.TargetFault.{TargetFault}
 use Rattle.http_routes.specs.declared.target.TargetFault.TheVariants as why
 use Rattle.http_stream.specs.Streams.{Item, Calls, Refuses}
+use Rattle.builder.specs.Life.{IsProperDelivery}
 use Rattle.builder.specs.Message.{IsMessage}
 use Rattle.builder.specs.Replies.{answer_text, answer_status}
 use Rattle.builder.specs.Step.{State}
@@ -78,10 +79,10 @@ IsReadAnswer Finds is_last prefix suffix question answer text =
 -- DELIVERIES
 
 -- The request asks that this is delivered: a message in its body, or the rows of the table in its
--- body for an import.
+-- body for an import. The command is such as there are, and the hour has 32 bits.
 abbrev pub AsksDelivered : Ask → Delivery Command → Type 0
-AsksDelivered ask delivery =
-    (TargetAsks ask.target ask.method target.Deliver × IsMessage ask.body delivery.key
+AsksDelivered ask delivery = IsProperDelivery delivery
+    × ((TargetAsks ask.target ask.method target.Deliver × IsMessage ask.body delivery.key
     delivery.command)
     ⊎ ((ring : List ℕ) × (rows : List Row) × TargetAsks ask.target ask.method
     (target.Import ring delivery.key)
@@ -89,7 +90,7 @@ AsksDelivered ask delivery =
       ring = ring;
       act =
           act.Import rows;
-    }))
+    })))
 
 -- What a target that asks for nothing is answered. Want of memory has no answer of its own.
 abbrev pub IsFaultAnswer : Bool → TargetFault → List ℕ → Type 0

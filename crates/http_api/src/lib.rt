@@ -1,6 +1,7 @@
 //! The service over HTTP/1.1: numbered requests and imports are posted, and rings are read.
 //!
-//! `serve_stream` serves any reader and any writer by a book of the builder. What a request is
+//! `serve_stream` serves any reader and any writer by a book of the builder, and `serve_audience`
+//! does so for some alone. What a request is
 //! answered stands in `specs/Http.antt`; that the deliveries of all requests are one run of the
 //! book, in `specs/Served.antt`.
 #![tactic(auto)]
@@ -12,4 +13,4 @@ mod service;
 
 pub use answers::told_csv;
 pub use clock::{Clock, KnownClock};
-pub use service::serve_stream;
+pub use service::{serve_audience, serve_stream};

@@ -6,6 +6,7 @@ ghost use Rattle.http_api.specs.Http.{IsFaultAnswer};
 ghost use Rattle.http_api.specs.Inner.Telling.{DeliversAt, IsImportTold, IsMessageTold};
 ghost use Rattle.http_api.specs.Served.{ServesHttp};
 ghost use Rattle.http_api.specs.Inner.Answering.{HttpAnswers, HttpLoses};
+ghost use Rattle.http_messages.specs.declared.audience.Audience.TheVariants.{Anyone};
 ghost use Rattle.http_stream.specs.Serving.{RequestsServedOn, RequestsStoppedOn};
 ghost use Rattle.ring_book.specs.Book.{Asked, Made};
 
@@ -15,7 +16,7 @@ use crate::reads::{ReadWay, answer_read};
 use builder::{MessageFault, RingMachine, Told, read_delivery};
 use byte_streams::{CountedReader, CountedWriter, StreamFault};
 use csv_import::{CsvFault, read_rows};
-use http_messages::{Method, route_fault_text};
+use http_messages::{Audience, Method, route_fault_text};
 use http_routes::{Routes, TargetAsk, TargetFault, read_target};
 use http_stream::{Service, serve_requests};
 use path_lookup::HashNames;
@@ -145,8 +146,9 @@ impl<'a, K: Keeper<RingMachine>, C: Clock> Service for RingService<'a, K, C> {
     }
 }
 
-/// Serves the requests of a reader on a writer, in order, and tells how many answers it wrote,
-/// 4294967295 for more.
+/// Serves the requests that an audience sends, of a reader on a writer, in order, and tells how many
+/// answers it wrote, 4294967295 for more. A request of anyone else is refused by its head, as the
+/// last, and nothing of it is done.
 ///
 /// `POST /v1/requests` delivers the message in the body; `POST /v1/import/RING?caller=C&number=N`
 /// the rows of the CSV table in the body, as one numbered import. `GET /v1/rings/RING/` with
@@ -162,25 +164,26 @@ impl<'a, K: Keeper<RingMachine>, C: Clock> Service for RingService<'a, K, C> {
 /// of them was written; what was decided stays decided. NoMemory comes before the first read, and
 /// nothing was touched; other want of memory is answered 503. The reader counts one more fault
 /// exactly at ReadFailed, and the writer exactly at WriteFailed.
-pub fn serve_stream<R: Read, W: Write, C: Clock, K: Keeper<RingMachine>>(
+pub fn serve_audience<R: Read, W: Write, C: Clock, K: Keeper<RingMachine>>(
     alloc: Global,
+    audience: Audience<'_>,
     reader: &mut CountedReader<R>,
     writer: &mut CountedWriter<W>,
     clock: &mut C,
     book: &mut Book<RingMachine, K>,
     names: HashNames<'_>,
 ) -> Result<u32, StreamFault>
-    ensures served { IfOk result (RequestsServedOn R.remaining W.contents
+    ensures served { IfOk result (RequestsServedOn audience.entry R.remaining W.contents
         (ServesHttp K.Keeper C.tells names.entry.prefix.now names.entry.suffix.now)
         reader.old writer.old writer.new (clock.old, book.old) (clock.new, book.new)) }
-    ensures stopped { IfErr result (RequestsStoppedOn R.remaining W.contents
+    ensures stopped { IfErr result (RequestsStoppedOn audience.entry R.remaining W.contents
         (ServesHttp K.Keeper C.tells names.entry.prefix.now names.entry.suffix.now)
         reader.old reader.new writer.old writer.new (clock.old, book.old) (clock.new, book.new)) }
     ensures cause { FailsWithCause reader.old reader.new writer.old writer.new result }
     ensures flushed { LeavesFlushed writer.new result }
 
-    // Whatever came of it, few replicas left in each rebalance, and those of a moved partition
-    // rested.
+    // Whatever came of it, few replicas left in each rebalance, those of a moved partition rested,
+    // and valid rings stayed valid.
     ensures safe { K.sound book.new.keeper
         → IsSafeRun book.old.machine.limits (K.content book.old.keeper) (K.content book.new.keeper) }
 {
@@ -191,5 +194,31 @@ pub fn serve_stream<R: Read, W: Write, C: Clock, K: Keeper<RingMachine>>(
         names,
         kinds: PhantomData::<(K, C)>,
     };
-    serve_requests(alloc, reader, writer, &service, clock, book)
+    serve_requests(alloc, audience, reader, writer, &service, clock, book)
+}
+
+/// Serves the requests of a reader on a writer, whoever sent them, as `serve_audience` does.
+pub fn serve_stream<R: Read, W: Write, C: Clock, K: Keeper<RingMachine>>(
+    alloc: Global,
+    reader: &mut CountedReader<R>,
+    writer: &mut CountedWriter<W>,
+    clock: &mut C,
+    book: &mut Book<RingMachine, K>,
+    names: HashNames<'_>,
+) -> Result<u32, StreamFault>
+    ensures served { IfOk result (RequestsServedOn Anyone R.remaining W.contents
+        (ServesHttp K.Keeper C.tells names.entry.prefix.now names.entry.suffix.now)
+        reader.old writer.old writer.new (clock.old, book.old) (clock.new, book.new)) }
+    ensures stopped { IfErr result (RequestsStoppedOn Anyone R.remaining W.contents
+        (ServesHttp K.Keeper C.tells names.entry.prefix.now names.entry.suffix.now)
+        reader.old reader.new writer.old writer.new (clock.old, book.old) (clock.new, book.new)) }
+    ensures cause { FailsWithCause reader.old reader.new writer.old writer.new result }
+    ensures flushed { LeavesFlushed writer.new result }
+
+    // Whatever came of it, few replicas left in each rebalance, and those of a moved partition
+    // rested.
+    ensures safe { K.sound book.new.keeper
+        → IsSafeRun book.old.machine.limits (K.content book.old.keeper) (K.content book.new.keeper) }
+{
+    serve_audience(alloc, Audience::Anyone, reader, writer, clock, book, names)
 }

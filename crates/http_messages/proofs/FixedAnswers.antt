@@ -5,7 +5,8 @@ use Rattle.http_messages.specs.declared.request.Method.TheVariants.{Get, Post}
 use Rattle.http_messages.specs.declared.request.HeadFault.TheVariants.{BadHead, UnknownMethod}
 use Rattle.http_messages.specs.declared.request.HeadFault.TheVariants.{WrongVersion, BadHost}
 use Rattle.http_messages.specs.declared.request.HeadFault.TheVariants.{NoTransferCoding, BadLength}
-use Rattle.http_messages.specs.declared.request.HeadFault.TheVariants.{TooLarge, LengthRequired}
+use Rattle.http_messages.specs.declared.request.HeadFault.TheVariants.{NotAllowed, TooLarge}
+use Rattle.http_messages.specs.declared.request.HeadFault.TheVariants.{LengthRequired}
 use Rattle.http_messages.specs.declared.faults.RouteFault.TheVariants.{NoRoute, WrongMethod}
 use Rattle.http_messages.specs.Answers.{http_answer, no_memory_answer, refusal_answer}
 use Rattle.http_messages.specs.Answers.{route_fault_answer}
@@ -28,6 +29,12 @@ pub bad_host : codes
     ≡ refusal_answer BadHost
 unfolding serde_json_on_literals http_answer
 bad_host = rw (three_digits 400 (lit≤ tt) (lit< tt), two_digits 32 (lit≤ tt) (lit< tt)) refl
+
+pub not_allowed : codes
+    "HTTP/1.1 403 Forbidden\r\nContent-Type: application/json\r\nContent-Length: 35\r\nConnection: close\r\n\r\n{\"fault\":\"NotAllowed\",\"status\":403}"
+    ≡ refusal_answer NotAllowed
+unfolding serde_json_on_literals http_answer
+not_allowed = rw (three_digits 403 (lit≤ tt) (lit< tt), two_digits 35 (lit≤ tt) (lit< tt)) refl
 
 pub no_transfer_coding : codes
     "HTTP/1.1 501 Not Implemented\r\nContent-Type: application/json\r\nContent-Length: 41\r\nConnection: close\r\n\r\n{\"fault\":\"NoTransferCoding\",\"status\":501}"

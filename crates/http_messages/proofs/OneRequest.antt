@@ -5,6 +5,7 @@ use Rattle.std.proofs.Common.{◌∙◌, arith, append-nil, length-append, Some,
 use Rattle.std.proofs.lemmas.List.{take-append-drop, take-append-le, length-take}
 use Rattle.httparse.specs.Grammar.{RequestHead, ReadsRequest, print_request}
 use Rattle.httparse.proofs.GrammarLemmas.{request_unique}
+use Rattle.http_messages.specs.declared.audience.Audience.{Audience}
 use Rattle.http_messages.specs.declared.request.HeadFault.{HeadFault}
 use Rattle.http_messages.specs.declared.request.HeadFault.TheVariants.{BadHead}
 use Rattle.http_messages.specs.declared.request.Framing.TheVariants.{Faulty, Body}
@@ -31,11 +32,11 @@ heads_same : (input : List ℕ) (h k : RequestHead) (r q : List ℕ) → HasHead
     HasHead input k q → (h ≡ k) × (r ≡ q)
 heads_same input h k r q x y = request_unique input h k r q x.reads y.reads
 
-pub asks_same : (input : List ℕ) (x y : Ask) (r q : List ℕ) → HasAsk input x r → HasAsk input y q →
+pub asks_same : (audience : Audience) (input : List ℕ) (x y : Ask) (r q : List ℕ) → HasAsk audience input x r → HasAsk audience input y q →
     (x ≡ y) × (r ≡ q)
-asks_same input x y r q a b =
+asks_same audience input x y r q a b =
     let u = heads_same input a.head b.head a.tail b.tail a.reads b.reads in
-    let f : Body (length x.body) ≡ Body (length y.body) = sym a.framing ∙ ap framing_of u.0 ∙
+    let f : Body (length x.body) ≡ Body (length y.body) = sym a.framing ∙ ap (framing_of audience) u.0 ∙
     b.framing in
     let l : length x.body ≡ length y.body = cc in
     let s = split_same x.body y.body r q l (sym a.tail_is ∙ u.1 ∙ b.tail_is) in
@@ -70,35 +71,35 @@ no_bad input h t x (inr (len, none)) =
 not_both : (n : ℕ) (why : HeadFault) → Body n ≡ Faulty why → ⊥
 not_both n why e = cc
 
-pub asks_refused : (input : List ℕ) (ask : Ask) (r : List ℕ) (why : HeadFault) →
-    HasAsk input ask r → IsFaulty input why → ⊥
-asks_refused input ask r why a (inl x) = no_bad input a.head a.tail a.reads x.1
-asks_refused input ask r why a (inr x) =
+pub asks_refused : (audience : Audience) (input : List ℕ) (ask : Ask) (r : List ℕ) (why : HeadFault) →
+    HasAsk audience input ask r → IsFaulty audience input why → ⊥
+asks_refused audience input ask r why a (inl x) = no_bad input a.head a.tail a.reads x.1
+asks_refused audience input ask r why a (inr x) =
     let u = heads_same input a.head x.0 a.tail x.1 a.reads x.2 in
-    not_both (length ask.body) why (sym a.framing ∙ ap framing_of u.0 ∙ x.3)
+    not_both (length ask.body) why (sym a.framing ∙ ap (framing_of audience) u.0 ∙ x.3)
 
-pub asks_ends : (input : List ℕ) (ask : Ask) (r : List ℕ) → HasAsk input ask r → StopsShort input →
+pub asks_ends : (audience : Audience) (input : List ℕ) (ask : Ask) (r : List ℕ) → HasAsk audience input ask r → StopsShort audience input →
     ⊥
-asks_ends input ask r a (inl e) = e.none a.head a.tail a.reads.reads
-asks_ends input ask r a (inr e) =
+asks_ends audience input ask r a (inl e) = e.none a.head a.tail a.reads.reads
+asks_ends audience input ask r a (inr e) =
     let u = heads_same input a.head e.head a.tail e.tail a.reads e.reads in
-    let f : Body (length ask.body) ≡ Body e.count = sym a.framing ∙ ap framing_of u.0 ∙ e.framing in
+    let f : Body (length ask.body) ≡ Body e.count = sym a.framing ∙ ap (framing_of audience) u.0 ∙ e.framing in
     let l : length ask.body ≡ e.count = cc in
     absurd (omega (arith, l, e.short, ap length a.tail_is, ap length u.1, length-append ask.body r))
 
-pub refused_same : (input : List ℕ) (why other : HeadFault) → IsFaulty input why →
-    IsFaulty input other → why ≡ other
-refused_same input why other (inl x) (inl y) = x.0 ∙ sym y.0
-refused_same input why other (inl x) (inr y) = absurd (no_bad input y.0 y.1 y.2 x.1)
-refused_same input why other (inr x) (inl y) = absurd (no_bad input x.0 x.1 x.2 y.1)
-refused_same input why other (inr x) (inr y) =
+pub refused_same : (audience : Audience) (input : List ℕ) (why other : HeadFault) → IsFaulty audience input why →
+    IsFaulty audience input other → why ≡ other
+refused_same audience input why other (inl x) (inl y) = x.0 ∙ sym y.0
+refused_same audience input why other (inl x) (inr y) = absurd (no_bad input y.0 y.1 y.2 x.1)
+refused_same audience input why other (inr x) (inl y) = absurd (no_bad input x.0 x.1 x.2 y.1)
+refused_same audience input why other (inr x) (inr y) =
     let u = heads_same input x.0 y.0 x.1 y.1 x.2 y.2 in
-    let f : Faulty why ≡ Faulty other = sym x.3 ∙ ap framing_of u.0 ∙ y.3 in cc
+    let f : Faulty why ≡ Faulty other = sym x.3 ∙ ap (framing_of audience) u.0 ∙ y.3 in cc
 
-pub refused_ends : (input : List ℕ) (why : HeadFault) → IsFaulty input why → StopsShort input →
+pub refused_ends : (audience : Audience) (input : List ℕ) (why : HeadFault) → IsFaulty audience input why → StopsShort audience input →
     why ≡ BadHead
-refused_ends input why (inl x) e = x.0
-refused_ends input why (inr x) (inl e) = absurd (e.none x.0 x.1 x.2.reads)
-refused_ends input why (inr x) (inr e) =
+refused_ends audience input why (inl x) e = x.0
+refused_ends audience input why (inr x) (inl e) = absurd (e.none x.0 x.1 x.2.reads)
+refused_ends audience input why (inr x) (inr e) =
     let u = heads_same input x.0 e.head x.1 e.tail x.2 e.reads in
-    absurd (not_both e.count why (sym e.framing ∙ ap framing_of (sym u.0) ∙ x.3))
+    absurd (not_both e.count why (sym e.framing ∙ ap (framing_of audience) (sym u.0) ∙ x.3))

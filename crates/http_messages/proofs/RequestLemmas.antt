@@ -14,6 +14,7 @@ use Rattle.httparse.specs.Spans.{span_bytes, header_bytes, name_and_value, IsWit
 use Rattle.httparse.specs.Spans.{IsRequestWithin, IsRequestAt, RequestOverflows}
 use Rattle.httparse.proofs.GrammarLemmas.{ReadsRequest-append}
 use Rattle.http_messages.specs.declared.request.Method.{Method}
+use Rattle.http_messages.specs.declared.audience.Audience.{Audience}
 use Rattle.http_messages.specs.declared.request.HeadFault.{HeadFault}
 use Rattle.http_messages.specs.declared.request.Framing.TheVariants.{Faulty, Body}
 use Rattle.http_messages.specs.Fields.{is_close}
@@ -39,8 +40,8 @@ HasHead-more buf h tail more x = record {
   few = x.few;
 }
 
-pub HasAsk-more : (buf : List ℕ) (ask : Ask) (rest more : List ℕ) → HasAsk buf ask rest →
-    HasAsk (buf ++ more) ask (rest ++ more)
+pub HasAsk-more : {audience : Audience} (buf : List ℕ) (ask : Ask) (rest more : List ℕ) → HasAsk audience buf ask rest →
+    HasAsk audience (buf ++ more) ask (rest ++ more)
 HasAsk-more buf ask rest more x = record {
   head = x.head;
   tail = x.tail ++ more;
@@ -52,10 +53,10 @@ HasAsk-more buf ask rest more x = record {
   tail_is = ap (λ (t : List ℕ). t ++ more) x.tail_is ∙ append_assoc ask.body rest more;
 }
 
-pub IsFaulty-more : (buf : List ℕ) (why : HeadFault) (more : List ℕ) → IsFaulty buf why →
-    IsFaulty (buf ++ more) why
-IsFaulty-more buf why more (inl (e, inl x)) = inl (e, inl (overflow_more buf more x))
-IsFaulty-more buf why more (inl (e, inr x)) =
+pub IsFaulty-more : (audience : Audience) (buf : List ℕ) (why : HeadFault) (more : List ℕ) → IsFaulty audience buf why →
+    IsFaulty audience (buf ++ more) why
+IsFaulty-more audience buf why more (inl (e, inl x)) = inl (e, inl (overflow_more buf more x))
+IsFaulty-more audience buf why more (inl (e, inr x)) =
     inl (
       e,
       inr (
@@ -63,7 +64,7 @@ IsFaulty-more buf why more (inl (e, inr x)) =
         subst HasNoRequest (sym (take-append-le longest_head buf more x.0)) x.1,
       ),
     )
-IsFaulty-more buf why more (inr x) = inr (x.0, x.1 ++ more, HasHead-more buf x.0 x.1 more x.2, x.3)
+IsFaulty-more audience buf why more (inr x) = inr (x.0, x.1 ++ more, HasHead-more buf x.0 x.1 more x.2, x.3)
 
 -- no byte more
 pub none_more : (buf more : List ℕ) → length (buf ++ more) < length buf + 1 → buf ≡ buf ++ more
@@ -79,7 +80,7 @@ part_of front back a b ab h =
     sym (take-append-le (b - a) (drop a front) back q) ∙ ap (take (b - a))
     (sym (drop-append-le a front back p))
 
-module _ (buf front : List ℕ) (is : front ≡ take longest_head buf) (headers : List HeaderSpan)
+module _ (audience : Audience) (buf front : List ℕ) (is : front ≡ take longest_head buf) (headers : List HeaderSpan)
     (r : RequestSpans) (room : length headers ≤ most_fields)
     (within : IsRequestWithin front headers r) (h : RequestHead) (at : IsRequestAt front headers r
     h) where
@@ -122,30 +123,30 @@ module _ (buf front : List ℕ) (is : front ≡ take longest_head buf) (headers 
     );
   }
 
-  framing_is : framing_of h ≡ framing_from (method_of (span_bytes front r.method)) r.version
+  framing_is : framing_of audience h ≡ framing_from audience (method_of (span_bytes front r.method)) r.version
       (map (header_bytes front) (take r.headers headers))
   framing_is = rw (at.method, at.version, at.fields) refl
 
   pub refused_is : (why : HeadFault) (m : Option Method) → m ≡ method_of (span_bytes front r.method)
-      → Faulty why ≡ framing_from m r.version (map (header_bytes front) (take r.headers headers)) →
-      IsFaulty buf why
+      → Faulty why ≡ framing_from audience m r.version (map (header_bytes front) (take r.headers headers)) →
+      IsFaulty audience buf why
   refused_is why m e f = inr (
     h,
     drop r.len buf,
     head_in,
-    framing_is ∙ sym (f ∙ ap (λ (x : Option Method). framing_from x r.version
+    framing_is ∙ sym (f ∙ ap (λ (x : Option Method). framing_from audience x r.version
         (map (header_bytes front) (take r.headers headers))) e),
   )
 
   pub more_is : (n : ℕ) (m : Option Method) → m ≡ method_of (span_bytes front r.method)
-      → Body n ≡ framing_from m r.version (map (header_bytes front) (take r.headers headers))
-      → (more : List ℕ) → length (buf ++ more) < r.len + n → StopsShort (buf ++ more)
+      → Body n ≡ framing_from audience m r.version (map (header_bytes front) (take r.headers headers))
+      → (more : List ℕ) → length (buf ++ more) < r.len + n → StopsShort audience (buf ++ more)
   more_is n m e f more lt = inr record {
     head = h;
     tail = drop r.len buf ++ more;
     count = n;
     reads = HasHead-more buf h (drop r.len buf) more head_in;
-    framing = framing_is ∙ sym (f ∙ ap (λ (x : Option Method). framing_from x r.version
+    framing = framing_is ∙ sym (f ∙ ap (λ (x : Option Method). framing_from audience x r.version
         (map (header_bytes front) (take r.headers headers))) e);
     short = omega (
       arith,
@@ -158,12 +159,12 @@ module _ (buf front : List ℕ) (is : front ≡ take longest_head buf) (headers 
 
   pub whole_is : (n : ℕ) (m : Option Method) (method : Method) (last : Bool) →
       m ≡ method_of (span_bytes front r.method)
-      → Body n ≡ framing_from m r.version (map (header_bytes front) (take r.headers headers)) →
+      → Body n ≡ framing_from audience m r.version (map (header_bytes front) (take r.headers headers)) →
       m ≡ Some method
       → r.len + n ≤ length buf → last ≡ list_any is_close (map (header_bytes front)
       (take r.headers headers))
       → IsWithin (length buf) r.path ×
-      HasAsk buf (ask_at buf (record {
+      HasAsk audience buf (ask_at buf (record {
         method = method;
         target = r.path;
         body =
@@ -181,7 +182,7 @@ module _ (buf front : List ℕ) (is : front ≡ take longest_head buf) (headers 
           head = h;
           tail = drop r.len buf;
           reads = head_in;
-          framing = framing_is ∙ sym (f ∙ ap (λ (x : Option Method). framing_from x r.version
+          framing = framing_is ∙ sym (f ∙ ap (λ (x : Option Method). framing_from audience x r.version
               (map (header_bytes front) (take r.headers headers))) e) ∙ ap (λ (k : ℕ). Body k)
               (sym inside);
           method = ap method_of (sym at.method) ∙ sym e ∙ some;

@@ -10,7 +10,8 @@ use Rattle.http_messages.specs.declared.request.HeadFault.{HeadFault}
 use Rattle.http_messages.specs.declared.request.HeadFault.TheVariants.{BadHead, UnknownMethod}
 use Rattle.http_messages.specs.declared.request.HeadFault.TheVariants.{WrongVersion, BadHost}
 use Rattle.http_messages.specs.declared.request.HeadFault.TheVariants.{NoTransferCoding, BadLength}
-use Rattle.http_messages.specs.declared.request.HeadFault.TheVariants.{TooLarge, LengthRequired}
+use Rattle.http_messages.specs.declared.request.HeadFault.TheVariants.{NotAllowed, TooLarge}
+use Rattle.http_messages.specs.declared.request.HeadFault.TheVariants.{LengthRequired}
 use Rattle.http_messages.specs.declared.answer.AnswerHead.{AnswerHead}
 use Rattle.http_messages.specs.declared.answer.BodyKind.{BodyKind}
 use Rattle.http_messages.specs.declared.answer.BodyKind.TheVariants.{Json, Text}
@@ -83,6 +84,7 @@ refusal_answer BadHead = fault_answer (codes "BadHead") 400 None true
 refusal_answer UnknownMethod = status_line 501 ++ length_line 0 ++ close_line true ++ line_end
 refusal_answer WrongVersion = fault_answer (codes "WrongVersion") 505 None true
 refusal_answer BadHost = fault_answer (codes "BadHost") 400 None true
+refusal_answer NotAllowed = fault_answer (codes "NotAllowed") 403 None true
 refusal_answer NoTransferCoding = fault_answer (codes "NoTransferCoding") 501 None true
 refusal_answer BadLength = fault_answer (codes "BadLength") 400 None true
 refusal_answer TooLarge = fault_answer (codes "TooLarge") 413 None true

@@ -1,4 +1,5 @@
 pub mod Fields
+pub mod Audiences
 pub mod Requests
 pub mod Inner
 pub mod Answers

@@ -16,13 +16,16 @@ use Rattle.http_messages.specs.declared.request.HeadFault.{HeadFault}
 use Rattle.http_messages.specs.declared.request.HeadFault.TheVariants.{BadHead, UnknownMethod}
 use Rattle.http_messages.specs.declared.request.HeadFault.TheVariants.{WrongVersion, BadHost}
 use Rattle.http_messages.specs.declared.request.HeadFault.TheVariants.{NoTransferCoding, BadLength}
-use Rattle.http_messages.specs.declared.request.HeadFault.TheVariants.{TooLarge, LengthRequired}
+use Rattle.http_messages.specs.declared.request.HeadFault.TheVariants.{NotAllowed, TooLarge}
+use Rattle.http_messages.specs.declared.request.HeadFault.TheVariants.{LengthRequired}
+use Rattle.http_messages.specs.declared.audience.Audience.{Audience}
 use Rattle.http_messages.specs.declared.request.Framing.{Framing}
 use Rattle.http_messages.specs.declared.request.Framing.TheVariants.{Faulty, Body}
 use Rattle.http_messages.specs.declared.request.RequestParts.{RequestParts}
 use Rattle.http_messages.specs.declared.request.Look.{Look}
 use Rattle.http_messages.specs.declared.request.Look.TheVariants as look
 use Rattle.http_messages.specs.Fields.{values_named, is_close}
+use Rattle.http_messages.specs.Audiences.{is_allowed}
 
 -- WHAT A HEAD ASKS FOR
 
@@ -63,13 +66,14 @@ framing_of_lengths method (text ∷ []) = framing_of_length (length_of_text text
 framing_of_lengths method (text ∷ other ∷ texts) = Faulty BadLength
 
 -- The first fault of a head with this method, this minor version and these fields, or the length of
--- its body: the method is served, the version is not HTTP/1.0, there is one Host and no
--- Transfer-Encoding, and then the length is judged.
-abbrev pub framing_from : Option Method → ℕ → List (List ℕ × List ℕ) → Framing
-framing_from None minor fields = Faulty UnknownMethod
-framing_from (Some method) minor fields =
+-- its body: the method is served, the version is not HTTP/1.0, there is one Host, the audience may
+-- send it, there is no Transfer-Encoding, and then the length is judged.
+abbrev pub framing_from : Audience → Option Method → ℕ → List (List ℕ × List ℕ) → Framing
+framing_from audience None minor fields = Faulty UnknownMethod
+framing_from audience (Some method) minor fields =
     if minor == 0 then Faulty WrongVersion else
     if not (length (values_named (codes "host") fields) == 1) then Faulty BadHost else
+    if not (is_allowed audience method fields) then Faulty NotAllowed else
     if not (length (values_named (codes "transfer-encoding") fields) == 0) then
     Faulty NoTransferCoding else
     framing_of_lengths method (values_named (codes "content-length") fields)
@@ -79,8 +83,9 @@ abbrev pub fields_of : RequestHead → List (List ℕ × List ℕ)
 fields_of head = map name_and_value head.fields
 
 -- the first fault of a head, or the length of its body
-abbrev pub framing_of : RequestHead → Framing
-framing_of head = framing_from (method_of head.method) head.minor (fields_of head)
+abbrev pub framing_of : Audience → RequestHead → Framing
+framing_of audience head =
+    framing_from audience (method_of head.method) head.minor (fields_of head)
 
 -- WHAT THE BYTES OF A STREAM BEGIN WITH
 
@@ -99,12 +104,12 @@ pub record HasHead (bytes : List ℕ) (head : RequestHead) (tail : List ℕ) : T
   pub short : length (print_request head) ≤ longest_head
   pub few : length head.fields ≤ most_fields
 
--- The bytes begin with a whole request, which asks this, and then the rest comes.
-pub record HasAsk (bytes : List ℕ) (ask : Ask) (rest : List ℕ) : Type 0 where
+-- The bytes begin with a whole request of this audience, which asks this, and then the rest comes.
+pub record HasAsk (audience : Audience) (bytes : List ℕ) (ask : Ask) (rest : List ℕ) : Type 0 where
   pub head : RequestHead
   pub tail : List ℕ
   pub reads : HasHead bytes head tail
-  pub framing : framing_of head ≡ Body (length ask.body)
+  pub framing : framing_of audience head ≡ Body (length ask.body)
   pub method : method_of head.method ≡ Some ask.method
   pub target : ask.target ≡ head.target
   pub last : ask.is_last ≡ list_any is_close (fields_of head)
@@ -118,11 +123,11 @@ IsBadHead bytes =
     × HasNoRequest (take longest_head bytes))
 
 -- The bytes begin with a request that is refused for this reason.
-abbrev pub IsFaulty : List ℕ → HeadFault → Type 0
-IsFaulty bytes why =
+abbrev pub IsFaulty : Audience → List ℕ → HeadFault → Type 0
+IsFaulty audience bytes why =
     ((why ≡ BadHead) × IsBadHead bytes)
     ⊎ ((head : RequestHead) × (tail : List ℕ) × HasHead bytes head tail ×
-    (framing_of head ≡ Faulty why))
+    (framing_of audience head ≡ Faulty why))
 
 -- The bytes end before a whole head.
 pub record EndsInHead (bytes : List ℕ) : Type 0 where
@@ -131,17 +136,17 @@ pub record EndsInHead (bytes : List ℕ) : Type 0 where
   pub goes_on : MayBecomeRequest bytes
 
 -- The bytes end before a whole body.
-pub record EndsInBody (bytes : List ℕ) : Type 0 where
+pub record EndsInBody (audience : Audience) (bytes : List ℕ) : Type 0 where
   pub head : RequestHead
   pub tail : List ℕ
   pub count : ℕ
   pub reads : HasHead bytes head tail
-  pub framing : framing_of head ≡ Body count
+  pub framing : framing_of audience head ≡ Body count
   pub short : length tail < count
 
 -- The bytes end before a whole request.
-abbrev pub StopsShort : List ℕ → Type 0
-StopsShort bytes = EndsInHead bytes ⊎ EndsInBody bytes
+abbrev pub StopsShort : Audience → List ℕ → Type 0
+StopsShort audience bytes = EndsInHead bytes ⊎ EndsInBody audience bytes
 
 -- WHAT LOOKING AT A BUFFER TELLS
 
@@ -157,11 +162,11 @@ ask_at buf parts =
 
 -- What is at the front of a buffer. More bytes are needed if the stream has them: with fewer than
 -- so many in all, it ends before a whole request, whatever they are.
-abbrev pub IsLook : List ℕ → Look → Type 0
-IsLook buf (look.More count) =
+abbrev pub IsLook : Audience → List ℕ → Look → Type 0
+IsLook audience buf (look.More count) =
     (length buf < count) × (count ≤ longest_head + longest_body)
-    × ((more : List ℕ) → length (buf ++ more) < count → StopsShort (buf ++ more))
-IsLook buf (look.Faulty why) = IsFaulty buf why
-IsLook buf (look.Whole parts) =
+    × ((more : List ℕ) → length (buf ++ more) < count → StopsShort audience (buf ++ more))
+IsLook audience buf (look.Faulty why) = IsFaulty audience buf why
+IsLook audience buf (look.Whole parts) =
     IsWithin (length buf) parts.target × IsWithin (length buf) parts.body
-    × HasAsk buf (ask_at buf parts) (drop parts.body.end buf)
+    × HasAsk audience buf (ask_at buf parts) (drop parts.body.end buf)

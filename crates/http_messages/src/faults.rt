@@ -35,6 +35,12 @@ const BAD_HOST: &str = "HTTP/1.1 400 Bad Request\r\n\
     Connection: close\r\n\r\n\
     {\"fault\":\"BadHost\",\"status\":400}";
 
+const NOT_ALLOWED: &str = "HTTP/1.1 403 Forbidden\r\n\
+    Content-Type: application/json\r\n\
+    Content-Length: 35\r\n\
+    Connection: close\r\n\r\n\
+    {\"fault\":\"NotAllowed\",\"status\":403}";
+
 const NO_TRANSFER_CODING: &str = "HTTP/1.1 501 Not Implemented\r\n\
     Content-Type: application/json\r\n\
     Content-Length: 41\r\n\
@@ -116,6 +122,7 @@ pub fn refusal_text(why: HeadFault) -> &'static str
         HeadFault::UnknownMethod => UNKNOWN_METHOD,
         HeadFault::WrongVersion => WRONG_VERSION,
         HeadFault::BadHost => BAD_HOST,
+        HeadFault::NotAllowed => NOT_ALLOWED,
         HeadFault::NoTransferCoding => NO_TRANSFER_CODING,
         HeadFault::BadLength => BAD_LENGTH,
         HeadFault::TooLarge => TOO_LARGE,

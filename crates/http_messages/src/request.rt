@@ -7,6 +7,7 @@ ghost use Rattle.http_messages.specs.Inner.Finding.{IsSmall};
 ghost use Rattle.http_messages.specs.Requests.{framing_from, framing_of_lengths, method_of};
 ghost use Rattle.http_messages.specs.Requests.{length_of_text, IsLook};
 
+use crate::audience::{Audience, allows};
 use crate::fields::{FieldFound, closes, find};
 use httparse::Status;
 use httparse::spans::{EMPTY_HEADER_SPAN, HeaderSpan, RequestSpans, Span, parse_request};
@@ -31,6 +32,8 @@ pub enum HeadFault {
     WrongVersion,
     /// There is no Host field, or more than one (RFC 9112, 3.2).
     BadHost,
+    /// It is none of the audience: its Host is of another name, or a page in a browser sent it.
+    NotAllowed,
     /// There is a Transfer-Encoding field.
     NoTransferCoding,
     /// There are two Content-Length fields, or its value isn't 1 to 10 digits.
@@ -135,9 +138,16 @@ fn body_length(method: Method, buf: &[u8], headers: &[HeaderSpan]) -> Framing
 }
 
 /// The first fault of a head, or the length of its body.
-fn framing_at(method: Option<Method>, minor: u8, buf: &[u8], headers: &[HeaderSpan]) -> Framing
+fn framing_at(
+    audience: Audience<'_>,
+    method: Option<Method>,
+    minor: u8,
+    buf: &[u8],
+    headers: &[HeaderSpan],
+) -> Framing
     requires { All (IsHeaderWithin (length buf.now)) headers.now }
-    ensures value { result ≡ framing_from method minor (map (header_bytes buf.now) headers.now) }
+    ensures value { result ≡ framing_from audience.entry method minor (map (header_bytes buf.now)
+        headers.now) }
     ensures small { IsSmall result }
 {
     let Some(method) = method else {
@@ -149,6 +159,9 @@ fn framing_at(method: Option<Method>, minor: u8, buf: &[u8], headers: &[HeaderSp
     let FieldFound::One(_) = find(buf, headers, b"host") else {
         return Framing::Faulty(HeadFault::BadHost);
     };
+    if !allows(audience, method, buf, headers) {
+        return Framing::Faulty(HeadFault::NotAllowed);
+    }
     let FieldFound::Missing = find(buf, headers, b"transfer-encoding") else {
         return Framing::Faulty(HeadFault::NoTransferCoding);
     };
@@ -156,16 +169,22 @@ fn framing_at(method: Option<Method>, minor: u8, buf: &[u8], headers: &[HeaderSp
 }
 
 /// What a buffer asks for whose front has this head.
-fn whole(front: &[u8], buf: &[u8], head: &RequestSpans, headers: &[HeaderSpan]) -> Look
+fn whole(
+    audience: Audience<'_>,
+    front: &[u8],
+    buf: &[u8],
+    head: &RequestSpans,
+    headers: &[HeaderSpan],
+) -> Look
     requires front { front.now ≡ take longest_head buf.now }
     requires room { length headers.now ≤ most_fields }
     requires within { IsRequestWithin front.now headers.now head.now }
     requires head { IsRequestOf front.now headers.now head.now }
-    ensures { IsLook buf.now result }
+    ensures { IsLook audience.entry buf.now result }
 {
     let fields = &headers[..head.headers];
     let method = known_method(head.method.of(front));
-    match framing_at(method, head.version, front, fields) {
+    match framing_at(audience, method, head.version, front, fields) {
         Framing::Faulty(why) => Look::Faulty(why),
         Framing::Body(length) => {
             let Some(method) = method else { unreachable!() };
@@ -198,15 +217,15 @@ fn head_room(buf: &[u8]) -> &[u8]
     }
 }
 
-/// What is at the front of a buffer: a whole request, one that is refused, or a part of one. The
-/// head is read by `httparse`, in the first `MAX_HEAD` bytes.
-pub fn look_at(buf: &[u8]) -> Look
-    ensures { IsLook buf.now result }
+/// What is at the front of a buffer: a whole request of this audience, one that is refused, or a
+/// part of one. The head is read by `httparse`, in the first `MAX_HEAD` bytes.
+pub fn look_at(audience: Audience<'_>, buf: &[u8]) -> Look
+    ensures { IsLook audience.entry buf.now result }
 {
     let front = head_room(buf);
     let mut headers = [EMPTY_HEADER_SPAN; MAX_FIELDS];
     match parse_request(front, &mut headers) {
-        Ok(Status::Complete(head)) => whole(front, buf, &head, &headers),
+        Ok(Status::Complete(head)) => whole(audience, front, buf, &head, &headers),
         Ok(Status::Partial) => {
             if buf.len() < MAX_HEAD {
                 Look::More(buf.len() + 1)

@@ -5,6 +5,7 @@ use std::io::{self, ErrorKind, Read, Write};
 use std::net::{IpAddr, Net, OpenListener, OpenStream, Shutdown, SocketAddr};
 use std::os::fd::{AsRawFd, RawFd};
 use std::time::{Clock, Duration};
+use timed_streams::Desk;
 
 /// Nothing stands around the paths that are hashed.
 pub const NO_NAMES: HashNames<'static> = HashNames {
@@ -12,28 +13,30 @@ pub const NO_NAMES: HashNames<'static> = HashNames {
     suffix: b"",
 };
 
-/// A clock that goes on by so much whenever it is read, and tells that so many seconds have passed
-/// since 1970, or nothing.
+/// A clock that goes on where it is told to, and tells that so many seconds have passed since 1970,
+/// or nothing.
 #[derive(Drop)]
 pub struct OwnClock {
     passed: Cell<Duration>,
-    step: Duration,
     pub seconds: Cell<Option<u64>>,
 }
 
 impl OwnClock {
-    pub fn new(step: Duration) -> OwnClock {
+    pub fn new() -> OwnClock {
         OwnClock {
             passed: Cell::new(Duration::ZERO),
-            step,
             seconds: Cell::new(None),
         }
+    }
+
+    /// So much time passes.
+    pub fn pass(&self, time: Duration) {
+        self.passed.set(self.passed.get().saturating_add(time));
     }
 }
 
 impl Clock for OwnClock {
     fn monotonic(&self) -> io::Result<Duration> {
-        self.passed.set(self.passed.get().saturating_add(self.step));
         Ok(self.passed.get())
     }
 
@@ -45,18 +48,46 @@ impl Clock for OwnClock {
     }
 }
 
-/// A stream that gives and takes one byte a call, for ever.
+/// A desk by such a clock, at which others wait or don't.
 #[derive(Drop)]
-pub struct Trickle;
+pub struct OwnDesk<'a> {
+    pub clock: &'a OwnClock,
+    pub others: bool,
+}
 
-impl Read for Trickle {
+impl<'a> Clock for OwnDesk<'a> {
+    fn monotonic(&self) -> io::Result<Duration> {
+        self.clock.monotonic()
+    }
+
+    fn since_1970(&self) -> io::Result<Duration> {
+        self.clock.since_1970()
+    }
+}
+
+impl<'a> Desk for OwnDesk<'a> {
+    fn others_wait(&self) -> bool {
+        self.others
+    }
+}
+
+/// A stream that gives and takes one byte a call, for ever, and takes so long over each.
+#[derive(Drop)]
+pub struct Slow<'a> {
+    pub clock: &'a OwnClock,
+    pub step: Duration,
+}
+
+impl<'a> Read for Slow<'a> {
     fn read(&mut self, buf: &mut [u8]) -> io::Result<usize> {
+        self.clock.pass(self.step);
         Ok(buf.len().min(1))
     }
 }
 
-impl Write for Trickle {
+impl<'a> Write for Slow<'a> {
     fn write(&mut self, buf: &[u8]) -> io::Result<usize> {
+        self.clock.pass(self.step);
         Ok(buf.len().min(1))
     }
 
@@ -65,7 +96,7 @@ impl Write for Trickle {
     }
 }
 
-impl OpenStream for Trickle {
+impl<'a> OpenStream for Slow<'a> {
     fn set_read_timeout(&self, _dur: Option<Duration>) -> io::Result<()> {
         Ok(())
     }
@@ -75,7 +106,37 @@ impl OpenStream for Trickle {
     }
 }
 
-impl AsRawFd for Trickle {
+/// A stream whose peer has gone.
+#[derive(Drop)]
+pub struct Gone;
+
+impl Read for Gone {
+    fn read(&mut self, _buf: &mut [u8]) -> io::Result<usize> {
+        Err(ErrorKind::ConnectionReset.into())
+    }
+}
+
+impl Write for Gone {
+    fn write(&mut self, _buf: &[u8]) -> io::Result<usize> {
+        Err(ErrorKind::BrokenPipe.into())
+    }
+
+    fn flush(&mut self) -> io::Result<()> {
+        Ok(())
+    }
+}
+
+impl OpenStream for Gone {
+    fn set_read_timeout(&self, _dur: Option<Duration>) -> io::Result<()> {
+        Ok(())
+    }
+
+    fn try_clone(&self) -> io::Result<Gone> {
+        Ok(Gone)
+    }
+}
+
+impl AsRawFd for Gone {
     fn as_raw_fd(&self) -> RawFd {
         0
     }
@@ -89,15 +150,15 @@ pub struct ShortListener {
 }
 
 impl OpenListener for ShortListener {
-    type Stream = Trickle;
+    type Stream = Gone;
 
-    fn accept(&self) -> io::Result<(Trickle, SocketAddr)> {
+    fn accept(&self) -> io::Result<(Gone, SocketAddr)> {
         let count = self.accepts.get();
         self.accepts.set(count.saturating_add(1));
         if count == 0 {
             Err(ErrorKind::ConnectionAborted.into())
         } else if count <= self.peers {
-            Ok((Trickle, SocketAddr::from(([127, 0, 0, 1], 1))))
+            Ok((Gone, SocketAddr::from(([127, 0, 0, 1], 1))))
         } else {
             Err(ErrorKind::Other.into())
         }
@@ -114,10 +175,21 @@ impl AsRawFd for ShortListener {
 #[derive(Drop)]
 pub struct ShortNet {
     pub peers: u32,
+    /// The port that was bound last, 0 at first.
+    pub bound: Cell<u16>,
+}
+
+impl ShortNet {
+    pub fn new(peers: u32) -> ShortNet {
+        ShortNet {
+            peers,
+            bound: Cell::new(0),
+        }
+    }
 }
 
 impl Net for ShortNet {
-    type Stream = Trickle;
+    type Stream = Gone;
 
     type Listener = ShortListener;
 
@@ -125,13 +197,14 @@ impl Net for ShortNet {
         if addr.ip() != IpAddr::from([127, 0, 0, 1]) {
             return Err(ErrorKind::AddrNotAvailable.into());
         }
+        self.bound.set(addr.port());
         Ok(ShortListener {
             accepts: Cell::new(0),
             peers: self.peers,
         })
     }
 
-    fn connect(&self, _addr: SocketAddr) -> io::Result<Trickle> {
+    fn connect(&self, _addr: SocketAddr) -> io::Result<Gone> {
         Err(ErrorKind::Unsupported.into())
     }
 }

@@ -3,7 +3,6 @@ use crate::doubles::OwnClock;
 use http_api::Clock;
 use http_sockets::HourClock;
 use std::test::Fail;
-use std::time::Duration;
 
 #[test]
 fn a_given_hour_is_told_always(rt: HostRuntime) -> Result<(), Fail> {
@@ -25,7 +24,7 @@ const HOURS: [(Option<u64>, u32); 7] = [
 
 #[test]
 fn whole_hours_are_told_and_told_again_where_none_can_be_had(rt: HostRuntime) -> Result<(), Fail> {
-    let time = OwnClock::new(Duration::ZERO);
+    let time = OwnClock::new();
     let mut clock = HourClock::new(&time, None);
     for (seconds, hour) in HOURS {
         time.seconds.set(seconds);

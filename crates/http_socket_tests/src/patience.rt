@@ -1,12 +1,25 @@
-//! How long a peer is waited for, by a clock that tests set on.
-use crate::doubles::{OwnClock, Trickle};
+//! How long a peer is waited for, by a clock that goes on while its streams wait.
+use crate::doubles::{OwnClock, OwnDesk, Slow};
 use std::io::{Read, Write};
 use std::test::Fail;
 use std::time::Duration;
 use timed_streams::{Pace, Patience, TimedReader, TimedWriter};
 
-/// How many bytes a reader gives, one a read, before it fails.
-fn bytes_read(reader: &mut TimedReader<'_, Trickle, &OwnClock>) -> u32 {
+/// A pace by this desk, with the usual patience.
+fn pace_at<'a>(clock: &'a OwnClock, others: bool) -> Pace<OwnDesk<'a>> {
+    Pace::new(OwnDesk { clock, others }, Patience::usual())
+}
+
+/// A peer whose every byte takes so many seconds.
+fn peer(clock: &OwnClock, seconds: u64) -> Slow<'_> {
+    Slow {
+        clock,
+        step: Duration::from_secs(seconds),
+    }
+}
+
+/// How many bytes a reader gives, one a read, before it fails, 100 at most.
+fn bytes_read(reader: &mut TimedReader<'_, Slow<'_>, OwnDesk<'_>>) -> u32 {
     let mut count = 0u32;
     for _ in 0..100 {
         if reader.read(&mut [0u8; 8]).is_err() {
@@ -17,8 +30,8 @@ fn bytes_read(reader: &mut TimedReader<'_, Trickle, &OwnClock>) -> u32 {
     count
 }
 
-/// How many bytes a writer takes, one a write, before it fails.
-fn bytes_written(writer: &mut TimedWriter<'_, Trickle, &OwnClock>) -> u32 {
+/// How many bytes a writer takes, one a write, before it fails, 100 at most.
+fn bytes_written(writer: &mut TimedWriter<'_, Slow<'_>, OwnDesk<'_>>) -> u32 {
     let mut count = 0u32;
     for _ in 0..100 {
         if writer.write(b"answers").is_err() {
@@ -31,31 +44,62 @@ fn bytes_written(writer: &mut TimedWriter<'_, Trickle, &OwnClock>) -> u32 {
 
 #[test]
 fn a_peer_that_trickles_a_request_has_10_seconds_in_all(rt: HostRuntime) -> Result<(), Fail> {
-    let clock = OwnClock::new(Duration::from_secs(3));
-    let pace = Pace::new(&clock, Patience::usual());
-    let mut reader = TimedReader::new(Trickle, &pace);
+    let clock = OwnClock::new();
+    let pace = pace_at(&clock, false);
+    let mut reader = TimedReader::new(peer(&clock, 3), &pace);
     assert!(rt; bytes_read(&mut reader) == 5);
     Ok(())
 }
 
 #[test]
-fn a_peer_that_trickles_answers_has_10_seconds_in_all(rt: HostRuntime) -> Result<(), Fail> {
-    let clock = OwnClock::new(Duration::from_secs(3));
-    let pace = Pace::new(&clock, Patience::usual());
-    let mut writer = TimedWriter::new(Trickle, &pace);
+fn a_peer_that_reads_its_answers_slowly_has_10_seconds_in_all(rt: HostRuntime) -> Result<(), Fail> {
+    let clock = OwnClock::new();
+    let pace = pace_at(&clock, false);
+    let mut writer = TimedWriter::new(peer(&clock, 3), &pace);
     assert!(rt; bytes_written(&mut writer) == 4);
     Ok(())
 }
 
 #[test]
 fn each_request_and_each_answer_has_its_time(rt: HostRuntime) -> Result<(), Fail> {
-    let clock = OwnClock::new(Duration::from_secs(3));
-    let pace = Pace::new(&clock, Patience::usual());
-    let mut reader = TimedReader::new(Trickle, &pace);
-    let mut writer = TimedWriter::new(Trickle, &pace);
+    let clock = OwnClock::new();
+    let pace = pace_at(&clock, false);
+    let mut reader = TimedReader::new(peer(&clock, 3), &pace);
+    let mut writer = TimedWriter::new(peer(&clock, 3), &pace);
     let first = (bytes_read(&mut reader), bytes_written(&mut writer));
     writer.flush()?;
     let second = (bytes_read(&mut reader), bytes_written(&mut writer));
     assert!(rt; first == (5, 4) && second == (5, 4));
+    Ok(())
+}
+
+/// How many requests of one byte a peer has answered, each of which takes a second, before its turn
+/// ends, 100 at most; and whether it ended by time.
+fn turn(others: bool) -> (u32, bool) {
+    let clock = OwnClock::new();
+    let pace = pace_at(&clock, others);
+    let mut reader = TimedReader::new(peer(&clock, 1), &pace);
+    let mut writer = TimedWriter::new(peer(&clock, 0), &pace);
+    let mut count = 0u32;
+    for _ in 0..100 {
+        if reader.read(&mut [0u8; 8]).is_err() || writer.flush().is_err() {
+            break;
+        }
+        count = count.saturating_add(1);
+    }
+    (count, pace.is_over())
+}
+
+#[test]
+fn while_others_wait_a_turn_ends_after_10_seconds_and_what_came_before(
+    rt: HostRuntime,
+) -> Result<(), Fail> {
+    assert!(rt; turn(true) == (11, true));
+    Ok(())
+}
+
+#[test]
+fn a_peer_alone_keeps_its_connection_for_a_minute(rt: HostRuntime) -> Result<(), Fail> {
+    assert!(rt; turn(false) == (61, true));
     Ok(())
 }

@@ -1,15 +1,16 @@
 //! Clients of a server.
 use crate::doubles::{NO_NAMES, ShortNet};
 use builder::RingMachine;
-use http_sockets::{HourClock, ServeFault, Server, serve_connections};
+use http_messages::Audience;
+use http_sockets::{HourClock, ServeFault, Server, ServiceEnd, serve_connections, serve_on};
 use request_book::{Book, MemKeeper};
 use ring_model::Rings;
 use ring_words::{Command, Limits, Port, Reply};
 use std::alloc::Global;
 use std::io::{Read, Write};
-use std::net::{SocketAddr, TcpStream};
+use std::net::{Net, OpenStream, SocketAddr};
 use std::test::Fail;
-use std::time::{Duration, Instant};
+use std::time::{Clock, Duration, Instant};
 use timed_streams::Patience;
 
 pub type Memory = MemKeeper<Rings, Command, Reply>;
@@ -43,6 +44,8 @@ fn patience(between: u64, within: u64, after: u64) -> Patience {
         between: Duration::from_millis(between),
         within: Duration::from_millis(within),
         after: Duration::from_millis(after),
+        among_others: Duration::from_secs(60),
+        in_all: Duration::from_secs(60),
     }
 }
 
@@ -50,8 +53,8 @@ fn patience(between: u64, within: u64, after: u64) -> Patience {
 type Talk<'a> = (&'a [&'a str], &'a [&'a str]);
 
 /// A client that has sent these texts, and is not done.
-fn client(rt: &HostRuntime, address: SocketAddr, texts: &[&str]) -> Result<TcpStream, Fail> {
-    let mut stream = TcpStream::connect(rt, address)?;
+fn client<R: Net>(rt: &R, address: SocketAddr, texts: &[&str]) -> Result<R::Stream, Fail> {
+    let mut stream = rt.connect(address)?;
     stream.set_read_timeout(Some(Duration::from_secs(5)))?;
     stream.set_write_timeout(Some(Duration::from_secs(5)))?;
     for text in texts {
@@ -73,27 +76,31 @@ pub fn are_joined(bytes: &[u8], texts: &[&str]) -> bool {
 }
 
 /// Whether a client gets exactly these texts until the end.
-fn gets(rt: &HostRuntime, mut stream: TcpStream, want: &[&str]) -> Result<bool, Fail> {
-    let mut bytes = Vec::new(rt.alloc());
+fn gets<S: Read + Drop>(alloc: Global, mut stream: S, want: &[&str]) -> Result<bool, Fail> {
+    let mut bytes = Vec::new(alloc);
     stream.read_to_end(&mut bytes)?;
     Ok(are_joined(&bytes, want))
 }
 
 /// Whether each client gets what its talk says.
-fn all_get(rt: &HostRuntime, streams: Vec<TcpStream>, talks: &[Talk<'_>]) -> Result<bool, Fail> {
+fn all_get<S: Read + Drop>(
+    alloc: Global,
+    streams: Vec<S>,
+    talks: &[Talk<'_>],
+) -> Result<bool, Fail> {
     let mut all = true;
     for (stream, talk) in streams.into_iter().zip(talks) {
-        all = gets(rt, stream, talk.1)? && all;
+        all = gets(alloc, stream, talk.1)? && all;
     }
     Ok(all)
 }
 
 /// The clients of some talks, each of which has sent its texts.
-fn clients(
-    rt: &HostRuntime,
+fn clients<R: AllocGlobal + Net>(
+    rt: &R,
     address: SocketAddr,
     talks: &[Talk<'_>],
-) -> Result<Vec<TcpStream>, Fail> {
+) -> Result<Vec<R::Stream>, Fail> {
     let mut streams = Vec::new(rt.alloc());
     for talk in talks {
         streams.push(client(rt, address, talk.0)?)?;
@@ -102,20 +109,20 @@ fn clients(
 }
 
 /// Serves so many connections over a new book.
-fn serve_new_book(
-    rt: &HostRuntime,
-    server: &mut Server<'_, HostRuntime>,
+fn serve_new_book<R: AllocGlobal + Net + Clock>(
+    rt: &R,
+    server: &mut Server<'_, R>,
     count: u16,
 ) -> Result<(), ServeFault> {
     let mut clock = HourClock::new(rt, Some(7));
     let mut book = open(rt.alloc());
-    server.serve(count, &mut clock, &mut book, NO_NAMES)
+    server.serve(Audience::Anyone, count, &mut clock, &mut book, NO_NAMES)
 }
 
 /// Serves so many connections over a new book, and tells how long that took.
-fn time_of_serving(
-    rt: &HostRuntime,
-    server: &mut Server<'_, HostRuntime>,
+fn time_of_serving<R: AllocGlobal + Net + Clock>(
+    rt: &R,
+    server: &mut Server<'_, R>,
     count: u16,
 ) -> Result<Duration, Fail> {
     let began = Instant::now(rt)?;
@@ -125,8 +132,8 @@ fn time_of_serving(
 
 /// Serves a client for each talk over a new book: whether each gets what its talk says, and how
 /// long the serving took.
-fn served(
-    rt: &HostRuntime,
+fn served<R: AllocGlobal + Net + Clock>(
+    rt: &R,
     patience: Patience,
     talks: &[Talk<'_>],
 ) -> Result<(bool, Duration), Fail> {
@@ -134,7 +141,7 @@ fn served(
     let streams = clients(rt, server.address()?, talks)?;
     let count = u16::try_from(talks.len()).unwrap_or(0);
     let took = time_of_serving(rt, &mut server, count)?;
-    Ok((all_get(rt, streams, talks)?, took))
+    Ok((all_get(rt.alloc(), streams, talks)?, took))
 }
 
 /// Whether each talk goes as it says, in at least so many milliseconds and under four seconds.
@@ -178,6 +185,16 @@ fn silence_between_requests_ends_sooner_than_within_one(rt: HostRuntime) -> Resu
 }
 
 #[test]
+fn a_turn_ends_where_another_client_waits(rt: HostRuntime) -> Result<(), Fail> {
+    let patience = Patience {
+        among_others: Duration::ZERO,
+        ..patience(9000, 1000, 50)
+    };
+    assert!(rt; goes_so(&rt, patience, 0, &[(&[CREATE], &[CREATED]), TWO])?);
+    Ok(())
+}
+
+#[test]
 fn what_comes_behind_the_last_request_loses_no_answer(rt: HostRuntime) -> Result<(), Fail> {
     let mut many = [CREATE; 1201];
     many[0] = LAST;
@@ -187,18 +204,18 @@ fn what_comes_behind_the_last_request_loses_no_answer(rt: HostRuntime) -> Result
 }
 
 /// The port of a server.
-fn port_of(server: &Server<'_, HostRuntime>) -> Result<Port, Fail> {
+fn port_of<R: Net>(server: &Server<'_, R>) -> Result<Port, Fail> {
     let port = server.address()?.port();
     Ok(Port::new(port).ok_or("a port")?)
 }
 
 /// A port that a server had, and gave back.
-fn free_port(rt: &HostRuntime) -> Result<Port, Fail> {
+fn free_port<R: Net>(rt: &R) -> Result<Port, Fail> {
     port_of(&Server::bind(rt, 0, Patience::usual())?)
 }
 
 /// Serves no connection at a port.
-fn serve_none(rt: &HostRuntime, port: Port) -> Result<(), ServeFault> {
+fn serve_none<R: AllocGlobal + Net + Clock>(rt: &R, port: Port) -> Result<(), ServeFault> {
     let mut book = open(rt.alloc());
     let mut clock = HourClock::new(rt, Some(7));
     serve_connections(rt, port, 0, &mut clock, &mut book, NO_NAMES)
@@ -212,10 +229,25 @@ fn no_connection_is_waited_for_at_count_0(rt: HostRuntime) -> Result<(), Fail> {
 }
 
 #[test]
+fn the_very_port_is_bound_on_127_0_0_1(rt: HostRuntime) -> Result<(), Fail> {
+    let machine = (ShortNet::new(0), rt.alloc());
+    let port = Port::new(80).ok_or("a port")?;
+    let mut book = open(rt.alloc());
+    let mut clock = HourClock::new(&machine, Some(7));
+    let served = serve_connections(&machine, port, 0, &mut clock, &mut book, NO_NAMES);
+    assert!(rt; served == Ok(()) && machine.0.bound.get() == 80);
+    Ok(())
+}
+
+/// Serves no connection at a port that another server has.
+fn serve_taken<R: AllocGlobal + Net + Clock>(rt: &R) -> Result<Result<(), ServeFault>, Fail> {
+    let server = Server::bind(rt, 0, Patience::usual())?;
+    Ok(serve_none(rt, port_of(&server)?))
+}
+
+#[test]
 fn a_port_that_is_taken_is_told(rt: HostRuntime) -> Result<(), Fail> {
-    let server = Server::bind(&rt, 0, Patience::usual())?;
-    let taken = port_of(&server)?;
-    assert!(rt; serve_none(&rt, taken) == Err(ServeFault::NetFailed));
+    assert!(rt; serve_taken(&rt)? == Err(ServeFault::NetFailed));
     Ok(())
 }
 
@@ -230,8 +262,8 @@ fn served_twice(
     let mut book = open(alloc);
     let mut clock = HourClock::new(&machine, Some(7));
     let mut server = Server::bind(&machine, 0, Patience::usual())?;
-    let first = server.serve(count, &mut clock, &mut book, NO_NAMES);
-    let second = server.serve(again, &mut clock, &mut book, NO_NAMES);
+    let first = server.serve(Audience::Anyone, count, &mut clock, &mut book, NO_NAMES);
+    let second = server.serve(Audience::Anyone, again, &mut clock, &mut book, NO_NAMES);
     Ok((first, second))
 }
 
@@ -239,7 +271,7 @@ fn served_twice(
 fn a_peer_that_is_gone_is_passed_over_and_a_net_that_fails_is_told(
     rt: HostRuntime,
 ) -> Result<(), Fail> {
-    let net = ShortNet { peers: 1 };
+    let net = ShortNet::new(1);
     let want = Ok((Ok(()), Err(ServeFault::NetFailed)));
     assert!(rt; served_twice(rt.alloc(), net, 1, 1) == want);
     Ok(())
@@ -249,8 +281,26 @@ fn a_peer_that_is_gone_is_passed_over_and_a_net_that_fails_is_told(
 fn as_many_connections_are_served_as_a_service_may_be_asked_for(
     rt: HostRuntime,
 ) -> Result<(), Fail> {
-    let net = ShortNet { peers: 131070 };
+    let net = ShortNet::new(131070);
     let want = Ok((Ok(()), Ok(())));
     assert!(rt; served_twice(rt.alloc(), net, 65535, 65535) == want);
+    Ok(())
+}
+
+/// Why a service over so many peers ends.
+fn served_on(alloc: Global, peers: u32) -> Result<ServiceEnd, ServeFault> {
+    let machine = (ShortNet::new(peers), alloc);
+    let mut book = open(alloc);
+    let mut clock = HourClock::new(&machine, Some(7));
+    let mut server = Server::bind(&machine, 0, Patience::usual())?;
+    let audience = Audience::Programs(&[]);
+    Ok(serve_on(&mut server, audience, &mut clock, &mut book, NO_NAMES))
+}
+
+#[test]
+fn a_service_goes_on_past_65535_connections_and_ends_where_none_comes(
+    rt: HostRuntime,
+) -> Result<(), Fail> {
+    assert!(rt; served_on(rt.alloc(), 65536) == Ok(ServiceEnd::NetFailed));
     Ok(())
 }

@@ -7,34 +7,37 @@ use ring_words::Port;
 use std::alloc::Global;
 use std::io::{Read, Write};
 use std::net::OpenStream;
-use std::time::Clock;
-use timed_streams::Patience;
+use timed_streams::{Desk, Patience};
 
-/// Gives connections, one after another.
+/// Both ends of a connection: two handles of one stream, of which one is read and the other is
+/// written.
+#[derive(Drop)]
+pub struct Ends<S> {
+    /// What is read.
+    pub reader: S,
+    /// What is written.
+    pub writer: S,
+}
+
+/// Gives connections, one after another, and knows whether others wait.
 ///
 /// What it says of them is its own: who serves them can tell of a connection only where `accept`
 /// gave it.
-pub trait Door: Drop {
+pub trait Door: Desk + Drop {
     /// The stream of a connection.
     type Stream: Read + Write + OpenStream + Drop;
 
-    /// What tells how long a client was waited for.
-    type Time: Clock;
-
-    /// The first gave this stream, and became the second.
-    ghost gives: { Self → Self.Stream → Self → Type 0 };
+    /// The first gave these two ends of a stream, and became the second.
+    ghost gives: { Self → Self.Stream → Self.Stream → Self → Type 0 };
 
     /// The first could give no stream any more, and became the second.
     ghost fails: { Self → Self → Type 0 };
 
-    /// The stream of the next connection. `NetFailed` says that there will be none.
-    fn accept(&mut self) -> Result<Self::Stream, ServeFault>
-        ensures given { MatchResult result (λ stream. gives self.old stream self.new)
+    /// Both ends of the next connection. `NetFailed` says that there will be none.
+    fn accept(&mut self) -> Result<Ends<Self::Stream>, ServeFault>
+        ensures given { MatchResult result (λ ends. gives self.old ends.reader ends.writer self.new)
             (λ _. fails self.old self.new) }
         ensures fault { IfErr result (λ fault. fault ≡ NetFailed) };
-
-    /// What tells the time.
-    fn time(&self) -> &Self::Time;
 
     /// How long a client may hold who serves it.
     fn patience(&self) -> Patience;
@@ -51,8 +54,11 @@ pub trait Ports {
     /// This port was opened, and this gives its connections.
     ghost opens: { ℕ → Self.Door → Type 0 };
 
+    /// This port can't be had.
+    ghost shuts: { ℕ → Type 0 };
+
     /// Opens a port. `NetFailed` says that it can't be had.
     fn open(self, port: Port) -> Result<Self::Door, ServeFault>
-        ensures opened { IfOk result (opens port) }
+        ensures opened { MatchResult result (opens port) (λ _. shuts port) }
         ensures fault { IfErr result (λ fault. fault ≡ NetFailed) };
 }

@@ -1,6 +1,7 @@
 //! What ends serving.
 use byte_streams::StreamFault;
 use std::alloc::AllocError;
+use std::io;
 
 /// What ends serving.
 #[derive(Clone, Copy, Debug, PartialEq, Eq)]
@@ -9,6 +10,17 @@ pub enum ServeFault {
     NetFailed,
     /// The stream that was served ended so.
     Stream(StreamFault),
+}
+
+impl From<io::Error> for ServeFault {
+    ghost use Rattle.std.specs.Prelude.{◌≡◌};
+    ghost use Rattle.http_sockets.specs.declared.fault.ServeFault.TheVariants.{NetFailed};
+
+    ghost from_gives = { λ _ result. result ≡ NetFailed };
+
+    fn from(_error: io::Error) -> ServeFault {
+        ServeFault::NetFailed
+    }
 }
 
 impl From<StreamFault> for ServeFault {
@@ -32,4 +44,15 @@ impl From<AllocError> for ServeFault {
     fn from(_error: AllocError) -> ServeFault {
         ServeFault::Stream(StreamFault::NoMemory)
     }
+}
+
+/// Why a service that goes on until it is stopped has ended by itself.
+#[derive(Clone, Copy, Debug, PartialEq, Eq)]
+pub enum ServiceEnd {
+    /// The store failed, and the book is closed.
+    StoreFailed,
+    /// No connection could be accepted any more.
+    NetFailed,
+    /// 2^64 - 1 connections were served.
+    AllServed,
 }

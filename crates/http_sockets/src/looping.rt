@@ -1,26 +1,30 @@
 //! Bytes that are served by way of a socket of this machine.
-ghost use Rattle.std.specs.Prelude.{◌≡◌, ◌≤◌, ◌⊎◌, ℕ, List, IfErr, IfOk, MatchResult, OnOk, length};
+ghost use Rattle.std.specs.Prelude.{◌≡◌, ◌≤◌, ℕ, List, IfErr, IfOk, None, OnOk, length};
 ghost use Rattle.std.specs.Io.KnownBytes.{Appends};
 ghost use Rattle.builder.specs.Safety.{IsSafeRun};
-ghost use Rattle.byte_streams.specs.Counted.{Counts, IsFlushed, one_more, write_faults, writer_of};
+ghost use Rattle.byte_streams.specs.Counted.{Counts, IsFlushed, write_faults, writer_of};
 ghost use Rattle.byte_streams.specs.declared.fault.StreamFault.TheVariants.{WriteFailed};
-ghost use Rattle.http_sockets.specs.Connections.{IsTalk, OneServed, OneServedOrNone, most_looped};
-ghost use Rattle.http_sockets.specs.declared.fault.ServeFault.TheVariants.{NetFailed, Stream};
+ghost use Rattle.http_messages.specs.declared.audience.Audience.TheVariants.{Anyone};
+ghost use Rattle.http_sockets.specs.Connections.{LoopFails, IsTalk, OneEnded, OneServedOrNone};
+ghost use Rattle.http_sockets.specs.Connections.{most_looped};
+ghost use Rattle.http_sockets.specs.Inner.Stopping.{fault_in};
+ghost use Rattle.http_sockets.specs.declared.fault.ServeFault.TheVariants.{NetFailed};
 
-use crate::doors::Door;
+use crate::doors::{Door, Ends};
 use crate::fault::ServeFault;
 use crate::server::Server;
 use crate::serving::{close, converse};
 use builder::RingMachine;
 use byte_streams::{CountedWriter, StreamFault, write_text};
 use http_api::Clock;
+use http_messages::Audience;
 use path_lookup::HashNames;
 use request_book::{Book, Keeper};
 use std::alloc::Global;
 use std::io::{self, Read, Write};
 use std::net::{Net, OpenStream, Shutdown, SocketAddr};
 use std::time;
-use timed_streams::{CappedWriter, Pace, Patience, TimedReader, TimedWriter, fill_within};
+use timed_streams::{Alone, CappedWriter, Pace, Patience, TimedReader, TimedWriter, fill_within};
 
 /// How many bytes the connection carries at most each way.
 pub const MOST_LOOPED: usize = 32768;
@@ -28,18 +32,16 @@ pub const MOST_LOOPED: usize = 32768;
 /// How many other peers may come before the program's own.
 const MOST_STRANGERS: u32 = 128;
 
-/// The two ends of a connection of this machine with itself. The end that is served has two
-/// handles.
+/// The ends of a connection of this machine with itself.
 #[derive(Drop)]
-struct Ends<S> {
+struct Loop<S> {
     client: S,
-    served: S,
-    twin: S,
+    served: Ends<S>,
 }
 
 /// Connects, sends these bytes, and ends the sending side.
 fn send<R: Net + time::Clock>(rt: &R, address: SocketAddr, input: &[u8]) -> io::Result<R::Stream> {
-    let pace = Pace::new(rt, Patience::usual());
+    let pace = Pace::new(Alone(rt), Patience::usual());
     let mut writer = TimedWriter::new(rt.connect(address)?, &pace);
     writer.write_all(input)?;
     let stream = writer.into_inner();
@@ -51,41 +53,30 @@ fn send<R: Net + time::Clock>(rt: &R, address: SocketAddr, input: &[u8]) -> io::
 fn accept_from<R: AllocGlobal + Net + time::Clock>(
     server: &mut Server<'_, R>,
     client: SocketAddr,
-) -> Result<R::Stream, ServeFault>
+) -> Result<Ends<R::Stream>, ServeFault>
     ensures { IfErr result (λ fault. fault ≡ NetFailed) }
 {
     for _ in 0..MOST_STRANGERS + 1 {
-        let stream = server.accept()?;
-        if stream.peer_addr().ok() == Some(client) {
-            return Ok(stream);
+        let ends = server.accept()?;
+        if ends.reader.peer_addr().ok() == Some(client) {
+            return Ok(ends);
         }
     }
     Err(ServeFault::NetFailed)
 }
 
-/// Both ends of a connection over which these bytes were sent.
-fn join_ends<R: AllocGlobal + Net + time::Clock>(
+/// A connection of this machine with itself, over which these bytes were sent.
+fn join<R: AllocGlobal + Net + time::Clock>(
     rt: &R,
     input: &[u8],
-) -> Result<Ends<R::Stream>, ServeFault>
+) -> Result<Loop<R::Stream>, ServeFault>
     ensures { IfErr result (λ fault. fault ≡ NetFailed) }
 {
     let mut server = Server::bind(rt, 0, Patience::usual())?;
-    let Ok(client) = send(rt, server.address()?, input) else {
-        return Err(ServeFault::NetFailed);
-    };
-    let Ok(address) = client.local_addr() else {
-        return Err(ServeFault::NetFailed);
-    };
+    let client = send(rt, server.address()?, input)?;
+    let address = client.local_addr()?;
     let served = accept_from(&mut server, address)?;
-    let Ok(twin) = served.try_clone() else {
-        return Err(ServeFault::NetFailed);
-    };
-    Ok(Ends {
-        client,
-        served,
-        twin,
-    })
+    Ok(Loop { client, served })
 }
 
 /// Serves a stream to its end and closes it. Answers past 32768 bytes are not written.
@@ -97,20 +88,19 @@ fn serve_capped<
 >(
     alloc: Global,
     time: &T,
-    stream: S,
-    twin: S,
+    ends: Ends<S>,
     clock: &mut C,
     book: &mut Book<RingMachine, K>,
     names: HashNames<'_>,
 ) -> Result<u32, StreamFault>
-    ensures { (one : OneServed K.Keeper C.tells names.entry.prefix.now names.entry.suffix.now
-        (IsTalk S.remaining S.contents) (clock.old, book.old) (clock.new, book.new))
-        × (one.connection.stream ≡ stream) }
+    ensures { OneEnded K.Keeper C.tells names.entry.prefix.now names.entry.suffix.now
+        (IsTalk Anyone S.remaining S.contents) (clock.old, book.old) (clock.new, book.new)
+        (fault_in result) }
 {
-    let pace = Pace::new(time, Patience::usual());
-    let reader = TimedReader::new(stream, &pace);
-    let writer = CappedWriter::new(TimedWriter::new(twin, &pace), MOST_LOOPED);
-    let talk = converse(alloc, reader, writer, clock, book, names);
+    let pace = Pace::new(Alone(time), Patience::usual());
+    let reader = TimedReader::new(ends.reader, &pace);
+    let writer = CappedWriter::new(TimedWriter::new(ends.writer, &pace), MOST_LOOPED);
+    let talk = converse(alloc, Audience::Anyone, reader, writer, clock, book, names);
     close(talk.stream, time, Patience::usual());
     talk.result
 }
@@ -127,29 +117,20 @@ fn answer_into<R: AllocGlobal + Net + time::Clock, C: Clock, K: Keeper<RingMachi
 ) -> Result<(usize, Result<u32, StreamFault>), ServeFault>
     ensures bound { IfOk result (λ told. told.0 ≤ length room.new) }
     ensures same { length room.new ≡ length room.old }
-    ensures served { OnOk result (OneServed K.Keeper C.tells names.entry.prefix.now
-        names.entry.suffix.now (IsTalk R.Stream.remaining R.Stream.contents)
-        (clock.old, book.old) (clock.new, book.new)) }
+    ensures served { IfOk result (λ told. OneEnded K.Keeper C.tells names.entry.prefix.now
+        names.entry.suffix.now (IsTalk Anyone R.Stream.remaining R.Stream.contents)
+        (clock.old, book.old) (clock.new, book.new) (fault_in told.1)) }
     ensures failed { IfErr result (λ fault. (fault ≡ NetFailed)
         × OneServedOrNone K.Keeper C.tells names.entry.prefix.now names.entry.suffix.now
-        (IsTalk R.Stream.remaining R.Stream.contents) (clock.old, book.old) (clock.new, book.new)) }
+        (IsTalk Anyone R.Stream.remaining R.Stream.contents)
+        (clock.old, book.old) (clock.new, book.new)) }
     ensures safe { K.sound book.new.keeper → IsSafeRun book.old.machine.limits
         (K.content book.old.keeper) (K.content book.new.keeper) }
 {
-    let Ok(ends) = join_ends(rt, input) else {
-        return Err(ServeFault::NetFailed);
-    };
-    let Ends {
-        mut client,
-        served,
-        twin,
-    } = ends;
-    let alloc = rt.alloc();
-    let result = serve_capped(alloc, rt, served, twin, clock, book, names);
-    match fill_within(&mut client, rt, Patience::usual().between, room) {
-        Ok(count) => Ok((count, result)),
-        Err(_) => Err(ServeFault::NetFailed),
-    }
+    let Loop { mut client, served } = join(rt, input)?;
+    let result = serve_capped(rt.alloc(), rt, served, clock, book, names);
+    let count = fill_within(&mut client, rt, Patience::usual().between, room)?;
+    Ok((count, result))
 }
 
 /// Writes all of a text of 32768 bytes at most, and flushes the writer. Where that fails, a
@@ -185,25 +166,21 @@ pub fn loop_over<R: AllocGlobal + Net + time::Clock, W: Write, C: Clock, K: Keep
     book: &mut Book<RingMachine, K>,
     names: HashNames<'_>,
 ) -> Result<(), ServeFault>
-    ensures served { OnOk result (OneServed K.Keeper C.tells names.entry.prefix.now
-        names.entry.suffix.now (IsTalk R.Stream.remaining R.Stream.contents)
-        (clock.old, book.old) (clock.new, book.new)) }
-    ensures failed { IfErr result (λ _. OneServedOrNone K.Keeper C.tells names.entry.prefix.now
-        names.entry.suffix.now (IsTalk R.Stream.remaining R.Stream.contents)
-        (clock.old, book.old) (clock.new, book.new)) }
+    ensures served { OnOk result (OneEnded K.Keeper C.tells names.entry.prefix.now
+        names.entry.suffix.now (IsTalk Anyone R.Stream.remaining R.Stream.contents)
+        (clock.old, book.old) (clock.new, book.new) None) }
+    ensures failed { IfErr result (LoopFails K.Keeper C.tells names.entry.prefix.now
+        names.entry.suffix.now (IsTalk Anyone R.Stream.remaining R.Stream.contents)
+        (clock.old, book.old) (clock.new, book.new) (write_faults writer.old)
+        (write_faults writer.new)) }
     ensures few { (answers : List ℕ) × (length answers ≤ most_looped)
         × Appends (W.contents (writer_of writer.old)) (W.contents (writer_of writer.new)) answers }
-    ensures cause { MatchResult result (λ _. write_faults writer.new ≡ write_faults writer.old)
-        (λ fault. (write_faults writer.new ≡ write_faults writer.old)
-        ⊎ ((fault ≡ Stream WriteFailed)
-        × (write_faults writer.new ≡ one_more (write_faults writer.old)))) }
+    ensures ok { OnOk result (write_faults writer.new ≡ write_faults writer.old) }
     ensures flushed { OnOk result (IsFlushed writer.new) }
     ensures safe { K.sound book.new.keeper → IsSafeRun book.old.machine.limits
         (K.content book.old.keeper) (K.content book.new.keeper) }
 {
-    let Ok(mut room) = vec![in rt.alloc(); 0u8; MOST_LOOPED] else {
-        return Err(ServeFault::Stream(StreamFault::NoMemory));
-    };
+    let mut room = vec![in rt.alloc(); 0u8; MOST_LOOPED]?;
     let (count, result) = answer_into(rt, input, &mut room, clock, book, names)?;
     write_few(writer, &room[..count])?;
     result?;

@@ -4,18 +4,20 @@ ghost use Rattle.builder.specs.Safety.{IsSafeRun};
 ghost use Rattle.byte_streams.specs.Counted.{Counts};
 ghost use Rattle.http_api.specs.Served.{ServesHttp};
 ghost use Rattle.http_sockets.specs.Connections.{IsTalk, OneServed, PortFailed, PortServed};
-ghost use Rattle.http_sockets.specs.Connections.{ServedUpTo};
-ghost use Rattle.http_sockets.specs.Inner.Stopping.{StopsServing};
+ghost use Rattle.http_sockets.specs.Connections.{ServedUntil, ServedUpTo};
+ghost use Rattle.http_sockets.specs.Inner.Stopping.{ServesEnds, StopsServing};
 ghost use Rattle.http_sockets.specs.Listening.{AcceptsNone, AcceptsOne, accepted_count, net_faults};
 ghost use Rattle.http_sockets.specs.declared.fault.ServeFault.TheVariants.{NetFailed};
+ghost use Rattle.http_messages.specs.declared.audience.Audience.TheVariants.{Anyone};
 ghost use Rattle.http_stream.specs.Serving.{RequestsServed};
 
-use crate::doors::{Door, Ports};
-use crate::fault::ServeFault;
+use crate::doors::{Door, Ends, Ports};
+use crate::fault::{ServeFault, ServiceEnd};
 use crate::server::Server;
 use builder::RingMachine;
 use byte_streams::{CountedReader, CountedWriter, StreamFault};
-use http_api::{Clock, serve_stream};
+use http_api::{Clock, serve_audience};
+use http_messages::Audience;
 use path_lookup::HashNames;
 use request_book::{Book, Keeper};
 use ring_words::Port;
@@ -23,7 +25,7 @@ use std::alloc::Global;
 use std::io::{Read, Write};
 use std::net::{Net, OpenStream, Shutdown};
 use std::time;
-use timed_streams::{Pace, Patience, TimedReader, TimedWriter, read_away};
+use timed_streams::{Desk, Pace, Patience, TimedReader, TimedWriter, read_away};
 
 /// What a stream was served to: how that ended, and both ends as they were left.
 #[derive(Drop)]
@@ -33,32 +35,42 @@ pub(crate) struct Conversation<S, W> {
     pub(crate) writer: W,
 }
 
-/// Serves a stream, and gives it back.
+/// Serves what an audience sends on a stream, and gives it back.
 pub(crate) fn converse<
     S: Read + OpenStream + Drop,
-    T: time::Clock,
+    D: Desk,
     W: Write + Drop,
     C: Clock,
     K: Keeper<RingMachine>,
 >(
     alloc: Global,
-    reader: TimedReader<'_, S, T>,
+    audience: Audience<'_>,
+    reader: TimedReader<'_, S, D>,
     writer: W,
     clock: &mut C,
     book: &mut Book<RingMachine, K>,
     names: HashNames<'_>,
 ) -> Conversation<S, W>
-    ensures served { IfOk result.result (RequestsServed
+    ensures served { IfOk result.result (RequestsServed audience.entry
         (ServesHttp K.Keeper C.tells names.entry.prefix.now names.entry.suffix.now)
         (S.remaining reader.entry.stream) (W.contents writer) (W.contents result.writer)
         (clock.old, book.old) (clock.new, book.new)) }
-    ensures stopped { IfErr result.result (StopsServing K.Keeper C.tells names.entry.prefix.now
-        names.entry.suffix.now (S.remaining reader.entry.stream) (S.remaining result.stream)
-        (W.contents writer) (W.contents result.writer) (clock.old, book.old) (clock.new, book.new)) }
+    ensures stopped { IfErr result.result (StopsServing audience.entry K.Keeper C.tells
+        names.entry.prefix.now names.entry.suffix.now (S.remaining reader.entry.stream)
+        (S.remaining result.stream) (W.contents writer) (W.contents result.writer)
+        (clock.old, book.old) (clock.new, book.new)) }
 {
     let mut reader = CountedReader::new(reader);
     let mut writer = CountedWriter::new(writer);
-    let result = serve_stream(alloc, &mut reader, &mut writer, clock, book, names);
+    let result = serve_audience(
+        alloc,
+        audience,
+        &mut reader,
+        &mut writer,
+        clock,
+        book,
+        names,
+    );
     Conversation {
         result,
         stream: reader.into_inner().into_inner(),
@@ -80,53 +92,85 @@ pub(crate) fn close<S: Read + OpenStream + Drop, T: time::Clock>(
 /// Serves one connection to its end.
 fn serve_one<D: Door, C: Clock, K: Keeper<RingMachine>>(
     door: &D,
-    stream: D::Stream,
+    audience: Audience<'_>,
+    ends: Ends<D::Stream>,
     clock: &mut C,
     book: &mut Book<RingMachine, K>,
     names: HashNames<'_>,
 )
-    ensures { (one : OneServed K.Keeper C.tells names.entry.prefix.now names.entry.suffix.now
-        (IsTalk D.Stream.remaining D.Stream.contents) (clock.old, book.old) (clock.new, book.new))
-        × (one.connection.stream ≡ stream) }
+    ensures { ServesEnds audience.entry K.Keeper C.tells names.entry.prefix.now
+        names.entry.suffix.now D.Stream.remaining D.Stream.contents ends.reader ends.writer
+        (clock.old, book.old) (clock.new, book.new) }
 {
     // Answers that are written are sent at once. Where the machine can't, they come later.
-    let _ = stream.set_nodelay(true);
-    let Ok(twin) = stream.try_clone() else {
-        return;
-    };
-    let pace = Pace::new(door.time(), door.patience());
-    let reader = TimedReader::new(stream, &pace);
-    let writer = TimedWriter::new(twin, &pace);
-    let talk = converse(door.alloc(), reader, writer, clock, book, names);
-    if talk.result.is_ok() {
-        close(talk.stream, door.time(), door.patience());
+    let _ = ends.reader.set_nodelay(true);
+    let pace = Pace::new(door, door.patience());
+    let reader = TimedReader::new(ends.reader, &pace);
+    let writer = TimedWriter::new(ends.writer, &pace);
+    let talk = converse(door.alloc(), audience, reader, writer, clock, book, names);
+    if talk.result.is_ok() || pace.is_over() {
+        close(talk.stream, door, door.patience());
     }
 }
 
-/// Serves so many connections, one after another.
+/// Serves so many connections, one after another: what an audience sends on them.
 ///
 /// A stream's fault ends its connection alone, and the next one is served; what ends by time is
 /// a fault. `NetFailed` says that no connection came any more.
 pub fn serve<D: Door, C: Clock, K: Keeper<RingMachine>>(
     door: &mut D,
+    audience: Audience<'_>,
     count: u16,
     clock: &mut C,
     book: &mut Book<RingMachine, K>,
     names: HashNames<'_>,
 ) -> Result<(), ServeFault>
     ensures served { ServedUpTo K.Keeper C.tells names.entry.prefix.now names.entry.suffix.now
-        (IsTalk D.Stream.remaining D.Stream.contents) D.gives D.fails count door.old door.new
-        (clock.old, book.old) (clock.new, book.new) result }
+        (IsTalk audience.entry D.Stream.remaining D.Stream.contents) D.gives D.fails count door.old
+        door.new (clock.old, book.old) (clock.new, book.new) result }
     ensures safe { K.sound book.new.keeper → IsSafeRun book.old.machine.limits
         (K.content book.old.keeper) (K.content book.new.keeper) }
 {
     let mut served = 0;
     while served < count {
-        let stream = door.accept()?;
-        serve_one(&*door, stream, clock, book, names);
+        let ends = door.accept()?;
+        serve_one(&*door, audience, ends, clock, book, names);
         served += 1;
     }
     Ok(())
+}
+
+/// Serves connections, one after another, until the book is closed, no connection comes any more,
+/// or 2^64 - 1 were served, and tells which it was.
+///
+/// The book is closed once its store has failed in a delivery or a read, which was answered 24. The
+/// connection that asked for it is served to its end.
+pub fn serve_on<D: Door, C: Clock, K: Keeper<RingMachine>>(
+    door: &mut D,
+    audience: Audience<'_>,
+    clock: &mut C,
+    book: &mut Book<RingMachine, K>,
+    names: HashNames<'_>,
+) -> ServiceEnd
+    requires { K.fault_count book.old.keeper ≡ 0 }
+    ensures served { ServedUntil K.Keeper C.tells names.entry.prefix.now names.entry.suffix.now
+        (IsTalk audience.entry D.Stream.remaining D.Stream.contents) D.gives D.fails door.old
+        door.new (clock.old, book.old) (clock.new, book.new) result }
+    ensures safe { K.sound book.new.keeper → IsSafeRun book.old.machine.limits
+        (K.content book.old.keeper) (K.content book.new.keeper) }
+{
+    let mut served = 0u64;
+    while served < u64::MAX {
+        let Ok(ends) = door.accept() else {
+            return ServiceEnd::NetFailed;
+        };
+        serve_one(&*door, audience, ends, clock, book, names);
+        served += 1;
+        if book.is_closed() {
+            return ServiceEnd::StoreFailed;
+        }
+    }
+    ServiceEnd::AllServed
 }
 
 impl<'a, R: AllocGlobal + Net + time::Clock> Server<'a, R> {
@@ -134,14 +178,16 @@ impl<'a, R: AllocGlobal + Net + time::Clock> Server<'a, R> {
     /// and one more fault exactly where none came any more.
     pub fn serve<C: Clock, K: Keeper<RingMachine>>(
         &mut self,
+        audience: Audience<'_>,
         count: u16,
         clock: &mut C,
         book: &mut Book<RingMachine, K>,
         names: HashNames<'_>,
     ) -> Result<(), ServeFault>
         ensures served { ServedUpTo K.Keeper C.tells names.entry.prefix.now names.entry.suffix.now
-            (IsTalk R.Stream.remaining R.Stream.contents) (λ old _ new. AcceptsOne old new) AcceptsNone
-            count self.old self.new (clock.old, book.old) (clock.new, book.new) result }
+            (IsTalk audience.entry R.Stream.remaining R.Stream.contents)
+            (λ old _ _ new. AcceptsOne old new) AcceptsNone count self.old self.new
+            (clock.old, book.old) (clock.new, book.new) result }
         ensures accepted { accepted_count self.old + count < 2 ^ 64 → MatchResult result
             (λ _. accepted_count self.new ≡ accepted_count self.old + count)
             (λ _. accepted_count self.new < accepted_count self.old + count) }
@@ -149,12 +195,12 @@ impl<'a, R: AllocGlobal + Net + time::Clock> Server<'a, R> {
         ensures safe { K.sound book.new.keeper → IsSafeRun book.old.machine.limits
             (K.content book.old.keeper) (K.content book.new.keeper) }
     {
-        serve(self, count, clock, book, names)
+        serve(self, audience, count, clock, book, names)
     }
 }
 
-/// Serves so many connections of a port, one after another. `NetFailed` says that the port can't be
-/// had, or that no connection came any more.
+/// Serves so many connections of a port, one after another, whoever sends on them. `NetFailed` says
+/// that the port can't be had, or that no connection came any more.
 pub fn serve_connections<P: Ports, C: Clock, K: Keeper<RingMachine>>(
     ports: P,
     port: Port,
@@ -164,15 +210,15 @@ pub fn serve_connections<P: Ports, C: Clock, K: Keeper<RingMachine>>(
     names: HashNames<'_>,
 ) -> Result<(), ServeFault>
     ensures served { IfOk result (λ _. PortServed K.Keeper C.tells names.entry.prefix.now
-        names.entry.suffix.now (IsTalk P.Door.Stream.remaining P.Door.Stream.contents) P.Door.gives
-        P.Door.fails P.opens port count (clock.old, book.old) (clock.new, book.new)) }
+        names.entry.suffix.now (IsTalk Anyone P.Door.Stream.remaining P.Door.Stream.contents)
+        P.Door.gives P.Door.fails P.opens port count (clock.old, book.old) (clock.new, book.new)) }
     ensures failed { IfErr result (λ fault. (fault ≡ NetFailed) × PortFailed K.Keeper C.tells
         names.entry.prefix.now names.entry.suffix.now
-        (IsTalk P.Door.Stream.remaining P.Door.Stream.contents) P.Door.gives P.Door.fails P.opens port
-        count (clock.old, book.old) (clock.new, book.new)) }
+        (IsTalk Anyone P.Door.Stream.remaining P.Door.Stream.contents) P.Door.gives P.Door.fails
+        P.opens P.shuts port count (clock.old, book.old) (clock.new, book.new)) }
     ensures safe { K.sound book.new.keeper → IsSafeRun book.old.machine.limits
         (K.content book.old.keeper) (K.content book.new.keeper) }
 {
     let mut door = ports.open(port)?;
-    serve(&mut door, count, clock, book, names)
+    serve(&mut door, Audience::Anyone, count, clock, book, names)
 }

@@ -14,6 +14,7 @@ use Rattle.byte_streams.specs.declared.fault.StreamFault.TheVariants.{WriteFaile
 use Rattle.byte_streams.proofs.KnownLemmas.{Forwards-then, Forwards-none, Forwards-all}
 use Rattle.byte_streams.proofs.KnownLemmas.{Forwards-whole, beginning_of_left, beginning_then}
 use Rattle.byte_streams.proofs.InTurnLemmas.{InTurn-push}
+use Rattle.http_messages.specs.declared.audience.Audience.{Audience}
 use Rattle.http_messages.specs.declared.request.HeadFault.{HeadFault}
 use Rattle.http_messages.specs.Requests.{Ask, HasAsk, IsFaulty, StopsShort}
 use Rattle.http_stream.specs.Streams.{Item, Calls, Refuses, Follow, BeginWith}
@@ -31,9 +32,9 @@ joined-push : (texts : List (List ℕ)) (text : List ℕ) → joined (texts ++ t
 joined-push texts text = flat_map-append (λ (t : List ℕ). t) texts (text ∷ []) ∙ ap
     (λ (t : List ℕ). joined texts ++ t) (append-nil text)
 
-module _ {S : Type 0} (gives : S → Item → List ℕ → S → Type 0) where
+module _ (audience : Audience) {S : Type 0} (gives : S → Item → List ℕ → S → Type 0) where
   pub starts : (now : StreamPlace S) → now.rest ≡ [] → now.waiting ≡ [] → now.answered ≡ 0 →
-      IsMidstream gives [] now.written now.state now
+      IsMidstream audience gives [] now.written now.state now
   starts now no_bytes none no_answers = record {
     items = [];
     leads = no_bytes;
@@ -46,11 +47,11 @@ module _ {S : Type 0} (gives : S → Item → List ℕ → S → Type 0) where
   -- more bytes came
   pub more_came : (bytes more : List ℕ) (before : Option (List ℕ)) (origin : S)
       (now : StreamPlace S)
-      → IsMidstream gives bytes before origin now
-      → IsMidstream gives (bytes ++ more) before origin (record now { rest = now.rest ++ more })
+      → IsMidstream audience gives bytes before origin now
+      → IsMidstream audience gives (bytes ++ more) before origin (record now { rest = now.rest ++ more })
   more_came bytes more before origin now m = record {
     items = m.items;
-    leads = LeadTo-more bytes m.items now.rest more m.leads;
+    leads = LeadTo-more audience bytes m.items now.rest more m.leads;
     texts = m.texts;
     in_turn = m.in_turn;
     forwards = m.forwards;
@@ -60,14 +61,14 @@ module _ {S : Type 0} (gives : S → Item → List ℕ → S → Type 0) where
   -- a request that is not the last is answered
   pub answered_more : (bytes : List ℕ) (before : Option (List ℕ)) (origin : S)
       (now next : StreamPlace S) (text : List ℕ) (ask : Ask)
-      → IsMidstream gives bytes before origin now → HasAsk now.rest ask next.rest →
+      → IsMidstream audience gives bytes before origin now → HasAsk audience now.rest ask next.rest →
       ask.is_last ≡ false → gives now.state (Calls ask) text next.state
       → Forwards now.written next.written (now.waiting ++ text) next.waiting
       → next.answered ≡ min (now.answered + 1) (2 ^ 32 - 1)
-      → IsMidstream gives bytes before origin next
+      → IsMidstream audience gives bytes before origin next
   answered_more bytes before origin now next text ask m asks more gave wrote is = record {
     items = m.items ++ Calls ask ∷ [];
-    leads = LeadTo-push bytes m.items now.rest ask next.rest m.leads asks more;
+    leads = LeadTo-push audience bytes m.items now.rest ask next.rest m.leads asks more;
     texts = m.texts ++ text ∷ [];
     in_turn = InTurn-push gives origin now.state next.state m.items m.texts (Calls ask) text
         m.in_turn gave;
@@ -79,11 +80,11 @@ module _ {S : Type 0} (gives : S → Item → List ℕ → S → Type 0) where
   -- the last item is answered
   over_by : (bytes : List ℕ) (before : Option (List ℕ)) (origin : S) (now next : StreamPlace S)
       (text : List ℕ) (item : Item)
-      → (m : IsMidstream gives bytes before origin now) →
-      Follow (λ rest. ⊥) bytes (m.items ++ item ∷ []) → gives now.state item text next.state
+      → (m : IsMidstream audience gives bytes before origin now) →
+      Follow audience (λ rest. ⊥) bytes (m.items ++ item ∷ []) → gives now.state item text next.state
       → Forwards now.written next.written (now.waiting ++ text) next.waiting
       → next.answered ≡ min (now.answered + 1) (2 ^ 32 - 1)
-      → IsOver gives bytes before origin next
+      → IsOver audience gives bytes before origin next
   over_by bytes before origin now next text item m follow gave wrote is = record {
     items = m.items ++ item ∷ [];
     follow = follow;
@@ -97,33 +98,33 @@ module _ {S : Type 0} (gives : S → Item → List ℕ → S → Type 0) where
 
   pub answered_last : (bytes : List ℕ) (before : Option (List ℕ)) (origin : S)
       (now next : StreamPlace S) (left text : List ℕ) (ask : Ask)
-      → IsMidstream gives bytes before origin now → HasAsk now.rest ask left →
+      → IsMidstream audience gives bytes before origin now → HasAsk audience now.rest ask left →
       ask.is_last ≡ true → gives now.state (Calls ask) text next.state
       → Forwards now.written next.written (now.waiting ++ text) next.waiting
       → next.answered ≡ min (now.answered + 1) (2 ^ 32 - 1)
-      → IsOver gives bytes before origin next
+      → IsOver audience gives bytes before origin next
   answered_last bytes before origin now next left text ask m asks last gave wrote is =
       over_by bytes before origin now next text (Calls ask) m
-      (Follow-last (λ rest. ⊥) bytes m.items now.rest ask left m.leads asks last) gave wrote is
+      (Follow-last audience (λ rest. ⊥) bytes m.items now.rest ask left m.leads asks last) gave wrote is
 
   pub refused_last : (bytes : List ℕ) (before : Option (List ℕ)) (origin : S)
       (now next : StreamPlace S) (text : List ℕ) (why : HeadFault)
-      → IsMidstream gives bytes before origin now → IsFaulty now.rest why →
+      → IsMidstream audience gives bytes before origin now → IsFaulty audience now.rest why →
       gives now.state (Refuses why) text next.state
       → Forwards now.written next.written (now.waiting ++ text) next.waiting
       → next.answered ≡ min (now.answered + 1) (2 ^ 32 - 1)
-      → IsOver gives bytes before origin next
+      → IsOver audience gives bytes before origin next
   refused_last bytes before origin now next text why m faulty gave wrote is =
       over_by bytes before origin now next text (Refuses why) m
-      (Follow-refused (λ rest. ⊥) bytes m.items now.rest why m.leads faulty) gave wrote is
+      (Follow-refused audience (λ rest. ⊥) bytes m.items now.rest why m.leads faulty) gave wrote is
 
   -- an answer that is not wholly written
   broken_by : (bytes : List ℕ) (before : Option (List ℕ)) (origin : S) (now next : StreamPlace S)
       (text : List ℕ) (item : Item)
-      → (m : IsMidstream gives bytes before origin now) →
-      BeginWith bytes (m.items ++ item ∷ []) → gives now.state item text next.state
+      → (m : IsMidstream audience gives bytes before origin now) →
+      BeginWith audience bytes (m.items ++ item ∷ []) → gives now.state item text next.state
       → WritesBeginning now.written next.written (now.waiting ++ text)
-      → IsBroken gives bytes before origin next
+      → IsBroken audience gives bytes before origin next
   broken_by bytes before origin now next text item m begin gave wrote = record {
     items = m.items ++ item ∷ [];
     begin = begin;
@@ -135,37 +136,37 @@ module _ {S : Type 0} (gives : S → Item → List ℕ → S → Type 0) where
   }
 
   begins_on : (bytes : List ℕ) (items : List Item) (mid : List ℕ) (ask : Ask) (rest : List ℕ)
-      (last : Bool) → LeadTo bytes items mid → HasAsk mid ask rest → ask.is_last ≡ last →
-      BeginWith bytes (items ++ Calls ask ∷ [])
-  begins_on bytes items mid ask rest true l a e = Follow-last (λ rest. ⊤) bytes items mid ask rest l
+      (last : Bool) → LeadTo audience bytes items mid → HasAsk audience mid ask rest → ask.is_last ≡ last →
+      BeginWith audience bytes (items ++ Calls ask ∷ [])
+  begins_on bytes items mid ask rest true l a e = Follow-last audience (λ rest. ⊤) bytes items mid ask rest l
       a e
-  begins_on bytes items mid ask rest false l a e = Follow-stop (λ rest. ⊤) bytes (items ++
-      Calls ask ∷ []) rest (LeadTo-push bytes items mid ask rest l a e) tt
+  begins_on bytes items mid ask rest false l a e = Follow-stop audience (λ rest. ⊤) bytes (items ++
+      Calls ask ∷ []) rest (LeadTo-push audience bytes items mid ask rest l a e) tt
 
   pub broken_answer : (bytes : List ℕ) (before : Option (List ℕ)) (origin : S)
       (now next : StreamPlace S) (left text : List ℕ) (ask : Ask)
-      → IsMidstream gives bytes before origin now → HasAsk now.rest ask left →
+      → IsMidstream audience gives bytes before origin now → HasAsk audience now.rest ask left →
       gives now.state (Calls ask) text next.state
       → WritesBeginning now.written next.written (now.waiting ++ text)
-      → IsBroken gives bytes before origin next
+      → IsBroken audience gives bytes before origin next
   broken_answer bytes before origin now next left text ask m asks gave wrote =
       broken_by bytes before origin now next text (Calls ask) m
       (begins_on bytes m.items now.rest ask left ask.is_last m.leads asks refl) gave wrote
 
   pub broken_refusal : (bytes : List ℕ) (before : Option (List ℕ)) (origin : S)
       (now next : StreamPlace S) (text : List ℕ) (why : HeadFault)
-      → IsMidstream gives bytes before origin now → IsFaulty now.rest why →
+      → IsMidstream audience gives bytes before origin now → IsFaulty audience now.rest why →
       gives now.state (Refuses why) text next.state
       → WritesBeginning now.written next.written (now.waiting ++ text)
-      → IsBroken gives bytes before origin next
+      → IsBroken audience gives bytes before origin next
   broken_refusal bytes before origin now next text why m faulty gave wrote =
       broken_by bytes before origin now next text (Refuses why) m
-      (Follow-refused (λ rest. ⊤) bytes m.items now.rest why m.leads faulty) gave wrote
+      (Follow-refused audience (λ rest. ⊤) bytes m.items now.rest why m.leads faulty) gave wrote
 
   -- what waits is written
   pub flushed : (bytes : List ℕ) (before next : Option (List ℕ)) (origin : S) (now : StreamPlace S)
-      → IsMidstream gives bytes before origin now → Appends now.written next now.waiting
-      → IsMidstream gives bytes before origin (record now { written = next; waiting = [] })
+      → IsMidstream audience gives bytes before origin now → Appends now.written next now.waiting
+      → IsMidstream audience gives bytes before origin (record now { written = next; waiting = [] })
   flushed bytes before next origin now m more = record {
     items = m.items;
     leads = m.leads;
@@ -179,11 +180,11 @@ module _ {S : Type 0} (gives : S → Item → List ℕ → S → Type 0) where
   -- a write fails while what waits is written
   pub broken_flush : (bytes : List ℕ) (before next : Option (List ℕ)) (origin : S)
       (now : StreamPlace S)
-      → IsMidstream gives bytes before origin now → WritesBeginning now.written next now.waiting
-      → IsBroken gives bytes before origin (record now { written = next })
+      → IsMidstream audience gives bytes before origin now → WritesBeginning now.written next now.waiting
+      → IsBroken audience gives bytes before origin (record now { written = next })
   broken_flush bytes before next origin now m more = record {
     items = m.items;
-    begin = Follow-stop (λ rest. ⊤) bytes m.items now.rest m.leads tt;
+    begin = Follow-stop audience (λ rest. ⊤) bytes m.items now.rest m.leads tt;
     texts = m.texts;
     in_turn = m.in_turn;
     written = beginning_of_left before now.written next (joined m.texts) now.waiting m.forwards
@@ -192,11 +193,11 @@ module _ {S : Type 0} (gives : S → Item → List ℕ → S → Type 0) where
 
   pub broken_end : (bytes : List ℕ) (before next : Option (List ℕ)) (origin : S)
       (now : StreamPlace S)
-      → IsOver gives bytes before origin now → WritesBeginning now.written next now.waiting
-      → IsBroken gives bytes before origin (record now { written = next })
+      → IsOver audience gives bytes before origin now → WritesBeginning now.written next now.waiting
+      → IsBroken audience gives bytes before origin (record now { written = next })
   broken_end bytes before next origin now o more = record {
     items = o.items;
-    begin = Follow-weaker (λ rest. ⊥) (λ rest. ⊤) bytes o.items (λ rest e. tt) o.follow;
+    begin = Follow-weaker audience (λ rest. ⊥) (λ rest. ⊤) bytes o.items (λ rest e. tt) o.follow;
     texts = o.texts;
     in_turn = o.in_turn;
     written = beginning_of_left before now.written next (joined o.texts) now.waiting o.forwards
@@ -212,14 +213,14 @@ module _ {S : Type 0} (gives : S → Item → List ℕ → S → Type 0) where
   -- a read fails where nothing waits
   pub so_far : (known left : Option (List ℕ)) (bytes : List ℕ) (before : Option (List ℕ))
       (origin : S) (now : StreamPlace S)
-      → Consumes known left bytes → IsMidstream gives bytes before origin now →
-      now.waiting ≡ [] → StopsShort now.rest
-      → RequestsServedSoFar (InTurn gives) known left before now.written origin now.state
+      → Consumes known left bytes → IsMidstream audience gives bytes before origin now →
+      now.waiting ≡ [] → StopsShort audience now.rest
+      → RequestsServedSoFar audience (InTurn gives) known left before now.written origin now.state
   so_far known left bytes before origin now came m none short = record {
     bytes = bytes;
     came = came;
     items = m.items;
-    have_come = Follow-stop StopsShort bytes m.items now.rest m.leads short;
+    have_come = Follow-stop audience (StopsShort audience) bytes m.items now.rest m.leads short;
     texts = m.texts;
     get = m.in_turn;
     written = written_all before now.written (joined m.texts) now.waiting m.forwards none;
@@ -228,14 +229,14 @@ module _ {S : Type 0} (gives : S → Item → List ℕ → S → Type 0) where
   -- the input ends where nothing waits
   pub served_end : (known left : Option (List ℕ)) (bytes : List ℕ) (before : Option (List ℕ))
       (origin : S) (now : StreamPlace S)
-      → Consumes known left bytes → IsAtEnd left → IsMidstream gives bytes before origin now →
-      now.waiting ≡ [] → StopsShort now.rest
-      → RequestsServed (InTurn gives) known before now.written origin now.state now.answered
+      → Consumes known left bytes → IsAtEnd left → IsMidstream audience gives bytes before origin now →
+      now.waiting ≡ [] → StopsShort audience now.rest
+      → RequestsServed audience (InTurn gives) known before now.written origin now.state now.answered
   served_end known left bytes before origin now came end m none short = record {
     bytes = bytes;
     told = told_whole known left came end;
     items = m.items;
-    are_items = Follow-stop StopsShort bytes m.items now.rest m.leads short;
+    are_items = Follow-stop audience (StopsShort audience) bytes m.items now.rest m.leads short;
     texts = m.texts;
     get = m.in_turn;
     written = written_all before now.written (joined m.texts) now.waiting m.forwards none;
@@ -251,14 +252,14 @@ module _ {S : Type 0} (gives : S → Item → List ℕ → S → Type 0) where
   -- the last request is answered, whatever the reader still has
   pub served_over : (known left : Option (List ℕ)) (bytes : List ℕ) (before next : Option (List ℕ))
       (origin : S) (now : StreamPlace S)
-      → Consumes known left bytes → IsOver gives bytes before origin now →
+      → Consumes known left bytes → IsOver audience gives bytes before origin now →
       Appends now.written next now.waiting
-      → RequestsServed (InTurn gives) known before next origin now.state now.answered
+      → RequestsServed audience (InTurn gives) known before next origin now.state now.answered
   served_over None left bytes before next origin now came o more = record {
     bytes = bytes;
     told = tt;
     items = o.items;
-    are_items = Follow-weaker (λ rest. ⊥) StopsShort bytes o.items (λ rest e. absurd e) o.follow;
+    are_items = Follow-weaker audience (λ rest. ⊥) (StopsShort audience) bytes o.items (λ rest e. absurd e) o.follow;
     texts = o.texts;
     get = o.in_turn;
     written = Forwards-whole before now.written next (joined o.texts) now.waiting o.forwards more;
@@ -269,7 +270,7 @@ module _ {S : Type 0} (gives : S → Item → List ℕ → S → Type 0) where
     bytes = bytes ++ ys;
     told = came;
     items = o.items;
-    are_items = Follow-more (λ rest. ⊥) StopsShort bytes o.items ys (λ rest e. absurd e) o.follow;
+    are_items = Follow-more audience (λ rest. ⊥) (StopsShort audience) bytes o.items ys (λ rest e. absurd e) o.follow;
     texts = o.texts;
     get = o.in_turn;
     written = Forwards-whole before now.written next (joined o.texts) now.waiting o.forwards more;
@@ -279,8 +280,8 @@ module _ {S : Type 0} (gives : S → Item → List ℕ → S → Type 0) where
   -- what is broken off, of all that the reader told
   pub in_part : (known left : Option (List ℕ)) (bytes : List ℕ) (before : Option (List ℕ))
       (origin : S) (now : StreamPlace S)
-      → Consumes known left bytes → IsBroken gives bytes before origin now
-      → RequestsServedInPart (InTurn gives) known before now.written origin now.state
+      → Consumes known left bytes → IsBroken audience gives bytes before origin now
+      → RequestsServedInPart audience (InTurn gives) known before now.written origin now.state
   in_part None left bytes before origin now came x = record {
     bytes = bytes;
     told = tt;
@@ -297,7 +298,7 @@ module _ {S : Type 0} (gives : S → Item → List ℕ → S → Type 0) where
     told = came;
     answered = x.items;
     unanswered = [];
-    are_items = rw (append-nil x.items) (Follow-more (λ rest. ⊤) (λ rest. ⊤) bytes x.items ys
+    are_items = rw (append-nil x.items) (Follow-more audience (λ rest. ⊤) (λ rest. ⊤) bytes x.items ys
         (λ rest e. tt) x.begin);
     texts = x.texts;
     get = x.in_turn;
@@ -308,10 +309,10 @@ module _ {S : Type 0} (gives : S → Item → List ℕ → S → Type 0) where
   pub failed_to_read : (known left : Option (List ℕ)) (bytes more : List ℕ)
       (before next : Option (List ℕ)) (origin : S) (now : StreamPlace S) (wanted : ℕ)
       (untouched : Type 0) (fault : StreamFault)
-      → Consumes known left (bytes ++ more) → IsMidstream gives bytes before origin now
-      → ((extra : List ℕ) → length (now.rest ++ extra) < wanted → StopsShort (now.rest ++ extra))
+      → Consumes known left (bytes ++ more) → IsMidstream audience gives bytes before origin now
+      → ((extra : List ℕ) → length (now.rest ++ extra) < wanted → StopsShort audience (now.rest ++ extra))
       → FailedToRead fault wanted (length (now.rest ++ more)) now.written next now.waiting
-      → RequestsStopped (InTurn gives) known left before next origin now.state untouched fault
+      → RequestsStopped audience (InTurn gives) known left before next origin now.state untouched fault
   failed_to_read known left bytes more before next origin now wanted untouched ReadFailed came m
       short f =
       so_far known left (bytes ++ more) before origin _ came (more_came bytes more before origin _

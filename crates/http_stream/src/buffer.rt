@@ -6,7 +6,7 @@ ghost use Rattle.httparse.specs.Spans.{IsWithin, span_bytes};
 ghost use Rattle.http_messages.specs.Requests.{IsLook};
 
 use byte_streams::CHUNK;
-use http_messages::{Look, MAX_BODY, MAX_HEAD, look_at};
+use http_messages::{Audience, Look, MAX_BODY, MAX_HEAD, look_at};
 use httparse::spans::Span;
 use std::alloc::{AllocError, Global};
 use std::marker::Model;
@@ -43,11 +43,11 @@ impl Buffer {
         })
     }
 
-    /// What is at the front.
-    pub fn look(&self) -> Look
-        ensures { IsLook self.now result }
+    /// What is at the front, for this audience.
+    pub fn look(&self, audience: Audience<'_>) -> Look
+        ensures { IsLook audience.entry self.now result }
     {
-        look_at(&self.bytes[self.start..])
+        look_at(audience, &self.bytes[self.start..])
     }
 
     /// The bytes of a part.

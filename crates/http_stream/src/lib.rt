@@ -2,8 +2,8 @@
 //! answered, in order.
 //!
 //! `serve_requests` is generic over a `Service`, which answers one request after another and keeps
-//! a state. What is written depends on the bytes that are read and on the service, and not on how
-//! the reads cut them. The definitions that the contracts cite stand in `specs/`.
+//! a state. An `Audience` says whose requests it answers. What is written depends on the bytes that
+//! are read, on the audience and on the service, and not on how the reads cut them. The definitions that the contracts cite stand in `specs/`.
 #![tactic(auto)]
 
 mod buffer;

@@ -18,7 +18,7 @@ ghost use Rattle.http_stream.specs.Inner.Steps.{PutsText, ReadsUpTo, stream_plac
 use crate::buffer::Buffer;
 use crate::service::Service;
 use byte_streams::{CountedReader, CountedWriter, Outbox, StreamFault, new_chunk, read_some};
-use http_messages::{HeadFault, Look, RequestParts, no_memory_text, refusal_text};
+use http_messages::{Audience, HeadFault, Look, RequestParts, no_memory_text, refusal_text};
 use std::alloc::{AllocError, Global};
 use std::io::{Read, Write};
 
@@ -72,6 +72,7 @@ impl StreamProgress {
     /// Answers the request at the front of the buffer.
     fn answer<W: Write, H: Service>(
         &mut self,
+        audience: Audience<'_>,
         service: &H,
         clock: &mut H::Clock,
         state: &mut H::State,
@@ -80,9 +81,9 @@ impl StreamProgress {
     ) -> Result<(), StreamFault>
         requires target { IsWithin (length self.old.buffer) parts.target }
         requires body { IsWithin (length self.old.buffer) parts.body }
-        requires asks { HasAsk self.old.buffer (ask_at self.old.buffer parts)
+        requires asks { HasAsk audience self.old.buffer (ask_at self.old.buffer parts)
             (drop parts.body.end self.old.buffer) }
-        ensures answered { AnswersNext H.Service service.now parts.is_last
+        ensures answered { AnswersNext H.Service service.now audience.entry parts.is_last
             (stream_place W.contents self.old (clock.old, state.old) writer.old)
             (stream_place W.contents self.new (clock.new, state.new) writer.new) result }
         ensures shorter { OnOk result (self.new.buffer ≡ drop parts.body.end self.old.buffer) }
@@ -124,27 +125,28 @@ impl StreamProgress {
     /// needs in all. `None` where there is no next one, since the last was answered.
     fn answer_buffered<W: Write, H: Service>(
         &mut self,
+        audience: Audience<'_>,
         service: &H,
         clock: &mut H::Clock,
         state: &mut H::State,
         writer: &mut CountedWriter<W>,
     ) -> Result<Option<usize>, StreamFault>
-        ensures answered { AnswersWhole H.Service service.now
+        ensures answered { AnswersWhole H.Service service.now audience.entry
             (stream_place W.contents self.old (clock.old, state.old) writer.old)
             (stream_place W.contents self.new (clock.new, state.new) writer.new) result }
-        ensures wanted { IfOk result (λ next. IfSome next (λ count. IsLook self.new.buffer
-            (More count))) }
+        ensures wanted { IfOk result (λ next. IfSome next (λ count. IsLook audience.entry
+            self.new.buffer (More count))) }
         ensures cause { Counts (write_faults writer.old) (write_faults writer.new) result }
     {
         loop {
-            match self.buffer.look() {
+            match self.buffer.look(audience) {
                 Look::More(wanted) => return Ok(Some(wanted)),
                 Look::Faulty(why) => {
                     self.refuse(why, writer)?;
                     return Ok(None);
                 }
                 Look::Whole(parts) => {
-                    self.answer(service, clock, state, parts, writer)?;
+                    self.answer(audience, service, clock, state, parts, writer)?;
                     if parts.is_last {
                         return Ok(None);
                     }
@@ -187,7 +189,8 @@ impl StreamProgress {
 /// Answers each request of what is read, until the end of the input or the last request, and tells
 /// how many answers it wrote (4294967295 for more).
 ///
-/// The service answers each whole request in order. A request that is refused by its head
+/// The service answers each whole request of the audience in order. A request that is refused by its
+/// head
 /// (`HeadFault`) is answered too, and is the last; so is a request with `Connection: close`. After
 /// the last one nothing more is answered, whatever was read. Where the input ends before a whole
 /// request, that one gets no answer. In place of an answer that found no memory a constant is
@@ -201,16 +204,17 @@ impl StreamProgress {
 /// at `WriteFailed`. A read, write or flush that is interrupted is tried again.
 pub fn serve_requests<R: Read, W: Write, H: Service>(
     alloc: Global,
+    audience: Audience<'_>,
     reader: &mut CountedReader<R>,
     writer: &mut CountedWriter<W>,
     service: &H,
     clock: &mut H::Clock,
     state: &mut H::State,
 ) -> Result<u32, StreamFault>
-    ensures served { IfOk result (RequestsServedOn R.remaining W.contents
+    ensures served { IfOk result (RequestsServedOn audience.entry R.remaining W.contents
         (InTurn (ItemAnswered H.Service service.now)) reader.old writer.old writer.new
         (clock.old, state.old) (clock.new, state.new)) }
-    ensures stopped { IfErr result (RequestsStoppedOn R.remaining W.contents
+    ensures stopped { IfErr result (RequestsStoppedOn audience.entry R.remaining W.contents
         (InTurn (ItemAnswered H.Service service.now)) reader.old reader.new writer.old writer.new
         (clock.old, state.old) (clock.new, state.new)) }
     ensures cause { FailsWithCause reader.old reader.new writer.old writer.new result }
@@ -218,7 +222,7 @@ pub fn serve_requests<R: Read, W: Write, H: Service>(
 {
     let mut progress = StreamProgress::new(alloc)?;
     let mut chunk = new_chunk(alloc)?;
-    while let Some(wanted) = progress.answer_buffered(service, clock, state, writer)? {
+    while let Some(wanted) = progress.answer_buffered(audience, service, clock, state, writer)? {
         if !progress.read_up_to(wanted, reader, writer, &mut chunk)? {
             return Ok(progress.answered);
         }

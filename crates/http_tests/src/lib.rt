@@ -4,6 +4,8 @@
 #![tactic(auto)]
 
 #[cfg(test)]
+mod audience;
+#[cfg(test)]
 mod faults;
 #[cfg(test)]
 mod hostile;

@@ -1,7 +1,8 @@
 -- Lines that are answered one after another are one run.
-use Rattle.std.proofs.Common.{◌≡◌, Err, List, None, Ok, Option, Result, [], inl, inr, refl}
+use Rattle.std.proofs.Common.{◌≡◌, Err, List, None, Ok, Option, Result, Some, [], inl, inr, refl}
 use Rattle.std.proofs.Common.{subst, sym, ℕ}
-use Rattle.std.specs.Prelude.{IfErr, IfOk}
+use Rattle.std.specs.Prelude.{All, IfErr, IfOk}
+use Rattle.std.proofs.lemmas.List.Elements.{All-nil}
 use Rattle.byte_streams.specs.InTurn.{InTurn}
 use Rattle.byte_streams.specs.declared.fault.StreamFault.{StreamFault}
 use Rattle.byte_streams.specs.declared.fault.StreamFault.TheVariants.{NoMemory, ReadFailed}
@@ -9,11 +10,13 @@ use Rattle.byte_streams.specs.declared.fault.StreamFault.TheVariants.{WriteFaile
 use Rattle.byte_streams.proofs.ServedLemmas.{served_as, stopped_as}
 use Rattle.ring_words.specs.declared.command.Command.{Command}
 use Rattle.ring_words.specs.declared.command.Reply.{Reply}
-use Rattle.request_book.specs.Call.{Call}
+use Rattle.ring_words.specs.declared.request.Delivery.{Delivery}
+use Rattle.request_book.specs.Call.{Call, Deliver, Load}
 use Rattle.request_book.specs.Front.{Turn}
 use Rattle.request_book.specs.Front.{CallsMade, is_closed}
-use Rattle.request_book.proofs.Fronts.{in_turn_serves, none_made, starts}
-use Rattle.builder.proofs.Safe.{safe_run}
+use Rattle.request_book.proofs.Fronts.{all_such, in_turn_serves, none_made, starts}
+use Rattle.builder.proofs.Proper.{safe_run}
+use Rattle.builder.specs.Life.{IsProperCall, IsProperDelivery}
 use Rattle.builder.specs.Safety.{IsSafeRun}
 use Rattle.ring_messages.specs.declared.told.Told.TheVariants as told
 use Rattle.line_stream.specs.Answers.{Answered}
@@ -21,7 +24,7 @@ use Rattle.line_stream.specs.declared.handler.Handler.{Ghosts}
 use Rattle.line_stream.specs.Lines.{AreLines, HaveEnded, ended}
 use Rattle.line_stream.specs.Serving.{LinesServed, LinesStopped}
 use Rattle.ring_book.specs.Book.{Asked, Found, Keeping, Made, RingBook, steps_of}
-use Rattle.line_api.specs.Lines.{Gets, answer_line}
+use Rattle.line_api.specs.Lines.{Asks, Gets, answer_line}
 use Rattle.line_api.specs.Served.{ServesLines}
 use Rattle.line_api.specs.Inner.Answering.{Answers, Loses}
 use Rattle.line_api.specs.declared.lines.RingLines.{RingLines}
@@ -86,22 +89,44 @@ module _ {K : Type 0} (kept : Keeping K) where
       untouched fault
   stopped_run = stopped_as AreLines HaveEnded ended (InTurn Gives) (ServesLines kept) serves
 
+  -- what a line asks for is proper
+  proper_line : (line : List ℕ) (delivery : Delivery Command) → Asks line delivery
+      → IsProperDelivery delivery
+  proper_line line delivery asks = (asks.reads.delivery.proper, asks.hour)
+
+  proper_call : (old : Book) (line : List ℕ) (call : Call Command Reply) (text : List ℕ) (new : Book)
+      → Gets (Found kept old new) line (Some call) text → IsProperCall call
+  proper_call old line (Deliver delivery answer) text new (inl (short, inl answered)) =
+      proper_line line delivery answered.0
+  proper_call old line (Deliver delivery answer) text new (inl (short, inr lost)) =
+      proper_line line delivery lost.0
+  proper_call old line (Deliver delivery answer) text new (inr (long, none, text_is)) = cc
+  proper_call old line (Load answer) text new gets = tt
+
+  -- and so are all calls that lines lead to
+  pub proper_lines : (old : Book) (lines texts : List (List ℕ)) (new : Book)
+      (serves : ServesLines kept old lines texts new) → All IsProperCall serves.calls
+  proper_lines old lines texts new serves = all_such steps_of kept.content kept.sound kept.limit
+      kept.fault_count (λ book. book)
+      (λ before item asks answer after. Gets (Found kept before after) item asks answer)
+      IsProperCall proper_call old old new [] serves.calls lines texts serves.answered
+
   -- calls that are one run are a safe run
   safe_calls : (old new : Book) (calls : List (Call Command Reply)) →
       CallsMade steps_of kept.content kept.sound kept.limit kept.fault_count old new calls
-      → kept.sound new.keeper
+      → All IsProperCall calls → kept.sound new.keeper
       → IsSafeRun old.machine.limits (kept.content old.keeper) (kept.content new.keeper)
-  safe_calls old new calls made s =
+  safe_calls old new calls made proper s =
       safe_run old.machine.limits (kept.limit old.keeper)
       (is_closed steps_of kept.content kept.sound kept.limit kept.fault_count
-      old) (kept.content old.keeper) (kept.content new.keeper) calls (made.run s)
+      old) (kept.content old.keeper) (kept.content new.keeper) calls (made.run s) proper
 
   unmoved : (old new : Book) → new ≡ old → kept.sound new.keeper →
       IsSafeRun old.machine.limits (kept.content old.keeper) (kept.content new.keeper)
   unmoved old new same = subst (λ (book : Book). kept.sound book.keeper →
       IsSafeRun old.machine.limits (kept.content old.keeper) (kept.content book.keeper)) (sym same)
       (λ s. safe_calls old old [] (starts steps_of kept.content kept.sound kept.limit
-      kept.fault_count old) s)
+      kept.fault_count old) (All-nil IsProperCall) s)
 
   stopped_safe : (known left before after : Option (List ℕ)) (old new : Book)
       (readers writers : Type 0) (fault : StreamFault)
@@ -110,9 +135,11 @@ module _ {K : Type 0} (kept : Keeping K) where
       → kept.sound new.keeper → IsSafeRun old.machine.limits (kept.content old.keeper)
       (kept.content new.keeper)
   stopped_safe known left before after old new readers writers ReadFailed stopped s =
-      safe_calls old new stopped.get.calls stopped.get.made s
+      safe_calls old new stopped.get.calls stopped.get.made
+      (proper_lines old _ _ new stopped.get) s
   stopped_safe known left before after old new readers writers WriteFailed stopped s =
-      safe_calls old new stopped.get.calls stopped.get.made s
+      safe_calls old new stopped.get.calls stopped.get.made
+      (proper_lines old _ _ new stopped.get) s
   stopped_safe known left before after old new readers writers NoMemory stopped s =
       unmoved old new stopped.2 s
 
@@ -126,6 +153,6 @@ module _ {K : Type 0} (kept : Keeping K) where
       → kept.sound new.keeper → IsSafeRun old.machine.limits (kept.content old.keeper)
       (kept.content new.keeper)
   served_safe known left before after old new readers writers (Ok count) served stopped s =
-      safe_calls old new served.get.calls served.get.made s
+      safe_calls old new served.get.calls served.get.made (proper_lines old _ _ new served.get) s
   served_safe known left before after old new readers writers (Err fault) served stopped s =
       stopped_safe known left before after old new readers writers fault stopped s

@@ -8,4 +8,4 @@
 mod lines;
 mod questions;
 
-pub use lines::run_lines;
+pub use lines::{answer_text, run_lines};

@@ -66,7 +66,7 @@ fn read_request(alloc: Global, line: &[u8]) -> Result<Request, MessageFault>
 }
 
 /// An answer as a line, without its line feed: a status, a space and the answer's text.
-fn answer_text(alloc: Global, told: &Told) -> Result<String, AllocError>
+pub fn answer_text(alloc: Global, told: &Told) -> Result<String, AllocError>
     ensures { IfOk result (λ text. string_bytes text ≡ answer_line told.now) }
 {
     let status = status_of(told);
@@ -181,8 +181,8 @@ pub fn run_lines<R: Read, W: Write, K: Keeper<RingMachine>>(
     ensures cause { FailsWithCause reader.old reader.new writer.old writer.new result }
     ensures flushed { LeavesFlushed writer.new result }
 
-    // Whatever came of it, few replicas left in each rebalance, and those of a moved partition
-    // rested.
+    // Whatever came of it, few replicas left in each rebalance, those of a moved partition rested,
+    // and valid rings stayed valid.
     ensures safe { K.sound book.new.keeper
         → IsSafeRun book.old.machine.limits (K.content book.old.keeper) (K.content book.new.keeper) }
 {

@@ -1,5 +1,6 @@
 -- How tasks end whose words were read.
-use Rattle.std.proofs.Common.{◌≡◌, ◌⊎◌, inl, inr, List, Option, Result, Ok, Err, ℕ, subst, sym}
+use Rattle.std.proofs.Common.{◌≡◌, ◌⊎◌, inl, inr, List, Option, Result, Ok, Err, ℕ, refl, subst}
+use Rattle.std.proofs.Common.{sym}
 use Rattle.std.specs.Borrow.{Bor}
 use Rattle.std.specs.Prelude.{IfErr, IfOk}
 use Rattle.byte_streams.specs.declared.counted.CountedReader.{CountedReader}
@@ -10,6 +11,7 @@ use Rattle.builder.specs.Step.{State}
 use Rattle.programs.specs.Begun.{Closing}
 use Rattle.programs.specs.Importing.{AsksImport}
 use Rattle.programs.specs.Performed.{EndsBy, EndsSo, FailsSo, ImportsFile, ShowsStore}
+use Rattle.programs.specs.Inner.Showing.{FailsToShowTask, IsShowing}
 use Rattle.programs.specs.declared.faults.ProgramFault.{ProgramFault}
 use Rattle.programs.specs.declared.importing.ImportAsk.{ImportAsk}
 use Rattle.programs.specs.declared.performing.Ending.{Ending}
@@ -27,54 +29,58 @@ read_ill : {A E : Type 0} (read : Result A E) (Fails : E → Type 0) (why : E) �
     → read ≡ Err why → Fails why
 read_ill read Fails why fails is = subst (λ r. IfErr r Fails) is fails
 
+-- what was done with what was read, of which less is known
+pub as_asked : {A E : Type 0} (read : Result A E) (Asks Work : A → Type 0) → IfOk read Asks
+    → (asked : A) × (read ≡ Ok asked) × Work asked → (asked : A) × Asks asked × Work asked
+as_asked read Asks Work asks done = (done.0, read_well read Asks done.0 asks done.1, done.2)
+
 module _ {K W : Type 0} (stores : Keeping K) (Begins : K → Type 0)
     (Ends : K → Closing → Type 0) (contents : W → Option (List ℕ))
     (writer later : CountedWriter W) where
   -- what was asked for was shown
   pub ended_shown : (result : Result Ending ProgramFault) (read : Result Question ProgramFault)
-      (prefix suffix : List ℕ) (Asks : Question → Type 0) (Whole : Ending → Type 0) → IfOk read Asks
-      → (ShowsStore stores Begins Ends contents writer later prefix suffix Asks → Whole Done)
+      (prefix suffix : List ℕ) (Asks : Question → Type 0) (One : Type 0) (Whole : Ending → Type 0)
+      → IfOk read Asks
+      → (ShowsStore stores Begins Ends contents writer later prefix suffix Asks → One → Whole Done)
       → IfOk result (λ ending. (ending ≡ Done)
       × ShowsStore stores Begins Ends contents writer later prefix suffix
-      (λ question. read ≡ Ok question))
+      (λ question. read ≡ Ok question) × One)
       → IfOk result Whole
-  ended_shown (Ok ending) read prefix suffix Asks Whole asks make done =
-      let shown = done.1 in
-      subst Whole (sym done.0) (make (shown.0, read_well read Asks shown.0 asks shown.1, shown.2))
-  ended_shown (Err why) read prefix suffix Asks Whole asks make done = tt
+  ended_shown (Ok ending) read prefix suffix Asks One Whole asks make done = subst Whole (sym done.0)
+      (make (as_asked read Asks _ asks done.1) done.2)
+  ended_shown (Err why) read prefix suffix Asks One Whole asks make done = tt
 
 -- what was asked for failed: its words were not of their form, or the work did
-pub failed_asked : {A W : Type 0} (writer later : CountedWriter W)
-    (result : Result Ending ProgramFault) (read : Result A ProgramFault) (Asks : A → Type 0)
-    (Forms Fails : ProgramFault → Type 0) (Work : A → ProgramFault → Type 0)
-    → IfOk read Asks → IfErr read Forms
-    → ((why : ProgramFault) → Forms why → later ≡ writer → Fails why)
-    → ((why : ProgramFault) → ((asked : A) × Asks asked × Work asked why) → Fails why)
-    → IfErr result (λ why. ((read ≡ Err why) × (later ≡ writer))
-    ⊎ ((asked : A) × (read ≡ Ok asked) × Work asked why))
+pub failed_asked : {A W : Type 0} (writer later : CountedWriter W) (None : Type 0)
+    (result : Result Ending ProgramFault) (read : Result A ProgramFault)
+    (Forms Work Fails : ProgramFault → Type 0) → IfErr read Forms
+    → ((why : ProgramFault) → Forms why → later ≡ writer → None → Fails why)
+    → ((why : ProgramFault) → Work why → Fails why)
+    → IfErr result (λ why. ((read ≡ Err why) × (later ≡ writer) × None) ⊎ Work why)
     → IfErr result Fails
-failed_asked writer later (Ok ending) read Asks Forms Fails Work asks forms ill work failed = tt
-failed_asked writer later (Err why) read Asks Forms Fails Work asks forms ill work failed = elim
+failed_asked writer later None (Ok ending) read Forms Work Fails forms ill work failed = tt
+failed_asked writer later None (Err why) read Forms Work Fails forms ill work failed = elim
     failed [
-      | inl word ↦ ill why (read_ill read Forms why forms word.0) word.1
-      | inr done ↦ work why (done.0, read_well read Asks done.0 asks done.1, done.2)
+      | inl word ↦ ill why (read_ill read Forms why forms word.0) word.1 word.2
+      | inr done ↦ work why done
     ]
 
 module _ {M K R W : Type 0} (memory : Keeping M) (stores : Keeping K)
     (Begins : List ℕ → K → Type 0) (Ends : K → Closing → Type 0) (remaining : R → Option (List ℕ))
     (contents : W → Option (List ℕ)) (reader late_reader : CountedReader R)
     (writer later : CountedWriter W) (Holds : List ℕ → List ℕ → Type 0)
-    (IsUnread : List ℕ → ℕ → ProgramFault → Type 0) (IsMade : List ℕ → State → ℕ → Type 0) where
+    (IsUnread : List ℕ → ℕ → ProgramFault → Type 0) (before after : ℕ)
+    (IsMade : List ℕ → State → ℕ → Type 0) where
   -- a task ended as the one that it is
   pub ends_as : (ending : Ending) (task asked : Task) → task ≡ asked
       → EndsSo memory stores Begins Ends remaining contents reader late_reader writer later Holds
-      IsUnread IsMade
+      IsUnread before after IsMade
       asked ending
       → EndsSo memory stores Begins Ends remaining contents reader late_reader writer later Holds
-      IsUnread IsMade
+      IsUnread before after IsMade
       task ending
   ends_as ending task asked is = subst (λ t. EndsSo memory stores Begins Ends remaining contents
-      reader late_reader writer later Holds IsUnread IsMade t ending) (sym is)
+      reader late_reader writer later Holds IsUnread before after IsMade t ending) (sym is)
 
   -- an import ended so whose words were of their form
   pub imported_as : (asked : Task) (result : Result Ending ProgramFault)
@@ -83,9 +89,9 @@ module _ {M K R W : Type 0} (memory : Keeping M) (stores : Keeping K)
       → asked ≡ task.Import file ring caller number csv given → late_reader ≡ reader
       → IfOk read (AsksImport ring.now caller.now number.now)
       → IfOk result (λ ending. ImportsFile stores (Begins file.now) Ends contents writer later
-      (Holds csv.now) (IsUnread csv.now) (λ ask. read ≡ Ok ask) given (EndsBy ending))
+      (Holds csv.now) (IsUnread csv.now) before after (λ ask. read ≡ Ok ask) given (EndsBy ending))
       → IfOk result (EndsSo memory stores Begins Ends remaining contents reader late_reader writer
-      later Holds IsUnread IsMade asked)
+      later Holds IsUnread before after IsMade asked)
   imported_as asked (Ok Done) read file ring caller number csv given is same asks done =
       ends_as Done asked (task.Import file ring caller number csv given) is (
         same,
@@ -113,27 +119,61 @@ module _ {M K R W : Type 0} (memory : Keeping M) (stores : Keeping K)
   -- and so it is refused
   pub refused_as : (task : Task) (ending asked : Ending) → ending ≡ asked
       → EndsSo memory stores Begins Ends remaining contents reader late_reader writer later Holds
-      IsUnread IsMade
+      IsUnread before after IsMade
       task ending
       → EndsSo memory stores Begins Ends remaining contents reader late_reader writer later Holds
-      IsUnread IsMade
+      IsUnread before after IsMade
       task asked
   refused_as task ending asked is = subst (EndsSo memory stores Begins Ends remaining contents reader
-      late_reader writer later Holds IsUnread IsMade task) is
+      late_reader writer later Holds IsUnread before after IsMade task) is
 
 module _ {M K R W : Type 0} (memory : Keeping M) (stores : Keeping K)
     (Begins : List ℕ → K → Type 0) (Ends : K → Closing → Type 0) (remaining : R → Option (List ℕ))
     (contents : W → Option (List ℕ)) (reader late_reader : CountedReader R)
     (writer later : CountedWriter W) (Holds : List ℕ → List ℕ → Type 0)
-    (IsUnread : List ℕ → ℕ → ProgramFault → Type 0) where
+    (IsUnread : List ℕ → ℕ → ProgramFault → Type 0) (before after : ℕ) where
   -- a task failed as the one that it is
   pub fails_as : (Refuses : List ℕ → ProgramFault → Type 0)
       (IsUnmade : List ℕ → State → ℕ → ProgramFault → Type 0) (why : ProgramFault)
       (task asked : Task) → task ≡ asked
       → FailsSo memory stores Begins Ends remaining contents reader late_reader writer later Holds
-      IsUnread Refuses IsUnmade asked why
+      IsUnread before after Refuses IsUnmade asked why
       → FailsSo memory stores Begins Ends remaining contents reader late_reader writer later Holds
-      IsUnread Refuses IsUnmade task why
+      IsUnread before after Refuses IsUnmade task why
   fails_as Refuses IsUnmade why task asked is = subst (λ t. FailsSo memory stores Begins Ends
-      remaining contents reader late_reader writer later Holds IsUnread Refuses IsUnmade t why)
+      remaining contents reader late_reader writer later Holds IsUnread before after Refuses IsUnmade t why)
       (sym is)
+
+-- a task failed that asks to be shown something
+pub shown_failed : {M K R W : Type 0} (memory : Keeping M) (stores : Keeping K)
+    (Begins : List ℕ → K → Type 0) (Ends : K → Closing → Type 0) (remaining : R → Option (List ℕ))
+    (contents : W → Option (List ℕ)) (reader : CountedReader R) (writer later : CountedWriter W)
+    (Holds : List ℕ → List ℕ → Type 0) (IsUnread : List ℕ → ℕ → ProgramFault → Type 0)
+    (before after : ℕ) (Refuses : List ℕ → ProgramFault → Type 0)
+    (IsUnmade : List ℕ → State → ℕ → ProgramFault → Type 0) (t : Task) → IsShowing t
+    → (why : ProgramFault)
+    → FailsToShowTask stores Begins Ends contents writer later before after Refuses t why
+    → FailsSo memory stores Begins Ends remaining contents reader reader writer later Holds IsUnread
+    before after Refuses IsUnmade t why
+shown_failed memory stores Begins Ends remaining contents reader writer later Holds IsUnread before
+    after Refuses IsUnmade t showing why (inl words) = inl (words.0, refl, words.1, words.2)
+shown_failed memory stores Begins Ends remaining contents reader writer later Holds IsUnread before
+    after Refuses IsUnmade (task.Table file ring) showing why (inr work) = inr (refl, work.0, work.1)
+shown_failed memory stores Begins Ends remaining contents reader writer later Holds IsUnread before
+    after Refuses IsUnmade (task.Nodes file ring account container object names) showing why
+    (inr work) = inr (refl, work.0, work.1)
+shown_failed memory stores Begins Ends remaining contents reader writer later Holds IsUnread before
+    after Refuses IsUnmade (task.Export file ring version written) showing why (inr work) =
+    inr (refl, work.0, work.1)
+shown_failed memory stores Begins Ends remaining contents reader writer later Holds IsUnread before
+    after Refuses IsUnmade (task.Run file) showing why (inr work) = absurd showing
+shown_failed memory stores Begins Ends remaining contents reader writer later Holds IsUnread before
+    after Refuses IsUnmade (task.Serve file port count given names) showing why (inr work) =
+    absurd showing
+shown_failed memory stores Begins Ends remaining contents reader writer later Holds IsUnread before
+    after Refuses IsUnmade (task.Loop file input given names) showing why (inr work) = absurd showing
+shown_failed memory stores Begins Ends remaining contents reader writer later Holds IsUnread before
+    after Refuses IsUnmade (task.Import file ring caller number csv given) showing why (inr work) =
+    absurd showing
+shown_failed memory stores Begins Ends remaining contents reader writer later Holds IsUnread before
+    after Refuses IsUnmade (task.Renew file fresh) showing why (inr work) = absurd showing

@@ -1,14 +1,14 @@
 -- What was done over the keeper of a store that was closed.
-use Rattle.std.proofs.Common.{◌≡◌, inl, inr, List, Option, Ok, Err, ℕ, subst, sym}
-use Rattle.std.specs.Prelude.{OnOk, ⊤}
+use Rattle.std.proofs.Common.{◌≡◌, List, Option, Ok, Err, ℕ, subst, sym}
+use Rattle.std.specs.Prelude.{IfErr, OnOk}
 use Rattle.byte_streams.specs.declared.counted.CountedReader.{CountedReader}
 use Rattle.byte_streams.specs.declared.counted.CountedWriter.{CountedWriter}
 use Rattle.byte_streams.specs.declared.fault.StreamFault.{StreamFault}
 use Rattle.builder.specs.Step.{State}
 use Rattle.ring_messages.specs.declared.told.Told.{Told}
 use Rattle.ring_words.specs.declared.device.Row.{Row}
-use Rattle.programs.specs.Importing.{Imports, TellsImport}
-use Rattle.programs.specs.Begun.{Closing, IsClosed, WasClosed, IsStoreFault}
+use Rattle.programs.specs.Importing.{Imports}
+use Rattle.programs.specs.Begun.{Closing}
 use Rattle.programs.specs.Running.{AnswersLines, StopsLines}
 use Rattle.programs.specs.Showing.{IsAsked}
 use Rattle.programs.specs.declared.faults.ProgramFault.{ProgramFault}
@@ -28,10 +28,17 @@ pub at_end : (closed : Closing) (Ends : Closing → Type 0) → closed ≡ Ok tt
     → Ends (Ok tt)
 at_end closed Ends is = subst Ends is
 
--- a store that was closed well was left
-pub closed_left : {K : Type 0} (Ends : K → Closing → Type 0) (keeper : K) → IsClosed Ends keeper
-    → WasClosed Ends keeper
-closed_left Ends keeper ended = (Ok tt, ended)
+-- and where it is known that this failed
+pub unclosed : (closed : Closing) (Ends : Closing → Type 0) (why : ProgramFault) → closed ≡ Err why
+    → Ends closed → Ends (Err why)
+unclosed closed Ends why is = subst Ends is
+
+-- what holds of a keeper whose closing failed
+pub on_unclosed : (closed : Closing) (Ends : Closing → Type 0) (Whole : ProgramFault → Type 0)
+    → ((why : ProgramFault) → why ≡ StoreFault → Ends (Err why) → Whole why) → Ends closed
+    → IfErr closed (λ why. why ≡ StoreFault) → IfErr closed Whole
+on_unclosed (Ok value) Ends Whole make ended is = tt
+on_unclosed (Err why) Ends Whole make ended is = make why is ended
 
 -- The keeper of a store begins so, and another one, which was made of it, is left so.
 module _ {K : Type 0} (g : Keeping K) (Begins Ends : K → Type 0) (kept left : K)
@@ -66,46 +73,3 @@ module _ {K : Type 0} (g : Keeping K) (Begins Ends : K → Type 0) (kept left : 
       → Imports g Begins Ends ask rows hour t
   imports_kept ask rows hour t i = imports g (λ k. k ≡ kept) Begins (λ k. k ≡ left) Ends same_kept
       same_left ask rows hour t i
-
--- what was asked of a store that was closed well was asked of one that was left
-pub asked_left : {K : Type 0} (g : Keeping K) (Begins : K → Type 0) (Ends : K → Closing → Type 0)
-    (Tells : State → ℕ → Type 0) → IsAsked g Begins (IsClosed Ends) Tells
-    → IsAsked g Begins (WasClosed Ends) Tells
-asked_left g Begins Ends Tells a = asked g Begins Begins (IsClosed Ends) (WasClosed Ends)
-    (λ keeper is. is) (closed_left Ends) Tells a
-
--- and so it is with what an import is told
-pub tells_left : {K : Type 0} (g : Keeping K) (Begins : K → Type 0) (Ends : K → Closing → Type 0)
-    (Holds : List ℕ → Type 0) (IsUnread : ℕ → ProgramFault → Type 0) (ask : ImportAsk)
-    (given : Option ℕ) (t : Told)
-    → TellsImport g Begins (IsClosed Ends) Holds IsUnread ask given t
-    → TellsImport g Begins (WasClosed Ends) Holds IsUnread ask given t
-tells_left g Begins Ends Holds IsUnread ask given t told = elim told [
-  | inl done ↦ inl (
-    done.0,
-    done.1,
-    done.2,
-    done.3,
-    imports g Begins Begins (IsClosed Ends) (WasClosed Ends)
-        (λ keeper is. is) (closed_left Ends) ask done.0 done.1 t done.4,
-  )
-  | inr bad ↦ inr bad
-]
-
--- a store that was asked keeps its content, whatever was told
-pub asked_anyhow : {K : Type 0} (g : Keeping K) (Begins Ends : K → Type 0)
-    (Tells : State → ℕ → Type 0) → IsAsked g Begins Ends Tells
-    → IsAsked g Begins Ends (λ rings hour. ⊤)
-asked_anyhow g Begins Ends Tells a = record {
-  keeper = a.keeper;
-  later = a.later;
-  opened = a.opened;
-  left = a.left;
-  stays_sound = a.stays_sound;
-  stays = a.stays;
-  tells = λ sound. tt;
-}
-
--- a fault of closing is the store's
-pub closing_fault : (why : ProgramFault) → why ≡ StoreFault → IsStoreFault why
-closing_fault why is = subst IsStoreFault (sym is) tt

@@ -5,3 +5,4 @@ pub mod Renewals
 pub mod Runs
 pub mod Services
 pub mod Lives
+pub mod ProgramLives

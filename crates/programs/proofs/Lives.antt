@@ -1,15 +1,24 @@
 -- What each program makes of the store that it is over is one run.
-use Rattle.std.proofs.Common.{◌≡◌, ◌⊎◌, ◌∙◌, ◌∷◌, [], List, None, Ok, Option, Some, arith, inl}
+use Rattle.std.proofs.Common.{◌≡◌, ◌⊎◌, ◌∙◌, ◌∷◌, [], Err, List, None, Ok, Option, Some, arith, inl}
 use Rattle.std.proofs.Common.{ap, inr, refl, subst, sym, ℕ}
 use Rattle.std.proofs.Math.Bridge.{le_prop}
 use mathlib.Core.HLevel.{is_prop→PathP}
 use Rattle.std.specs.Borrow.{Bor}
-use Rattle.std.specs.Prelude.{◌++◌, ◌||◌, ◌≤◌, Bool, false, is_some, nat_lt}
+use Rattle.std.proofs.lemmas.List.Elements.{All-cons, All-nil}
+use Rattle.std.specs.Prelude.{◌++◌, ◌||◌, ◌≤◌, All, Bool, false, is_some, nat_lt}
+use Rattle.http_api.proofs.Servings.{proper_requests}
+use Rattle.http_messages.specs.declared.audience.Audience.TheVariants.{Anyone}
+use Rattle.http_sockets.specs.Connections.{AnswersFirst, LoopFails, OneServed}
+use Rattle.http_sockets.specs.Hours.{TellsGiven}
+use Rattle.http_sockets.specs.declared.fault.ServeFault.{ServeFault}
+use Rattle.http_sockets.specs.declared.fault.ServeFault.TheVariants as serving
+use Rattle.byte_streams.specs.Counted.{write_faults}
+use Rattle.line_api.proofs.Serving.{proper_lines}
 use Rattle.byte_streams.specs.declared.counted.CountedReader.{CountedReader}
 use Rattle.byte_streams.specs.declared.counted.CountedWriter.{CountedWriter}
 use Rattle.byte_streams.specs.declared.fault.StreamFault.{StreamFault}
 use Rattle.byte_streams.specs.declared.fault.StreamFault.TheVariants as stream
-use Rattle.builder.specs.Life.{Lives}
+use Rattle.builder.specs.Life.{IsProperCall, Lives}
 use Rattle.builder.specs.Step.{State, Step}
 use Rattle.builder.specs.declared.machine.RingMachine.{RingMachine}
 use Rattle.command_line.specs.declared.task.Task.{Task}
@@ -22,6 +31,7 @@ use Rattle.request_book.specs.Called.{Called}
 use Rattle.request_book.specs.Content.{Content}
 use Rattle.request_book.specs.Front.{CallsMade}
 use Rattle.request_book.specs.Run.{Run}
+use Rattle.request_book.specs.declared.keeper.KeepFault.{KeepFault}
 use Rattle.ring_book.specs.Book.{Keeping, steps_of}
 use Rattle.ring_messages.specs.declared.told.Told.{Told}
 use Rattle.ring_words.specs.Limits.{most_devices, most_ids, most_numbers, most_rings, most_versions}
@@ -38,20 +48,26 @@ use Rattle.path_lookup.specs.declared.hash.HashNames.{HashNames}
 use Rattle.ring_messages.specs.declared.told.Told.TheVariants as told
 use Rattle.ring_reads.specs.declared.reads.Question.{Question}
 use Rattle.http_sockets.specs.Listening.{AcceptsNone, HasAcceptedNone}
-use Rattle.programs.specs.Begun.{AreServiceLimits, Closing, IsBegun, IsClosed, IsStoreFault}
-use Rattle.programs.specs.Begun.{WasClosed}
-use Rattle.programs.specs.Importing.{FailsTold, FailsToImport, Imports, IsToldAs, TellsImport}
+use Rattle.programs.specs.Begun.{AreServiceLimits, Closing, FailedToClose, IsBegun, IsClosed}
+use Rattle.programs.specs.Begun.{IsClosedWhole}
+use Rattle.programs.specs.Begun.{IsStoreFault, OpensNone, OpensOne, WasClosed, WasClosedAfter}
+use Rattle.programs.specs.Importing.{FailsTold, FailsToDeliver, FailsToImport, Imports, IsToldAs, TellsImport}
 use Rattle.programs.specs.Importing.{TellsNothing, WritesTold}
 use Rattle.programs.specs.Life.{FailsBefore, ComesOfFile, CrashEndsRun, GoesOnWithLife}
-use Rattle.programs.specs.Life.{MakesOneRun, RunsStore, TellsBadTable, store_of}
+use Rattle.programs.specs.Life.{IsOneRun, RunsStore, TellsBadTable, store_of}
+use Rattle.programs.specs.Calls.{ended_calls, failed_calls, failed_loop_calls, failed_port_calls}
+use Rattle.programs.specs.Calls.{fewer_calls, import_calls, line_calls, loop_calls, looped_calls}
+use Rattle.programs.specs.Calls.{port_calls, run_calls, serve_calls}
+use Rattle.programs.specs.Calls.{stopped_calls, stopped_loop_calls, told_calls, undelivered_calls}
+use Rattle.programs.specs.Calls.{unimported_calls, untold_calls, work_calls}
 use Rattle.programs.specs.Performed.{EndsBy, EndsSo, FailsSo, FailsToDo, FailsToShowStore}
 use Rattle.programs.specs.Performed.{ImportsFile, ShowsStore}
-use Rattle.programs.specs.Renewing.{FailsToRenew, IsRead}
+use Rattle.programs.specs.Renewing.{FailsToRead, FailsToRenew, IsRead}
 use Rattle.programs.specs.Running.{AnswersLines, FailsLines, StopsLines}
 use Rattle.programs.specs.Serving.{FailsToLoop, FailsToLoopInput, FailsToServePort, Service}
-use Rattle.programs.specs.Serving.{ServesFewer, ServesOne, ServesOneOrNone, ServesPort}
-use Rattle.programs.specs.Serving.{accepts_tcp, tcp_remaining}
-use Rattle.programs.specs.Showing.{AsksShown, IsAsked}
+use Rattle.programs.specs.Serving.{ServesFewer, ServesOne, ServesPort, accepts_tcp, shuts_tcp}
+use Rattle.programs.specs.Serving.{tcp_remaining}
+use Rattle.programs.specs.Showing.{AsksShown, IsAsked, ShowsNothing}
 use Rattle.programs.specs.declared.faults.ProgramFault.{ProgramFault}
 use Rattle.programs.specs.declared.faults.ProgramFault.TheVariants as fault
 use Rattle.programs.specs.declared.importing.ImportAsk.{ImportAsk}
@@ -101,57 +117,56 @@ module _ {K : Type 0} (g : Keeping K) (Begins Ends : K → Type 0) where
       → (g.sound new.keeper → g.sound old.keeper)
       → (g.sound new.keeper → Run (steps_of old.machine) (g.limit old.keeper)
       (nat_lt 0 (g.fault_count old.keeper)) (g.content old.keeper) calls (g.content new.keeper))
-      → MakesOneRun g Begins Ends
-  one_run old new calls begun ends stays run = (
-    calls,
-    record {
-      keeper = old.keeper;
-      later = new.keeper;
-      opened = begun.keeper;
-      closed = ends;
-      stays_sound = stays;
-      run = λ limits full sound. subst (λ l. Run (Step l) (g.limit old.keeper)
-          (nat_lt 0 (g.fault_count old.keeper)) (g.content old.keeper) calls (g.content new.keeper))
-          (same_limits old.machine.limits limits begun.full full) (run sound);
-    },
-  )
+      → All IsProperCall calls → IsOneRun g Begins Ends calls
+  one_run old new calls begun ends stays run proper = record {
+    keeper = old.keeper;
+    later = new.keeper;
+    opened = begun.keeper;
+    closed = ends;
+    stays_sound = stays;
+    run = λ limits full sound. subst (λ l. Run (Step l) (g.limit old.keeper)
+        (nat_lt 0 (g.fault_count old.keeper)) (g.content old.keeper) calls (g.content new.keeper))
+        (same_limits old.machine.limits limits begun.full full) (run sound);
+    proper = proper;
+  }
 
   -- so do calls that were made one after another
   pub made_run : (old new : Parts RingMachine K) (calls : Calls) → IsBegun Begins old
       → Ends new.keeper
       → CallsMade steps_of g.content g.sound g.limit g.fault_count old new calls
-      → MakesOneRun g Begins Ends
-  made_run old new calls begun ends made = one_run old new calls begun ends made.stays_sound made.run
+      → All IsProperCall calls → IsOneRun g Begins Ends calls
+  made_run old new calls begun ends made proper = one_run old new calls begun ends made.stays_sound
+      made.run proper
 
   module _ (none : StaysNone g) where
     -- a keeper that is only asked makes a run of no call
     still_run : (keeper later : K) → Begins keeper → Ends later → (g.sound later → g.sound keeper)
-        → (g.sound later → g.content later ≡ g.content keeper) → MakesOneRun g Begins Ends
-    still_run keeper later begins ends stays same = (
-      [],
-      record {
-        keeper = keeper;
-        later = later;
-        opened = begins;
-        closed = ends;
-        stays_sound = stays;
-        run = λ limits full sound. subst (Run (Step limits) (g.limit keeper)
-            (nat_lt 0 (g.fault_count keeper)) (g.content keeper) []) (sym (same sound))
-            ((none (record { machine = record { limits = limits }; keeper = keeper })).run
-            (stays sound));
-      },
-    )
+        → (g.sound later → g.content later ≡ g.content keeper) → IsOneRun g Begins Ends []
+    still_run keeper later begins ends stays same = record {
+      keeper = keeper;
+      later = later;
+      opened = begins;
+      closed = ends;
+      stays_sound = stays;
+      run = λ limits full sound. subst (Run (Step limits) (g.limit keeper)
+          (nat_lt 0 (g.fault_count keeper)) (g.content keeper) []) (sym (same sound))
+          ((none (record { machine = record { limits = limits }; keeper = keeper })).run
+          (stays sound));
+      proper = All-nil IsProperCall;
+    }
 
     pub asked_run : (Tells : State → ℕ → Type 0) → IsAsked g Begins Ends Tells
-        → MakesOneRun g Begins Ends
+        → IsOneRun g Begins Ends []
     asked_run Tells a = still_run a.keeper a.later a.opened a.left a.stays_sound a.stays
 
-    pub read_run : (IsSo : State → ℕ → Type 0) → IsRead g Begins Ends IsSo → MakesOneRun g Begins Ends
+    pub read_run : (IsSo : State → ℕ → Type 0) → IsRead g Begins Ends IsSo
+        → IsOneRun g Begins Ends []
     read_run IsSo r = still_run r.keeper r.later r.opened r.ended r.stays_sound r.stays
 
     -- one delivery is a run of one call
     pub import_run : GoesOn → (ask : ImportAsk) (rows : List Row) (hour : ℕ) (t : Told)
-        → Imports g Begins Ends ask rows hour t → MakesOneRun g Begins Ends
+        → (i : Imports g Begins Ends ask rows hour t)
+        → IsOneRun g Begins Ends (import_calls g Begins Ends ask rows hour t i)
     import_run more ask rows hour t i =
         let closed : Bool = nat_lt 0 (g.fault_count i.book.keeper) in
         let call : Call Command Reply = Deliver (record {
@@ -166,6 +181,7 @@ module _ {K : Type 0} (g : Keeping K) (Begins Ends : K → Type 0) where
         (subst (λ b. Called (steps_of i.book.machine) (g.limit i.book.keeper) b
         (g.content i.book.keeper) call (g.content i.later.keeper)) (or_false closed)
         (i.made.called sound)))
+        (All-cons IsProperCall call [] i.proper (All-nil IsProperCall))
 
 -- no table that is refused is told as an import that was done
 not_done : (why : CsvFault) (shown : Told) → (shown ≡ told_csv why) ⊎ (shown ≡ told.NoMemory)
@@ -192,7 +208,7 @@ told_as why t shown is (inr lost) = inr lost
 module _ {K : Type 0} (g : Keeping K) (Begins Ends : K → Type 0) (none : StaysNone g) where
   -- a book that stays as it is makes a run of no call
   same_run : (old new : Parts RingMachine K) → IsBegun Begins old → Ends new.keeper → new ≡ old
-      → MakesOneRun g Begins Ends
+      → IsOneRun g Begins Ends []
   same_run old new begun ends same = still_run g Begins Ends none old.keeper new.keeper begun.keeper
       ends (subst (λ (b : Parts RingMachine K). g.sound b.keeper) same)
       (λ sound. ap (λ (b : Parts RingMachine K). g.content b.keeper) same)
@@ -200,235 +216,343 @@ module _ {K : Type 0} (g : Keeping K) (Begins Ends : K → Type 0) (none : Stays
   module _ {R W : Type 0} (remaining : R → Option (List ℕ)) (contents : W → Option (List ℕ))
       (reader late_reader : CountedReader R) (writer later : CountedWriter W) where
     -- the run of a program that answered lines
-    lines_run : AnswersLines g Begins Ends remaining contents reader late_reader writer later
-        → MakesOneRun g Begins Ends
+    lines_run : (all : AnswersLines g Begins Ends remaining contents reader late_reader writer later)
+        → IsOneRun g Begins Ends (line_calls g Begins Ends remaining contents reader late_reader
+        writer later all)
     lines_run all = let run = all.0.1 in made_run g Begins Ends run.0 run.1 run.4.get.calls run.2 run.3
-        run.4.get.made
+        run.4.get.made (proper_lines g run.0 _ _ run.1 run.4.get)
 
     -- of one that a fault of a stream stopped
     stopped_run : (why : StreamFault)
-        → StopsLines g Begins Ends remaining contents reader late_reader writer later why
-        → MakesOneRun g Begins Ends
+        (all : StopsLines g Begins Ends remaining contents reader late_reader writer later why)
+        → IsOneRun g Begins Ends (stopped_calls g Begins Ends remaining contents reader late_reader
+        writer later why all)
     stopped_run stream.ReadFailed all = let run = all.0 in made_run g Begins Ends run.0 run.1
-        run.4.get.calls run.2 run.3 run.4.get.made
+        run.4.get.calls run.2 run.3 run.4.get.made (proper_lines g run.0 _ _ run.1 run.4.get)
     stopped_run stream.WriteFailed all = let run = all.0 in made_run g Begins Ends run.0 run.1
-        run.4.get.calls run.2 run.3 run.4.get.made
+        run.4.get.calls run.2 run.3 run.4.get.made (proper_lines g run.0 _ _ run.1 run.4.get)
     stopped_run stream.NoMemory all = let run = all.0 in same_run run.0 run.1 run.2 run.3 run.4.2
 
   module _ (given : Option ℕ) (names : HashNames) where
     -- of one that served connections
-    served_run : (port count : ℕ) → ServesPort g Begins Ends given names port count
-        → MakesOneRun g Begins Ends
+    served_run : (port count : ℕ) (s : ServesPort g Begins Ends given names port count)
+        → IsOneRun g Begins Ends (port_calls g Begins Ends given names port count s)
     served_run port count s = made_run g Begins Ends s.first.1 s.last.1 s.led.3.serves.calls s.opened
-        s.left s.led.3.serves.made
+        s.left s.led.3.serves.made (proper_requests g TellsGiven names.prefix.now names.suffix.now
+        s.first _ _ s.last s.led.3.serves)
 
     -- of one that served fewer
-    fewer_run : {D S : Type 0} (remaining : S → Option (List ℕ)) (gives : D → S → D → Type 0)
-        (fails : D → D → Type 0) (opens : ℕ → D → Type 0) (port count : ℕ)
-        → ServesFewer g Begins Ends given names remaining gives fails opens port count
-        → MakesOneRun g Begins Ends
-    fewer_run remaining gives fails opens port count s = elim s.led [
-      | inl same ↦ same_run s.first.1 s.last.1 s.opened s.left (ap (λ (f : Service K). f.1) same)
-      | inr some ↦ made_run g Begins Ends s.first.1 s.last.1 some.3.all.serves.calls s.opened s.left
-          some.3.all.serves.made
-    ]
+    fewer_run : {D S : Type 0} (remaining : S → Option (List ℕ)) (gives : D → S → S → D → Type 0)
+        (fails : D → D → Type 0) (opens : ℕ → D → Type 0) (shuts : ℕ → Type 0) (port count : ℕ)
+        (s : ServesFewer g Begins Ends given names remaining gives fails opens shuts port count)
+        → IsOneRun g Begins Ends (fewer_calls g Begins Ends given names remaining gives fails opens
+        shuts port count s)
+    fewer_run remaining gives fails opens shuts port count s = elim s.led as (λ led. IsOneRun g Begins
+        Ends (failed_port_calls g Begins Ends given names remaining gives fails opens shuts port count
+        s.first s.last led)) [
+          | inl shut ↦ same_run s.first.1 s.last.1 s.opened s.left (ap (λ (f : Service K). f.1) shut.1)
+          | inr some ↦ made_run g Begins Ends s.first.1 s.last.1 some.3.then.all.serves.calls s.opened
+              s.left some.3.then.all.serves.made (proper_requests g TellsGiven names.prefix.now
+              names.suffix.now s.first _ _ s.last some.3.then.all.serves)
+        ]
+
+    module _ (first last : Service K) (opened : IsBegun Begins first.1) (left : Ends last.1.keeper)
+      where
+        -- of a connection of the machine with itself
+        one_run_of : (one : OneServed g TellsGiven names.prefix.now names.suffix.now
+            (AnswersFirst Anyone tcp_remaining) first last)
+            → IsOneRun g Begins Ends one.serves.calls
+        one_run_of one = made_run g Begins Ends first.1 last.1 one.serves.calls opened left
+            one.serves.made (proper_requests g TellsGiven names.prefix.now names.suffix.now
+            first _ _ last one.serves)
+
+        -- of none
+        none_run : last ≡ first → IsOneRun g Begins Ends []
+        none_run none = same_run first.1 last.1 opened left (ap (λ (f : Service K). f.1) none)
+
+        -- of one that a fault of its serving stopped
+        fault_run : (before after : ℕ) (why : ServeFault)
+            (fails : LoopFails g TellsGiven names.prefix.now names.suffix.now
+            (AnswersFirst Anyone tcp_remaining) first last before after why)
+            → IsOneRun g Begins Ends (failed_loop_calls g Begins Ends given names first last before
+            after why fails)
+        fault_run before after serving.NetFailed (same, inl none) = none_run none
+        fault_run before after serving.NetFailed (same, inr one) = one_run_of one
+        fault_run before after (serving.Stream stream.ReadFailed) (same, (one, is)) = one_run_of one
+        fault_run before after (serving.Stream stream.WriteFailed) (inl (more, one)) = one_run_of one
+        fault_run before after (serving.Stream stream.WriteFailed) (inr (same, (one, is))) =
+            one_run_of one
+        fault_run before after (serving.Stream stream.NoMemory) (same, inl none) = none_run none
+        fault_run before after (serving.Stream stream.NoMemory) (same, inr (one, is)) = one_run_of one
 
     -- of one that served a connection of the machine with itself
-    looped_run : ServesOne g Begins Ends given names → MakesOneRun g Begins Ends
-    looped_run s = made_run g Begins Ends s.first.1 s.last.1 s.led.serves.calls s.opened s.left
-        s.led.serves.made
+    looped_run : (s : ServesOne g Begins Ends given names)
+        → IsOneRun g Begins Ends (looped_calls g Begins Ends given names s)
+    looped_run s = one_run_of s.first s.last s.opened s.left s.led.0
 
-    -- or none
-    looped_some : ServesOneOrNone g Begins Ends given names → MakesOneRun g Begins Ends
-    looped_some s = elim s.led [
-      | inl same ↦ same_run s.first.1 s.last.1 s.opened s.left (ap (λ (f : Service K). f.1) same)
-      | inr one ↦ made_run g Begins Ends s.first.1 s.last.1 one.serves.calls s.opened s.left
-          one.serves.made
-    ]
+-- one run of a store is one of a store of whose end less is known
+left_run : {K : Type 0} (g : Keeping K) (Begins Ends Late : K → Type 0) {calls : Calls}
+    → ((keeper : K) → Ends keeper → Late keeper) → IsOneRun g Begins Ends calls
+    → IsOneRun g Begins Late calls
+left_run g Begins Ends Late leave one = record {
+  keeper = one.keeper;
+  later = one.later;
+  opened = one.opened;
+  closed = leave one.later one.closed;
+  stays_sound = one.stays_sound;
+  run = one.run;
+  proper = one.proper;
+}
 
--- one run of a store that was closed well is one of a store that was closed
-closed_run : {K : Type 0} (g : Keeping K) (Begins : K → Type 0) (Ends : K → Closing → Type 0)
-    → MakesOneRun g Begins (IsClosed Ends) → MakesOneRun g Begins (WasClosed Ends)
-closed_run g Begins Ends all = let one = all.1 in (
-  all.0,
-  record {
-    keeper = one.keeper;
-    later = one.later;
-    opened = one.opened;
-    closed = (Ok tt, one.closed);
-    stays_sound = one.stays_sound;
-    run = one.run;
-  },
-)
-
--- a refused opening is one of the three causes that come before
-at_opening : {A B C D : Type 0} → C ⊎ D → (A ⊎ B ⊎ C) ⊎ D
-at_opening (inl refused) = inl (inr (inr refused))
+-- a refused opening comes before
+at_opening : {A B C : Type 0} → B ⊎ C → (A ⊎ B) ⊎ C
+at_opening (inl refused) = inl (inr refused)
 at_opening (inr run) = inr run
 
--- and so is the file that is read
-at_file : {A B C D : Type 0} → B ⊎ C ⊎ D → (A ⊎ B ⊎ C) ⊎ D
-at_file (inl file) = inl (inr (inl file))
-at_file (inr (inl refused)) = inl (inr (inr refused))
+-- and so does the file that is read
+at_file : {A B C D E : Type 0} → (B × E) ⊎ C ⊎ D → (((A ⊎ B) × E) ⊎ C) ⊎ D
+at_file (inl file) = inl (inl (inr file.0, file.1))
+at_file (inr (inl refused)) = inl (inr refused)
 at_file (inr (inr run)) = inr run
 
 -- Keepers of stores are these, begin so, and end so with what closing them answers.
 module _ {K W : Type 0} (stores : Keeping K) (Begins : K → Type 0)
     (Ends : K → Closing → Type 0) (none : StaysNone stores) (more : GoesOn)
     (contents : W → Option (List ℕ)) (writer later : CountedWriter W) where
+  -- the run of a store that was closed well
+  closed_run : {calls : Calls} → IsOneRun stores Begins (IsClosed Ends) calls
+      → IsOneRun stores Begins (WasClosed Ends) calls
+  closed_run = left_run stores Begins (IsClosed Ends) (WasClosed Ends) (λ keeper ended. (Ok tt, ended))
+
+  -- of one whose store had not failed before
+  whole_run : {calls : Calls} → IsOneRun stores Begins (IsClosedWhole stores Ends) calls
+      → IsOneRun stores Begins (IsClosed Ends) calls
+  whole_run = left_run stores Begins (IsClosedWhole stores Ends) (IsClosed Ends)
+      (λ keeper ended. ended.0)
+
+  -- of one whose closing failed
+  unclosed_run : {calls : Calls} (why : ProgramFault)
+      → IsOneRun stores Begins (FailedToClose Ends why) calls
+      → IsOneRun stores Begins (WasClosed Ends) calls
+  unclosed_run why = left_run stores Begins (FailedToClose Ends why) (WasClosed Ends)
+      (λ keeper ended. (Err why, ended))
+
+  -- of one whose keeper failed
+  failed_run : {calls : Calls} (cause : KeepFault)
+      → IsOneRun stores Begins (WasClosedAfter stores Ends cause) calls
+      → IsOneRun stores Begins (WasClosed Ends) calls
+  failed_run cause = left_run stores Begins (WasClosedAfter stores Ends cause) (WasClosed Ends)
+      (λ keeper ended. ended.0)
+
   -- the run of a program that showed something
   shown_run : (prefix suffix : List ℕ) (Asks : Question → Type 0)
       → ShowsStore stores Begins Ends contents writer later prefix suffix Asks
-      → MakesOneRun stores Begins (IsClosed Ends)
-  shown_run prefix suffix Asks s = asked_run stores Begins (IsClosed Ends) none _ s.2.1
+      → IsOneRun stores Begins (IsClosed Ends) []
+  shown_run prefix suffix Asks s = whole_run (asked_run stores Begins (IsClosedWhole stores Ends) none
+      _ s.2.1)
 
-  -- of one that imported a table
-  table_run : (Holds : List ℕ → Type 0) (IsUnread : ℕ → ProgramFault → Type 0)
-      (Asks : ImportAsk → Type 0) (given : Option ℕ)
-      → ImportsFile stores Begins Ends contents writer later Holds IsUnread Asks given (EndsBy Done)
-      → MakesOneRun stores Begins (IsClosed Ends)
-  table_run Holds IsUnread Asks given i = elim i.4.1 [
-    | inl it ↦ import_run stores Begins (IsClosed Ends) none more i.0 it.0 it.1 i.4.0 it.4
-    | inr bad ↦ absurd (not_done bad.0 i.4.2.0 (told_as bad.0 i.4.0 i.4.2.0 bad.2 i.4.2.1) (sym i.4.2.5 ∙ i.3))
-  ]
+  -- of one that read a store
+  renewed_run : (IsSo : State → ℕ → Type 0)
+      → IsRead stores Begins (IsClosedWhole stores Ends) IsSo → IsOneRun stores Begins (IsClosed Ends) []
+  renewed_run IsSo r = whole_run (read_run stores Begins (IsClosedWhole stores Ends) none IsSo r)
 
-  -- of one whose import was refused, unless its table tells no rows
-  refused_run : (Holds : List ℕ → List ℕ → Type 0)
-      (IsUnread : List ℕ → ℕ → ProgramFault → Type 0) (file ring caller number csv : Bor (List ℕ))
-      (Asks : ImportAsk → Type 0) (given : Option ℕ)
-      → ImportsFile stores Begins Ends contents writer later (Holds csv.now) (IsUnread csv.now) Asks
-      given (EndsBy Refused)
-      → TellsBadTable contents writer later Holds IsUnread
-      (task.Import file ring caller number csv given)
-      ⊎ MakesOneRun stores Begins (IsClosed Ends)
-  refused_run Holds IsUnread file ring caller number csv Asks given i = elim i.4.1 [
-    | inl it ↦ inr (import_run stores Begins (IsClosed Ends) none more i.0 it.0 it.1 i.4.0 it.4)
-    | inr bad ↦ inl (
-      bad.0,
-      i.1,
-      bad.1,
-      subst (λ t. WritesTold contents writer later t i.1) bad.2 i.4.2,
-    )
-  ]
+  module _ (before after : ℕ) where
+    -- of one that imported a table
+    table_run : (Holds : List ℕ → Type 0) (IsUnread : ℕ → ProgramFault → Type 0)
+        (Asks : ImportAsk → Type 0) (given : Option ℕ)
+        (i : ImportsFile stores Begins Ends contents writer later Holds IsUnread before after Asks given
+        (EndsBy Done))
+        → IsOneRun stores Begins (IsClosed Ends) (told_calls stores Begins (IsClosed Ends) Holds IsUnread
+        before after i.0 given i.4.0 i.4.1)
+    table_run Holds IsUnread Asks given i = elim i.4.1 as (λ told. IsOneRun stores Begins (IsClosed Ends)
+        (told_calls stores Begins (IsClosed Ends) Holds IsUnread before after i.0 given i.4.0 told)) [
+          | inl it ↦ import_run stores Begins (IsClosed Ends) none more i.0 it.0 it.1 i.4.0 it.4
+          | inr bad ↦ absurd (not_done bad.0 i.4.2.0 (told_as bad.0 i.4.0 i.4.2.0 bad.2 i.4.2.1) (sym i.4.2.5 ∙ i.3))
+        ]
 
-  module _ (Refuses : ProgramFault → Type 0) where
-    -- the store was refused, or run once
-    abbrev OpensOnce : ProgramFault → Type 0
-    OpensOnce why = (Refuses why × IsStoreFault why) ⊎ MakesOneRun stores Begins (WasClosed Ends)
+    -- of one whose import was refused, unless its table tells no rows
+    refused_run : (Holds : List ℕ → List ℕ → Type 0)
+        (IsUnread : List ℕ → ℕ → ProgramFault → Type 0) (file ring caller number csv : Bor (List ℕ))
+        (Asks : ImportAsk → Type 0) (given : Option ℕ)
+        (i : ImportsFile stores Begins Ends contents writer later (Holds csv.now) (IsUnread csv.now) before
+        after Asks given (EndsBy Refused))
+        → TellsBadTable contents writer later Holds IsUnread before after
+        (task.Import file ring caller number csv given)
+        ⊎ IsOneRun stores Begins (IsClosed Ends) (told_calls stores Begins (IsClosed Ends)
+        (Holds csv.now) (IsUnread csv.now) before after i.0 given i.4.0 i.4.1)
+    refused_run Holds IsUnread file ring caller number csv Asks given i = elim i.4.1 as
+        (λ told. TellsBadTable contents writer later Holds IsUnread before after
+        (task.Import file ring caller number csv given)
+        ⊎ IsOneRun stores Begins (IsClosed Ends) (told_calls stores Begins (IsClosed Ends)
+        (Holds csv.now) (IsUnread csv.now) before after i.0 given i.4.0 told)) [
+          | inl it ↦ inr (import_run stores Begins (IsClosed Ends) none more i.0 it.0 it.1 i.4.0 it.4)
+          | inr bad ↦ inl (
+            bad.0,
+            i.1,
+            bad.1,
+            subst (λ t. WritesTold contents writer later t i.1) bad.2 i.4.2,
+            bad.3,
+          )
+        ]
 
-    lines_failed : {R : Type 0} (remaining : R → Option (List ℕ))
-        (reader late_reader : CountedReader R) (why : ProgramFault)
-        → FailsLines stores Begins (WasClosed Ends) remaining contents reader late_reader writer later
-        Refuses why → OpensOnce why
-    lines_failed remaining reader late_reader why (inl stopped) = inr (stopped_run stores Begins
-        (WasClosed Ends) none remaining contents reader late_reader writer later stopped.0 stopped.2)
-    lines_failed remaining reader late_reader why (inr (inl refused)) = inl (refused.0, refused.1)
-    lines_failed remaining reader late_reader why (inr (inr closed)) = inr (lines_run stores Begins
-        (WasClosed Ends) none remaining contents reader late_reader writer later closed.1)
+    module _ (Refuses : ProgramFault → Type 0) where
+      -- the store was refused and no other opened, or run once
+      abbrev OpensOnce : ProgramFault → Calls → Type 0
+      OpensOnce why calls = ((Refuses why × IsStoreFault why) × OpensOne before after)
+          ⊎ IsOneRun stores Begins (WasClosed Ends) calls
 
-    serve_failed : (given : Option ℕ) (names : HashNames) (port count : ℕ) (why : ProgramFault)
-        → FailsToServePort stores Begins (WasClosed Ends) given names Refuses port count why
-        → OpensOnce why
-    serve_failed given names port count why (inl refused) = inl refused
-    serve_failed given names port count why (inr (inl closed)) = inr (served_run stores Begins
-        (WasClosed Ends) none given names port count closed.1)
-    serve_failed given names port count why (inr (inr net)) = inr (fewer_run stores Begins
-        (WasClosed Ends) none given names tcp_remaining accepts_tcp AcceptsNone
-        (λ _ server. HasAcceptedNone server) port count net.1)
+      lines_failed : {R : Type 0} (remaining : R → Option (List ℕ))
+          (reader late_reader : CountedReader R) (why : ProgramFault) → OpensOne before after
+          → (failed : FailsLines stores Begins Ends remaining contents reader late_reader writer later
+          Refuses why)
+          → OpensOnce why (run_calls stores Begins Ends remaining contents reader late_reader writer
+          later Refuses why failed)
+      lines_failed remaining reader late_reader why one (inl (cause, is, stopped)) = inr (stopped_run
+          stores Begins (WasClosed Ends) none remaining contents reader late_reader writer later cause
+          stopped)
+      lines_failed remaining reader late_reader why one (inr (inl refused)) =
+          inl ((refused.0, refused.1), one)
+      lines_failed remaining reader late_reader why one (inr (inr (is, answers))) = inr (unclosed_run why
+          (lines_run stores Begins (FailedToClose Ends why) none remaining contents reader late_reader
+          writer later answers))
 
-    loop_failed : (given : Option ℕ) (names : HashNames) (why : ProgramFault)
-        → FailsToLoop stores Begins (WasClosed Ends) given names contents writer later Refuses why
-        → OpensOnce why
-    loop_failed given names why (inl refused) = inl (refused.0, refused.1)
-    loop_failed given names why (inr (inl stopped)) = inr (looped_some stores Begins (WasClosed Ends)
-        none given names stopped.2.0)
-    loop_failed given names why (inr (inr closed)) = inr (looped_run stores Begins (WasClosed Ends)
-        none given names closed.1.0)
+      serve_failed : (given : Option ℕ) (names : HashNames) (port count : ℕ) (why : ProgramFault)
+          → OpensOne before after
+          → (failed : FailsToServePort stores Begins Ends given names Refuses port count why)
+          → OpensOnce why (serve_calls stores Begins Ends given names Refuses port count why failed)
+      serve_failed given names port count why one (inl refused) = inl (refused, one)
+      serve_failed given names port count why one (inr (inl (is, served))) = inr (unclosed_run why
+          (served_run stores Begins (FailedToClose Ends why) none given names port count served))
+      serve_failed given names port count why one (inr (inr (is, served))) = inr (fewer_run stores Begins
+          (WasClosed Ends) none given names tcp_remaining accepts_tcp AcceptsNone
+          (λ _ server. HasAcceptedNone server) shuts_tcp port count served)
 
-    show_failed : (prefix suffix : List ℕ) (Asks : Question → Type 0) (why : ProgramFault)
-        → FailsToShowStore stores Begins Ends contents writer later Refuses prefix suffix Asks why
-        → OpensOnce why
-    show_failed prefix suffix Asks why f = elim f.2 [
-      | inl refused ↦ inl (refused.0, refused.1)
-      | inr rest ↦ elim rest [
-        | inl failed ↦ inr (asked_run stores Begins (WasClosed Ends) none _ failed.1)
-        | inr other ↦ elim other [
-          | inl hidden ↦ inr (asked_run stores Begins (WasClosed Ends) none _ hidden.0)
-          | inr unwritten ↦ inr (asked_run stores Begins (WasClosed Ends) none _ unwritten.1.1)
+      loop_failed : (given : Option ℕ) (names : HashNames) (why : ProgramFault)
+          → OpensOne before after
+          → (failed : FailsToLoop stores Begins Ends given names contents writer later Refuses why)
+          → OpensOnce why (stopped_loop_calls stores Begins Ends given names contents writer later
+          Refuses why failed)
+      loop_failed given names why one (inl refused) = inl ((refused.0, refused.1), one)
+      loop_failed given names why one (inr (inl (cause, is, stopped))) = inr (fault_run stores Begins
+          (WasClosed Ends) none given names stopped.0.first stopped.0.last stopped.0.opened
+          stopped.0.left (write_faults writer) (write_faults later) cause stopped.0.led)
+      loop_failed given names why one (inr (inr (is, looped))) = inr (unclosed_run why (looped_run stores
+          Begins (FailedToClose Ends why) none given names looped.0))
+
+      nothing_shown : (prefix suffix : List ℕ) (question : Question) (why : ProgramFault)
+          → ShowsNothing stores Begins Ends prefix suffix question why
+          → IsOneRun stores Begins (WasClosed Ends) []
+      nothing_shown prefix suffix question why (inl failed) = failed_run failed.0 (asked_run stores
+          Begins (WasClosedAfter stores Ends failed.0) none _ failed.2)
+      nothing_shown prefix suffix question why (inr (inl closed)) = unclosed_run why (asked_run stores
+          Begins (FailedToClose Ends why) none _ closed.1.1)
+      nothing_shown prefix suffix question why (inr (inr hidden)) = asked_run stores Begins
+          (WasClosed Ends) none _ hidden
+
+      show_failed : (prefix suffix : List ℕ) (Asks : Question → Type 0) (why : ProgramFault)
+          → OpensOne before after
+          → FailsToShowStore stores Begins Ends contents writer later Refuses prefix suffix Asks why
+          → OpensOnce why []
+      show_failed prefix suffix Asks why one f = elim f.2 [
+        | inl refused ↦ inl ((refused.0, refused.1), one)
+        | inr rest ↦ elim rest [
+          | inl nothing ↦ inr (nothing_shown prefix suffix f.0 why nothing.0)
+          | inr unwritten ↦ inr (closed_run (whole_run (asked_run stores Begins
+              (IsClosedWhole stores Ends) none _ unwritten.1.1)))
         ]
       ]
-    ]
 
-    renew_failed : (IsUnmade : State → ℕ → ProgramFault → Type 0) (why : ProgramFault)
-        → FailsToRenew stores Begins Ends Refuses IsUnmade why → OpensOnce why
-    renew_failed IsUnmade why (inl (inl refused)) = inl refused
-    renew_failed IsUnmade why (inl (inr unread)) = inr (read_run stores Begins (WasClosed Ends) none _
-        unread.1)
-    renew_failed IsUnmade why (inr unmade) = inr (closed_run stores Begins Ends (read_run stores Begins
-        (IsClosed Ends) none _ unmade.1))
+      old_unread : (why : ProgramFault) → OpensOne before after
+          → FailsToRead stores Begins Ends Refuses why → OpensOnce why []
+      old_unread why one (inl refused) = inl (refused, one)
+      old_unread why one (inr (inl failed)) = inr (failed_run failed.0 (read_run stores Begins
+          (WasClosedAfter stores Ends failed.0) none _ failed.2))
+      old_unread why one (inr (inr closed)) = inr (unclosed_run why (read_run stores Begins
+          (FailedToClose Ends why) none _ closed.1))
 
-    module _ (Holds : List ℕ → List ℕ → Type 0) (IsUnread : List ℕ → ℕ → ProgramFault → Type 0) where
-      -- the fault is one of the file that a task reads first, or its store was refused or run once
-      abbrev ReadsFirst : Task → ProgramFault → Type 0
-      ReadsFirst t why = ComesOfFile contents writer later Holds IsUnread t why ⊎ OpensOnce why
+      renew_failed : (IsUnmade : State → ℕ → ProgramFault → Type 0) (why : ProgramFault)
+          → FailsToRenew stores Begins Ends Refuses IsUnmade before after why → OpensOnce why []
+      renew_failed IsUnmade why (inl unread) = old_unread why unread.1 unread.0
+      renew_failed IsUnmade why (inr unmade) = inr (closed_run (renewed_run _ unmade.1))
 
-      input_failed : (file input : Bor (List ℕ)) (given : Option ℕ) (names : HashNames)
-          (why : ProgramFault)
-          → FailsToLoopInput stores Begins (WasClosed Ends) given names contents writer later Refuses
-          (IsUnread input.now) why
-          → ReadsFirst (task.Loop file input given names) why
-      input_failed file input given names why (inl unread) = inl (unread.0, unread.1)
-      input_failed file input given names why (inr failed) = inr (loop_failed given names why failed)
+      module _ (Holds : List ℕ → List ℕ → Type 0) (IsUnread : List ℕ → ℕ → ProgramFault → Type 0) where
+        -- the fault is one of the file that a task reads first, or its store was refused or run once
+        abbrev ReadsFirst : Task → ProgramFault → Calls → Type 0
+        ReadsFirst t why calls = (ComesOfFile contents writer later Holds IsUnread before after t why
+            × OpensNone before after) ⊎ OpensOnce why calls
 
-      module _ (file ring caller number csv : Bor (List ℕ)) (given : Option ℕ) (ask : ImportAsk)
-        where
-          abbrev ImportsFirst : ProgramFault → Type 0
-          ImportsFirst = ReadsFirst (task.Import file ring caller number csv given)
+        input_failed : (file input : Bor (List ℕ)) (given : Option ℕ) (names : HashNames)
+            (why : ProgramFault)
+            (failed : FailsToLoopInput stores Begins Ends given names contents writer later Refuses
+            (IsUnread input.now) before after why)
+            → ReadsFirst (task.Loop file input given names) why (loop_calls stores Begins Ends given names
+            contents writer later Refuses (IsUnread input.now) before after why failed)
+        input_failed file input given names why (inl unread) =
+            inl ((unread.0, unread.1), unread.3)
+        input_failed file input given names why (inr (failed, one)) =
+            inr (loop_failed given names why one failed)
 
-          nothing_told : (why : ProgramFault) → TellsNothing stores Begins (WasClosed Ends)
-              (Holds csv.now) (IsUnread csv.now) Refuses ask given why → ImportsFirst why
-          nothing_told why (inl lost) = inl (inl lost)
-          nothing_told why (inr it) = elim it.4 [
-            | inl refused ↦ inr (inl refused)
-            | inr closed ↦ inr (inr (import_run stores Begins (WasClosed Ends) none more ask it.0 it.1
-                closed.1.0 closed.1.1))
-          ]
+        module _ (file ring caller number csv : Bor (List ℕ)) (given : Option ℕ) (ask : ImportAsk)
+          where
+            abbrev ImportsFirst : ProgramFault → Calls → Type 0
+            ImportsFirst = ReadsFirst (task.Import file ring caller number csv given)
 
-          telling_failed : (why : ProgramFault) (t : Told) → why ≡ fault.WriteFailed
-              → TellsImport stores Begins (WasClosed Ends) (Holds csv.now) (IsUnread csv.now) ask given t
-              → FailsTold contents writer later t → ImportsFirst why
-          telling_failed why t is (inl it) failed = inr (inr (import_run stores Begins (WasClosed Ends)
-              none more ask it.0 it.1 t it.4))
-          telling_failed why t is (inr bad) failed = inl (inr (
-            is,
-            (bad.0, bad.1, subst (FailsTold contents writer later) bad.2 failed),
-          ))
+            deliver_failed : (rows : List Row) (hour : ℕ) (why : ProgramFault) → OpensOne before after
+                → (failed : FailsToDeliver stores Begins Ends Refuses ask rows hour why)
+                → ImportsFirst why (undelivered_calls stores Begins Ends Refuses ask rows hour why failed)
+            deliver_failed rows hour why one (inl refused) = inr (inl (refused, one))
+            deliver_failed rows hour why one (inr (is, (t, imports))) = inr (inr (unclosed_run why
+                (import_run stores Begins (FailedToClose Ends why) none more ask rows hour t imports)))
 
-          import_failed : (why : ProgramFault) → FailsToImport stores Begins (WasClosed Ends)
-              (Holds csv.now) (IsUnread csv.now) contents writer later Refuses ask given why
-              → ImportsFirst why
-          import_failed why (inl nothing) = nothing_told why nothing.0
-          import_failed why (inr unwritten) = telling_failed why unwritten.1.0 unwritten.0 unwritten.1.1
-              unwritten.1.2
+            nothing_told : (why : ProgramFault) (nothing : TellsNothing stores Begins Ends Refuses
+                (Holds csv.now) (IsUnread csv.now) before after ask given why)
+                → ImportsFirst why (untold_calls stores Begins Ends Refuses (Holds csv.now)
+                (IsUnread csv.now) before after ask given why nothing)
+            nothing_told why (inl lost) = inl (inl lost.0, lost.1)
+            nothing_told why (inr (rows, hour, holds, tells, failed, one)) =
+                deliver_failed rows hour why one failed
+
+            telling_failed : (why : ProgramFault) (t : Told) → why ≡ fault.WriteFailed
+                → (told : TellsImport stores Begins (IsClosed Ends) (Holds csv.now) (IsUnread csv.now)
+                before after ask given t)
+                → FailsTold contents writer later t → ImportsFirst why (told_calls stores Begins
+                (IsClosed Ends) (Holds csv.now) (IsUnread csv.now) before after ask given t told)
+            telling_failed why t is (inl it) failed = inr (inr (closed_run (import_run stores Begins
+                (IsClosed Ends) none more ask it.0 it.1 t it.4)))
+            telling_failed why t is (inr bad) failed = inl (
+              inr (is, (bad.0, bad.1, subst (FailsTold contents writer later) bad.2 failed)),
+              bad.3,
+            )
+
+            import_failed : (why : ProgramFault) (failed : FailsToImport stores Begins Ends Refuses
+                (Holds csv.now) (IsUnread csv.now) before after contents writer later ask given why)
+                → ImportsFirst why (unimported_calls stores Begins Ends Refuses (Holds csv.now)
+                (IsUnread csv.now) before after ask given contents writer later why failed)
+            import_failed why (inl (nothing, same)) = nothing_told why nothing
+            import_failed why (inr (is, (t, told, unwritten))) = telling_failed why t is told unwritten
 
 module _ {M K R W : Type 0} (memory : Keeping M) (stores : Keeping K)
     (Begins : List ℕ → K → Type 0) (Ends : K → Closing → Type 0) (remaining : R → Option (List ℕ))
     (contents : W → Option (List ℕ)) (none : StaysNone stores) (more : GoesOn)
     (reader late_reader : CountedReader R) (writer later : CountedWriter W)
-    (Holds : List ℕ → List ℕ → Type 0) (IsUnread : List ℕ → ℕ → ProgramFault → Type 0) where
+    (Holds : List ℕ → List ℕ → Type 0) (IsUnread : List ℕ → ℕ → ProgramFault → Type 0)
+    (before after : ℕ) where
   module _ (IsMade : List ℕ → State → ℕ → Type 0) where
     -- Each program that did what it was asked for made one run of the store that it is over.
-    pub done_once : (t : Task) → EndsSo memory stores Begins Ends remaining contents reader late_reader
-        writer later Holds IsUnread IsMade t Done → RunsStore stores Begins (IsClosed Ends) (store_of t)
+    pub done_once : (t : Task) (done : EndsSo memory stores Begins Ends remaining contents reader
+        late_reader writer later Holds IsUnread before after IsMade t Done)
+        → RunsStore stores Begins (IsClosed Ends) (store_of t)
+        (ended_calls memory stores Begins Ends Holds IsUnread remaining contents reader late_reader
+        writer later before after IsMade t Done done)
     done_once (task.Run None) all = tt
     done_once (task.Run (Some file)) all = lines_run stores (Begins file.now) (IsClosed Ends) none
-        remaining contents reader late_reader writer later all
+        remaining contents reader late_reader writer later all.0
     done_once (task.Serve file port count given names) all = served_run stores (Begins file.now)
         (IsClosed Ends) none given names port count all.2
     done_once (task.Loop file input given names) all = looped_run stores (Begins file.now)
         (IsClosed Ends) none given names all.1.2.0
     done_once (task.Import file ring caller number csv given) all = table_run stores
-        (Begins file.now) Ends none more contents writer later (Holds csv.now) (IsUnread csv.now) _
+        (Begins file.now) Ends none more contents writer later before after (Holds csv.now) (IsUnread csv.now) _
         given all.1
     done_once (task.Table file ring) all = shown_run stores (Begins file.now) Ends none more contents
         writer later [] [] (AsksShown (task.Table file ring)) all.1
@@ -438,16 +562,18 @@ module _ {M K R W : Type 0} (memory : Keeping M) (stores : Keeping K)
     done_once (task.Export file ring version written) all = shown_run stores (Begins file.now) Ends
         none more contents writer later [] [] (AsksShown (task.Export file ring version written))
         all.1
-    done_once (task.Renew file fresh) all = read_run stores (Begins file.now) (IsClosed Ends) none _
-        all.2
+    done_once (task.Renew file fresh) all = renewed_run stores (Begins file.now) Ends none more contents
+        writer later _ all.2
 
     -- So did an import that was refused, unless its table tells no rows.
-    pub refused_once : (t : Task) → EndsSo memory stores Begins Ends remaining contents reader
-        late_reader writer later Holds IsUnread IsMade t Refused
-        → TellsBadTable contents writer later Holds IsUnread t
+    pub refused_once : (t : Task) (refused : EndsSo memory stores Begins Ends remaining contents reader
+        late_reader writer later Holds IsUnread before after IsMade t Refused)
+        → TellsBadTable contents writer later Holds IsUnread before after t
         ⊎ RunsStore stores Begins (IsClosed Ends) (store_of t)
+        (ended_calls memory stores Begins Ends Holds IsUnread remaining contents reader late_reader
+        writer later before after IsMade t Refused refused)
     refused_once (task.Import file ring caller number csv given) all = refused_run stores
-        (Begins file.now) Ends none more contents writer later Holds IsUnread file ring caller number
+        (Begins file.now) Ends none more contents writer later before after Holds IsUnread file ring caller number
         csv _ given all.1
     refused_once (task.Run file) all = absurd all
     refused_once (task.Serve file port count given names) all = absurd all
@@ -460,41 +586,48 @@ module _ {M K R W : Type 0} (memory : Keeping M) (stores : Keeping K)
   module _ (Refuses : List ℕ → ProgramFault → Type 0)
       (IsUnmade : List ℕ → State → ℕ → ProgramFault → Type 0) where
     -- the work of a task failed
-    work_failed : (t : Task) (why : ProgramFault) → FailsToDo memory stores Begins Ends remaining
-        contents reader late_reader writer later Holds IsUnread Refuses IsUnmade t why
-        → FailsBefore contents writer later Holds IsUnread Refuses t why
+    work_failed : (t : Task) (why : ProgramFault) (failed : FailsToDo memory stores Begins Ends
+        remaining contents reader late_reader writer later Holds IsUnread before after Refuses IsUnmade t
+        why)
+        → FailsBefore contents writer later Holds IsUnread before after Refuses t why
         ⊎ RunsStore stores Begins (WasClosed Ends) (store_of t)
+        (work_calls memory stores Begins Ends Holds IsUnread remaining contents reader late_reader
+        writer later before after Refuses IsUnmade t why failed)
     work_failed (task.Run None) why all = inr tt
     work_failed (task.Run (Some file)) why all = at_opening (lines_failed stores (Begins file.now) Ends
-        none more contents writer later (Refuses file.now) remaining reader late_reader why all)
+        none more contents writer later before after (Refuses file.now) remaining reader late_reader why
+        all.1 all.0)
     work_failed (task.Serve file port count given names) why all = at_opening (serve_failed stores
-        (Begins file.now) Ends none more contents writer later (Refuses file.now) given names port
-        count why all.2)
+        (Begins file.now) Ends none more contents writer later before after (Refuses file.now) given names port
+        count why all.3 all.2)
     work_failed (task.Loop file input given names) why all = at_file (input_failed stores
-        (Begins file.now) Ends none more contents writer later (Refuses file.now) Holds IsUnread file
+        (Begins file.now) Ends none more contents writer later before after (Refuses file.now) Holds IsUnread file
         input given names why all.1)
     work_failed (task.Import file ring caller number csv given) why all = at_file (import_failed stores
-        (Begins file.now) Ends none more contents writer later (Refuses file.now) Holds IsUnread file
+        (Begins file.now) Ends none more contents writer later before after (Refuses file.now) Holds IsUnread file
         ring caller number csv given all.1.0 why all.1.2)
     work_failed (task.Table file ring) why all = at_opening (show_failed stores (Begins file.now) Ends
-        none more contents writer later (Refuses file.now) [] [] (AsksShown (task.Table file ring)) why
-        all.1)
+        none more contents writer later before after (Refuses file.now) [] [] (AsksShown (task.Table file ring)) why
+        all.2 all.1)
     work_failed (task.Nodes file ring account container object names) why all = at_opening (show_failed
-        stores (Begins file.now) Ends none more contents writer later (Refuses file.now)
+        stores (Begins file.now) Ends none more contents writer later before after (Refuses file.now)
         names.prefix.now names.suffix.now
-        (AsksShown (task.Nodes file ring account container object names)) why all.1)
+        (AsksShown (task.Nodes file ring account container object names)) why all.2 all.1)
     work_failed (task.Export file ring version written) why all = at_opening (show_failed stores
-        (Begins file.now) Ends none more contents writer later (Refuses file.now) [] []
-        (AsksShown (task.Export file ring version written)) why all.1)
+        (Begins file.now) Ends none more contents writer later before after (Refuses file.now) [] []
+        (AsksShown (task.Export file ring version written)) why all.2 all.1)
     work_failed (task.Renew file fresh) why all = at_opening (renew_failed stores (Begins file.now) Ends
-        none more contents writer later (Refuses file.now) (IsUnmade fresh.now) why all.2)
+        none more contents writer later before after (Refuses file.now) (IsUnmade fresh.now) why all.2)
 
     -- Each program that failed made one run of its store too, or the fault came before.
-    pub failed_once : (t : Task) (why : ProgramFault) → FailsSo memory stores Begins Ends remaining
-        contents reader late_reader writer later Holds IsUnread Refuses IsUnmade t why
-        → FailsBefore contents writer later Holds IsUnread Refuses t why
+    pub failed_once : (t : Task) (why : ProgramFault) (failed : FailsSo memory stores Begins Ends
+        remaining contents reader late_reader writer later Holds IsUnread before after Refuses IsUnmade t
+        why)
+        → FailsBefore contents writer later Holds IsUnread before after Refuses t why
         ⊎ RunsStore stores Begins (WasClosed Ends) (store_of t)
-    failed_once t why (inl words) = inl (inl words.0)
+        (failed_calls memory stores Begins Ends Holds IsUnread remaining contents reader late_reader
+        writer later before after Refuses IsUnmade t why failed)
+    failed_once t why (inl words) = inl (inl (inl words.0, words.3))
     failed_once t why (inr work) = work_failed t why work
 
 -- one more run after a life

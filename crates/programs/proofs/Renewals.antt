@@ -2,7 +2,7 @@
 use Rattle.std.proofs.Common.{◌≡◌, inr, Err, Ok, Result, ℕ, subst, sym}
 use Rattle.std.specs.Prelude.{IfErr, ⊤}
 use Rattle.builder.specs.Step.{State}
-use Rattle.programs.specs.Begun.{Closing, IsClosed, IsStoreFault}
+use Rattle.programs.specs.Begun.{Closing, IsClosedWhole, IsStoreFault, OpensTwo}
 use Rattle.programs.specs.Renewing.{FailsToRenew, IsRead, Renews}
 use Rattle.programs.specs.declared.faults.ProgramFault.{ProgramFault}
 use Rattle.ring_book.specs.Book.{Keeping}
@@ -57,13 +57,16 @@ read_anyhow g Begins Ends IsSo read = record {
 -- a store that was read, and one that couldn't be made of what was read
 pub fails_unmade : {A K : Type 0} (old : Keeping K) (Begins : K → Type 0)
     (Ends : K → Closing → Type 0) (Refuses : ProgramFault → Type 0)
-    (IsUnmade : State → ℕ → ProgramFault → Type 0) (rings : State) (hour : ℕ)
-    (made : Result A ProgramFault)
-    → IsRead old Begins (IsClosed Ends) (λ r h. (r ≡ rings) × (h ≡ hour))
+    (IsUnmade : State → ℕ → ProgramFault → Type 0) (before after : ℕ) (rings : State) (hour : ℕ)
+    (made : Result A ProgramFault) → OpensTwo before after
+    → IsRead old Begins (IsClosedWhole old Ends) (λ r h. (r ≡ rings) × (h ≡ hour))
     → IfErr made (IsUnmade rings hour) → IfErr made IsStoreFault
-    → IfErr made (FailsToRenew old Begins Ends Refuses IsUnmade)
-fails_unmade old Begins Ends Refuses IsUnmade rings hour (Ok value) read unmade store = tt
-fails_unmade old Begins Ends Refuses IsUnmade rings hour (Err why) read unmade store = inr (
-  store,
-  renews old Begins (IsClosed Ends) (λ r h. IsUnmade r h why) rings hour read unmade,
-)
+    → IfErr made (FailsToRenew old Begins Ends Refuses IsUnmade before after)
+fails_unmade old Begins Ends Refuses IsUnmade before after rings hour (Ok value) two read unmade
+    store = tt
+fails_unmade old Begins Ends Refuses IsUnmade before after rings hour (Err why) two read unmade
+    store = inr (
+      store,
+      renews old Begins (IsClosedWhole old Ends) (λ r h. IsUnmade r h why) rings hour read unmade,
+      two,
+    )

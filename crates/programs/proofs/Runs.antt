@@ -102,6 +102,7 @@ module _ {K : Type 0} (g : Keeping K) (Begins Early Ends Late : K → Type 0)
     answer = i.answer;
     made = i.made;
     told_is = i.told_is;
+    proper = i.proper;
   }
 
 -- over a keeper that holds nothing

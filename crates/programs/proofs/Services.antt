@@ -1,18 +1,17 @@
 -- What serving does, over a keeper of which more or less is known, and over that of a store.
-use Rattle.std.proofs.Common.{◌≡◌, ◌⊎◌, List, Option, Result, Ok, Err, ℕ, inl, inr, subst, sym}
+use Rattle.std.proofs.Common.{◌≡◌, List, None, Option, Result, Ok, Err, ℕ, subst, sym}
 use Rattle.std.proofs.lemmas.Result.{IfErr-weaker, on_ok_weaker}
 use Rattle.std.specs.Prelude.{IfErr, MatchResult, OnOk}
 use Rattle.std.specs.declared.net.tcp.TcpStream.{TcpStream}
 use Rattle.builder.specs.Safety.{IsSafeRun}
-use Rattle.byte_streams.specs.Counted.{IsFlushed, one_more, write_faults}
+use Rattle.byte_streams.specs.Counted.{IsFlushed, write_faults}
 use Rattle.byte_streams.specs.declared.counted.CountedWriter.{CountedWriter}
-use Rattle.byte_streams.specs.declared.fault.StreamFault.TheVariants.{WriteFailed}
-use Rattle.http_sockets.specs.Connections.{IsTalk, OneServed, PortFailed}
-use Rattle.http_sockets.specs.Connections.{PortServed}
-use Rattle.http_sockets.proofs.Talks.{first_one, first_port, first_port_failed}
+use Rattle.http_messages.specs.declared.audience.Audience.TheVariants.{Anyone}
+use Rattle.http_sockets.specs.Connections.{IsTalk, LoopFails, OneEnded, PortFailed, PortServed}
+use Rattle.http_sockets.proofs.Talks.{first_ended, first_fails, first_port, first_port_failed}
 use Rattle.http_sockets.specs.Hours.{TellsGiven}
 use Rattle.http_sockets.specs.declared.fault.ServeFault.{ServeFault}
-use Rattle.http_sockets.specs.declared.fault.ServeFault.TheVariants.{NetFailed, Stream}
+use Rattle.http_sockets.specs.declared.fault.ServeFault.TheVariants.{NetFailed}
 use Rattle.path_lookup.specs.declared.hash.HashNames.{HashNames}
 use Rattle.programs.specs.Begun.{IsBegun}
 use Rattle.programs.specs.Serving.{IsServed, IsSet, LoopsOnce, Service, ServesConnections}
@@ -52,59 +51,54 @@ module _ {K : Type 0} (g : Keeping K) (Begins Ends : K → Type 0) (given : Opti
     safe = safe;
   }
 
-  module _ {D S : Type 0} (remaining contents : S → Option (List ℕ)) (gives : D → S → D → Type 0)
-      (fails : D → D → Type 0) (opens : ℕ → D → Type 0) (port count : ℕ)
-      (result : Result (Unit {0}) ServeFault) where
+  module _ {D S : Type 0} (remaining contents : S → Option (List ℕ))
+      (gives : D → S → S → D → Type 0) (fails : D → D → Type 0) (opens : ℕ → D → Type 0)
+      (shuts : ℕ → Type 0) (port count : ℕ) (result : Result (Unit {0}) ServeFault) where
     -- what serving a port does
     pub port_served : OnOk result (PortServed g TellsGiven names.prefix.now names.suffix.now
-        (IsTalk remaining contents) gives fails opens port count first last)
+        (IsTalk Anyone remaining contents) gives fails opens port count first last)
         → OnOk result (ServesConnections g Begins Ends given names remaining gives fails opens port count)
-    port_served = on_ok_weaker result (λ all. is_served _ (first_port remaining contents g
-        TellsGiven names.prefix.now names.suffix.now gives fails opens port count first last
+    port_served = on_ok_weaker result (λ all. is_served _ (first_port Anyone remaining contents g
+        TellsGiven names.prefix.now names.suffix.now gives fails opens shuts port count first last
         all))
 
     -- what failing to serve it does
     pub port_failed : IfErr result (λ cause. (cause ≡ NetFailed) × PortFailed g TellsGiven
-        names.prefix.now names.suffix.now (IsTalk remaining contents) gives fails opens port count
-        first last)
+        names.prefix.now names.suffix.now (IsTalk Anyone remaining contents) gives fails opens shuts
+        port count first last)
         → IfErr result (λ cause. (cause ≡ NetFailed)
-        × ServesFewer g Begins Ends given names remaining gives fails opens port count)
+        × ServesFewer g Begins Ends given names remaining gives fails opens shuts port count)
     port_failed = IfErr-weaker result _ _ (λ cause all. (
       all.0,
-      is_served _ (first_port_failed
-          remaining contents g TellsGiven names.prefix.now names.suffix.now gives fails opens port count
-          first last all.1),
+      is_served _ (first_port_failed Anyone
+          remaining contents g TellsGiven names.prefix.now names.suffix.now gives fails opens shuts port
+          count first last all.1),
     ))
 
   -- what serving an input does
   pub input_served : {W : Type 0} (sent : TcpStream → Option (List ℕ))
       (contents : W → Option (List ℕ)) (writer later : CountedWriter W)
       (result : Result (Unit {0}) ServeFault)
-      → OnOk result (OneServed g TellsGiven names.prefix.now
-      names.suffix.now (IsTalk tcp_remaining sent) first last)
-      → IfErr result (λ _. (last ≡ first) ⊎ OneServed g TellsGiven names.prefix.now
-      names.suffix.now (IsTalk tcp_remaining sent) first last)
+      → OnOk result (OneEnded g TellsGiven names.prefix.now
+      names.suffix.now (IsTalk Anyone tcp_remaining sent) first last None)
+      → IfErr result (LoopFails g TellsGiven names.prefix.now names.suffix.now
+      (IsTalk Anyone tcp_remaining sent) first last (write_faults writer) (write_faults later))
       → TakesFew contents writer later
-      → MatchResult result (λ _. write_faults later ≡ write_faults writer)
-      (λ cause. (write_faults later ≡ write_faults writer)
-      ⊎ ((cause ≡ Stream WriteFailed) × (write_faults later ≡ one_more (write_faults writer))))
+      → OnOk result (write_faults later ≡ write_faults writer)
       → OnOk result (IsFlushed later)
       → MatchResult result (λ _. LoopsOnce g Begins Ends given names contents writer later)
       (StopsLoop g Begins Ends given names contents writer later)
-  input_served sent contents writer later (Ok done) one some few cause flushed = (
-    is_served _ (first_one tcp_remaining sent g TellsGiven names.prefix.now names.suffix.now first
-        last one),
+  input_served sent contents writer later (Ok done) one fails few same flushed = (
+    is_served _ (first_ended Anyone tcp_remaining sent g TellsGiven names.prefix.now
+        names.suffix.now first last None one),
     few,
-    cause,
+    same,
     flushed,
   )
-  input_served sent contents writer later (Err why) one (inl same) few cause flushed =
-      (is_served _ (inl same), few, cause)
-  input_served sent contents writer later (Err why) one (inr some) few cause flushed = (
-    is_served _ (inr (first_one tcp_remaining sent g TellsGiven names.prefix.now
-        names.suffix.now first last some)),
+  input_served sent contents writer later (Err why) one fails few same flushed = (
+    is_served _ (first_fails Anyone tcp_remaining sent g TellsGiven names.prefix.now
+        names.suffix.now first last (write_faults writer) (write_faults later) why fails),
     few,
-    cause,
   )
 
 module _ {K : Type 0} (g : Keeping K) (Begins Ends : K → Type 0) (kept left : K)
@@ -134,4 +128,4 @@ module _ {K : Type 0} (g : Keeping K) (Begins Ends : K → Type 0) (kept left : 
       (cause : ServeFault) → StopsLoop g (λ k. k ≡ kept) (λ k. k ≡ left) given names contents writer
       later cause
       → StopsLoop g Begins Ends given names contents writer later cause
-  kept_stops contents writer later cause all = (kept_served _ all.0, all.1, all.2)
+  kept_stops contents writer later cause all = (kept_served _ all.0, all.1)

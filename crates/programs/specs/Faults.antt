@@ -8,6 +8,8 @@ use Rattle.byte_streams.specs.declared.fault.StreamFault.{StreamFault}
 use Rattle.byte_streams.specs.declared.fault.StreamFault.TheVariants as stream
 use Rattle.http_sockets.specs.declared.fault.ServeFault.{ServeFault}
 use Rattle.http_sockets.specs.declared.fault.ServeFault.TheVariants as serve
+use Rattle.request_book.specs.declared.keeper.KeepFault.{KeepFault}
+use Rattle.request_book.specs.declared.keeper.KeepFault.TheVariants as keep
 use Rattle.ring_words.specs.declared.spelling.SpellingFault.{SpellingFault}
 use Rattle.ring_words.specs.declared.spelling.SpellingFault.TheVariants as spelling
 use Rattle.programs.specs.declared.faults.ProgramFault.{ProgramFault}
@@ -54,6 +56,11 @@ fault_line why = codes "ringd: " ++ program_fault_name why ++ 32
 abbrev pub form_fault : SpellingFault → ProgramFault
 form_fault spelling.Bad = fault.Unreadable
 form_fault spelling.NoMemory = fault.NoMemory
+
+-- what the fault of a keeper is told as
+abbrev pub keep_fault : KeepFault → ProgramFault
+keep_fault keep.Store = fault.StoreFault
+keep_fault keep.NoMemory = fault.NoMemory
 
 -- what the fault of a stream is told as
 abbrev pub stream_fault : StreamFault → ProgramFault

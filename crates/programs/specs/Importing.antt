@@ -5,6 +5,7 @@ use Rattle.std.specs.Io.KnownBytes.{Appends}
 use Rattle.byte_streams.specs.Counted.{IsFlushed, one_more, write_faults, writer_of}
 use Rattle.byte_streams.specs.Writing.{WritesBeginning}
 use Rattle.byte_streams.specs.declared.counted.CountedWriter.{CountedWriter}
+use Rattle.builder.specs.Life.{IsProperDelivery}
 use Rattle.builder.specs.Replies.{answer_status}
 use Rattle.builder.specs.declared.machine.RingMachine.{RingMachine}
 use Rattle.csv_import.specs.declared.fault.CsvFault.{CsvFault}
@@ -23,7 +24,8 @@ use Rattle.ring_words.specs.Texts.{is_label}
 use Rattle.ring_words.specs.declared.command.Act.TheVariants as act
 use Rattle.ring_words.specs.declared.command.Reply.{Reply}
 use Rattle.ring_words.specs.declared.device.Row.{Row}
-use Rattle.programs.specs.Begun.{IsBegun, IsStoreFault}
+use Rattle.programs.specs.Begun.{Closing, FailedToClose, IsBegun, IsClosed, IsStoreFault}
+use Rattle.programs.specs.Begun.{OpensNone, OpensOne}
 use Rattle.programs.specs.Serving.{TellsHour}
 use Rattle.programs.specs.Tables.{HoldsTable, IsBadTable, IsNoTable}
 use Rattle.programs.specs.declared.faults.ProgramFault.{ProgramFault}
@@ -60,7 +62,7 @@ module _ {W : Type 0} (contents : W → Option (List ℕ)) (writer later : Count
 
 module _ {K : Type 0} (g : Keeping K) (Begins Ends : K → Type 0) where
   -- The rows were delivered as one import, to a book that was opened for it over a keeper that
-  -- begins so and is left so, and this is what it was told.
+  -- begins so and is left so, and this is what it was told. The delivery is such as there are.
   pub record Imports (ask : ImportAsk) (rows : List Row) (hour : ℕ) (t : Told) : Type 0 where
     pub book : Parts RingMachine K
     pub later : Parts RingMachine K
@@ -74,30 +76,23 @@ module _ {K : Type 0} (g : Keeping K) (Begins Ends : K → Type 0) where
           command = record { ring = ask.ring; act = act.Import rows };
         }) answer)
     pub told_is : t ≡ told_of answer
+    pub proper : IsProperDelivery (record {
+      hour = hour;
+      key = ask.key;
+      command = record { ring = ask.ring; act = act.Import rows };
+    })
 
-  -- This fault of the store came of delivering rows: it wasn't opened, for that fault; or they were
-  -- delivered, and it couldn't be closed.
-  abbrev pub FailsToDeliver : (ProgramFault → Type 0) → ImportAsk → List Row → ℕ → ProgramFault
-      → Type 0
-  FailsToDeliver Refuses ask rows hour why = (Refuses why × IsStoreFault why)
-      ⊎ ((why ≡ fault.StoreFault) × ((t : Told) × Imports ask rows hour t))
-
-  -- A file may hold such a text, or give no text of at most so many bytes for such a fault.
-  module _ (Holds : List ℕ → Type 0) (IsUnread : ℕ → ProgramFault → Type 0) where
+  -- A file may hold such a text, or give no text of at most so many bytes for such a fault, and of
+  -- stores this many were opened or made before and after.
+  module _ (Holds : List ℕ → Type 0) (IsUnread : ℕ → ProgramFault → Type 0) (before after : ℕ) where
     -- The import of the table in the file is told this: the answer to its rows, at the hour that was
-    -- given or that of the machine; or why it tells none, and then nothing was opened.
+    -- given or that of the machine; or why it tells none, and then no store was opened or made.
     abbrev pub TellsImport : ImportAsk → Option ℕ → Told → Type 0
     TellsImport ask given t =
         ((rows : List Row) × (hour : ℕ) × HoldsTable Holds rows × TellsHour given hour
-        × Imports ask rows hour t)
-        ⊎ ((why : CsvFault) × IsBadTable IsUnread Holds why × (t ≡ told_csv why))
-
-    -- For this fault it is told nothing: the file can't be opened or has too many bytes, or the fault
-    -- is one of the store, and came of delivering the table's rows.
-    abbrev pub TellsNothing : (ProgramFault → Type 0) → ImportAsk → Option ℕ → ProgramFault → Type 0
-    TellsNothing Refuses ask given why = IsNoTable IsUnread why
-        ⊎ ((rows : List Row) × (hour : ℕ) × HoldsTable Holds rows × TellsHour given hour
-        × FailsToDeliver Refuses ask rows hour why)
+        × Imports ask rows hour t × OpensOne before after)
+        ⊎ ((why : CsvFault) × IsBadTable IsUnread Holds why × (t ≡ told_csv why)
+        × OpensNone before after)
 
     module _ {W : Type 0} (contents : W → Option (List ℕ)) (writer later : CountedWriter W) where
       -- What the import is told was written, and this is its status.
@@ -105,10 +100,35 @@ module _ {K : Type 0} (g : Keeping K) (Begins Ends : K → Type 0) where
       AnswersImport ask given status =
           (t : Told) × TellsImport ask given t × WritesTold contents writer later t status
 
+-- Keepers of stores are these, begin so, and end so with what closing them answers, and a store is
+-- not opened for such faults.
+module _ {K : Type 0} (g : Keeping K) (Begins : K → Type 0) (Ends : K → Closing → Type 0)
+    (Refuses : ProgramFault → Type 0) where
+  -- This fault of the store came of delivering rows: it wasn't opened, for that fault; or they were
+  -- delivered, and closing it failed so.
+  abbrev pub FailsToDeliver : ImportAsk → List Row → ℕ → ProgramFault → Type 0
+  FailsToDeliver ask rows hour why = (Refuses why × IsStoreFault why)
+      ⊎ ((why ≡ fault.StoreFault) × ((t : Told)
+      × Imports g Begins (FailedToClose Ends why) ask rows hour t))
+
+  -- A file may hold such a text, or give no text of at most so many bytes for such a fault, and of
+  -- stores this many were opened or made before and after.
+  module _ (Holds : List ℕ → Type 0) (IsUnread : ℕ → ProgramFault → Type 0) (before after : ℕ) where
+    -- For this fault an import is told nothing: the file can't be opened or has too many bytes, and
+    -- no store was opened or made; or the fault is one of the store, and came of delivering the
+    -- table's rows.
+    abbrev pub TellsNothing : ImportAsk → Option ℕ → ProgramFault → Type 0
+    TellsNothing ask given why = (IsNoTable IsUnread why × OpensNone before after)
+        ⊎ ((rows : List Row) × (hour : ℕ) × HoldsTable Holds rows × TellsHour given hour
+        × FailsToDeliver ask rows hour why × OpensOne before after)
+
+    module _ {W : Type 0} (contents : W → Option (List ℕ)) (writer later : CountedWriter W) where
       -- This fault came of it: the import is told nothing, for that fault, and the writer wasn't
-      -- touched; or the writer failed and took a beginning of what the import is told.
-      abbrev pub FailsToImport : (ProgramFault → Type 0) → ImportAsk → Option ℕ → ProgramFault → Type 0
-      FailsToImport Refuses ask given why =
-          (TellsNothing Refuses ask given why × (later ≡ writer))
-          ⊎ ((why ≡ fault.WriteFailed) × ((t : Told) × TellsImport ask given t
+      -- touched; or the writer failed and took a beginning of what the import is told, and a store
+      -- that was opened for it was closed.
+      abbrev pub FailsToImport : ImportAsk → Option ℕ → ProgramFault → Type 0
+      FailsToImport ask given why =
+          (TellsNothing ask given why × (later ≡ writer))
+          ⊎ ((why ≡ fault.WriteFailed) × ((t : Told)
+          × TellsImport g Begins (IsClosed Ends) Holds IsUnread before after ask given t
           × FailsTold contents writer later t))

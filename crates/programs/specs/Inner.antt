@@ -1,3 +1,4 @@
 -- Words of contracts of private functions and of proofs. No public contract rests on them.
+pub mod Asked
 pub mod Forms
 pub mod Showing

@@ -7,5 +7,6 @@ pub mod Showing
 pub mod Tables
 pub mod Renewing
 pub mod Performed
+pub mod Calls
 pub mod Life
 pub mod Inner

@@ -9,7 +9,8 @@ use Rattle.command_line.specs.declared.task.Task.{Task}
 use Rattle.command_line.specs.declared.task.Task.TheVariants as task
 use Rattle.programs.specs.Faults.{GetsText, fault_line, stream_fault}
 use Rattle.programs.specs.Importing.{AnswersImport, AsksImport, FailsToImport}
-use Rattle.programs.specs.Begun.{Closing, IsAny, IsClosed, WasClosed, IsNew}
+use Rattle.programs.specs.Begun.{Closing, IsAny, IsClosed, IsClosedWhole, IsNew, OpensNone, OpensOne}
+use Rattle.programs.specs.Begun.{OpensTwo}
 use Rattle.builder.specs.Step.{State}
 use Rattle.programs.specs.Renewing.{FailsToRenew, Renews}
 use Rattle.programs.specs.Running.{AnswersLines, FailsLines, StopsLines}
@@ -32,34 +33,40 @@ module _ {K W : Type 0} (stores : Keeping K) (Begins : K → Type 0) (Ends : K �
   -- What is asked for was shown of the rings in a store, which was closed.
   abbrev pub ShowsStore : List ℕ → List ℕ → (Question → Type 0) → Type 0
   ShowsStore prefix suffix Asks = (question : Question) × Asks question
-      × ShowsRead stores Begins (IsClosed Ends) contents writer later prefix suffix question
+      × ShowsRead stores Begins (IsClosedWhole stores Ends) contents writer later prefix suffix question
 
   -- This fault came of it, or of opening the store.
   abbrev pub FailsToShowStore : (ProgramFault → Type 0) → List ℕ → List ℕ → (Question → Type 0)
       → ProgramFault → Type 0
   FailsToShowStore Refuses prefix suffix Asks why = (question : Question) × Asks question
-      × FailsToShow stores Begins (WasClosed Ends) contents writer later prefix suffix Refuses question why
+      × FailsToShow stores Begins Ends contents writer later prefix suffix Refuses question why
 
-  -- A file may hold such a text, or give no text of at most so many bytes for such a fault.
-  module _ (Holds : List ℕ → Type 0) (IsUnread : ℕ → ProgramFault → Type 0) where
+  -- A file may hold such a text, or give no text of at most so many bytes for such a fault, and of
+  -- stores this many were opened or made before and after.
+  module _ (Holds : List ℕ → Type 0) (IsUnread : ℕ → ProgramFault → Type 0) (before after : ℕ) where
     -- The table in a CSV file was imported as one request, at the hour that was given or that of the
     -- machine, into a store that was closed, and this is so of the status that was written.
     abbrev pub ImportsFile : (ImportAsk → Type 0) → Option ℕ → (ℕ → Type 0) → Type 0
     ImportsFile Asks given IsStatus = (ask : ImportAsk) × (status : ℕ) × Asks ask × IsStatus status
-        × AnswersImport stores Begins (IsClosed Ends) Holds IsUnread contents writer later ask given
-        status
+        × AnswersImport stores Begins (IsClosed Ends) Holds IsUnread before after contents writer
+        later ask given status
 
     -- This fault came of it.
     abbrev pub FailsToImportFile : (ProgramFault → Type 0) → (ImportAsk → Type 0) → Option ℕ
         → ProgramFault → Type 0
     FailsToImportFile Refuses Asks given why = (ask : ImportAsk) × Asks ask
-        × FailsToImport stores Begins (WasClosed Ends) Holds IsUnread contents writer later Refuses
+        × FailsToImport stores Begins Ends Refuses Holds IsUnread before after contents writer later
         ask given why
 
 -- The status of an import ends it so: 200 where it was done.
 abbrev pub EndsBy : Ending → ℕ → Type 0
 EndsBy Done status = status ≡ 200
 EndsBy Refused status = status ≢ 200
+
+-- The store that is given was opened, and no other; none where none is given.
+abbrev pub OpensGiven : ℕ → ℕ → Option (Bor (List ℕ)) → Type 0
+OpensGiven before after None = OpensNone before after
+OpensGiven before after (Some file) = OpensOne before after
 
 -- Keepers over memory and of stores are these. That of a store of a name begins so, and ends so with
 -- what closing it answers. The streams are these, before and after.
@@ -79,38 +86,46 @@ module _ {M K R W : Type 0} (memory : Keeping M) (stores : Keeping K)
       → Type 0
   FailsToRun Refuses None why = (cause : StreamFault) × (why ≡ stream_fault cause)
       × StopsLines memory (IsNew memory) IsAny remaining contents reader late_reader writer later cause
-  FailsToRun Refuses (Some file) why = FailsLines stores (Begins file.now) (WasClosed Ends) remaining
-      contents reader late_reader writer later (Refuses file.now) why
+  FailsToRun Refuses (Some file) why = FailsLines stores (Begins file.now) Ends remaining contents
+      reader late_reader writer later (Refuses file.now) why
 
   -- The file of a name may hold such a text, or give no text of at most so many bytes for such a
-  -- fault.
-  module _ (Holds : List ℕ → List ℕ → Type 0) (IsUnread : List ℕ → ℕ → ProgramFault → Type 0) where
+  -- fault, and of stores this many were opened or made before and after.
+  module _ (Holds : List ℕ → List ℕ → Type 0) (IsUnread : List ℕ → ℕ → ProgramFault → Type 0)
+      (before after : ℕ) where
     -- This is so where a store of a name was made of these rings and this hour.
     module _ (IsMade : List ℕ → State → ℕ → Type 0) where
       -- A task had no fault and ended so: what it asks for was done, or an import was refused. Only
-      -- `run` touches the reader.
+      -- `run` touches the reader. Of stores no other was opened, and none but by `renew` made.
       abbrev pub EndsSo : Task → Ending → Type 0
-      EndsSo (task.Run file) Done = Runs file
+      EndsSo (task.Run file) Done = Runs file × OpensGiven before after file
       EndsSo (task.Serve file port count given names) Done = (late_reader ≡ reader) × (later ≡ writer)
           × ServesPort stores (Begins file.now) (IsClosed Ends) given names port count
+          × OpensOne before after
       EndsSo (task.Loop file input given names) Done = (late_reader ≡ reader)
           × LoopsInput stores (Begins file.now) (IsClosed Ends) given names contents writer later
           (Holds input.now)
+          × OpensOne before after
       EndsSo (task.Table file ring) Done = (late_reader ≡ reader)
           × ShowsStore stores (Begins file.now) Ends contents writer later [] []
           (AsksShown (task.Table file ring))
+          × OpensOne before after
       EndsSo (task.Export file ring version written) Done = (late_reader ≡ reader)
           × ShowsStore stores (Begins file.now) Ends contents writer later [] []
           (AsksShown (task.Export file ring version written))
+          × OpensOne before after
       EndsSo (task.Nodes file ring account container object names) Done = (late_reader ≡ reader)
           × ShowsStore stores (Begins file.now) Ends contents writer later
           names.prefix.now names.suffix.now
           (AsksShown (task.Nodes file ring account container object names))
+          × OpensOne before after
       EndsSo (task.Import file ring caller number csv given) ending = (late_reader ≡ reader)
           × ImportsFile stores (Begins file.now) Ends contents writer later
-          (Holds csv.now) (IsUnread csv.now) (AsksImport ring.now caller.now number.now) given (EndsBy ending)
+          (Holds csv.now) (IsUnread csv.now) before after (AsksImport ring.now caller.now number.now) given
+          (EndsBy ending)
       EndsSo (task.Renew file fresh) Done = (late_reader ≡ reader) × (later ≡ writer)
-          × Renews stores (Begins file.now) (IsClosed Ends) (IsMade fresh.now)
+          × Renews stores (Begins file.now) (IsClosedWhole stores Ends) (IsMade fresh.now)
+          × OpensTwo before after
       EndsSo _ _ = ⊥
 
     -- For such a fault a store of a name isn't opened, or isn't made of these rings and this hour.
@@ -118,40 +133,48 @@ module _ {M K R W : Type 0} (memory : Keeping M) (stores : Keeping K)
         (IsUnmade : List ℕ → State → ℕ → ProgramFault → Type 0) where
       -- This fault came of the work of a task, or of opening its store.
       abbrev pub FailsToDo : Task → ProgramFault → Type 0
-      FailsToDo (task.Run file) why = FailsToRun Refuses file why
+      FailsToDo (task.Run file) why = FailsToRun Refuses file why × OpensGiven before after file
       FailsToDo (task.Serve file port count given names) why = (late_reader ≡ reader)
-          × (later ≡ writer) × FailsToServePort stores (Begins file.now) (WasClosed Ends) given names
+          × (later ≡ writer) × FailsToServePort stores (Begins file.now) Ends given names
           (Refuses file.now) port count why
+          × OpensOne before after
       FailsToDo (task.Loop file input given names) why = (late_reader ≡ reader)
-          × FailsToLoopInput stores (Begins file.now) (WasClosed Ends) given names contents writer
-          later (Refuses file.now) (IsUnread input.now) why
+          × FailsToLoopInput stores (Begins file.now) Ends given names contents writer later
+          (Refuses file.now) (IsUnread input.now) before after why
       FailsToDo (task.Table file ring) why = (late_reader ≡ reader)
           × FailsToShowStore stores (Begins file.now) Ends contents writer later (Refuses file.now) [] []
           (AsksShown (task.Table file ring)) why
+          × OpensOne before after
       FailsToDo (task.Export file ring version written) why = (late_reader ≡ reader)
           × FailsToShowStore stores (Begins file.now) Ends contents writer later (Refuses file.now) [] []
           (AsksShown (task.Export file ring version written)) why
+          × OpensOne before after
       FailsToDo (task.Renew file fresh) why = (late_reader ≡ reader) × (later ≡ writer)
-          × FailsToRenew stores (Begins file.now) Ends (Refuses file.now) (IsUnmade fresh.now) why
+          × FailsToRenew stores (Begins file.now) Ends (Refuses file.now) (IsUnmade fresh.now) before
+          after why
       FailsToDo (task.Nodes file ring account container object names) why = (late_reader ≡ reader)
           × FailsToShowStore stores (Begins file.now) Ends contents writer later (Refuses file.now)
           names.prefix.now names.suffix.now
           (AsksShown (task.Nodes file ring account container object names)) why
+          × OpensOne before after
       FailsToDo (task.Import file ring caller number csv given) why = (late_reader ≡ reader)
           × FailsToImportFile stores (Begins file.now) Ends contents writer later
-          (Holds csv.now) (IsUnread csv.now) (Refuses file.now) (AsksImport ring.now caller.now number.now) given why
+          (Holds csv.now) (IsUnread csv.now) before after (Refuses file.now)
+          (AsksImport ring.now caller.now number.now) given why
 
-      -- This fault came of a task: of its words, and then neither stream was touched, or of its work.
+      -- This fault came of a task: of its words, and then neither stream was touched, and no store
+      -- was opened or made; or of its work.
       abbrev pub FailsSo : Task → ProgramFault → Type 0
       FailsSo t why =
-          (IsFormFault (HasBadWord t) (IsPathless t) why × (late_reader ≡ reader) × (later ≡ writer))
+          (IsFormFault (HasBadWord t) (IsPathless t) why × (late_reader ≡ reader) × (later ≡ writer)
+          × OpensNone before after)
           ⊎ FailsToDo t why
 
 -- The words of a command line are these, and a third stream tells of faults, before and after.
 module _ {M K R W E : Type 0} (memory : Keeping M) (stores : Keeping K)
     (Begins : List ℕ → K → Type 0) (Ends : K → Closing → Type 0)
     (Holds : List ℕ → List ℕ → Type 0) (IsUnread : List ℕ → ℕ → ProgramFault → Type 0)
-    (IsMade : List ℕ → State → ℕ → Type 0) (remaining : R → Option (List ℕ))
+    (before after : ℕ) (IsMade : List ℕ → State → ℕ → Type 0) (remaining : R → Option (List ℕ))
     (contents : W → Option (List ℕ)) (told : E → Option (List ℕ)) (words : List (List ℕ))
     (reader late_reader : CountedReader R)
     (writer later : CountedWriter W) (errors late_errors : CountedWriter E) where
@@ -159,20 +182,18 @@ module _ {M K R W E : Type 0} (memory : Keeping M) (stores : Keeping K)
   abbrev pub DoesAsked : Type 0
   DoesAsked = (t : Task) × AskFor words t
       × EndsSo memory stores Begins Ends remaining contents reader late_reader writer later Holds IsUnread
-      IsMade t
-      Done × (late_errors ≡ errors)
+      before after IsMade t Done × (late_errors ≡ errors)
 
   -- The words ask for a task, which had a fault that was told, or was an import that was refused,
-  -- and then no fault was told. Or there was no memory to read the words: that was told, and the
-  -- other streams were not touched.
+  -- and then no fault was told. Or there was no memory to read the words: that was told, the other
+  -- streams were not touched, and no store was opened or made.
   abbrev pub FailsAsked : (List ℕ → ProgramFault → Type 0)
       → (List ℕ → State → ℕ → ProgramFault → Type 0) → Type 0
   FailsAsked Refuses IsUnmade = ((t : Task) × AskFor words t × (((why : ProgramFault)
       × FailsSo memory stores Begins Ends remaining contents reader late_reader writer later Holds IsUnread
-      Refuses IsUnmade t why
+      before after Refuses IsUnmade t why
       × GetsText told errors late_errors (fault_line why))
       ⊎ (EndsSo memory stores Begins Ends remaining contents reader late_reader writer later Holds IsUnread
-      IsMade t
-      Refused × (late_errors ≡ errors))))
-      ⊎ ((late_reader ≡ reader) × (later ≡ writer)
+      before after IsMade t Refused × (late_errors ≡ errors))))
+      ⊎ ((late_reader ≡ reader) × (later ≡ writer) × OpensNone before after
       × GetsText told errors late_errors (fault_line fault.NoMemory))

@@ -2,9 +2,13 @@
 use Rattle.std.specs.Prelude.{◌≡◌, ◌⊎◌, ⊤, ℕ}
 use Rattle.builder.specs.Step.{State}
 use Rattle.request_book.specs.Keeper.{LeavesOnly}
+use Rattle.request_book.specs.declared.keeper.KeepFault.{KeepFault}
 use Rattle.ring_book.specs.Book.{Keeping}
-use Rattle.programs.specs.Begun.{Closing, IsClosed, WasClosed, IsStoreFault}
+use Rattle.programs.specs.Begun.{Closing, FailedToClose, IsClosedWhole, IsStoreFault, OpensOne}
+use Rattle.programs.specs.Begun.{OpensTwo, WasClosedAfter}
+use Rattle.programs.specs.Faults.{keep_fault}
 use Rattle.programs.specs.declared.faults.ProgramFault.{ProgramFault}
+use Rattle.programs.specs.declared.faults.ProgramFault.TheVariants as fault
 
 -- A keeper that begins so is read and left so, and this is so of its rings and its hour. It keeps
 -- its content, and a crash leaves that and nothing else.
@@ -29,14 +33,18 @@ Renews old Begins Ends IsMade = IsRead old Begins Ends IsMade
 -- store is not opened for such faults.
 module _ {K : Type 0} (old : Keeping K) (Begins : K → Type 0) (Ends : K → Closing → Type 0)
     (Refuses : ProgramFault → Type 0) where
-  -- This fault came of reading the old store: it wasn't opened, for that fault; or it failed, and
-  -- stays as it was.
+  -- This fault came of reading the old store, which stays as it was: it wasn't opened, for that
+  -- fault; or its keeper failed so; or closing it did.
   abbrev pub FailsToRead : ProgramFault → Type 0
   FailsToRead why = (Refuses why × IsStoreFault why)
-      ⊎ (IsStoreFault why × IsRead old Begins (WasClosed Ends) (λ rings hour. ⊤))
+      ⊎ ((cause : KeepFault) × (why ≡ keep_fault cause)
+      × IsRead old Begins (WasClosedAfter old Ends cause) (λ rings hour. ⊤))
+      ⊎ ((why ≡ fault.StoreFault) × IsRead old Begins (FailedToClose Ends why) (λ rings hour. ⊤))
 
-  -- This fault came of renewing it: one of reading it; or it was read and stays as it was, and making
-  -- a new one of its rings and its hour failed so.
-  abbrev pub FailsToRenew : (State → ℕ → ProgramFault → Type 0) → ProgramFault → Type 0
-  FailsToRenew IsUnmade why = FailsToRead why
-      ⊎ (IsStoreFault why × Renews old Begins (IsClosed Ends) (λ rings hour. IsUnmade rings hour why))
+  -- This fault came of renewing it: one of reading it, and no other store was made or opened; or it
+  -- was read and stays as it was, and making a new one of its rings and its hour failed so.
+  abbrev pub FailsToRenew : (State → ℕ → ProgramFault → Type 0) → ℕ → ℕ → ProgramFault → Type 0
+  FailsToRenew IsUnmade before after why = (FailsToRead why × OpensOne before after)
+      ⊎ (IsStoreFault why × Renews old Begins (IsClosedWhole old Ends)
+      (λ rings hour. IsUnmade rings hour why)
+      × OpensTwo before after)

@@ -11,7 +11,7 @@ use Rattle.line_stream.specs.Serving.{LinesServed, LinesStopped}
 use Rattle.line_api.specs.Served.{ServesLines}
 use Rattle.request_book.specs.Book.{Parts}
 use Rattle.programs.specs.Faults.{stream_fault}
-use Rattle.programs.specs.Begun.{IsBegun, IsStoreFault}
+use Rattle.programs.specs.Begun.{Closing, FailedToClose, IsBegun, IsStoreFault, WasClosed}
 use Rattle.programs.specs.declared.faults.ProgramFault.{ProgramFault}
 use Rattle.programs.specs.declared.faults.ProgramFault.TheVariants as fault
 use Rattle.ring_book.specs.Book.{Keeping}
@@ -54,9 +54,16 @@ module _ {K : Type 0} (g : Keeping K) (Begins Ends : K → Type 0) where
         × IsCaused reader late_reader writer late_writer why × (why ≡ stream.ReadFailed
         → IsFlushed late_writer)
 
-    -- This fault ended it: one of a stream; or the store wasn't opened, for that fault, and neither
-    -- stream was touched; or every line was answered, and the store couldn't be closed.
-    abbrev pub FailsLines : (ProgramFault → Type 0) → ProgramFault → Type 0
-    FailsLines Refuses why = ((cause : StreamFault) × (why ≡ stream_fault cause) × StopsLines cause)
-        ⊎ (Refuses why × IsStoreFault why × (late_reader ≡ reader) × (late_writer ≡ writer))
-        ⊎ ((why ≡ fault.StoreFault) × AnswersLines)
+-- Keepers of stores are these, begin so, and end so with what closing them answers.
+module _ {K : Type 0} (g : Keeping K) (Begins : K → Type 0) (Ends : K → Closing → Type 0)
+    {R W : Type 0} (remaining : R → Option (List ℕ)) (contents : W → Option (List ℕ))
+    (reader late_reader : CountedReader R) (writer late_writer : CountedWriter W) where
+  -- This fault ended it: one of a stream; or the store wasn't opened, for that fault, and neither
+  -- stream was touched; or every line was answered, and closing the store failed so.
+  abbrev pub FailsLines : (ProgramFault → Type 0) → ProgramFault → Type 0
+  FailsLines Refuses why = ((cause : StreamFault) × (why ≡ stream_fault cause)
+      × StopsLines g Begins (WasClosed Ends) remaining contents reader late_reader writer late_writer
+      cause)
+      ⊎ (Refuses why × IsStoreFault why × (late_reader ≡ reader) × (late_writer ≡ writer))
+      ⊎ ((why ≡ fault.StoreFault) × AnswersLines g Begins (FailedToClose Ends why) remaining contents
+      reader late_reader writer late_writer)

@@ -20,7 +20,10 @@ use Rattle.command_line.specs.declared.task.Task.{Task}
 use Rattle.command_line.specs.declared.task.Task.TheVariants as task
 use Rattle.ring_words.specs.Spelling.{SpellsName, SpellsNumber}
 use Rattle.ring_words.specs.Texts.{is_label}
-use Rattle.programs.specs.Begun.{IsStoreFault}
+use Rattle.request_book.specs.declared.keeper.KeepFault.{KeepFault}
+use Rattle.programs.specs.Begun.{Closing, FailedToClose, IsClosedWhole, IsStoreFault}
+use Rattle.programs.specs.Begun.{WasClosed, WasClosedAfter}
+use Rattle.programs.specs.Faults.{keep_fault}
 use Rattle.programs.specs.declared.faults.ProgramFault.{ProgramFault}
 use Rattle.programs.specs.declared.faults.ProgramFault.TheVariants as fault
 use Rattle.ring_book.specs.Book.{Keeping}
@@ -139,15 +142,27 @@ module _ {K : Type 0} (g : Keeping K) (Begins Ends : K → Type 0) where
         × Appends (contents (writer_of writer)) (contents (writer_of later)) text
         × (write_faults later ≡ write_faults writer) × IsFlushed later
 
-    -- This fault came of it: the store wasn't opened, for that fault; or it failed, and keeps its
-    -- content; or its rings don't show it; or the writer failed and took a beginning of what they
-    -- show. Else it wasn't touched.
+-- Keepers of stores are these, begin so, and end so with what closing them answers.
+module _ {K : Type 0} (g : Keeping K) (Begins : K → Type 0) (Ends : K → Closing → Type 0) where
+  -- The store was asked and not shown, and keeps its content: its keeper failed so; or what its
+  -- rings show was read, and closing it failed so; or they don't show it, for that fault.
+  abbrev pub ShowsNothing : List ℕ → List ℕ → Question → ProgramFault → Type 0
+  ShowsNothing prefix suffix question why = ((cause : KeepFault) × (why ≡ keep_fault cause)
+      × IsAsked g Begins (WasClosedAfter g Ends cause) (λ rings hour. ⊤))
+      ⊎ ((why ≡ fault.StoreFault) × ((text : List ℕ)
+      × IsAsked g Begins (FailedToClose Ends why) (ShowsAs prefix suffix question text)))
+      ⊎ IsAsked g Begins (WasClosed Ends) (λ rings hour. HidesAs question why rings)
+
+  module _ {W : Type 0} (contents : W → Option (List ℕ)) (writer later : CountedWriter W)
+      (prefix suffix : List ℕ) where
+    -- This fault came of it: the store wasn't opened, for that fault; or it was asked and not shown.
+    -- Then the writer wasn't touched. Or the store was closed well, and the writer failed and took a
+    -- beginning of what its rings show.
     abbrev pub FailsToShow : (ProgramFault → Type 0) → Question → ProgramFault → Type 0
     FailsToShow Refuses question why =
         (Refuses why × IsStoreFault why × (later ≡ writer))
-        ⊎ (IsStoreFault why × IsAsked (λ rings hour. ⊤) × (later ≡ writer))
-        ⊎ (IsAsked (λ rings hour. HidesAs question why rings) × (later ≡ writer))
-        ⊎ ((why ≡ fault.WriteFailed) × ((text : List ℕ) × IsAsked (ShowsAs prefix suffix question
-        text)
+        ⊎ (ShowsNothing prefix suffix question why × (later ≡ writer))
+        ⊎ ((why ≡ fault.WriteFailed) × ((text : List ℕ)
+        × IsAsked g Begins (IsClosedWhole g Ends) (ShowsAs prefix suffix question text)
         × WritesBeginning (contents (writer_of writer)) (contents (writer_of later)) text
         × (write_faults later ≡ one_more (write_faults writer))))

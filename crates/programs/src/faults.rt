@@ -63,9 +63,9 @@ impl From<SpellingFault> for ProgramFault {
 }
 
 impl From<KeepFault> for ProgramFault {
-    ghost use Rattle.programs.specs.Begun.{IsStoreFault};
+    ghost use Rattle.programs.specs.Faults.{keep_fault};
 
-    ghost from_gives = { λ _ fault. IsStoreFault fault };
+    ghost from_gives = { λ cause fault. fault ≡ keep_fault cause };
 
     fn from(fault: KeepFault) -> ProgramFault {
         match fault {

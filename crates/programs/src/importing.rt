@@ -8,18 +8,20 @@ ghost use Rattle.programs.specs.Importing.{AsksImport, FailsTold, Imports, Write
 ghost use Rattle.programs.specs.Importing.{AnswersImport, FailsToImport, TellsImport};
 ghost use Rattle.programs.specs.Importing.{FailsToDeliver, TellsNothing, told_line};
 ghost use Rattle.programs.specs.Showing.{IsFormFault, IsNoName, IsNoNumber};
-ghost use Rattle.programs.specs.Begun.{IsClosed, WasClosed};
+ghost use Rattle.programs.specs.Begun.{IsClosed, OpensOne};
 
 use crate::book::open_book;
 use crate::faults::ProgramFault;
 use crate::hours::hour_of;
 use crate::stores::Stores;
-use builder::{RingMachine, Told, status_of, told_text};
+use builder::{RingMachine, Told, status_of};
 use byte_streams::{CountedReader, CountedWriter, StreamFault, write_text};
 use csv_import::{CsvFault, read_rows};
 use http_api::told_csv;
+use line_api::answer_text;
 use request_book::Keeper;
 use ring_book::told_of;
+use ring_messages::command_is_proper;
 use ring_words::{Act, Caller, Command, Hour, Key, RingName, Row, Rows, read_name, read_number};
 use std::alloc::{AllocError, Global};
 use std::io::Write;
@@ -118,9 +120,7 @@ fn read_table<S: Stores>(rt: &HostRuntime, csv: &str) -> Result<Vec<Row>, TableF
 fn told_line(alloc: Global, told: &Told) -> Result<String, AllocError>
     ensures { IfOk result (λ line. string_bytes line ≡ told_line told.now) }
 {
-    let status = status_of(told);
-    let text = told_text(alloc, told)?;
-    let mut line = format!(in alloc; "{status} {text}")?;
+    let mut line = answer_text(alloc, told)?;
     line.push('\n')?;
     Ok(line)
 }
@@ -171,7 +171,9 @@ fn deliver_rows<K: Keeper<RingMachine>>(
     let mut book = open_book(alloc, keeper);
     let ImportAsk { ring, key } = ask;
     let act = Act::Import(Rows::new(rows));
-    let told = told_of(book.deliver(hour, key, Command { ring, act }));
+    let command = Command { ring, act };
+    command_is_proper(&command);
+    let told = told_of(book.deliver(hour, key, command));
     (told, book.into_keeper())
 }
 
@@ -182,11 +184,12 @@ fn deliver_to_store<S: Stores>(
     ask: ImportAsk,
     rows: Vec<Row>,
     hour: Hour,
-    stores: S,
+    stores: &mut S,
 ) -> Result<Told, ProgramFault>
+    ensures opened { OpensOne (S.openings stores.old) (S.openings stores.new) }
     ensures told { IfOk result (Imports S.Kept.Keeper (S.begins file.now) (IsClosed S.ends) ask
         rows.items hour) }
-    ensures fault { IfErr result (FailsToDeliver S.Kept.Keeper (S.begins file.now) (WasClosed S.ends)
+    ensures fault { IfErr result (FailsToDeliver S.Kept.Keeper (S.begins file.now) S.ends
         (S.refuses file.now) ask rows.items hour) }
 {
     let keeper = stores.open(rt, file)?;
@@ -202,12 +205,14 @@ fn tell_import<S: Stores>(
     csv: &str,
     ask: ImportAsk,
     given: Option<Hour>,
-    stores: S,
+    stores: &mut S,
 ) -> Result<Told, ProgramFault>
     ensures told { IfOk result (TellsImport S.Kept.Keeper (S.begins file.now) (IsClosed S.ends)
-        (S.holds csv.now) (S.is_unread csv.now) ask given) }
-    ensures fault { IfErr result (TellsNothing S.Kept.Keeper (S.begins file.now) (WasClosed S.ends)
-        (S.holds csv.now) (S.is_unread csv.now) (S.refuses file.now) ask given) }
+        (S.holds csv.now) (S.is_unread csv.now) (S.openings stores.old) (S.openings stores.new) ask
+        given) }
+    ensures fault { IfErr result (TellsNothing S.Kept.Keeper (S.begins file.now) S.ends
+        (S.refuses file.now) (S.holds csv.now) (S.is_unread csv.now) (S.openings stores.old)
+        (S.openings stores.new) ask given) }
 {
     match read_table::<S>(rt, csv) {
         Ok(rows) => deliver_to_store(rt, file, ask, rows, hour_of(rt, given), stores),
@@ -225,13 +230,14 @@ pub(crate) fn import_table<S: Stores, W: Write>(
     ask: ImportAsk,
     given: Option<Hour>,
     writer: &mut CountedWriter<W>,
-    stores: S,
+    stores: &mut S,
 ) -> Result<u16, ProgramFault>
     ensures answered { IfOk result (AnswersImport S.Kept.Keeper (S.begins file.now) (IsClosed S.ends)
-        (S.holds csv.now) (S.is_unread csv.now) W.contents writer.old writer.new ask given) }
-    ensures failed { IfErr result (FailsToImport S.Kept.Keeper (S.begins file.now) (WasClosed S.ends)
-        (S.holds csv.now) (S.is_unread csv.now) W.contents writer.old writer.new (S.refuses file.now)
-        ask given) }
+        (S.holds csv.now) (S.is_unread csv.now) (S.openings stores.old) (S.openings stores.new)
+        W.contents writer.old writer.new ask given) }
+    ensures failed { IfErr result (FailsToImport S.Kept.Keeper (S.begins file.now) S.ends
+        (S.refuses file.now) (S.holds csv.now) (S.is_unread csv.now) (S.openings stores.old)
+        (S.openings stores.new) W.contents writer.old writer.new ask given) }
 {
     let told = tell_import(rt, file, csv, ask, given, stores)?;
     Ok(write_told(rt.alloc(), writer, &told)?)

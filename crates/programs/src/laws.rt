@@ -1,7 +1,8 @@
 //! What follows from the definitions alone.
 ghost use Rattle.programs.specs.Begun.{IsClosed, WasClosed};
-ghost use Rattle.programs.specs.Life.{CrashEndsRun, DoneIsOneRun, FailedIsOneRun, GoesOnWithLife};
-ghost use Rattle.programs.specs.Life.{RefusedIsOneRun};
+ghost use Rattle.programs.specs.Life.{CrashEndsRun, CrashLeavesCall, CrashLeavesHeld, DoneIsOneRun};
+ghost use Rattle.programs.specs.Life.{FailedIsOneRun, GoesOnWithLife, ProgramsAreOneRun, RefusedIsOneRun};
+ghost use Rattle.programs.specs.Life.{ProgramsStayValid};
 
 use crate::lines::MemoryKeeper;
 use crate::stores::Stores;
@@ -10,9 +11,10 @@ use request_book::Keeper;
 use request_book::laws::{calls_go_on, run_goes_on};
 use std::io::{Read, Write};
 
-/// Each program that did what it was asked for made one run of the store that it is over, from what
-/// it found there to what it left as it closed it. So did an import that was refused, unless its
-/// table tells no rows: then that was told in place of it.
+/// The calls of each program that did what it was asked for, those that its lines, its requests or
+/// its table led to, are one run of the store that it is over, from what it found there to what it
+/// left as it closed it. So are those of an import that was refused, unless its table tells no rows:
+/// then that was told in place of it.
 pub fn a_program_is_one_run<S: Stores, R: Read, W: Write>()
     ensures done { DoneIsOneRun ⟦<MemoryKeeper as Keeper<RingMachine>>⟧ S.Kept.Keeper S.begins S.ends
         S.holds S.is_unread R.remaining W.contents S.is_made }
@@ -23,8 +25,8 @@ pub fn a_program_is_one_run<S: Stores, R: Read, W: Write>()
     run_goes_on::<RingMachine>();
 }
 
-/// A program that failed made one run of its store too, which was closed then; or its fault is one
-/// that comes before the store is opened, or of the opening.
+/// The calls of a program that failed are one run of its store too, which was closed then; or its
+/// fault is one that comes before the store is opened, or of the opening.
 pub fn a_failed_program_is_one_run<S: Stores, R: Read, W: Write>()
     ensures { FailedIsOneRun ⟦<MemoryKeeper as Keeper<RingMachine>>⟧ S.Kept.Keeper S.begins S.ends
         S.holds S.is_unread R.remaining W.contents S.refuses S.is_unmade }
@@ -40,10 +42,24 @@ pub fn programs_are_one_life<S: Stores>()
     ensures failed { GoesOnWithLife S.Kept.Keeper S.begins (WasClosed S.ends) }
 {}
 
-/// What a crash leaves in the midst of a call is what a run leaves that ends with that call. So a
-/// life goes on over a crash as it does over a close.
+/// Between calls a crash leaves what the book holds, and after a call, whatever it was answered, what
+/// was before it or the request wholly. What a crash leaves so is what a run leaves that ends with
+/// that call: a life goes on over a crash as it does over a close.
 pub fn a_crash_ends_a_run<K: Keeper<RingMachine>>()
-    ensures { CrashEndsRun K.Keeper }
+    ensures between { CrashLeavesHeld K.Keeper }
+    ensures after { CrashLeavesCall K.Keeper }
+    ensures ends { CrashEndsRun K.Keeper }
 {
     run_goes_on::<RingMachine>();
 }
+
+/// Programs are started one after another over a store, and each ends by itself, or a crash cuts it
+/// off at any moment. All their calls, in their order, come to one run, as if one program had run all
+/// the time: where the store failed in a delivery, or a crash came in the midst of it, the run has
+/// that delivery with a reply, which nobody got, or does not have it. That run is safe, also from one
+/// start to the next, and a repeat in any later program gets the reply that was kept. Where the first
+/// program found nothing, the rings are valid all the way.
+pub fn all_programs_are_one_run<S: Stores>()
+    ensures one { ProgramsAreOneRun S.Kept.Keeper S.begins S.ends }
+    ensures valid { ProgramsStayValid S.Kept.Keeper S.begins S.ends }
+{}

@@ -1,6 +1,6 @@
 //! The program `run`: numbered requests and questions, one a line.
 ghost use Rattle.std.specs.Prelude.{◌≡◌, IfErr, OnOk};
-ghost use Rattle.programs.specs.Begun.{IsAny, IsClosed, WasClosed, IsNew};
+ghost use Rattle.programs.specs.Begun.{IsAny, IsClosed, IsNew, OpensOne};
 ghost use Rattle.programs.specs.Running.{AnswersLines, StopsLines, FailsLines};
 
 use crate::book::open_book;
@@ -71,12 +71,13 @@ pub(crate) fn run_over_store<S: Stores, R: Read, W: Write>(
     file: &str,
     reader: &mut CountedReader<R>,
     writer: &mut CountedWriter<W>,
-    stores: S,
+    stores: &mut S,
 ) -> Result<(), ProgramFault>
+    ensures opened { OpensOne (S.openings stores.old) (S.openings stores.new) }
     ensures answered { OnOk result (AnswersLines S.Kept.Keeper (S.begins file.now) (IsClosed S.ends)
         R.remaining W.contents reader.old reader.new writer.old writer.new) }
-    ensures failed { IfErr result (FailsLines S.Kept.Keeper (S.begins file.now) (WasClosed S.ends)
-        R.remaining W.contents reader.old reader.new writer.old writer.new (S.refuses file.now)) }
+    ensures failed { IfErr result (FailsLines S.Kept.Keeper (S.begins file.now) S.ends R.remaining
+        W.contents reader.old reader.new writer.old writer.new (S.refuses file.now)) }
 {
     let keeper = stores.open(rt, file)?;
     let (answered, keeper) = answer_lines(rt.alloc(), keeper, reader, writer);

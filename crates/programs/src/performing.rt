@@ -2,9 +2,10 @@
 ghost use Rattle.std.specs.Prelude.{◌≡◌, ◌⊎◌, ◌≤◌, Err, IfErr, IfOk, Ok, OnOk, map};
 ghost use Rattle.std.specs.Prelude.{string_bytes};
 ghost use Rattle.command_line.specs.Tasks.{AskForNothing};
+ghost use Rattle.programs.specs.Begun.{OpensNone, OpensOne};
 ghost use Rattle.programs.specs.Performed.{DoesAsked, EndsBy, EndsSo, FailsAsked, FailsSo};
-ghost use Rattle.programs.specs.Performed.{FailsToImportFile, FailsToRun};
-ghost use Rattle.programs.specs.Performed.{FailsToShowStore, ImportsFile, Runs, ShowsStore};
+ghost use Rattle.programs.specs.Performed.{FailsToRun, ImportsFile, OpensGiven, Runs, ShowsStore};
+ghost use Rattle.programs.specs.Inner.Asked.{FailsToImportAsked, FailsToShowAsked};
 ghost use Rattle.programs.specs.Inner.Showing.{FailsToShowTask, IsShowing, ShowsTask};
 ghost use Rattle.programs.specs.declared.performing.Ending.TheVariants.{Done};
 
@@ -48,8 +49,9 @@ fn run<S: Stores, R: Read, W: Write>(
     file: Option<&str>,
     reader: &mut CountedReader<R>,
     writer: &mut CountedWriter<W>,
-    stores: S,
+    stores: &mut S,
 ) -> Result<(), ProgramFault>
+    ensures opened { OpensGiven (S.openings stores.old) (S.openings stores.new) file.entry }
     ensures done { OnOk result (Runs ⟦<MemoryKeeper as Keeper<RingMachine>>⟧ S.Kept.Keeper S.begins
         S.ends R.remaining W.contents reader.old reader.new writer.old writer.new file.entry) }
     ensures failed { IfErr result (FailsToRun ⟦<MemoryKeeper as Keeper<RingMachine>>⟧ S.Kept.Keeper
@@ -69,15 +71,15 @@ fn show_asked<S: Stores, W: Write>(
     asked: Result<Question, ProgramFault>,
     names: HashNames<'_>,
     writer: &mut CountedWriter<W>,
-    stores: S,
+    stores: &mut S,
 ) -> Result<Ending, ProgramFault>
     ensures done { IfOk result (λ ending. (ending ≡ Done)
         × ShowsStore S.Kept.Keeper (S.begins file.now) S.ends W.contents writer.old writer.new
-        names.entry.prefix.now names.entry.suffix.now (λ question. asked ≡ Ok question)) }
-    ensures failed { IfErr result (λ why. ((asked ≡ Err why) × (writer.new ≡ writer.old))
-        ⊎ FailsToShowStore S.Kept.Keeper (S.begins file.now) S.ends W.contents writer.old writer.new
-        (S.refuses file.now) names.entry.prefix.now names.entry.suffix.now
-        (λ question. asked ≡ Ok question) why) }
+        names.entry.prefix.now names.entry.suffix.now (λ question. asked ≡ Ok question)
+        × OpensOne (S.openings stores.old) (S.openings stores.new)) }
+    ensures failed { IfErr result (FailsToShowAsked S.Kept.Keeper (S.begins file.now) S.ends W.contents
+        writer.old writer.new (S.openings stores.old) (S.openings stores.new) (S.refuses file.now)
+        names.entry.prefix.now names.entry.suffix.now asked) }
 {
     let question = asked?;
     show(rt, file, names, &question, writer, stores)?;
@@ -89,13 +91,14 @@ fn show_task<S: Stores, W: Write>(
     rt: &HostRuntime,
     task: &Task<'_>,
     writer: &mut CountedWriter<W>,
-    stores: S,
+    stores: &mut S,
 ) -> Result<Ending, ProgramFault>
     requires { IsShowing task.now }
     ensures done { IfOk result (λ ending. (ending ≡ Done)
-        × ShowsTask S.Kept.Keeper S.begins S.ends W.contents writer.old writer.new task.now) }
+        × ShowsTask S.Kept.Keeper S.begins S.ends W.contents writer.old writer.new
+        (S.openings stores.old) (S.openings stores.new) task.now) }
     ensures failed { IfErr result (FailsToShowTask S.Kept.Keeper S.begins S.ends W.contents writer.old
-        writer.new S.refuses task.now) }
+        writer.new (S.openings stores.old) (S.openings stores.new) S.refuses task.now) }
 {
     let alloc = rt.alloc();
     match task {
@@ -141,15 +144,15 @@ fn import<S: Stores, W: Write>(
     asked: Result<ImportAsk, ProgramFault>,
     given: Option<Hour>,
     writer: &mut CountedWriter<W>,
-    stores: S,
+    stores: &mut S,
 ) -> Result<Ending, ProgramFault>
     ensures ended { IfOk result (λ ending. ImportsFile S.Kept.Keeper (S.begins file.now) S.ends
         W.contents writer.old writer.new (S.holds csv.now) (S.is_unread csv.now)
-        (λ ask. asked ≡ Ok ask) given (EndsBy ending)) }
-    ensures failed { IfErr result (λ why. ((asked ≡ Err why) × (writer.new ≡ writer.old))
-        ⊎ FailsToImportFile S.Kept.Keeper (S.begins file.now) S.ends W.contents writer.old writer.new
-        (S.holds csv.now) (S.is_unread csv.now) (S.refuses file.now) (λ ask. asked ≡ Ok ask) given
-        why) }
+        (S.openings stores.old) (S.openings stores.new) (λ ask. asked ≡ Ok ask) given
+        (EndsBy ending)) }
+    ensures failed { IfErr result (FailsToImportAsked S.Kept.Keeper (S.begins file.now) S.ends W.contents
+        writer.old writer.new (S.openings stores.old) (S.openings stores.new) (S.holds csv.now)
+        (S.is_unread csv.now) (S.refuses file.now) asked given) }
 {
     let ask = asked?;
     if import_table(rt, file, csv, ask, given, writer, stores)? == DONE {
@@ -165,14 +168,14 @@ fn perform_task<S: Stores, R: Read, W: Write>(
     task: &Task<'_>,
     reader: &mut CountedReader<R>,
     writer: &mut CountedWriter<W>,
-    stores: S,
+    stores: &mut S,
 ) -> Result<Ending, ProgramFault>
     ensures ended { IfOk result (EndsSo ⟦<MemoryKeeper as Keeper<RingMachine>>⟧ S.Kept.Keeper
         S.begins S.ends R.remaining W.contents reader.old reader.new writer.old writer.new S.holds
-        S.is_unread S.is_made task.now) }
+        S.is_unread (S.openings stores.old) (S.openings stores.new) S.is_made task.now) }
     ensures failed { IfErr result (FailsSo ⟦<MemoryKeeper as Keeper<RingMachine>>⟧ S.Kept.Keeper
         S.begins S.ends R.remaining W.contents reader.old reader.new writer.old writer.new S.holds
-        S.is_unread S.refuses S.is_unmade task.now) }
+        S.is_unread (S.openings stores.old) (S.openings stores.new) S.refuses S.is_unmade task.now) }
 {
     let alloc = rt.alloc();
     match task {
@@ -232,19 +235,22 @@ pub fn perform<S: Stores, R: Read, W: Write, E: Write>(
     reader: &mut CountedReader<R>,
     writer: &mut CountedWriter<W>,
     errors: &mut CountedWriter<E>,
-    stores: S,
+    stores: &mut S,
 ) -> u8
     ensures status { result ≤ 2 }
     ensures done { result ≡ 0 → DoesAsked ⟦<MemoryKeeper as Keeper<RingMachine>>⟧ S.Kept.Keeper
-        S.begins S.ends S.holds S.is_unread S.is_made R.remaining W.contents E.contents
+        S.begins S.ends S.holds S.is_unread (S.openings stores.old) (S.openings stores.new) S.is_made
+        R.remaining W.contents E.contents
         (map string_bytes words.now)
         reader.old reader.new writer.old writer.new errors.old errors.new }
     ensures fault { result ≡ 1 → FailsAsked ⟦<MemoryKeeper as Keeper<RingMachine>>⟧ S.Kept.Keeper
-        S.begins S.ends S.holds S.is_unread S.is_made R.remaining W.contents E.contents
+        S.begins S.ends S.holds S.is_unread (S.openings stores.old) (S.openings stores.new) S.is_made
+        R.remaining W.contents E.contents
         (map string_bytes words.now)
         reader.old reader.new writer.old writer.new errors.old errors.new S.refuses S.is_unmade }
     ensures nothing { result ≡ 2 → AskForNothing (map string_bytes words.now)
-        × (reader.new ≡ reader.old) × (writer.new ≡ writer.old) }
+        × (reader.new ≡ reader.old) × (writer.new ≡ writer.old)
+        × OpensNone (S.openings stores.old) (S.openings stores.new) }
 {
     match task_of(rt.alloc(), words) {
         Ok(task) => match perform_task(rt, &task, reader, writer, stores) {

@@ -1,7 +1,9 @@
 //! The program `renew`: a new store with the rings of another one, in which numbers begin anew.
 ghost use Rattle.std.specs.Prelude.{◌≡◌, ⊤, IfErr, IfOk, OnOk};
 ghost use Rattle.request_book.specs.Keeper.{LeavesOnly};
-ghost use Rattle.programs.specs.Begun.{IsClosed, IsStoreFault};
+ghost use Rattle.request_book.specs.declared.keeper.KeepFault.{KeepFault};
+ghost use Rattle.programs.specs.Begun.{HasFailedBy, HasNotFailed, IsClosedWhole, OpensOne, OpensTwo};
+ghost use Rattle.programs.specs.Faults.{keep_fault};
 ghost use Rattle.programs.specs.Renewing.{FailsToRead, FailsToRenew, IsRead, Renews};
 
 use crate::faults::ProgramFault;
@@ -16,7 +18,9 @@ fn rings_of<K: Keeper<RingMachine>>(keeper: &mut K) -> Result<Rings, ProgramFaul
     requires { K.fault_count keeper.old ≡ 0 }
     ensures rings { IfOk result (λ rings. K.sound keeper.new
         → (K.content keeper.old).state ≡ rings) }
-    ensures fault { IfErr result IsStoreFault }
+    ensures fault { IfErr result (λ why. (cause : KeepFault) × (why ≡ keep_fault cause)
+        × HasFailedBy K.Keeper cause keeper.new) }
+    ensures whole { OnOk result (HasNotFailed K.Keeper keeper.new) }
     ensures sound { K.sound keeper.new → K.sound keeper.old }
     ensures content { K.sound keeper.new → K.content keeper.new ≡ K.content keeper.old }
     ensures left { K.sound keeper.new → LeavesOnly (K.may_leave keeper.new)
@@ -31,7 +35,9 @@ fn rings_and_hour<K: Keeper<RingMachine>>(keeper: &mut K) -> Result<(Rings, Hour
     requires { K.fault_count keeper.old ≡ 0 }
     ensures found { IfOk result (λ found. K.sound keeper.new
         → ((K.content keeper.old).state ≡ found.0) × ((K.content keeper.old).hour ≡ found.1)) }
-    ensures fault { IfErr result IsStoreFault }
+    ensures fault { IfErr result (λ why. (cause : KeepFault) × (why ≡ keep_fault cause)
+        × HasFailedBy K.Keeper cause keeper.new) }
+    ensures whole { OnOk result (HasNotFailed K.Keeper keeper.new) }
     ensures sound { K.sound keeper.new → K.sound keeper.old }
     ensures content { K.sound keeper.new → K.content keeper.new ≡ K.content keeper.old }
     ensures left { K.sound keeper.new → LeavesOnly (K.may_leave keeper.new)
@@ -46,8 +52,10 @@ fn found_in<K: Keeper<RingMachine>>(keeper: K) -> (Result<(Rings, Hour), Program
     requires { K.fault_count keeper ≡ 0 }
     ensures found { IfOk result.0 (λ found. IsRead K.Keeper (λ k. k ≡ keeper) (λ k. k ≡ result.1)
         (λ rings hour. (rings ≡ found.0) × (hour ≡ found.1))) }
-    ensures fault { IfErr result.0 (λ why. IsStoreFault why
+    ensures fault { IfErr result.0 (λ why. (cause : KeepFault) × (why ≡ keep_fault cause)
+        × HasFailedBy K.Keeper cause result.1
         × IsRead K.Keeper (λ k. k ≡ keeper) (λ k. k ≡ result.1) (λ rings hour. ⊤)) }
+    ensures whole { OnOk result.0 (HasNotFailed K.Keeper result.1) }
 {
     let mut keeper = keeper;
     let found = rings_and_hour(&mut keeper);
@@ -58,10 +66,11 @@ fn found_in<K: Keeper<RingMachine>>(keeper: K) -> (Result<(Rings, Hour), Program
 fn read_store<S: Stores>(
     rt: &HostRuntime,
     file: &str,
-    stores: S,
+    stores: &mut S,
 ) -> Result<(Rings, Hour), ProgramFault>
-    ensures found { IfOk result (λ found. IsRead S.Kept.Keeper (S.begins file.now) (IsClosed S.ends)
-        (λ rings hour. (rings ≡ found.0) × (hour ≡ found.1))) }
+    ensures opened { OpensOne (S.openings stores.old) (S.openings stores.new) }
+    ensures found { IfOk result (λ found. IsRead S.Kept.Keeper (S.begins file.now)
+        (IsClosedWhole S.Kept.Keeper S.ends) (λ rings hour. (rings ≡ found.0) × (hour ≡ found.1))) }
     ensures fault { IfErr result (FailsToRead S.Kept.Keeper (S.begins file.now) S.ends
         (S.refuses file.now)) }
 {
@@ -78,13 +87,15 @@ pub(crate) fn renew_store<S: Stores>(
     rt: &HostRuntime,
     file: &str,
     new: &str,
-    stores: S,
+    stores: &mut S,
 ) -> Result<(), ProgramFault>
-    ensures renewed { OnOk result (Renews S.Kept.Keeper (S.begins file.now) (IsClosed S.ends)
-        (S.is_made new.now)) }
+    ensures opened { OnOk result (OpensTwo (S.openings stores.old) (S.openings stores.new)) }
+    ensures renewed { OnOk result (Renews S.Kept.Keeper (S.begins file.now)
+        (IsClosedWhole S.Kept.Keeper S.ends) (S.is_made new.now)) }
     ensures fault { IfErr result (FailsToRenew S.Kept.Keeper (S.begins file.now) S.ends
-        (S.refuses file.now) (S.is_unmade new.now)) }
+        (S.refuses file.now) (S.is_unmade new.now) (S.openings stores.old)
+        (S.openings stores.new)) }
 {
     let (rings, hour) = read_store(rt, file, stores)?;
-    S::make(rt, new, rings, hour)
+    stores.make(rt, new, rings, hour)
 }

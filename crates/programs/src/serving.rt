@@ -3,7 +3,7 @@ ghost use Rattle.std.specs.Prelude.{◌≡◌, MatchResult, IfErr, OnOk};
 ghost use Rattle.http_sockets.specs.declared.fault.ServeFault.TheVariants.{NetFailed};
 ghost use Rattle.programs.specs.Serving.{FailsToLoop, FailsToLoopInput, FailsToServe, LoopsInput};
 ghost use Rattle.programs.specs.Serving.{LoopsOnce, ServesConnections, ServesFewer, StopsLoop};
-ghost use Rattle.programs.specs.Begun.{IsClosed, WasClosed};
+ghost use Rattle.programs.specs.Begun.{IsClosed, OpensOne};
 
 use crate::book::open_book;
 use crate::faults::ProgramFault;
@@ -32,7 +32,7 @@ fn serve_port<P: Ports, K: Keeper<RingMachine>>(
         given names.entry P.Door.Stream.remaining P.Door.gives P.Door.fails P.opens port count) }
     ensures failed { IfErr result.0 (λ cause. (cause ≡ NetFailed) × ServesFewer K.Keeper
         (λ k. k ≡ keeper) (λ k. k ≡ result.1) given names.entry P.Door.Stream.remaining P.Door.gives
-        P.Door.fails P.opens port count) }
+        P.Door.fails P.opens P.shuts port count) }
 {
     let mut book = open_book(rt.alloc(), keeper);
     let mut clock = new_clock(rt, given);
@@ -71,14 +71,15 @@ pub(crate) fn serve_store<S: Stores, P: Ports + Drop>(
     count: u16,
     given: Option<Hour>,
     names: HashNames<'_>,
-    stores: S,
+    stores: &mut S,
 ) -> Result<(), ProgramFault>
+    ensures opened { OpensOne (S.openings stores.old) (S.openings stores.new) }
     ensures served { OnOk result (ServesConnections S.Kept.Keeper (S.begins file.now)
         (IsClosed S.ends) given names.entry P.Door.Stream.remaining P.Door.gives P.Door.fails P.opens
         port count) }
-    ensures failed { IfErr result (FailsToServe S.Kept.Keeper (S.begins file.now) (WasClosed S.ends)
+    ensures failed { IfErr result (FailsToServe S.Kept.Keeper (S.begins file.now) S.ends
         given names.entry P.Door.Stream.remaining P.Door.gives P.Door.fails P.opens
-        (S.refuses file.now) port count) }
+        (S.refuses file.now) P.shuts port count) }
 {
     let keeper = stores.open(rt, file)?;
     let (served, keeper) = serve_port(rt, ports, keeper, port, count, given, names);
@@ -95,11 +96,12 @@ fn loop_store<S: Stores, W: Write>(
     given: Option<Hour>,
     names: HashNames<'_>,
     writer: &mut CountedWriter<W>,
-    stores: S,
+    stores: &mut S,
 ) -> Result<(), ProgramFault>
+    ensures opened { OpensOne (S.openings stores.old) (S.openings stores.new) }
     ensures looped { OnOk result (LoopsOnce S.Kept.Keeper (S.begins file.now) (IsClosed S.ends) given
         names.entry W.contents writer.old writer.new) }
-    ensures failed { IfErr result (FailsToLoop S.Kept.Keeper (S.begins file.now) (WasClosed S.ends) given
+    ensures failed { IfErr result (FailsToLoop S.Kept.Keeper (S.begins file.now) S.ends given
         names.entry W.contents writer.old writer.new (S.refuses file.now)) }
 {
     let keeper = stores.open(rt, file)?;
@@ -118,13 +120,14 @@ pub(crate) fn loop_file<S: Stores, W: Write>(
     given: Option<Hour>,
     names: HashNames<'_>,
     writer: &mut CountedWriter<W>,
-    stores: S,
+    stores: &mut S,
 ) -> Result<(), ProgramFault>
+    ensures opened { OnOk result (OpensOne (S.openings stores.old) (S.openings stores.new)) }
     ensures looped { OnOk result (LoopsInput S.Kept.Keeper (S.begins file.now) (IsClosed S.ends) given
         names.entry W.contents writer.old writer.new (S.holds input.now)) }
-    ensures failed { IfErr result (FailsToLoopInput S.Kept.Keeper (S.begins file.now) (WasClosed S.ends)
-        given names.entry W.contents writer.old writer.new (S.refuses file.now)
-        (S.is_unread input.now)) }
+    ensures failed { IfErr result (FailsToLoopInput S.Kept.Keeper (S.begins file.now) S.ends given
+        names.entry W.contents writer.old writer.new (S.refuses file.now) (S.is_unread input.now)
+        (S.openings stores.old) (S.openings stores.new)) }
 {
     let bytes = S::read(rt, input, MOST_LOOPED as u32)?;
     loop_store(rt, file, &bytes, given, names, writer, stores)

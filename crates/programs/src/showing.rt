@@ -1,9 +1,12 @@
 //! The programs `table`, `nodes` and `export`: what a store's rings show.
 ghost use Rattle.std.specs.Prelude.{◌≡◌, ◌≢◌, ◌⊎◌, ◌++◌, ◌∷◌, [], ⊤, IfErr, IfOk, OnOk, true};
 ghost use Rattle.path_lookup.specs.Names.{is_path};
-ghost use Rattle.programs.specs.Begun.{IsClosed, WasClosed, IsStoreFault};
+ghost use Rattle.request_book.specs.declared.keeper.KeepFault.{KeepFault};
+ghost use Rattle.programs.specs.Begun.{HasFailedBy, HasNotFailed, IsClosedWhole, IsStoreFault};
+ghost use Rattle.programs.specs.Begun.{OpensOne};
+ghost use Rattle.programs.specs.Faults.{keep_fault};
 ghost use Rattle.programs.specs.Showing.{AsksNodes, AsksPublished, AsksTables, FailsToShow};
-ghost use Rattle.programs.specs.Showing.{HidesAs};
+ghost use Rattle.programs.specs.Showing.{HidesAs, ShowsNothing};
 ghost use Rattle.programs.specs.Showing.{IsAsked, IsFormFault, IsNoName, IsNoNumber, ShowsRead, ShowsAs};
 ghost use Rattle.programs.specs.Showing.{hidden_fault, names_given};
 
@@ -144,8 +147,10 @@ fn kept_bytes<K: Keeper<RingMachine>>(
     ensures shown { IfOk result (λ bytes. K.sound keeper.new
         → ShowsAs names.entry.prefix.now names.entry.suffix.now question.now bytes.items (K.content keeper.old).state
         (K.content keeper.old).hour) }
-    ensures fault { IfErr result (λ why. IsStoreFault why ⊎ (K.sound keeper.new
-        → HidesAs question.now why (K.content keeper.old).state)) }
+    ensures fault { IfErr result (λ why. ((cause : KeepFault) × (why ≡ keep_fault cause)
+        × HasFailedBy K.Keeper cause keeper.new)
+        ⊎ (K.sound keeper.new → HidesAs question.now why (K.content keeper.old).state)) }
+    ensures whole { OnOk result (HasNotFailed K.Keeper keeper.new) }
     ensures sound { K.sound keeper.new → K.sound keeper.old }
     ensures content { K.sound keeper.new → K.content keeper.new ≡ K.content keeper.old }
 {
@@ -164,10 +169,11 @@ fn told_bytes<K: Keeper<RingMachine>>(
     requires { K.fault_count keeper ≡ 0 }
     ensures shown { IfOk result.0 (λ bytes. IsAsked K.Keeper (λ k. k ≡ keeper) (λ k. k ≡ result.1)
         (ShowsAs names.entry.prefix.now names.entry.suffix.now question.now bytes.items)) }
-    ensures fault { IfErr result.0 (λ why. (IsStoreFault why
-        × IsAsked K.Keeper (λ k. k ≡ keeper) (λ k. k ≡ result.1) (λ rings hour. ⊤))
-        ⊎ IsAsked K.Keeper (λ k. k ≡ keeper) (λ k. k ≡ result.1)
-        (λ rings hour. HidesAs question.now why rings)) }
+    ensures fault { let Asked = IsAsked K.Keeper (λ k. k ≡ keeper) (λ k. k ≡ result.1) in
+        IfErr result.0 (λ why. ((cause : KeepFault) × (why ≡ keep_fault cause)
+        × HasFailedBy K.Keeper cause result.1 × Asked (λ rings hour. ⊤))
+        ⊎ Asked (λ rings hour. HidesAs question.now why rings)) }
+    ensures whole { OnOk result.0 (HasNotFailed K.Keeper result.1) }
 {
     let mut keeper = keeper;
     let bytes = kept_bytes(alloc, &mut keeper, names, question);
@@ -180,16 +186,15 @@ fn store_bytes<S: Stores>(
     file: &str,
     names: HashNames<'_>,
     question: &Question,
-    stores: S,
+    stores: &mut S,
 ) -> Result<Vec<u8>, ProgramFault>
+    ensures opened { OpensOne (S.openings stores.old) (S.openings stores.new) }
     ensures shown { IfOk result (λ bytes. IsAsked S.Kept.Keeper (S.begins file.now)
-        (IsClosed S.ends) (ShowsAs names.entry.prefix.now names.entry.suffix.now question.now
+        (IsClosedWhole S.Kept.Keeper S.ends) (ShowsAs names.entry.prefix.now names.entry.suffix.now question.now
         bytes.items)) }
     ensures fault { IfErr result (λ why. (S.refuses file.now why × IsStoreFault why)
-        ⊎ (IsStoreFault why
-        × IsAsked S.Kept.Keeper (S.begins file.now) (WasClosed S.ends) (λ rings hour. ⊤))
-        ⊎ IsAsked S.Kept.Keeper (S.begins file.now) (WasClosed S.ends)
-        (λ rings hour. HidesAs question.now why rings)) }
+        ⊎ ShowsNothing S.Kept.Keeper (S.begins file.now) S.ends names.entry.prefix.now
+        names.entry.suffix.now question.now why) }
 {
     let keeper = stores.open(rt, file)?;
     let (bytes, keeper) = told_bytes(rt.alloc(), keeper, names, question);
@@ -206,12 +211,13 @@ pub(crate) fn show<S: Stores, W: Write>(
     names: HashNames<'_>,
     question: &Question,
     writer: &mut CountedWriter<W>,
-    stores: S,
+    stores: &mut S,
 ) -> Result<(), ProgramFault>
+    ensures opened { OpensOne (S.openings stores.old) (S.openings stores.new) }
     ensures shown { OnOk result (ShowsRead S.Kept.Keeper (S.begins file.now)
-        (IsClosed S.ends) W.contents
+        (IsClosedWhole S.Kept.Keeper S.ends) W.contents
         writer.old writer.new names.entry.prefix.now names.entry.suffix.now question.now) }
-    ensures fault { IfErr result (FailsToShow S.Kept.Keeper (S.begins file.now) (WasClosed S.ends)
+    ensures fault { IfErr result (FailsToShow S.Kept.Keeper (S.begins file.now) S.ends
         W.contents writer.old writer.new names.entry.prefix.now names.entry.suffix.now
         (S.refuses file.now) question.now) }
 {

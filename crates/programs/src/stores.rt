@@ -1,6 +1,7 @@
 //! Where the programs find the stores and the files that words name.
 ghost use Rattle.std.specs.Prelude.{◌≡◌, ◌≤◌, ℕ, IfErr, IfOk, List, OnOk, length};
 ghost use Rattle.builder.specs.Step.{State};
+ghost use Rattle.byte_streams.specs.Counted.{one_more};
 ghost use Rattle.ring_words.specs.Limits.{most_numbers};
 ghost use Rattle.programs.specs.Begun.{Closing, IsStoreFault};
 ghost use Rattle.programs.specs.Tables.{IsFileFault};
@@ -18,6 +19,9 @@ use ring_words::Hour;
 pub trait Stores: Drop {
     /// The keeper of a store that was opened.
     type Kept: Keeper<RingMachine>;
+
+    /// How often a store was opened or made, or was to be. Only `open` and `make` raise it.
+    ghost openings: { Self → ℕ };
 
     /// The keeper of a store of this name that is opened begins so.
     ghost begins: { List ℕ → Self.Kept → Type 0 };
@@ -42,7 +46,8 @@ pub trait Stores: Drop {
     ghost is_unread: { List ℕ → ℕ → ProgramFault → Type 0 };
 
     /// Opens the store of this name, and makes it where it is missing.
-    fn open(self, rt: &HostRuntime, name: &str) -> Result<Self::Kept, ProgramFault>
+    fn open(&mut self, rt: &HostRuntime, name: &str) -> Result<Self::Kept, ProgramFault>
+        ensures opened { openings self.new ≡ one_more (openings self.old) }
         ensures begins { IfOk result (begins name.now) }
         ensures faults { IfOk result (λ keeper. Self.Kept.fault_count keeper ≡ 0) }
         ensures refused { IfErr result (refuses name.now) }
@@ -55,7 +60,14 @@ pub trait Stores: Drop {
 
     /// Makes a store of this name, where there is none, of these rings, and closes it. It has no
     /// request, and goes on from this hour.
-    fn make(rt: &HostRuntime, name: &str, rings: Rings, hour: Hour) -> Result<(), ProgramFault>
+    fn make(
+        &mut self,
+        rt: &HostRuntime,
+        name: &str,
+        rings: Rings,
+        hour: Hour,
+    ) -> Result<(), ProgramFault>
+        ensures opened { openings self.new ≡ one_more (openings self.old) }
         ensures made { OnOk result (is_made name.now rings hour) }
         ensures unmade { IfErr result (is_unmade name.now rings hour) }
         ensures fault { IfErr result IsStoreFault };

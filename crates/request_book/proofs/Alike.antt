@@ -1,7 +1,8 @@
 -- One key has one command and one reply.
 use Rattle.std.proofs.Common.{◌++◌, ◌<◌, ◌≡◌, ◌∙◌, ◌∷◌, List, None, Option, Some, [], ap}
 use Rattle.std.proofs.Common.{append_assoc, length, max, refl, subst, sym, ℕ}
-use Rattle.std.specs.Prelude.{Bool, MatchOption, Ok, cond, false, is_some, true}
+use Rattle.std.specs.Prelude.{◌≢◌, Bool, Err, IsSomeAnd, MatchOption, Ok, Result, cond, false, is_some}
+use Rattle.std.specs.Prelude.{true}
 use Rattle.std.specs.Cmp.Lexicographic.{nat_list_eq_equiv}
 use Rattle.std.specs.List.{flat_map}
 use Rattle.std.specs.Option.{option_or, option_to_list}
@@ -14,7 +15,11 @@ use Rattle.request_book.specs.declared.entry.Entry.{Entry}
 use Rattle.request_book.specs.Call.{Call, Deliver}
 use Rattle.request_book.specs.Content.{Content, entry_of, is_known, same_key}
 use Rattle.request_book.specs.Once.{decision, firsts, once}
-use Rattle.request_book.specs.Run.{AnswersAlike, Run, kept, last_hour}
+use Rattle.request_book.specs.Run.{AnswersAlike, MayRepeat, MayReply, RepeatsAreKept, Run, kept}
+use Rattle.request_book.specs.Run.{last_hour}
+use Rattle.request_book.specs.declared.book.Fault.{Fault}
+use Rattle.request_book.specs.declared.book.Fault.TheVariants.{BookFull, Closed, NoMemory}
+use Rattle.request_book.specs.declared.book.Fault.TheVariants.{NumberReused, StoreFault}
 use Rattle.request_book.proofs.Once.{firsts-append, kept-append, kept-snoc, known_kept, once-new}
 
 same_refl : (k : Key) → same_key k k ≡ true
@@ -93,6 +98,44 @@ module _ {C R : Type 0} where
       kept old.hour (once old.book (before ++ Deliver d (Ok p) ∷ between))) < limit)
       (λ x. (x.command ≡ b.command) × (q ≡ x.reply))) still two.1 in
       (sym had.2 ∙ m.0, had.3 ∙ sym m.1)
+
+  -- a delivery that comes again, where this is what it may be answered
+  repeated : (limit : ℕ) (closed : Bool) (book : List (Entry C R)) (b : Delivery C) (p : R)
+      (had : Entry C R) (answer : Result R Fault) → entry_of b.key book ≡ Some had
+      → had.command ≡ b.command → p ≡ had.reply → MayReply limit closed book b answer
+      → MayRepeat p answer
+  repeated limit closed book b p had (Ok q) is command reply may =
+      let m = subst (λ o. MatchOption o (length book < limit)
+      (λ x. (x.command ≡ b.command) × (q ≡ x.reply))) is may.1 in m.1 ∙ sym reply
+  repeated limit closed book b p had (Err NumberReused) is command reply may =
+      subst (λ o. IsSomeAnd o (λ x. x.command ≢ b.command)) is may.1 command
+  repeated limit closed book b p had (Err BookFull) is command reply may =
+      let none : Some had ≡ None = sym is ∙ may.1 in cc
+  repeated limit closed book b p had (Err NoMemory) is command reply may = tt
+  repeated limit closed book b p had (Err StoreFault) is command reply may = tt
+  repeated limit closed book b p had (Err Closed) is command reply may = tt
+
+  -- where a delivery of a run has a reply, one of its key and command that comes later gets that too
+  pub repeats : {S : Type 0} (step : S → ℕ → C → R → S → Type 0) (limit : ℕ) (closed : Bool)
+      (old : Content S C R) (calls : List (Call C R)) (new : Content S C R) →
+      Run step limit closed old calls new → RepeatsAreKept calls
+  repeats step limit closed old calls new r before d p between b answer after e k same_command =
+      let one = r.answers before (Deliver d (Ok p)) (between ++ Deliver b answer ∷ after) e in
+      let had = after_reply limit old.book old.hour before d p (entry_of d.key (old.book ++
+      kept old.hour (once old.book before))) refl one.1 in
+      let two = r.answers (before ++ Deliver d (Ok p) ∷ between) (Deliver b answer) after
+      (e ∙ sym (append_assoc before (Deliver d (Ok p) ∷ between) (Deliver b answer ∷ after))) in
+      let same : before ++ Deliver d (Ok p) ∷ between ≡ (before ++ Deliver d (Ok p) ∷ []) ++
+      between = sym (append_assoc before (Deliver d (Ok p) ∷ []) between) in
+      let still : entry_of b.key (old.book ++
+      kept old.hour (once old.book (before ++ Deliver d (Ok p) ∷ between))) ≡ Some had.0 =
+      ap (λ key. entry_of key (old.book ++
+      kept old.hour (once old.book (before ++ Deliver d (Ok p) ∷ between)))) (sym k) ∙ ap
+      (λ xs. entry_of d.key (old.book ++ kept old.hour (once old.book xs))) same ∙ stays
+      old.book old.hour (before ++ Deliver d (Ok p) ∷ []) between d.key had.0 had.1 in
+      repeated limit _ (old.book ++
+      kept old.hour (once old.book (before ++ Deliver d (Ok p) ∷ between))) b p had.0 answer still
+      (had.2 ∙ same_command) had.3 two
 
   -- a key's entry stays it as the book grows
   pub kept_on : (book more : List (Entry C R)) (key : Key) (e : Entry C R) →

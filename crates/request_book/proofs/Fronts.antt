@@ -1,8 +1,9 @@
 -- Items that are answered one after another over a book are one run.
 use Rattle.std.proofs.Common.{◌++◌, ◌≡◌, ◌∙◌, ◌∷◌, List, MatchOption, None, Option, Some, [], ap}
 use Rattle.std.proofs.Common.{append-nil, append_assoc, refl, subst, sym, ℕ}
-use Rattle.std.specs.Prelude.{◌||◌, Bool, false, is_some, true}
+use Rattle.std.specs.Prelude.{◌||◌, All, Bool, false, is_some, true}
 use Rattle.std.specs.Option.{option_or, option_to_list}
+use Rattle.std.proofs.lemmas.List.Elements.{All-append, All-cons, All-nil}
 use Rattle.std.proofs.lemmas.List.Folds.{find-append}
 use Rattle.byte_streams.specs.InTurn.{InTurn}
 use Rattle.request_book.specs.Book.{Parts}
@@ -146,3 +147,34 @@ module _ {M S C R K : Type 0} (step : M → S → ℕ → C → R → S → Type
     in_turn_serves old items texts new turn =
         let r = in_turn_made old old new [] items texts (starts (book_of old)) turn in
         record { calls = r.0; answered = r.1; made = r.2 }
+
+  -- Where each call that an item leads to is such, so are all calls that items lead to.
+  module _ {F I : Type 0} (book_of : F → Book) (Gets : F → I → Asked → List ℕ → F → Type 0)
+      (IsSuch : Call C R → Type 0)
+      (such : (old : F) (item : I) (call : Call C R) (text : List ℕ) (new : F)
+      → Gets old item (Some call) text new → IsSuch call) where
+    one_such : (old : F) (item : I) (asked : Asked) (text : List ℕ) (new : F)
+        → Gets old item asked text new → All IsSuch (option_to_list asked)
+    one_such old item None text new gets = All-nil IsSuch
+    one_such old item (Some call) text new gets =
+        All-cons IsSuch call [] (such old item call text new gets) (All-nil IsSuch)
+
+    pub all_such : (first old new : F) (done calls : List (Call C R)) (items : List I)
+        (texts : List (List ℕ)) → AreAnswered step content sound limit faults book_of Gets first done
+        old items calls texts new → All IsSuch calls
+    all_such first old new done calls [] texts answered =
+        subst (All IsSuch) (sym answered.0) (All-nil IsSuch)
+    all_such first old new done calls (item ∷ items) texts (
+      asked,
+      later,
+      text,
+      more,
+      next,
+      calls_are,
+      texts_are,
+      made,
+      turn,
+      rest,
+    ) = subst (All IsSuch) (sym calls_are) (All-append IsSuch (option_to_list asked) later
+        (one_such old item asked text next turn.gets)
+        (all_such first next new (done ++ option_to_list asked) later items more rest))

@@ -4,3 +4,5 @@ pub mod Once
 pub mod Runs
 pub mod Places
 pub mod Fronts
+pub mod FirstCalls
+pub mod Settles

@@ -79,7 +79,7 @@ module _ {S C R : Type 0} (step : S → ℕ → C → R → S → Type 0) where
       }
 
   -- where the store hasn't failed, nothing is in doubt
-  no_doubt : (limit : ℕ) (book : List (Entry C R)) (doubt : Option (Entry C R))
+  pub no_doubt : (limit : ℕ) (book : List (Entry C R)) (doubt : Option (Entry C R))
       (f : Option (Call C R)) → MatchOption doubt (Unit {0}) (IsInDoubt limit book f) →
       is_some f ≡ false → doubt ≡ None
   no_doubt limit book None f h n = refl

@@ -6,5 +6,6 @@ pub mod Keeper
 pub mod Made
 pub mod Once
 pub mod Run
+pub mod Settled
 pub mod Inner
 pub mod Front

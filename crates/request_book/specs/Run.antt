@@ -2,7 +2,7 @@
 use Rattle.std.specs.Option.{option_to_list}
 use Rattle.std.specs.Prelude.{◌++◌, ◌<◌, ◌≡◌, ◌≢◌, ◌≤◌, ◌∷◌, ◌||◌, Bool, Err, IsSomeAnd, List}
 use Rattle.std.specs.Prelude.{MatchOption, None, Ok, Option, Result, Some, [], false, is_some}
-use Rattle.std.specs.Prelude.{length, max, true, ℕ}
+use Rattle.std.specs.Prelude.{length, max, true, ℕ, ⊤}
 use Rattle.ring_words.specs.declared.request.Delivery.{Delivery}
 use Rattle.request_book.specs.declared.book.Fault.{Fault}
 use Rattle.request_book.specs.declared.book.Fault.TheVariants.{BookFull, Closed, NoMemory}
@@ -108,3 +108,21 @@ AnswersAlike {C} {R} calls = (before : List (Call C R)) (d : Delivery C) (p : R)
     (between : List (Call C R)) (b : Delivery C) (q : R) (after : List (Call C R)) →
     calls ≡ before ++ Deliver d (Ok p) ∷ (between ++ Deliver b (Ok q) ∷ after) → d.key ≡ b.key →
     (d.command ≡ b.command) × (p ≡ q)
+
+-- A delivery that comes again after it got this reply may be answered so: that reply, or that there
+-- was no memory, that the store failed or that the book was closed.
+abbrev pub MayRepeat : {R : Type 0} → R → Result R Fault → Type 0
+MayRepeat kept (Ok reply) = reply ≡ kept
+MayRepeat kept (Err NumberReused) = ⊥
+MayRepeat kept (Err BookFull) = ⊥
+MayRepeat kept (Err NoMemory) = ⊤
+MayRepeat kept (Err StoreFault) = ⊤
+MayRepeat kept (Err Closed) = ⊤
+
+-- Where a delivery has a reply, each later one of its key and its command is answered as one that
+-- comes again.
+abbrev pub RepeatsAreKept : {C R : Type 0} → List (Call C R) → Type 0
+RepeatsAreKept {C} {R} calls = (before : List (Call C R)) (d : Delivery C) (p : R)
+    (between : List (Call C R)) (b : Delivery C) (answer : Result R Fault) (after : List (Call C R)) →
+    calls ≡ before ++ Deliver d (Ok p) ∷ (between ++ Deliver b answer ∷ after) → d.key ≡ b.key →
+    d.command ≡ b.command → MayRepeat p answer

@@ -78,8 +78,8 @@ impl<M: Machine, K: Keeper<M>> Book<M, K> {
         }
     }
 
-    /// Whether the store has failed.
-    fn is_closed(&self) -> bool
+    /// Whether the book is closed, since its store has failed.
+    pub fn is_closed(&self) -> bool
         ensures { IsTrue result ↔ (0 < K.fault_count self.now.keeper) }
     {
         self.keeper.faults() > 0

@@ -5,7 +5,7 @@ ghost use Rattle.request_book.specs.Call.{Call};
 ghost use Rattle.request_book.specs.Called.{RunsGoOn};
 ghost use Rattle.request_book.specs.Content.{Content};
 ghost use Rattle.request_book.specs.Front.{CallsGoOn, CallsMade};
-ghost use Rattle.request_book.specs.Run.{AnswersAlike, Run};
+ghost use Rattle.request_book.specs.Run.{AnswersAlike, RepeatsAreKept, Run};
 
 use crate::keeper::Keeper;
 use crate::machine::Machine;
@@ -17,9 +17,13 @@ pub fn run_goes_on<M: Machine>()
     ensures { (machine : M) → RunsGoOn (M.step machine) }
 {}
 
-/// In every run two replies to one key are one reply, to one command.
+/// In every run two replies to one key are one reply, to one command. So a delivery that comes again
+/// gets the reply of the first, as long as there is memory and the store works.
 pub fn replies_are_alike<M: Machine>()
-    ensures { (machine : M) (limit : ℕ) (closed : Bool) (old new : Content M.State M.Command
+    ensures repeats { (machine : M) (limit : ℕ) (closed : Bool) (old new : Content M.State M.Command
+        M.Reply) (calls : List (Call M.Command M.Reply)) → Run (M.step machine) limit closed old
+        calls new → RepeatsAreKept calls }
+    ensures alike { (machine : M) (limit : ℕ) (closed : Bool) (old new : Content M.State M.Command
         M.Reply) (calls : List (Call M.Command M.Reply)) → Run (M.step machine) limit closed old
         calls new → AnswersAlike calls }
 {}

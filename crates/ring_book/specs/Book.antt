@@ -1,5 +1,6 @@
 -- What a book of rings is asked, and what each call makes of it.
 use Rattle.std.specs.Prelude.{◌≡◌, ℕ, Option, Result, Some}
+use Rattle.builder.specs.Life.{IsProperDelivery}
 use Rattle.builder.specs.Step.{State, Step}
 use Rattle.builder.specs.declared.machine.RingMachine.{RingMachine}
 use Rattle.request_book.specs.Book.{Parts}
@@ -42,9 +43,11 @@ module _ {K : Type 0} (kept : Keeping K) where
       new rings
       × FindsHour steps_of kept.content kept.sound kept.limit kept.fault_count old new hour
 
-  -- A delivery gets an answer that is told so, and one book becomes the other.
+  -- A delivery gets an answer that is told so, and one book becomes the other. Its command is such as
+  -- there are, and its hour has 32 bits.
   pub record Delivers (old new : RingBook) (delivery : Delivery Command) (told : Told) :
       Type 0 where
     pub answer : Result Reply Fault
     pub told_is : told ≡ told_of answer
     pub made : Made old new (Some (Deliver delivery answer))
+    pub proper : IsProperDelivery delivery

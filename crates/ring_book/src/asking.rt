@@ -10,6 +10,7 @@ use crate::telling::{told_fault, told_hidden, told_of};
 use builder::{RingMachine, Told};
 use path_lookup::HashNames;
 use request_book::{Book, Keeper};
+use ring_messages::command_is_proper;
 use ring_model::Rings;
 use ring_reads::{Question, show};
 use ring_words::{Command, Hour, Key};
@@ -28,6 +29,7 @@ pub fn deliver<K: Keeper<RingMachine>>(
       command = command;
     }) result }
 {
+    command_is_proper(&command);
     told_of(book.deliver(hour, key, command))
 }
 

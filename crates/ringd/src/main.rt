@@ -3,7 +3,7 @@
 #![tactic(auto)]
 
 use byte_streams::{CountedReader, CountedWriter};
-use file_stores::perform_over_files;
+use file_stores::{StoreFiles, perform_over_files};
 use sqlite::Unknown;
 use std::alloc::AllocError;
 use std::env;
@@ -23,6 +23,14 @@ fn main(rt: HostRuntime) -> ExitCode {
     let mut reader = CountedReader::new(rt.reader());
     let mut writer = CountedWriter::new(rt.stdout());
     let mut errors = CountedWriter::new(rt.stderr());
-    let status = perform_over_files(&rt, &words, &mut reader, &mut writer, &mut errors, Unknown);
+    let mut stores: StoreFiles<Unknown> = StoreFiles::new();
+    let status = perform_over_files(
+        &rt,
+        &words,
+        &mut reader,
+        &mut writer,
+        &mut errors,
+        &mut stores,
+    );
     ExitCode::from(status)
 }

@@ -1,7 +1,7 @@
 -- The rows of seats and of moves stand in the order of their keys.
 use Rattle.std.proofs.Common.{◌≡◌, inl, inr, ℕ, ◌+◌, ◌*◌, ◌/◌, ◌%◌, ◌<◌, ◌≤◌, ℤ, pos, true, List}
-use Rattle.std.proofs.Common.{[], ◌∷◌, map, Option, Some, None, Ordering, Less, Equal, refl, sym, ap}
-use Rattle.std.proofs.Common.{subst, ◌∙◌, arith}
+use Rattle.std.proofs.Common.{[], ◌∷◌, map, Option, Some, None, Less, refl, sym, ap}
+use Rattle.std.proofs.Common.{◌∙◌, arith}
 use Rattle.std.specs.List.{AllByRecursion, enumerate_from, flat_map}
 use Rattle.std.specs.Ordering.{int_cmp, is_lt, ordering_then}
 use Rattle.std.specs.Cmp.{int_cmp_total}
@@ -11,7 +11,7 @@ use Rattle.std.proofs.lemmas.Bool.{and_from, cases_lt}
 use Rattle.std.proofs.lemmas.Cmp.{tied_itself}
 use Rattle.std.proofs.lemmas.Nat.{div-add-mod', le-div}
 use Rattle.ring_model.specs.Ring.{RingRecord}
-use Rattle.store_model.specs.Entries.{name_cmp, name_number_cmp, numbers_cmp, NameNumber, SeatKey}
+use Rattle.store_model.specs.Entries.{name_cmp, name_number_cmp, numbers_cmp, SeatKey}
 use Rattle.store_model.specs.Entries.{seat_cmp}
 use Rattle.store_model.proofs.Keys.{name_total}
 use Rattle.store_rows.specs.RingRows.{NamedRings}
@@ -68,16 +68,16 @@ seats_up name replicas n (s ∷ seats) some =
     and_from _ _ (seats_above name replicas n (n + 1) seats some (omega arith))
     (seats_up name replicas (n + 1) seats some)
 
-seats_named : (name : List ℕ) (replicas n : ℕ) (seats : List ℕ) →
+pub seats_named : (name : List ℕ) (replicas n : ℕ) (seats : List ℕ) →
     AllByRecursion (λ (x : SeatKey × ℤ). x.0.0 ≡ name)
     (map (seat_entry name replicas) (enumerate_from n seats))
 seats_named name replicas n [] = tt
 seats_named name replicas n (s ∷ seats) = (refl, seats_named name replicas (n + 1) seats)
 
-abbrev seats_of : List ℕ × RingRecord → List (SeatKey × ℤ)
+abbrev pub seats_of : List ℕ × RingRecord → List (SeatKey × ℤ)
 seats_of e = map (seat_entry e.0 e.1.replicas) (enumerate_from 0 e.1.seats)
 
-later_seats : (name : List ℕ) (rings : NamedRings) →
+pub later_seats : (name : List ℕ) (rings : NamedRings) →
     AllByRecursion (λ (x : List ℕ × RingRecord). name_cmp name x.0 ≡ Less) rings →
     AllByRecursion (λ (x : SeatKey × ℤ). name_cmp name x.0.0 ≡ Less) (flat_map seats_of rings)
 later_seats name [] all = tt
@@ -103,7 +103,7 @@ all_seats (e ∷ es) up each =
 
 -- ---- moves
 
-moves_above : (name : List ℕ) (i n : ℕ) (moved : List (Option ℕ)) → i < n →
+pub moves_above : (name : List ℕ) (i n : ℕ) (moved : List (Option ℕ)) → i < n →
     below_all name_number_cmp (name, pos i) (flat_map (moved_entry name) (enumerate_from n moved)) ≡
     true
 moves_above name i n [] less = refl
@@ -120,7 +120,7 @@ moves_up name n (None ∷ moved) = moves_up name (n + 1) moved
 moves_up name n (Some hour ∷ moved) = and_from _ _ (moves_above name n (n + 1) moved (omega arith))
     (moves_up name (n + 1) moved)
 
-moves_named : (name : List ℕ) (n : ℕ) (moved : List (Option ℕ)) →
+pub moves_named : (name : List ℕ) (n : ℕ) (moved : List (Option ℕ)) →
     NamedAs name (flat_map (moved_entry name) (enumerate_from n moved))
 moves_named name n [] = tt
 moves_named name n (None ∷ moved) = moves_named name (n + 1) moved

@@ -23,3 +23,5 @@ pub mod Parting
 pub mod Unchanged
 pub mod KeptTexts
 pub mod AtName
+pub mod FirstRings
+pub mod OneStore

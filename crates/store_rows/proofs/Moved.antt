@@ -1,6 +1,6 @@
 -- Entries in the order of their keys, and in that of their places.
 use Rattle.std.proofs.Common.{◌≡◌, ℕ, ◌+◌, ◌<◌, ℤ, pos, Bool, true, false, cond, List, [], ◌∷◌, map}
-use Rattle.std.proofs.Common.{length, Option, Some, None, Ordering, Less, Equal, Greater, refl, sym}
+use Rattle.std.proofs.Common.{Option, Some, None, Ordering, Less, Equal, Greater, refl, sym}
 use Rattle.std.proofs.Common.{ap, subst, ◌∙◌, arith}
 use Rattle.std.specs.List.{AllByRecursion, AllPairs, IsDistinct, enumerate_from}
 use Rattle.std.specs.List.Sorted.{IsPermutation, IsSortedByKey}

@@ -27,21 +27,29 @@ no_less name other same less = let e : Equal ≡ Less = sym (tied_itself name_to
     (name_cmp name) (sym same) ∙ less in cc
 
 -- rows of one name and rows of later names part in one way
+pub parted_by : {K V : Type 0} (of : K → List ℕ) (name : List ℕ) (es fs gs hs : List (K × V))
+    → AllByRecursion (λ (e : K × V). of e.0 ≡ name) es
+    → AllByRecursion (λ (e : K × V). name_cmp name (of e.0) ≡ Less) fs
+    → AllByRecursion (λ (e : K × V). of e.0 ≡ name) gs
+    → AllByRecursion (λ (e : K × V). name_cmp name (of e.0) ≡ Less) hs
+    → es ++ fs ≡ gs ++ hs → (es ≡ gs) × (fs ≡ hs)
+parted_by of name [] fs [] hs a b c d e = (refl, e)
+parted_by of name [] [] (y ∷ gs) hs a b c d e = cc
+parted_by of name [] (x ∷ fs) (y ∷ gs) hs a b c d e = let same : x ≡ y = cc in
+    absurd (no_less name (of x.0) (ap (λ (z : _ × _). of z.0) same ∙ c.0) b.0)
+parted_by of name (x ∷ es) fs [] [] a b c d e = cc
+parted_by of name (x ∷ es) fs [] (y ∷ hs) a b c d e = let same : x ≡ y = cc in
+    absurd (no_less name (of y.0) (ap (λ (z : _ × _). of z.0) (sym same) ∙ a.0) d.0)
+parted_by of name (x ∷ es) fs (y ∷ gs) hs a b c d e =
+    let same : x ≡ y = cc in
+    let behind : es ++ fs ≡ gs ++ hs = cc in
+    let rest = parted_by of name es fs gs hs a.1 b c.1 d behind in
+    (λ i. same i ∷ rest.0 i, rest.1)
+
 pub parted : {V : Type 0} (name : List ℕ) (es fs gs hs : List (NameNumber × V)) → NamedAs name es →
     NamedLater name fs → NamedAs name gs → NamedLater name hs
     → es ++ fs ≡ gs ++ hs → (es ≡ gs) × (fs ≡ hs)
-parted name [] fs [] hs a b c d e = (refl, e)
-parted name [] [] (y ∷ gs) hs a b c d e = cc
-parted name [] (x ∷ fs) (y ∷ gs) hs a b c d e = let same : x ≡ y = cc in
-    absurd (no_less name x.0.0 (ap (λ (z : NameNumber × _). z.0.0) same ∙ c.0) b.0)
-parted name (x ∷ es) fs [] [] a b c d e = cc
-parted name (x ∷ es) fs [] (y ∷ hs) a b c d e = let same : x ≡ y = cc in
-    absurd (no_less name y.0.0 (ap (λ (z : NameNumber × _). z.0.0) (sym same) ∙ a.0) d.0)
-parted name (x ∷ es) fs (y ∷ gs) hs a b c d e =
-    let same : x ≡ y = cc in
-    let behind : es ++ fs ≡ gs ++ hs = cc in
-    let rest = parted name es fs gs hs a.1 b c.1 d behind in
-    (λ i. same i ∷ rest.0 i, rest.1)
+parted = parted_by (λ (k : NameNumber). k.0)
 
 -- a function that tells elements apart tells lists of them apart
 pub one_list : {X Y : Type 0} (P : X → Type 0) (f : X → Y) → ((x y : X) → P x → P y → f x ≡ f y →

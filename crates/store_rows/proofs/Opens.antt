@@ -1,6 +1,6 @@
 -- What the rows of a store say where its tables stand for a content.
-use Rattle.std.proofs.Common.{◌≡◌, ◌⊎◌, inl, inr, ℕ, ℤ, pos, Bool, true, false, cond, List, [], ◌∷◌, map}
-use Rattle.std.proofs.Common.{Err, refl, sym, ap, ◌∙◌, arith}
+use Rattle.std.proofs.Common.{◌≡◌, inl, inr, ℕ, ℤ, pos, Bool, true, false, cond, List, [], ◌∷◌, map}
+use Rattle.std.proofs.Common.{Err, refl, ap, ◌∙◌, arith}
 use Rattle.std.specs.FinMap.{entries, int_cmp-IsAntisymmetric}
 use Rattle.std.specs.Cmp.{int_cmp_total}
 use Rattle.ring_words.specs.Spelling.{Reads}
@@ -10,7 +10,7 @@ use Rattle.store_model.specs.Contents.{Contents, meta_of}
 use Rattle.store_model.specs.Entries as rows
 use Rattle.store_model.proofs.Keys.{name_total, name_exact, name_number_total, name_number_exact}
 use Rattle.store_model.proofs.Keys.{seat_total, seat_exact}
-use Rattle.store_rows.specs.Stands.{RingContent, IsHoldable, contents_for, first_contents_for}
+use Rattle.store_rows.specs.Stands.{RingContent, IsHoldable}
 use Rattle.store_rows.specs.Stands.{meta_value}
 use Rattle.store_rows.specs.Judging.{AreRowsOf, Judges, StandFor}
 use Rattle.store_rows.specs.Inner.Found.{ReadsRow}

@@ -1,10 +1,10 @@
 -- Seats and last moves, read from rows.
 use Rattle.std.proofs.Common.{◌≡◌, ℕ, zero, suc, ◌+◌, ◌*◌, ◌/◌, ◌%◌, ◌<◌, ◌≤◌, ◌^◌, List, [], ◌∷◌}
 use Rattle.std.proofs.Common.{◌++◌, map, take, drop, length, get_or, slice_get, Option, Some, None}
-use Rattle.std.proofs.Common.{All, ℤ, pos, negsuc, to_z, of_z, w64, refl, sym, ap, subst, ◌∙◌}
+use Rattle.std.proofs.Common.{All, ℤ, pos, negsuc, to_z, of_z, w64, refl, sym, ap, ◌∙◌}
 use Rattle.std.proofs.Common.{Err, arith}
 use Rattle.std.proofs.lemmas.Int.{ints}
-use Rattle.std.specs.List.{AllByRecursion, enumerate_from, flat_map}
+use Rattle.std.specs.List.{enumerate_from, flat_map}
 use Rattle.ring_words.specs.Spelling.{Reads}
 use Rattle.ring_words.specs.declared.spelling.SpellingFault.{SpellingFault}
 use Rattle.ring_words.specs.declared.spelling.SpellingFault.TheVariants.{Bad, NoMemory}

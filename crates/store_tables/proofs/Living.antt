@@ -1,5 +1,5 @@
 -- A store is a database that lives by the schema of the store.
-use Rattle.std.proofs.Common.{◌≡◌, ◌∙◌, ℕ, ◌==◌, if◌then◌else◌, List, ap, inl, inr}
+use Rattle.std.proofs.Common.{◌≡◌, ◌∙◌, ℕ, ◌==◌, if◌then◌else◌, List, ap, inl, inr, subst, sym}
 use Rattle.std.specs.FinMap.{FinMap}
 use Rattle.std.proofs.lemmas.Bool.{cases_Bool, eqb-true, eqb-false}
 use Rattle.sqlite_value.specs.Order.{Row}
@@ -13,7 +13,7 @@ use Rattle.store_tables.specs.Tables.{store_schema}
 use Rattle.store_tables.specs.Entries.{Layout, map_of, meta_rows, ring_rows, device_rows, seat_rows}
 use Rattle.store_tables.specs.Entries.{moved_rows, published_rows, request_rows, part_rows}
 use Rattle.store_tables.specs.Contents.{contents_of}
-use Rattle.store_tables.specs.Store.{Becomes, HasMadeTables, IsStore, IsStoreOf}
+use Rattle.store_tables.specs.Store.{Becomes, HasMadeTables, IsStore, IsStoreOf, IsStoreWith}
 use Rattle.store_tables.proofs.Plain.Facts.{Facts, Lives, Turns}
 use Rattle.store_tables.proofs.Tables.Facts.{meta_facts, ring_facts, device_facts, seat_facts}
 use Rattle.store_tables.proofs.Tables.Facts.{moved_facts, published_facts, request_facts}
@@ -35,6 +35,13 @@ store_of db it = it
 pub store_begun : (db : Database) → HasMadeTables 8 db → IsStore db
 unfolding IsStore
 store_begun db it = record { schema = it.schema; sound = it.sound; ordered = it.ordered }
+
+-- it is one by its trees alone
+pub stored_as : (db : Database) (after : Contents) → Becomes db after → (trees : Trees)
+    → trees ≡ db.trees → IsStoreWith after trees
+stored_as db after is trees same = subst (IsStoreWith after) (sym same)
+    (subst (λ s. Becomes (record { schema = s; trees = db.trees }) after)
+    (lives_in db is.store).schema_is is)
 
 -- trees that are the same in each table of the store contain the same
 module _ (a b : Trees) (same : (t : Table) → Has store_schema.tables t → a t.tree ≡ b t.tree) where

@@ -37,6 +37,10 @@ pub record Becomes (new : Database) (after : Contents) : Type 0 where
   pub store : IsStore new
   pub contents : contents_of new.trees ≡ after
 
+-- These are the trees of a store that contains this.
+abbrev pub IsStoreWith : Contents → Trees → Type 0
+IsStoreWith after trees = Becomes (record { schema = store_schema; trees = trees }) after
+
 -- A call within a transaction: where it answers Ok, the database is a store that contains
 -- `after`, and the transaction goes on. Whatever it answers, nothing is committed, and a crash
 -- leaves what it could leave before.
@@ -57,14 +61,14 @@ pub record ReadsTables (old new : State) {A : Type 0} (result : Result A Error) 
 
 -- A transaction of its own: where it answers Ok, the database is a store that contains `after`,
 -- and that is committed. Where it answers Err and the store is still open, nothing was done. A
--- crash leaves what it could leave before, or trees that contain `after`.
+-- crash leaves what it could leave before, or the trees of a store that contains `after`.
 pub record CommitsTables (old new : State) {A : Type 0} (result : Result A Error) (after : Contents)
     : Type 0 where
   pub done : HasCleanDisk new → OnOk result (IsTrue new.is_open × (new.now ≡ new.committed)
       × Becomes new.now after)
   pub none : HasCleanDisk new → IsTrue new.is_open → OnErr result ((new.now ≡ new.committed)
       × (new.committed ≡ old.committed))
-  pub survives : Survives old new (λ trees. contents_of trees ≡ after)
+  pub survives : Survives old new (IsStoreWith after)
 
 -- ---- a store whose tables are being made
 

@@ -2,7 +2,7 @@
 //! nothing holds the one who serves it for a bounded time only.
 //!
 //! `TimedReader` and `TimedWriter` share a `Pace`, which counts the time that was waited for the
-//! peer. No contract can say how long a call takes; what the contracts say is that no byte is lost,
+//! peer. A `Desk` tells it the time, and whether others wait: then the peer's turn ends sooner. No contract can say how long a call takes; what the contracts say is that no byte is lost,
 //! added or changed, and that no byte past a bound is written.
 #![tactic(auto)]
 
@@ -12,6 +12,6 @@ mod streams;
 mod within;
 
 pub use capped::CappedWriter;
-pub use pace::{Pace, Patience};
+pub use pace::{Alone, Desk, Pace, Patience};
 pub use streams::{TimedReader, TimedWriter};
-pub use within::{fill_within, read_away, read_within, write_within};
+pub use within::{fill_within, read_away};

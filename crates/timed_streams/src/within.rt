@@ -1,8 +1,8 @@
 //! Reads and writes of a socket that end in time.
-ghost use Rattle.std.specs.Prelude.{◌≤◌, IfOk, length};
+ghost use Rattle.std.specs.Prelude.{◌≤◌, ◌<◌, IfOk, length, take};
 ghost use Rattle.std.specs.Duration.{as_nanos};
 ghost use Rattle.std.specs.Io.{ReadsAtMost, WritesAtMost};
-ghost use Rattle.std.specs.Io.KnownBytes.{ReadConsumes, WriteAppends};
+ghost use Rattle.std.specs.Io.KnownBytes.{Consumes, IsAtEnd, ReadConsumes, WriteAppends};
 
 use std::io::{self, ErrorKind, Read, Write};
 use std::net::OpenStream;
@@ -23,11 +23,13 @@ fn spend<T: Clock>(clock: &T, since: Instant, left: &mut Duration)
 }
 
 /// Reads once, and waits no longer than is left. Where no time is left, and where the wait is over,
-/// the read fails.
-pub fn read_within<S: Read + OpenStream, T: Clock>(
+/// the read fails. The socket is told how long a read may wait only where that is another limit
+/// than the one it has.
+pub(crate) fn read_timed<S: Read + OpenStream, T: Clock>(
     stream: &mut S,
     clock: &T,
     left: &mut Duration,
+    limit: &mut Option<Duration>,
     buf: &mut [u8],
 ) -> io::Result<usize>
     ensures bound { ReadsAtMost result buf.new }
@@ -38,18 +40,23 @@ pub fn read_within<S: Read + OpenStream, T: Clock>(
         return Err(ErrorKind::TimedOut.into());
     }
     let since = Instant::now(clock)?;
-    stream.set_read_timeout(Some(*left))?;
+    if *limit != Some(*left) {
+        stream.set_read_timeout(Some(*left))?;
+        *limit = Some(*left);
+    }
     let result = stream.read(buf);
     spend(clock, since, left);
     result
 }
 
 /// Writes once, and waits no longer than is left. Where no time is left, and where the wait is over
-/// before a byte is taken, the write fails.
-pub fn write_within<S: Write + OpenStream, T: Clock>(
+/// before a byte is taken, the write fails. The socket is told how long a write may wait as it is
+/// for a read.
+pub(crate) fn write_timed<S: Write + OpenStream, T: Clock>(
     stream: &mut S,
     clock: &T,
     left: &mut Duration,
+    limit: &mut Option<Duration>,
     buf: &[u8],
 ) -> io::Result<usize>
     ensures bound { WritesAtMost result buf.now }
@@ -60,25 +67,33 @@ pub fn write_within<S: Write + OpenStream, T: Clock>(
         return Err(ErrorKind::TimedOut.into());
     }
     let since = Instant::now(clock)?;
-    stream.set_write_timeout(Some(*left))?;
+    if *limit != Some(*left) {
+        stream.set_write_timeout(Some(*left))?;
+        *limit = Some(*left);
+    }
     let result = stream.write(buf);
     spend(clock, since, left);
     result
 }
 
 /// Reads until the end or until the room is full, within this time, and tells how many bytes came.
+/// They stand at the front of the room.
 pub fn fill_within<S: Read + OpenStream, T: Clock>(
     stream: &mut S,
     clock: &T,
     time: Duration,
     room: &mut [u8],
 ) -> io::Result<usize>
-    ensures { IfOk result (λ count. count ≤ length room.new) }
+    ensures bound { IfOk result (λ count. count ≤ length room.new) }
+    ensures came { IfOk result (λ count.
+        Consumes (S.remaining stream.old) (S.remaining stream.new) (take count room.new)) }
+    ensures end { IfOk result (λ count. count < length room.new → IsAtEnd (S.remaining stream.new)) }
 {
     let mut left = time;
+    let mut limit = None;
     let mut at = 0;
     while at < room.len() {
-        let count = read_within(stream, clock, &mut left, &mut room[at..])?;
+        let count = read_timed(stream, clock, &mut left, &mut limit, &mut room[at..])?;
         if count == 0 {
             return Ok(at);
         }
@@ -91,9 +106,10 @@ pub fn fill_within<S: Read + OpenStream, T: Clock>(
 /// closed with bytes unread is reset, and what was written on it may then be lost.
 pub fn read_away<S: Read + OpenStream, T: Clock>(stream: &mut S, clock: &T, time: Duration) {
     let mut left = time;
+    let mut limit = None;
     let mut piece = [0u8; PIECE];
     for _ in 0..MOST_PIECES {
-        match read_within(stream, clock, &mut left, &mut piece) {
+        match read_timed(stream, clock, &mut left, &mut limit, &mut piece) {
             Ok(count) if count > 0 => {}
             Ok(_) | Err(_) => return,
         }

@@ -12,9 +12,10 @@ use Rattle.sqlite_store.specs.declared.store.FileStore.{FileStore}
 use Rattle.sqlite_wal.specs.Recovery.{Image}
 use Rattle.store_rows.specs.RingRows.{NamedRings}
 use Rattle.builder_store.specs.Keepers.{content_of_keeper}
+use Rattle.builder_store.specs.Left.{IsMadeOfConnection}
 use Rattle.builder_store.specs.Making.{IsJudgement, rings_alone}
-use Rattle.builder_store.specs.Opening.{AreDeclared, IsMadeOf, IsOpenedAs, KeepsRows}
-use Rattle.builder_store.specs.Standing.{Stands, StandsAlone}
+use Rattle.builder_store.specs.Opening.{AreDeclared, IsMadeOf, IsOpenedAs, KeepsRows, Stands}
+use Rattle.builder_store.specs.Standing.{StandsAlone}
 use Rattle.builder_store.specs.Inner.Opened.{IsFresh}
 use Rattle.builder_store.specs.declared.fault.MakeFault.{MakeFault}
 use Rattle.builder_store.specs.declared.fault.MakeFault.TheVariants.{Taken}
@@ -77,6 +78,7 @@ module _ {S : Type 0} (g : Ghosts S) where
       (left : Held S) : Type 0 where
     pub clean : doubt (state g conn).is_clean ≤ doubt (state g left).is_clean
     pub unjudged : IsJudgement why → ⊥
+    pub of_connection : IsMadeOfConnection why
     pub taken : why ≡ Taken → HasCleanDisk (state g left)
         → AreDeclared 0 (state g conn).committed.trees → ⊥
     -- A crash leaves what was committed, or what was to be made; where something is there already,

@@ -10,7 +10,8 @@ use Rattle.store_model.specs.declared.rows.RequestRow.{RequestRow}
 use Rattle.store_rows.specs.RingRows.{NamedRings}
 use Rattle.store_rows.specs.Differences.{IsChangedAt, with_state}
 use Rattle.store_rows.specs.Stands.{DecidedRequest, IsHoldable, RingContent, contents_for, gained}
-use Rattle.builder_store.specs.Standing.{Stands, StandsAlone}
+use Rattle.builder_store.specs.Opening.{Stands}
+use Rattle.builder_store.specs.Standing.{StandsAlone}
 
 -- The content has these rings, so many requests, fewer than it may have, and this hour. The key of
 -- the request is new, its hour is not before the content's, and the ring of its command is the only

@@ -13,6 +13,7 @@ use Rattle.store_rows.specs.Stands.{RingContent}
 use Rattle.builder_store.specs.Standing.{Holds, StandsAlone, IsKnown, stands_for_one, the_content}
 use Rattle.builder_store.specs.Standing.{content_told}
 use Rattle.builder_store.specs.Inner.Codes.{content_set}
+use Rattle.builder_store.specs.Inner.Finding.{stands_opens}
 use Rattle.builder_store.specs.Inner.Sets.{state_set}
 use Rattle.builder_store.specs.Doubt.{undoubted}
 
@@ -34,7 +35,7 @@ pub told_is : (db : Trees) (clean : Bool) (known : doubt clean ≡ 0 → IsKnown
     → content_told db clean known other ≡ c
 told_is db clean known other c is h =
     ∥∥₁_elim h (content_set _ c) (λ k. ∥∥₁_elim (told_stands db clean known other is)
-    (content_set _ c) (λ j. k.1 _ j.0))
+    (content_set _ c) (λ j. k.1 _ (stands_opens db _ j.0)))
 
 -- the connection of a keeper whose store hasn't failed
 pub whole_store : {A : Type 0} (n : ℕ) (last conn : A) → n ≡ 0 → cond (nat_lt 0 n) last conn ≡ conn

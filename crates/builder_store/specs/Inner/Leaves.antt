@@ -8,21 +8,23 @@ use Rattle.sqlite_trees.specs.Tree.{Trees}
 use Rattle.sqlite.specs.State.{State, HasCleanDisk, Survives}
 use Rattle.request_book.specs.Keeper.{CrashLeaves, LeavesOnly}
 use Rattle.store_rows.specs.Stands.{RingContent}
-use Rattle.builder_store.specs.Standing.{WouldFind, IsKnown, MayLeave, content_told, Stands}
+use Rattle.builder_store.specs.Opening.{IsOpenedAs}
+use Rattle.builder_store.specs.Inner.Finding.{stands_opens}
+use Rattle.builder_store.specs.Standing.{WouldFind, IsKnown, MayLeave, content_told}
 use Rattle.builder_store.specs.Standing.{StandsAlone}
 use Rattle.sqlite_trees.specs.View.{doubt}
 use Rattle.builder_store.specs.Inner.Known.{told_stands}
 use Rattle.builder_store.specs.Inner.Codes.{content_set}
 
--- What is found of trees that stand for a content is that content.
+-- What an opening finds of trees that stand for a content is that content.
 pub found_only : (db : Trees) (c : RingContent) → ∥ StandsAlone db c ∥₁ → (left : Option
     (RingContent)) → WouldFind db left → IsSomeAnd left (λ d. d ≡ c)
-found_only db c stands None none = ∥∥₁_elim stands ⊥_prop (λ h. none c h.0)
+found_only db c stands None none = ∥∥₁_elim stands ⊥_prop (λ h. none c (stands_opens db c h.0))
 found_only db c stands (Some d) is = ∥∥₁_elim stands (content_set d c) (λ h. h.1 d is)
 
--- Something is found where each thing that may be left stands for something.
+-- Something is found where of each thing that may be left an opening finds something.
 pub something_left : (s : State) → ∥ ((db : Trees) × s.may_leave db) ∥₁ → ((db : Trees)
-    → s.may_leave db → ∥ ((c : RingContent) × Stands db c) ∥₁)
+    → s.may_leave db → ∥ ((c : RingContent) × IsOpenedAs db c) ∥₁)
     → ∥ ((left : Option (RingContent)) × MayLeave s left) ∥₁
 something_left s some each = ∥∥₁_elim some ∥∥₁_prop (λ db. ∥∥₁_map (each db.0 db.1) (λ h.
     (Some h.0, (db.0, db.1, h.1))))
@@ -32,11 +34,11 @@ abbrev pub StandsForOne : State → RingContent → RingContent → Type 0
 StandsForOne s c d = (db : Trees) → s.may_leave db → ∥ StandsAlone db c ∥₁ ⊎ ∥ StandsAlone db d ∥₁
 
 stands_for_some : (s : State) (c d : RingContent) → StandsForOne s c d → (db : Trees)
-    → s.may_leave db → ∥ ((c : RingContent) × Stands db c) ∥₁
+    → s.may_leave db → ∥ ((c : RingContent) × IsOpenedAs db c) ∥₁
 stands_for_some s c d each db may = elim (each db may) [
   | inl h ↦ ∥∥₁_map h (λ is.
-      (c, is.0))
-  | inr h ↦ ∥∥₁_map h (λ is. (d, is.0))
+      (c, stands_opens db c is.0))
+  | inr h ↦ ∥∥₁_map h (λ is. (d, stands_opens db d is.0))
 ]
 
 found_if : (left : Option (RingContent)) (c : RingContent) (P : RingContent → Type 0) → P c

@@ -3,24 +3,22 @@ use Rattle.std.specs.Prelude.{◌≡◌, IfOk, IsTrue, OnOk, Result, length}
 use Rattle.sqlite_trees.specs.Tree.{Trees}
 use Rattle.sqlite.specs.State.{HasCleanDisk, IsLive, State, Survives}
 use Rattle.store_model.specs.Contents.{Contents}
-use Rattle.store_tables.specs.Contents.{contents_of}
 use Rattle.store_tables.specs.Store.{AreOrdered}
-use Rattle.store_rows.specs.Stands.{RingContent, contents_for}
-use Rattle.builder_store.specs.Opening.{IsOpenedAs, OpensAs}
+use Rattle.store_rows.specs.Stands.{RingContent}
+use Rattle.builder_store.specs.Opening.{IsOpenedAs, OpensAs, Stands}
 use Rattle.builder_store.specs.Inner.Tables.{HasTables}
 use Rattle.builder_store.specs.declared.reading.Opened.{Opened}
 use Rattle.builder_store.specs.declared.fault.OpenFault.{OpenFault}
 
 -- The tables stand for the content that is found in these contents.
 abbrev pub LeadsInStore : Contents → Trees → Type 0
-LeadsInStore c db = (content : RingContent) × OpensAs c content
-    × (contents_of db ≡ contents_for content)
+LeadsInStore c db = (content : RingContent) × OpensAs c content × Stands db content
 
 -- The same, and this is what is to be held of the content.
 pub record LeadsTo (c : Contents) (db : Trees) (held : Opened) : Type 0 where
   pub content : RingContent
   pub opens : OpensAs c content
-  pub stands : contents_of db ≡ contents_for content
+  pub stands : Stands db content
   pub rings : content.state ≡ held.rings
   pub count : length content.book ≡ held.count
   pub hour : content.hour ≡ held.hour
@@ -44,7 +42,7 @@ pub record IsFresh (s : State) : Type 0 where
 pub record IsOpenedTo (old db : Trees) (held : Opened) : Type 0 where
   pub content : RingContent
   pub opens : IsOpenedAs old content
-  pub stands : contents_of db ≡ contents_for content
+  pub stands : Stands db content
   pub rings : content.state ≡ held.rings
   pub count : length content.book ≡ held.count
   pub hour : content.hour ≡ held.hour

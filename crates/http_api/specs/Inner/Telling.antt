@@ -1,5 +1,6 @@
 -- What the parts of the service do with a body.
 use Rattle.std.specs.Prelude.{◌≡◌, ◌≢◌, ℕ, List, Some, None, Result, Ok, Err}
+use Rattle.builder.specs.Life.{IsProperDelivery}
 use Rattle.builder.specs.Message.{IsMessage}
 use Rattle.csv_import.specs.Rows.{AreRows, IsWrong, records_of}
 use Rattle.csv_import.specs.declared.fault.CsvFault.{CsvFault}
@@ -20,7 +21,8 @@ use Rattle.http_api.specs.Http.{told_csv}
 
 module _ {K C : Type 0} (kept : Keeping K)
     (tells : C → ℕ → C → Type 0) where
-  -- A command is delivered at the hour that the clock tells, and its answer is told so.
+  -- A command is delivered at the hour that the clock tells, and its answer is told so. Both are such
+  -- as there are.
   pub record DeliversAt (early late : C) (old new : RingBook kept) (key : Key)
       (command : Command) (told : Told) : Type 0 where
     pub hour : ℕ
@@ -29,6 +31,7 @@ module _ {K C : Type 0} (kept : Keeping K)
     pub told_is : told ≡ told_of answer
     pub made : Made kept old new
         (Some (Deliver (record { hour = hour; key = key; command = command }) answer))
+    pub proper : IsProperDelivery (record { hour = hour; key = key; command = command })
 
 module _ {C : Type 0} (tells : C → ℕ → C → Type 0) where
   -- A message in a body is delivered and told, or told to be none.
@@ -39,7 +42,7 @@ module _ {C : Type 0} (tells : C → ℕ → C → Type 0) where
   IsMessageTold early late body None (Err refused) = late ≡ early
   IsMessageTold early late body (Some (Deliver delivery answer)) (Ok t) =
       tells early delivery.hour late × IsMessage body delivery.key delivery.command ×
-      (t ≡ told_of answer)
+      (t ≡ told_of answer) × IsProperDelivery delivery
   IsMessageTold early late body (Some (Deliver delivery answer)) (Err refused) = ⊥
   IsMessageTold early late body (Some (Load answer)) result = ⊥
 
@@ -53,6 +56,6 @@ module _ {C : Type 0} (tells : C → ℕ → C → Type 0) where
       tells early delivery.hour late × (delivery.key ≡ key)
       × ((rows : List Row) × AreRows (records_of body) rows ×
       (delivery.command ≡ record { ring = ring; act = act.Import rows }))
-      × (t ≡ told_of answer)
+      × (t ≡ told_of answer) × IsProperDelivery delivery
   IsImportTold early late ring key body (Some (Deliver delivery answer)) (Err refused) = ⊥
   IsImportTold early late ring key body (Some (Load answer)) result = ⊥

@@ -9,6 +9,7 @@ use Rattle.byte_streams.specs.declared.fault.StreamFault.TheVariants.{ReadFailed
 use Rattle.byte_streams.specs.declared.fault.StreamFault.TheVariants.{NoMemory}
 use Rattle.byte_streams.specs.InTurn.{InTurn}
 use Rattle.byte_streams.specs.Writing.{Forwards, WritesBeginning}
+use Rattle.http_messages.specs.declared.audience.Audience.{Audience}
 use Rattle.http_messages.specs.Requests.{HasAsk}
 use Rattle.http_stream.specs.Streams.{Item, Calls, Refuses, Follow, BeginWith}
 use Rattle.http_stream.specs.Answers.{joined}
@@ -20,11 +21,11 @@ abbrev pub buffer_room : ℕ
 buffer_room = longest_head + longest_body + chunk_size
 
 -- The bytes begin with these requests, of which none is the last, and then the rest comes.
-abbrev pub LeadTo : List ℕ → List Item → List ℕ → Type 0
-LeadTo bytes [] rest = rest ≡ bytes
-LeadTo bytes (Refuses why ∷ items) rest = ⊥
-LeadTo bytes (Calls ask ∷ items) rest =
-    (mid : List ℕ) × HasAsk bytes ask mid × (ask.is_last ≡ false) × LeadTo mid items rest
+abbrev pub LeadTo : Audience → List ℕ → List Item → List ℕ → Type 0
+LeadTo audience bytes [] rest = rest ≡ bytes
+LeadTo audience bytes (Refuses why ∷ items) rest = ⊥
+LeadTo audience bytes (Calls ask ∷ items) rest =
+    (mid : List ℕ) × HasAsk audience bytes ask mid × (ask.is_last ≡ false) × LeadTo audience mid items rest
 
 -- Where a server of requests stands: the state that its answers made, what the writer tells that
 -- was written, the answers that wait, the bytes that came and are not answered yet, and how many
@@ -36,13 +37,13 @@ pub record StreamPlace (S : Type 0) : Type 0 where
   pub rest : List ℕ
   pub answered : ℕ
 
-module _ {S : Type 0} (gives : S → Item → List ℕ → S → Type 0) where
+module _ (audience : Audience) {S : Type 0} (gives : S → Item → List ℕ → S → Type 0) where
   -- The requests in the bytes up to the rest are answered, and none of them is the last. The
   -- answers are written or wait.
   pub record IsMidstream (bytes : List ℕ) (before : Option (List ℕ)) (old : S) (now : StreamPlace S)
       : Type 0 where
     pub items : List Item
-    pub leads : LeadTo bytes items now.rest
+    pub leads : LeadTo audience bytes items now.rest
     pub texts : List (List ℕ)
     pub in_turn : InTurn gives old items texts now.state
     pub forwards : Forwards before now.written (joined texts) now.waiting
@@ -52,7 +53,7 @@ module _ {S : Type 0} (gives : S → Item → List ℕ → S → Type 0) where
   pub record IsOver (bytes : List ℕ) (before : Option (List ℕ)) (old : S) (now : StreamPlace S) :
       Type 0 where
     pub items : List Item
-    pub follow : Follow (λ rest. ⊥) bytes items
+    pub follow : Follow audience (λ rest. ⊥) bytes items
     pub texts : List (List ℕ)
     pub in_turn : InTurn gives old items texts now.state
     pub forwards : Forwards before now.written (joined texts) now.waiting
@@ -62,7 +63,7 @@ module _ {S : Type 0} (gives : S → Item → List ℕ → S → Type 0) where
   pub record IsBroken (bytes : List ℕ) (before : Option (List ℕ)) (old : S) (now : StreamPlace S) :
       Type 0 where
     pub items : List Item
-    pub begin : BeginWith bytes items
+    pub begin : BeginWith audience bytes items
     pub texts : List (List ℕ)
     pub in_turn : InTurn gives old items texts now.state
     pub written : WritesBeginning before now.written (joined texts)

@@ -8,6 +8,7 @@ use Rattle.byte_streams.specs.declared.counted.CountedReader.{CountedReader}
 use Rattle.byte_streams.specs.declared.counted.CountedWriter.{CountedWriter}
 use Rattle.byte_streams.specs.declared.fault.StreamFault.{StreamFault}
 use Rattle.byte_streams.specs.declared.fault.StreamFault.TheVariants.{WriteFailed}
+use Rattle.http_messages.specs.declared.audience.Audience.{Audience}
 use Rattle.http_messages.specs.Requests.{Ask}
 use Rattle.http_stream.specs.Streams.{Item, Calls}
 use Rattle.http_stream.specs.Answers.{ItemAnswered}
@@ -51,26 +52,26 @@ module _ {H C S : Type 0} (ghosts : Ghosts H C S) (service : H) where
 
   -- The request at the front of the bytes is answered. Then the server is in mid-stream as before,
   -- or the stream is over where that was the last; or a write fails, and the answers break off.
-  abbrev pub AnswersNext : {A : Type 0} → Bool → StreamPlace Front → StreamPlace Front →
+  abbrev pub AnswersNext : {A : Type 0} → Audience → Bool → StreamPlace Front → StreamPlace Front →
       Result A StreamFault → Type 0
-  AnswersNext is_last old new result = (origin : Front) (before : Option (List ℕ)) (came : List ℕ)
-      → IsMidstream Gives came before origin old
+  AnswersNext audience is_last old new result = (origin : Front) (before : Option (List ℕ)) (came : List ℕ)
+      → IsMidstream audience Gives came before origin old
       → MatchResult result
-      (λ _. ((is_last ≡ false) → IsMidstream Gives came before origin new)
-      × ((is_last ≡ true) → IsOver Gives came before origin new))
-      (λ fault. (fault ≡ WriteFailed) × IsBroken Gives came before origin new)
+      (λ _. ((is_last ≡ false) → IsMidstream audience Gives came before origin new)
+      × ((is_last ≡ true) → IsOver audience Gives came before origin new))
+      (λ fault. (fault ≡ WriteFailed) × IsBroken audience Gives came before origin new)
 
   -- The requests that are whole in the bytes are answered. Then the server is in mid-stream as
   -- before, and tells how many bytes it wants; or the stream is over, and it wants none; or a write
   -- fails, and the answers break off.
-  abbrev pub AnswersWhole : StreamPlace Front → StreamPlace Front → Result (Option ℕ) StreamFault →
+  abbrev pub AnswersWhole : Audience → StreamPlace Front → StreamPlace Front → Result (Option ℕ) StreamFault →
       Type 0
-  AnswersWhole old new result = (origin : Front) (before : Option (List ℕ)) (came : List ℕ)
-      → IsMidstream Gives came before origin old
+  AnswersWhole audience old new result = (origin : Front) (before : Option (List ℕ)) (came : List ℕ)
+      → IsMidstream audience Gives came before origin old
       → MatchResult result
-      (λ next. MatchOption next (IsOver Gives came before origin new)
-      (λ wanted. IsMidstream Gives came before origin new))
-      (λ fault. (fault ≡ WriteFailed) × IsBroken Gives came before origin new)
+      (λ next. MatchOption next (IsOver audience Gives came before origin new)
+      (λ wanted. IsMidstream audience Gives came before origin new))
+      (λ fault. (fault ≡ WriteFailed) × IsBroken audience Gives came before origin new)
 
 module _ {R W : Type 0} (remaining : R → Option (List ℕ)) (contents : W → Option (List ℕ)) where
   -- What waits is written, and what is read comes behind the bytes that are kept, until there are

@@ -4,7 +4,7 @@ use Rattle.byte_streams.specs.declared.counted.CountedWriter.{CountedWriter}
 use Rattle.command_line.specs.declared.task.Task.{Task}
 use Rattle.command_line.specs.declared.task.Task.TheVariants as task
 use Rattle.ring_book.specs.Book.{Keeping}
-use Rattle.programs.specs.Begun.{Closing}
+use Rattle.programs.specs.Begun.{Closing, OpensNone, OpensOne}
 use Rattle.programs.specs.Performed.{FailsToShowStore, ShowsStore}
 use Rattle.programs.specs.Showing.{AsksShown, HasBadWord, IsFormFault, IsPathless}
 use Rattle.programs.specs.declared.faults.ProgramFault.{ProgramFault}
@@ -33,19 +33,21 @@ suffix_asked (task.Nodes file ring account container object names) = names.suffi
 suffix_asked _ = []
 
 -- Keepers of stores are these, begin so, and end so with what closing them answers, and the writer is
--- this, before and after.
+-- this, before and after. Of stores this many were opened or made before and after.
 module _ {K W : Type 0} (stores : Keeping K) (Begins : List ℕ → K → Type 0)
     (Ends : K → Closing → Type 0) (contents : W → Option (List ℕ)) (writer later : CountedWriter W)
-  where
-    -- What a task asks to be shown was shown.
-    abbrev pub ShowsTask : Task → Type 0
-    ShowsTask t = ShowsStore stores (Begins (shown_file t)) Ends contents writer later (prefix_asked t)
-        (suffix_asked t) (AsksShown t)
+    (before after : ℕ) where
+  -- What a task asks to be shown was shown, and one store was opened.
+  abbrev pub ShowsTask : Task → Type 0
+  ShowsTask t = ShowsStore stores (Begins (shown_file t)) Ends contents writer later (prefix_asked t)
+      (suffix_asked t) (AsksShown t)
+      × OpensOne before after
 
-    -- This fault came of the words of a task, and then the writer wasn't touched; or of showing what it
-    -- asks for, or of opening the store.
-    abbrev pub FailsToShowTask : (List ℕ → ProgramFault → Type 0) → Task → ProgramFault → Type 0
-    FailsToShowTask Refuses t why =
-        (IsFormFault (HasBadWord t) (IsPathless t) why × (later ≡ writer))
-        ⊎ FailsToShowStore stores (Begins (shown_file t)) Ends contents writer later
-        (Refuses (shown_file t)) (prefix_asked t) (suffix_asked t) (AsksShown t) why
+  -- This fault came of the words of a task, and then the writer wasn't touched, and no store was
+  -- opened; or of showing what it asks for, or of opening the store, and one store was.
+  abbrev pub FailsToShowTask : (List ℕ → ProgramFault → Type 0) → Task → ProgramFault → Type 0
+  FailsToShowTask Refuses t why =
+      (IsFormFault (HasBadWord t) (IsPathless t) why × (later ≡ writer) × OpensNone before after)
+      ⊎ (FailsToShowStore stores (Begins (shown_file t)) Ends contents writer later
+      (Refuses (shown_file t)) (prefix_asked t) (suffix_asked t) (AsksShown t) why
+      × OpensOne before after)

@@ -5,21 +5,16 @@ use Rattle.std.proofs.Common.{ap, subst, ◌∙◌}
 use Rattle.std.specs.List.{range_with_len}
 use Rattle.std.specs.FinMap.{insert}
 use Rattle.sqlite_value.specs.declared.value.Value.TheVariants.{Null}
-use Rattle.sqlite_value.specs.Order.{Row}
 use Rattle.sqlite_trees.specs.Tree.{put_row}
 use Rattle.sqlite_sql.specs.Term.{Term}
 use Rattle.sqlite_schema.specs.declared.schema.Schema.{Schema}
 use Rattle.sqlite_schema.specs.declared.command.Source.{Source}
 use Rattle.sqlite_schema.specs.declared.command.Source.TheVariants.{Values}
 use Rattle.sqlite_schema.specs.declared.command.Command.TheVariants.{Insert}
-use Rattle.sqlite_rules.specs.declared.error.Rowids.TheVariants.{Chosen}
-use Rattle.sqlite_rules.specs.Cast.{cast_row}
-use Rattle.sqlite_rules.specs.Edit.{next_rowid, with_rowid, are_fresh}
+use Rattle.sqlite_rules.specs.Edit.{next_rowid, are_fresh}
 use Rattle.sqlite.specs.Term.{col, lit}
 use Rattle.sqlite.specs.Effect.{value_rows}
-use Rattle.sqlite.specs.Listing.{understood}
 use Rattle.sqlite.specs.State.{State, Executes}
-use Rattle.sqlite.proofs.Callers.{IsPlain, command_of}
 use Rattle.store_tables.specs.Plain.{Plain, table_of}
 use Rattle.store_tables.specs.Entries.{Layout, map_of}
 use Rattle.store_tables.specs.Inner.Rows.{table_row}

@@ -19,10 +19,8 @@ use Rattle.sqlite_sql.specs.Term.{Term}
 use Rattle.sqlite.specs.Term.{col}
 use Rattle.sqlite.specs.Command.TheVariants.{Delete}
 use Rattle.sqlite.specs.Effect.{Database}
-use Rattle.sqlite.specs.Listing.{understood}
 use Rattle.sqlite.specs.Program.{overlay}
 use Rattle.sqlite.specs.State.{State, Executes}
-use Rattle.sqlite.proofs.Callers.{IsPlain, command_of}
 use Rattle.store_tables.specs.Plain.{table_of}
 use Rattle.store_tables.specs.Entries.{Layout, map_of}
 use Rattle.store_tables.specs.Inner.Rows.{table_row}

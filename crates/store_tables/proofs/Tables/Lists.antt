@@ -1,5 +1,5 @@
 -- What the statements that list a table mean, and the one that finds a request.
-use Rattle.std.proofs.Common.{◌≡◌, ℕ, List, [], ◌∷◌, codes, refl}
+use Rattle.std.proofs.Common.{ℕ, List, [], ◌∷◌, codes, refl}
 use Rattle.sqlite_value.specs.Order.{Row}
 use Rattle.sqlite_value.specs.declared.value.Value.TheVariants.{Int, Text}
 use Rattle.sqlite_value.specs.declared.keys.Collation.TheVariants.{Binary}

@@ -1,10 +1,9 @@
-use Rattle.std.proofs.Common.{◌∙◌, ap, inl, inr, sym}
+use Rattle.std.proofs.Common.{inl, inr}
 use Rattle.sqlite.specs.Held.{state}
-use Rattle.sqlite.proofs.StateLemmas.{survives_then, survives_weaker}
-use Rattle.store_tables.specs.Contents.{contents_of}
+use Rattle.sqlite.proofs.StateLemmas.{survives_weaker}
 use Rattle.builder_store.proofs.Made.{made_stands}
 use Rattle.builder_store.proofs.Opens.{survives_same}
-use Rattle.builder_store.proofs.Settled.{tables_from}
+use Rattle.builder_store.proofs.Settled.{committed_store, tables_from}
 use Rattle.builder_store.proofs.making.make_tables.Goals as goal
 
 pub returns-in-Ok-prepare_store-clause-tables : goal.returns-in-Ok-prepare_store-clause-tables
@@ -20,7 +19,7 @@ returns-in-Ok-prepare_store-clause-made g c = λ clean.
     (state g.S.Store c.args.conn.now).now.trees c.args.rings.now c.args.hour c.in-Ok.change.0
     c.rows.result.now c.meta_row-meta.result c.rows.ensures c.meta_row-meta.ensures
     (c.in-Ok.ensures c.args.hour c.ranges.hour.fits)
-    (ap (λ d. contents_of d.trees) (sym done.1) ∙ done.2.contents)
+    (committed_store (state g.S.Store c.prepare_store.new.conn) _ done.1 done.2)
 
 pub returns-in-Ok-prepare_store-clause-survives : goal.returns-in-Ok-prepare_store-clause-survives
 returns-in-Ok-prepare_store-clause-survives g c =
@@ -38,12 +37,11 @@ returns-in_default-clause-survives g c = survives_same (state g.S.Store c.args.c
 
 pub returns-clause-survives : goal.returns-clause-survives
 returns-clause-survives g c =
-    survives_then (state g.S.Store c.args.conn.now) (state g.S.Store c.prepare_store.new.conn)
-    (state g.S.Store c.refused.new.conn) _ (λ _. ⊥) _
+    survives_weaker (state g.S.Store c.args.conn.now) (state g.S.Store c.prepare_store.new.conn) _ _
     (λ clean db. made_stands db (state g.S.Store c.args.conn.now).now.trees c.args.rings.now
     c.args.hour c.in-Ok.change.0 c.rows.result.now c.meta_row-meta.result c.rows.ensures
     c.meta_row-meta.ensures (c.in-Ok.ensures c.args.hour c.ranges.hour.fits))
-    (λ clean db none. absurd none) c.in-Err.ensures.commits.survives c.refused.ensures.survives
+    c.in-Err.ensures.commits.survives
 
 pub prepare_store-requires-clause-begun : goal.prepare_store-requires-clause-begun
 prepare_store-requires-clause-begun g c = λ clean. c.is_blank.ensures.begun c.if-not-is_blank.false
@@ -51,6 +49,6 @@ prepare_store-requires-clause-begun g c = λ clean. c.is_blank.ensures.begun c.i
 
 pub returns-clause-unjudged : goal.returns-clause-unjudged
 returns-clause-unjudged g c = λ bad. elim bad [
-  | inl rows ↦ c.refused.ensures.other.0 rows
-  | inr tables ↦ c.refused.ensures.other.1 tables
+  | inl rows ↦ c.fault_of.ensures.unjudged.0 rows
+  | inr tables ↦ c.fault_of.ensures.unjudged.1 tables
 ]

@@ -5,7 +5,6 @@ use Rattle.std.specs.Prelude.{IfOk}
 use Rattle.sqlite.specs.Held.{state}
 use Rattle.sqlite.specs.State.{HasCleanDisk}
 use Rattle.sqlite.proofs.StateLemmas.{survives_then, survives_weaker}
-use Rattle.store_tables.proofs.Inside.{quiet_on}
 use Rattle.store_model.specs.Contents.{Contents}
 use Rattle.store_tables.specs.Contents.{contents_of}
 use Rattle.store_tables.specs.Store.{IsStore}
@@ -70,13 +69,12 @@ returns-in-Ok-judge-clause-opens g c =
 pub returns-in-Err-clause-opens : goal.returns-in-Err-clause-opens
 returns-in-Err-clause-opens g c =
     let old = state g.S.Store c.args.conn.now in
-    let mid = state g.S.Store c.read_rows.new.conn in
-    let new = state g.S.Store c.refused.new.conn in
+    let new = state g.S.Store c.read_rows.new.conn in
     record {
       tables = λ _. tt;
       found = λ _. tt;
       survives = survives_weaker old new _ _ (λ _ db none. absurd none)
-          (quiet_on old mid new c.in-Err.ensures.reads.survives c.refused.ensures.survives);
+          c.in-Err.ensures.reads.survives;
     }
 
 pub returns-in-Err-NoMemory-clause-opens : goal.returns-in-Err-NoMemory-clause-opens

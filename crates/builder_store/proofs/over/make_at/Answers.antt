@@ -1,7 +1,9 @@
 use Rattle.std.proofs.Common.{arith, inl, subst, sym}
 use Rattle.sqlite.specs.Files.{file_state}
 use Rattle.sqlite.specs.State.{HasCleanDisk}
+use Rattle.builder_store.specs.Left.{IsMadeOfConnection}
 use Rattle.builder_store.specs.Opening.{AreDeclared}
+use Rattle.builder_store.proofs.Rests.{judged_of_connection, not_connected}
 use Rattle.builder_store.proofs.over.make_at.Goals as goal
 
 pub make_over-requires : goal.make_over-requires
@@ -24,7 +26,31 @@ returns-in-Ok-make_over-clause-nothing g c = λ clean db held.
     (c.in-Ok-make_over.ensures.begins.nothing clean)
 
 pub returns-in-Err-clause-unjudged : goal.returns-in-Err-clause-unjudged
-returns-in-Err-clause-unjudged g c = c.in-Err.ensures.unjudged
+returns-in-Err-clause-unjudged g c = λ is. c.in-Err.ensures.unmade.0
+    (judged_of_connection c.in-Err.fault is)
+
+pub returns-in-Err-clause-connected : goal.returns-in-Err-clause-connected
+returns-in-Err-clause-connected g c = (
+  λ is. absurd (c.in-Err.ensures.unmade.0 is),
+  λ is. absurd (c.in-Err.ensures.unmade.1 is),
+)
+
+pub returns-in-Err-clause-taken : goal.returns-in-Err-clause-taken
+returns-in-Err-clause-taken g c = λ is. absurd (c.in-Err.ensures.unmade.0
+    (subst IsMadeOfConnection (sym is) tt))
+
+pub returns-in-Err-clause-stays : goal.returns-in-Err-clause-stays
+returns-in-Err-clause-stays g c = λ is. absurd (c.in-Err.ensures.unmade.0
+    (subst IsMadeOfConnection (sym is) tt))
+
+pub returns-in-Err-clause-crash : goal.returns-in-Err-clause-crash
+returns-in-Err-clause-crash g c = not_connected c.in-Err.left _ c.in-Err.ensures.unmade.1
+
+pub returns-in-Err-make_over-clause-connected : goal.returns-in-Err-make_over-clause-connected
+returns-in-Err-make_over-clause-connected g c = (
+  λ _. tt,
+  λ _. c.in-Err-make_over.ensures.refused.of_connection,
+)
 
 pub returns-in-Err-make_over-clause-unjudged : goal.returns-in-Err-make_over-clause-unjudged
 returns-in-Err-make_over-clause-unjudged g c = c.in-Err-make_over.ensures.refused.unjudged

@@ -2,7 +2,9 @@ use Rattle.std.proofs.Common.{arith, inl, inr, subst, sym}
 use Rattle.sqlite.specs.Files.{file_state}
 use Rattle.sqlite.specs.State.{HasCleanDisk}
 use Rattle.builder_store.specs.Opening.{IsOpenedAs}
+use Rattle.builder_store.specs.Left.{IsOfConnection}
 use Rattle.builder_store.proofs.Causes.{same_cause}
+use Rattle.builder_store.proofs.Rests.{bad_of_connection, not_connected}
 use Rattle.builder_store.proofs.over.open_from.Goals as goal
 
 pub over-requires : goal.over-requires
@@ -26,8 +28,25 @@ returns-in-Ok-over-clause-found g c = λ clean.
       opens = c.in-Ok-over.ensures.begins.found clean;
     }
 
+pub returns-in-Err-clause-connected : goal.returns-in-Err-clause-connected
+returns-in-Err-clause-connected g c = (
+  λ is. absurd (c.in-Err.ensures.unmade.0 is),
+  λ is. absurd (c.in-Err.ensures.unmade.1 is),
+)
+
 pub returns-in-Err-clause-bad : goal.returns-in-Err-clause-bad
-returns-in-Err-clause-bad g c = c.in-Err.ensures.fault
+returns-in-Err-clause-bad g c = λ bad. absurd (c.in-Err.ensures.unmade.0
+    (bad_of_connection c.in-Err.fault bad))
+
+pub returns-in-Err-clause-rows : goal.returns-in-Err-clause-rows
+returns-in-Err-clause-rows g c = λ bad. absurd (c.in-Err.ensures.unmade.0
+    (subst IsOfConnection (sym bad) tt))
+
+pub returns-in-Err-clause-crash : goal.returns-in-Err-clause-crash
+returns-in-Err-clause-crash g c = not_connected c.in-Err.left _ c.in-Err.ensures.unmade.1
+
+pub returns-in-Err-over-clause-connected : goal.returns-in-Err-over-clause-connected
+returns-in-Err-over-clause-connected g c = (λ _. tt, λ _. tt)
 
 pub returns-in-Err-over-clause-bad : goal.returns-in-Err-over-clause-bad
 returns-in-Err-over-clause-bad g c = λ bad clean db held content opened.

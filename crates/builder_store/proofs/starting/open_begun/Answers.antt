@@ -106,16 +106,12 @@ returns-in-Ok-clause-survives g c =
     c.in-Ok.ensures.commits.survives opens.survives
 
 pub returns-in-Err-clause-quiet : goal.returns-in-Err-clause-quiet
-returns-in-Err-clause-quiet g c = λ bad. survives_then (state g.S.Store c.args.conn.now)
-    (state g.S.Store c.make_missing.new.conn) (state g.S.Store c.refused.new.conn) _ (λ _. ⊥) _
-    (λ clean db is. is) (λ clean db none. absurd none) c.in-Err.ensures.commits.survives
-    c.refused.ensures.survives
+returns-in-Err-clause-quiet g c = λ bad. c.in-Err.ensures.commits.survives
 
 pub returns-in-Err-clause-survives : goal.returns-in-Err-clause-survives
-returns-in-Err-clause-survives g c = survives_then (state g.S.Store c.args.conn.now)
-    (state g.S.Store c.make_missing.new.conn) (state g.S.Store c.refused.new.conn) _ (λ _. ⊥) _
-    (λ clean db is. inl is) (λ clean db none. absurd none) c.in-Err.ensures.commits.survives
-    c.refused.ensures.survives
+returns-in-Err-clause-survives g c = survives_weaker (state g.S.Store c.args.conn.now)
+    (state g.S.Store c.make_missing.new.conn) _ _ (λ clean db is. inl is)
+    c.in-Err.ensures.commits.survives
 
 pub returns-then-made-eq0-clause-bad : goal.returns-then-made-eq0-clause-bad
 returns-then-made-eq0-clause-bad g c = λ bad. absurd (c.begin.ensures.other.0 bad)

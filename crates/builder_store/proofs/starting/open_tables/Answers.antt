@@ -1,4 +1,4 @@
-use Rattle.std.proofs.Common.{refl, sym}
+use Rattle.std.proofs.Common.{sym}
 use Rattle.sqlite_trees.specs.Objects.{catalog_tree}
 use Rattle.sqlite_catalog.proofs.ReadLemmas.{lists_once}
 use Rattle.store_tables.specs.Tables.{schema_of_first}
@@ -12,8 +12,8 @@ use Rattle.sqlite.specs.State.{HasCleanDisk}
 use Rattle.sqlite.proofs.StateLemmas.{survives_weaker}
 use Rattle.store_tables.specs.Store.{HasMadeTables, begun_contents}
 use Rattle.builder_store.specs.Opening.{OpensAs}
-use Rattle.builder_store.specs.Inner.Opened.{LeadsInStore}
 use Rattle.builder_store.proofs.Opens.{declared_as, survives_same}
+use Rattle.builder_store.proofs.Settled.{declared_in}
 use Rattle.builder_store.proofs.starting.open_tables.Goals as goal
 
 pub open_begun-requires-clause-begun : goal.open_begun-requires-clause-begun
@@ -52,13 +52,14 @@ returns-in-Ok-Some-clause-quiet g c = λ bad.
     let made = c.in-Ok-Some.made in
     let was : HasCleanDisk new → HasCleanDisk s = λ clean. omega
     (arith, c.open_begun.ensures.survives.clean, clean) in
-    survives_weaker s new _ _ (λ clean db is. (
-      made,
-      declared_as s c.in-Ok-Some.field-0 made c.in-Ok-Some.field-0-is
-          c.in-Ok-Some.ensures.declared (c.requires.fresh (was clean)) c.in-Ok-Some.ensures.begun,
-      is ∙ ap (λ (d : Database). begun_contents made d.trees)
-          (c.requires.fresh (was clean)).committed,
-    )) (c.open_begun.ensures.quiet bad)
+    survives_weaker s new _ _ (λ clean db is. record {
+      made = made;
+      were = declared_as s c.in-Ok-Some.field-0 made c.in-Ok-Some.field-0-is
+          c.in-Ok-Some.ensures.declared (c.requires.fresh (was clean)) c.in-Ok-Some.ensures.begun;
+      are = declared_in _ db is;
+      rows = is.contents ∙ ap (λ (d : Database). begun_contents made d.trees)
+          (c.requires.fresh (was clean)).committed;
+    }) (c.open_begun.ensures.quiet bad)
 
 pub returns-in-Ok-Some-clause-survives : goal.returns-in-Ok-Some-clause-survives
 returns-in-Ok-Some-clause-survives g c =
@@ -71,17 +72,21 @@ returns-in-Ok-Some-clause-survives g c =
     let declared = declared_as s c.in-Ok-Some.field-0 made c.in-Ok-Some.field-0-is
     c.in-Ok-Some.ensures.declared fresh c.in-Ok-Some.ensures.begun in
     elim is [
-      | inl kept ↦ inl (
-        made,
-        declared,
-        kept ∙ ap (λ (d : Database). begun_contents made d.trees)
-            fresh.committed,
-      )
+      | inl kept ↦ inl (record {
+        made = made;
+        were = declared;
+        are = declared_in _ db kept;
+        rows = kept.contents ∙ ap (λ (d : Database). begun_contents made d.trees) fresh.committed;
+      })
       | inr leads ↦ inr (
-        made,
-        declared,
-        subst (λ (d : Database). LeadsInStore
-            (begun_contents made d.trees) db) fresh.committed leads,
+        leads.0,
+        (
+          made,
+          declared,
+          subst (λ (d : Database). OpensAs (begun_contents made d.trees) leads.0) fresh.committed
+              leads.1,
+        ),
+        leads.2,
       )
     ]) c.open_begun.ensures.survives
 
@@ -89,9 +94,7 @@ pub returns-in-Ok-None-clause-survives : goal.returns-in-Ok-None-clause-survives
 returns-in-Ok-None-clause-survives g c = survives_same (state g.S.Store c.args.conn.now) _
 
 pub returns-in-Err-clause-survives : goal.returns-in-Err-clause-survives
-returns-in-Err-clause-survives g c = survives_weaker (state g.S.Store c.args.conn.now)
-    (state g.S.Store c.refused.new.conn) _ _ (λ clean db none. absurd none)
-    c.refused.ensures.survives
+returns-in-Err-clause-survives g c = survives_same (state g.S.Store c.args.conn.now) _
 
 pub returns-in-Ok-Some-clause-bad : goal.returns-in-Ok-Some-clause-bad
 returns-in-Ok-Some-clause-bad g c = λ bad clean content it.

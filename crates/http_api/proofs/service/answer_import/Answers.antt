@@ -28,5 +28,6 @@ returns-in-Ok g c =
               record { ring = c.args.ring; act = act.Import rs } in command) c.new-in-Ok.ensures,
         ),
         d.told_is,
+        d.proper,
       ),
     )

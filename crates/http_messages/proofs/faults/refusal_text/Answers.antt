@@ -2,6 +2,7 @@ use Rattle.std.proofs.Common.{ap, sym, ◌∙◌}
 use Rattle.http_messages.specs.Answers.{refusal_answer}
 use Rattle.http_messages.proofs.FixedAnswers.{bad_head, wrong_version, bad_host, no_transfer_coding}
 use Rattle.http_messages.proofs.FixedAnswers.{bad_length, too_large, length_required, unknown_method}
+use Rattle.http_messages.proofs.FixedAnswers.{not_allowed}
 use Rattle.http_messages.proofs.faults.refusal_text.Goals as goal
 
 pub returns-in-BadHead : goal.returns-in-BadHead
@@ -12,6 +13,9 @@ returns-in-WrongVersion c = wrong_version ∙ ap refusal_answer (sym c.in-WrongV
 
 pub returns-in-BadHost : goal.returns-in-BadHost
 returns-in-BadHost c = bad_host ∙ ap refusal_answer (sym c.in-BadHost.is)
+
+pub returns-in-NotAllowed : goal.returns-in-NotAllowed
+returns-in-NotAllowed c = not_allowed ∙ ap refusal_answer (sym c.in-NotAllowed.is)
 
 pub returns-in-NoTransferCoding : goal.returns-in-NoTransferCoding
 returns-in-NoTransferCoding c = no_transfer_coding ∙ ap refusal_answer

@@ -14,7 +14,7 @@ returns-then-buf-lt-MAX_HEAD c =
     let told = rw c.in-Ok-Partial.field-0-is at c.in-Ok-Partial.ensures in (
       omega arith,
       omega arith,
-      λ more lt. subst StopsShort (none_more buf more lt) (inl record {
+      λ more lt. subst (StopsShort c.args.audience) (none_more buf more lt) (inl record {
         short =
             c.if-buf-lt-MAX_HEAD.true;
         none = subst HasNoRequest same told.partial;

@@ -7,7 +7,7 @@ pub loop-served-init : goal.loop-served-init
 loop-served-init g c = record {
   within = omega arith;
   all = none_yet g.K.Keeper g.C.Clock.tells c.args.names.prefix.now c.args.names.suffix.now
-      (IsTalk g.D.Stream.Read.remaining g.D.Stream.Write.contents) g.D.Door.gives c.args.door.now
+      (IsTalk c.args.audience g.D.Stream.Read.remaining g.D.Stream.Write.contents) g.D.Door.gives c.args.door.now
       (c.args.clock.now, c.args.book.now);
 }
 
@@ -15,24 +15,24 @@ pub loop-served-preserved : goal.loop-served-preserved
 loop-served-preserved g c = record {
   within = omega (arith, c.loop-served-test.true);
   all = one_more g.K.Keeper g.C.Clock.tells c.args.names.prefix.now c.args.names.suffix.now
-      (IsTalk g.D.Stream.Read.remaining g.D.Stream.Write.contents) g.D.Door.gives
+      (IsTalk c.args.audience g.D.Stream.Read.remaining g.D.Stream.Write.contents) g.D.Door.gives
       c.loop-served.served c.args.door.now c.loop-served.door c.accept.new.self
-      c.in_ok-stream.stream (c.args.clock.now, c.args.book.now)
+      c.in_ok-ends.ends.reader c.in_ok-ends.ends.writer (c.args.clock.now, c.args.book.now)
       (c.loop-served.clock, c.loop-served.book) (c.serve_one.new.clock, c.serve_one.new.book)
-      c.loop-served.invariant.all c.in_ok-stream.ensures.given c.serve_one.ensures.0
-      c.serve_one.ensures.1;
+      c.loop-served.invariant.all c.in_ok-ends.ensures.given c.serve_one.ensures.0
+      c.serve_one.ensures.1 c.serve_one.ensures.2;
 }
 
-pub returns-in_err-stream-clause-safe : goal.returns-in_err-stream-clause-safe
-returns-in_err-stream-clause-safe g c = safe_all g.K.Keeper g.C.Clock.tells c.args.names.prefix.now
+pub returns-in_err-ends-clause-safe : goal.returns-in_err-ends-clause-safe
+returns-in_err-ends-clause-safe g c = safe_all g.K.Keeper g.C.Clock.tells c.args.names.prefix.now
     c.args.names.suffix.now
-    (IsTalk g.D.Stream.Read.remaining g.D.Stream.Write.contents) g.D.Door.gives
+    (IsTalk c.args.audience g.D.Stream.Read.remaining g.D.Stream.Write.contents) g.D.Door.gives
     c.loop-served.served c.args.door.now c.loop-served.door c.args.clock.now c.loop-served.clock
     c.args.book.now c.loop-served.book c.loop-served.invariant.all
 
 pub returns-clause-safe : goal.returns-clause-safe
 returns-clause-safe g c = safe_all g.K.Keeper g.C.Clock.tells c.args.names.prefix.now
     c.args.names.suffix.now
-    (IsTalk g.D.Stream.Read.remaining g.D.Stream.Write.contents) g.D.Door.gives
+    (IsTalk c.args.audience g.D.Stream.Read.remaining g.D.Stream.Write.contents) g.D.Door.gives
     c.loop-served.served c.args.door.now c.loop-served.door c.args.clock.now c.loop-served.clock
     c.args.book.now c.loop-served.book c.loop-served.invariant.all

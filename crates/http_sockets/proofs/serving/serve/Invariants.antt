@@ -6,7 +6,7 @@ abbrev pub invariant-loop-served : goal.invariant-loop-served
 invariant-loop-served g l = record {
   within : l.served ≤ l.count;
   all : ConnectionsServed g.K.Keeper g.C.Clock.tells l.names.prefix.now l.names.suffix.now
-      (IsTalk g.D.Stream.Read.remaining g.D.Stream.Write.contents) g.D.Door.gives l.served
+      (IsTalk l.audience g.D.Stream.Read.remaining g.D.Stream.Write.contents) g.D.Door.gives l.served
       l.fn.door l.door (l.fn.clock, l.fn.book) (l.clock, l.book);
 }
 

@@ -13,7 +13,7 @@ loop-chunk-init g c =
     let p = c.in_ok-progress.ensures in
     record {
       room = c.in_ok-chunk.ensures;
-      came = ([], Consumes-none _, starts gives _ p.0 p.1 p.2);
+      came = ([], Consumes-none _, starts c.args.audience gives _ p.0 p.1 p.2);
       reads = refl;
       writes = refl;
     }
@@ -25,7 +25,7 @@ returns-in_err-wanted-clause-stopped g c =
     let f = c.in_err-wanted.ensures.answered _ _ i.came.0 i.came.2 in
     let p = err_from_is_err_and c.from_residual-in_err-wanted.result
     c.from_residual-in_err-wanted.ensures.1 in
-    rw (p.1, p.2, f.0) (in_part gives _ _ i.came.0 _ _ _ i.came.1 f.1)
+    rw (p.1, p.2, f.0) (in_part c.args.audience gives _ _ i.came.0 _ _ _ i.came.1 f.1)
 
 pub returns-in_err-wanted-clause-cause : goal.returns-in_err-wanted-clause-cause
 returns-in_err-wanted-clause-cause g c =
@@ -52,7 +52,7 @@ returns-in_err-read_up_to-clause-stopped g c =
     let f = c.in_err-read_up_to.ensures.read in
     let p = err_from_is_err_and c.from_residual-in_err-read_up_to.result
     c.from_residual-in_err-read_up_to.ensures.1 in
-    rw (p.1, p.2) (failed_to_read gives _ _ i.came.0 f.0 _ _ _ _ _ _ _
+    rw (p.1, p.2) (failed_to_read c.args.audience gives _ _ i.came.0 f.0 _ _ _ _ _ _ _
     (Consumes-then _ _ _ i.came.0 f.0 i.came.1 f.1) m look.2 f.2)
 
 pub returns-then-not-branch-clause-served : goal.returns-then-not-branch-clause-served
@@ -63,8 +63,8 @@ returns-then-not-branch-clause-served g c =
     let look = rw c.in-Some.is at c.in_ok-wanted.ensures.wanted in
     let f = c.in_ok-read_up_to.ensures.read in
     let filled = rw (c.if-not-branch.true, f.2.0) at f.2.3 in
-    let n = more_came gives i.came.0 f.0 _ _ _ (flushed gives i.came.0 _ _ _ _ m f.2.2) in
-    rw c.in_ok-read_up_to.ensures.count (served_end gives _ _ (i.came.0 ++ f.0) _ _ _
+    let n = more_came c.args.audience gives i.came.0 f.0 _ _ _ (flushed c.args.audience gives i.came.0 _ _ _ _ m f.2.2) in
+    rw c.in_ok-read_up_to.ensures.count (served_end c.args.audience gives _ _ (i.came.0 ++ f.0) _ _ _
     (Consumes-then _ _ _ i.came.0 f.0 i.came.1 f.1) filled.1 n refl (look.2 f.0 filled.0))
 
 pub loop-chunk-preserved : goal.loop-chunk-preserved
@@ -73,7 +73,7 @@ loop-chunk-preserved g c =
     let i = c.loop-chunk.invariant in
     let m = rw c.in-Some.is at (c.in_ok-wanted.ensures.answered _ _ i.came.0 i.came.2) in
     let f = c.in_ok-read_up_to.ensures.read in
-    let n = more_came gives i.came.0 f.0 _ _ _ (flushed gives i.came.0 _ _ _ _ m f.2.2) in
+    let n = more_came c.args.audience gives i.came.0 f.0 _ _ _ (flushed c.args.audience gives i.came.0 _ _ _ _ m f.2.2) in
     record {
       room = i.room;
       came = (
@@ -93,7 +93,7 @@ returns-in_err-flush-clause-stopped g c =
     let f = c.in_err-flush.ensures.failed in
     let p = err_from_is_err_and c.from_residual-in_err-flush.result
     c.from_residual-in_err-flush.ensures.1 in
-    rw (p.1, p.2, f.0) (in_part gives _ _ i.came.0 _ _ _ i.came.1 (broken_end gives i.came.0 _ _ _ _
+    rw (p.1, p.2, f.0) (in_part c.args.audience gives _ _ i.came.0 _ _ _ i.came.1 (broken_end c.args.audience gives i.came.0 _ _ _ _
     over f.1))
 
 pub returns-clause-served : goal.returns-clause-served
@@ -101,4 +101,4 @@ returns-clause-served g c =
     let gives = ItemAnswered g.H.Service c.args.service.now in
     let i = c.loop-chunk.invariant in
     let over = rw c.in_default.is at (c.in_ok-wanted.ensures.answered _ _ i.came.0 i.came.2) in
-    served_over gives _ _ i.came.0 _ _ _ _ i.came.1 over c.in_ok-flush.ensures.ok.1
+    served_over c.args.audience gives _ _ i.came.0 _ _ _ _ i.came.1 over c.in_ok-flush.ensures.ok.1

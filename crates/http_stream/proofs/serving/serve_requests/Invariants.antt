@@ -12,7 +12,7 @@ invariant-loop-chunk g l = record {
   room : vec_len l.chunk ≡ chunk_size;
   came : (bytes : List ℕ) × Consumes (g.R.Read.remaining (reader_of l.fn.reader))
       (g.R.Read.remaining (reader_of l.reader)) bytes
-      × IsMidstream (ItemAnswered g.H.Service l.service) bytes
+      × IsMidstream l.audience (ItemAnswered g.H.Service l.service) bytes
       (g.W.Write.contents (writer_of l.fn.writer)) (l.fn.clock, l.fn.state)
       (stream_place g.W.Write.contents l.progress (l.clock, l.state) l.writer);
   reads : read_faults l.reader ≡ read_faults l.fn.reader;

@@ -1,4 +1,5 @@
-use Rattle.std.proofs.Common.{List, subst, sym}
+use Rattle.std.proofs.Common.{List, rules, subst, sym}
+use Rattle.builder.specs.Life.{IsProperDelivery}
 use Rattle.ring_book.specs.Book.{steps_of}
 use Rattle.request_book.specs.Call.{Deliver}
 use Rattle.request_book.specs.Made.{Makes}
@@ -15,6 +16,11 @@ returns g c =
       key = c.args.ask.key;
       command = record { ring = c.args.ask.ring; act = act.Import rows };
     }) c.deliver.result) in
+    let IsProper : List Row → Type 0 = λ rows. IsProperDelivery (record {
+      hour = c.args.hour;
+      key = c.args.ask.key;
+      command = record { ring = c.args.ask.ring; act = act.Import rows };
+    }) in
     record {
       book = c.open_book-book.result;
       later = c.deliver.new.self;
@@ -23,4 +29,5 @@ returns g c =
       answer = c.deliver.result;
       made = subst Made c.new.ensures c.deliver.ensures.made;
       told_is = c.told_of-told.ensures;
+      proper = subst IsProper c.new.ensures (c.command_is_proper.ensures, search rules);
     }

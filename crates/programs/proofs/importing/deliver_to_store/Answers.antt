@@ -1,6 +1,6 @@
-use Rattle.std.proofs.Common.{Err, inr}
+use Rattle.std.proofs.Common.{inr}
 use Rattle.std.proofs.lemmas.Result.{err_from_is_err_and}
-use Rattle.programs.specs.Begun.{IsClosed, WasClosed}
+use Rattle.programs.specs.Begun.{FailedToClose, IsClosed}
 use Rattle.programs.proofs.Kept.{imports_kept}
 use Rattle.programs.proofs.importing.deliver_to_store.Goals as goal
 
@@ -19,9 +19,9 @@ returns-in_err-close-clause-fault g c =
       c.in_err-close.ensures.fault,
       (
         delivered.result.0,
-        imports_kept g.S.Kept.Keeper _ (WasClosed g.S.Stores.ends) c.in_ok-keeper.keeper
-            delivered.result.1 c.in_ok-keeper.ensures.begins
-            (Err c.in_err-close.field-0.0, c.in_err-close.ensures.ends) c.args.ask
+        imports_kept g.S.Kept.Keeper _ (FailedToClose g.S.Stores.ends c.in_err-close.field-0.0)
+            c.in_ok-keeper.keeper delivered.result.1 c.in_ok-keeper.ensures.begins
+            c.in_err-close.ensures.ends c.args.ask
             c.args.rows.items c.args.hour delivered.result.0 delivered.ensures,
       ),
     ))

@@ -1,7 +1,6 @@
 use Rattle.std.proofs.Common.{◌∙◌, ap, inr}
 use Rattle.std.proofs.lemmas.Result.{err_from_is_err_and}
 use Rattle.programs.specs.Faults.{stream_fault}
-use Rattle.programs.proofs.Kept.{tells_left}
 use Rattle.programs.proofs.importing.import_table.Goals as goal
 
 pub returns-in_err-write_told-clause-failed : goal.returns-in_err-write_told-clause-failed
@@ -11,10 +10,5 @@ returns-in_err-write_told-clause-failed g c =
     c.from_residual-in_err-write_told.ensures.1 in
     rw (p.1) (inr (
       p.2 ∙ ap stream_fault failed.0,
-      (
-        c.in_ok-told.told,
-        tells_left g.S.Kept.Keeper _ g.S.Stores.ends (g.S.Stores.holds c.args.csv.now)
-            (g.S.Stores.is_unread c.args.csv.now) _ _ _ c.in_ok-told.ensures.told,
-        failed.1,
-      ),
+      (c.in_ok-told.told, c.in_ok-told.ensures.told, failed.1),
     ))

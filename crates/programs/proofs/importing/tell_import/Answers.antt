@@ -10,6 +10,7 @@ returns-in-Ok-clause-told g c = IfOk-weaker c.deliver_to_store.result _ _
       c.in-Ok.ensures.rows,
       c.hour_of.ensures,
       delivered,
+      c.deliver_to_store.ensures.opened,
     ))
     c.deliver_to_store.ensures.told
 
@@ -21,5 +22,6 @@ returns-in-Ok-clause-fault g c = IfErr-weaker c.deliver_to_store.result _ _
       c.in-Ok.ensures.rows,
       c.hour_of.ensures,
       failed,
+      c.deliver_to_store.ensures.opened,
     ))
     c.deliver_to_store.ensures.fault

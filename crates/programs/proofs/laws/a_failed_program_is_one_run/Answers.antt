@@ -2,7 +2,7 @@ use Rattle.programs.proofs.Lives.{failed_once}
 use Rattle.programs.proofs.laws.a_failed_program_is_one_run.Goals as goal
 
 pub returns : goal.returns
-returns g c = λ reader late_reader writer later. failed_once _ g.S.Kept.Keeper g.S.Stores.begins
+returns g c = λ reader late_reader writer later before after. failed_once _ g.S.Kept.Keeper g.S.Stores.begins
     g.S.Stores.ends g.R.Read.remaining g.W.Write.contents c.calls_go_on.ensures.none
     c.run_goes_on.ensures reader late_reader writer later g.S.Stores.holds g.S.Stores.is_unread
-    g.S.Stores.refuses g.S.Stores.is_unmade
+    before after g.S.Stores.refuses g.S.Stores.is_unmade

@@ -2,13 +2,13 @@ use Rattle.programs.proofs.Lives.{done_once, refused_once}
 use Rattle.programs.proofs.laws.a_program_is_one_run.Goals as goal
 
 pub returns-clause-done : goal.returns-clause-done
-returns-clause-done g c = λ reader late_reader writer later. done_once _ g.S.Kept.Keeper
+returns-clause-done g c = λ reader late_reader writer later before after. done_once _ g.S.Kept.Keeper
     g.S.Stores.begins g.S.Stores.ends g.R.Read.remaining g.W.Write.contents
     c.calls_go_on.ensures.none c.run_goes_on.ensures reader late_reader writer later
-    g.S.Stores.holds g.S.Stores.is_unread g.S.Stores.is_made
+    g.S.Stores.holds g.S.Stores.is_unread before after g.S.Stores.is_made
 
 pub returns-clause-refused : goal.returns-clause-refused
-returns-clause-refused g c = λ reader late_reader writer later. refused_once _ g.S.Kept.Keeper
+returns-clause-refused g c = λ reader late_reader writer later before after. refused_once _ g.S.Kept.Keeper
     g.S.Stores.begins g.S.Stores.ends g.R.Read.remaining g.W.Write.contents
     c.calls_go_on.ensures.none c.run_goes_on.ensures reader late_reader writer later
-    g.S.Stores.holds g.S.Stores.is_unread g.S.Stores.is_made
+    g.S.Stores.holds g.S.Stores.is_unread before after g.S.Stores.is_made

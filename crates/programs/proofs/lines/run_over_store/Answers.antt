@@ -1,8 +1,8 @@
 use Rattle.std.proofs.Common.{inl, inr}
-use Rattle.std.proofs.lemmas.Result.{IfErr-weaker, err_from_is_err_and}
-use Rattle.programs.specs.Begun.{IsClosed, WasClosed}
+use Rattle.std.proofs.lemmas.Result.{err_from_is_err_and}
+use Rattle.programs.specs.Begun.{FailedToClose, IsClosed, WasClosed}
 use Rattle.programs.proofs.Runs.{at_err, at_ok}
-use Rattle.programs.proofs.Kept.{answers_kept, on_closed, stops_kept}
+use Rattle.programs.proofs.Kept.{answers_kept, on_closed, on_unclosed, stops_kept}
 use Rattle.programs.proofs.lines.run_over_store.Goals as goal
 
 pub returns-clause-answered : goal.returns-clause-answered
@@ -17,16 +17,16 @@ returns-clause-answered g c = let ran = c.answer_lines-answered in
 
 pub returns-clause-failed : goal.returns-clause-failed
 returns-clause-failed g c = let ran = c.answer_lines-answered in
-    IfErr-weaker c.close-closed.result _ _
-    (λ why is. inr (inr (
+    on_unclosed c.close-closed.result (g.S.Stores.ends ran.result.1) _
+    (λ why is ended. inr (inr (
       is,
-      answers_kept g.S.Kept.Keeper _ (WasClosed g.S.Stores.ends) c.in_ok-keeper.keeper ran.result.1
-          c.in_ok-keeper.ensures.begins (c.close-closed.result, c.close-closed.ensures.ends)
+      answers_kept g.S.Kept.Keeper _ (FailedToClose g.S.Stores.ends why) c.in_ok-keeper.keeper
+          ran.result.1 c.in_ok-keeper.ensures.begins ended
           g.R.Read.remaining g.W.Write.contents
           c.args.reader.now ran.new.reader c.args.writer.now ran.new.writer
           (at_ok ran.result.0 _ _ c.in_ok-answered.was ran.ensures.answered),
     )))
-    c.close-closed.ensures.fault
+    c.close-closed.ensures.ends c.close-closed.ensures.fault
 
 pub returns-in_err-answered-clause-failed : goal.returns-in_err-answered-clause-failed
 returns-in_err-answered-clause-failed g c =

@@ -20,8 +20,10 @@ returns-clause-found g c = let read = c.rings_and_hour-found in
 pub returns-clause-fault : goal.returns-clause-fault
 returns-clause-fault g c = let read = c.rings_and_hour-found in
     IfErr-weaker read.result _ _
-    (λ why fault. (
-      fault,
+    (λ why failed. (
+      failed.0,
+      failed.1,
+      failed.2,
       record {
         keeper = c.args.keeper;
         later = read.new.keeper;

@@ -1,17 +1,19 @@
-use Rattle.std.proofs.Common.{inr}
+use Rattle.std.proofs.Common.{inl, inr}
 use Rattle.std.proofs.lemmas.Result.{err_from_is_err_and}
-use Rattle.programs.specs.Begun.{IsClosed, WasClosed}
-use Rattle.programs.proofs.Kept.{at_end, closing_fault}
+use Rattle.programs.specs.Begun.{FailedToClose, IsClosedWhole, WasClosedAfter}
+use Rattle.programs.proofs.Kept.{at_end, unclosed}
 use Rattle.programs.proofs.Renewals.{read_anyhow, read_kept}
-use Rattle.programs.proofs.Runs.{at_err, at_value}
+use Rattle.programs.proofs.Runs.{at_err, at_ok, at_value}
 use Rattle.programs.proofs.renewing.read_store.Goals as goal
 
 pub returns-clause-found : goal.returns-clause-found
 returns-clause-found g c = let told = c.found_in-found in
-    read_kept g.S.Kept.Keeper _ (IsClosed g.S.Stores.ends) c.in_ok-keeper.keeper told.result.1
-    c.in_ok-keeper.ensures.begins
-    (at_end c.close-closed.result (g.S.Stores.ends told.result.1) c.in_ok-closed.was
-    c.close-closed.ensures.ends) _
+    read_kept g.S.Kept.Keeper _ (IsClosedWhole g.S.Kept.Keeper g.S.Stores.ends)
+    c.in_ok-keeper.keeper told.result.1 c.in_ok-keeper.ensures.begins (
+      at_end c.close-closed.result (g.S.Stores.ends told.result.1) c.in_ok-closed.was
+          c.close-closed.ensures.ends,
+      at_ok told.result.0 _ _ c.in_ok-found.was told.ensures.whole,
+    ) _
     (at_value told.result.0 c.in_ok-found.found _ c.in_ok-found.was told.ensures.found)
 
 pub returns-in_err-found-clause-fault : goal.returns-in_err-found-clause-fault
@@ -21,22 +23,26 @@ returns-in_err-found-clause-fault g c =
     c.from_residual-in_err-found.ensures.1 in
     let failed = at_err told.result.0 c.in_err-found.field-0.0 _ c.in_err-found.was told.ensures.fault
     in
-    rw (p.1, p.2) (inr (
+    rw (p.1, p.2) (inr (inl (
       failed.0,
-      read_kept g.S.Kept.Keeper _ (WasClosed g.S.Stores.ends) c.in_ok-keeper.keeper told.result.1
-          c.in_ok-keeper.ensures.begins (c.close-closed.result, c.close-closed.ensures.ends) _ failed.1,
-    ))
+      failed.1,
+      read_kept g.S.Kept.Keeper _ (WasClosedAfter g.S.Kept.Keeper g.S.Stores.ends failed.0)
+          c.in_ok-keeper.keeper told.result.1 c.in_ok-keeper.ensures.begins
+          ((c.close-closed.result, c.close-closed.ensures.ends), failed.2) _ failed.3,
+    )))
 
 pub returns-in_err-closed-clause-fault : goal.returns-in_err-closed-clause-fault
 returns-in_err-closed-clause-fault g c =
     let told = c.found_in-found in
     let p = err_from_is_err_and c.from_residual-in_err-closed.result
     c.from_residual-in_err-closed.ensures.1 in
-    rw (p.1, p.2) (inr (
-      closing_fault _ (at_err c.close-closed.result c.in_err-closed.field-0.0 _ c.in_err-closed.was
-          c.close-closed.ensures.fault),
-      read_anyhow g.S.Kept.Keeper _ (WasClosed g.S.Stores.ends) _
-          (read_kept g.S.Kept.Keeper _ (WasClosed g.S.Stores.ends) c.in_ok-keeper.keeper told.result.1
-          c.in_ok-keeper.ensures.begins (c.close-closed.result, c.close-closed.ensures.ends) _
+    rw (p.1, p.2) (inr (inr (
+      at_err c.close-closed.result c.in_err-closed.field-0.0 _ c.in_err-closed.was
+          c.close-closed.ensures.fault,
+      read_anyhow g.S.Kept.Keeper _ (FailedToClose g.S.Stores.ends c.in_err-closed.field-0.0) _
+          (read_kept g.S.Kept.Keeper _ (FailedToClose g.S.Stores.ends c.in_err-closed.field-0.0)
+          c.in_ok-keeper.keeper told.result.1 c.in_ok-keeper.ensures.begins
+          (unclosed c.close-closed.result (g.S.Stores.ends told.result.1)
+          c.in_err-closed.field-0.0 c.in_err-closed.was c.close-closed.ensures.ends) _
           (at_value told.result.0 c.in_ok-found.found _ c.in_ok-found.was told.ensures.found)),
-    ))
+    )))

@@ -10,4 +10,4 @@ returns g c = let looped = c.loop_over-looped in
     c.new_clock-clock.ensures c.open_book-book.ensures (sym c.into_keeper.ensures)
     looped.ensures.safe
     _ g.W.Write.contents c.args.writer.now looped.new.writer looped.result
-    looped.ensures.served looped.ensures.failed looped.ensures.few looped.ensures.cause looped.ensures.flushed
+    looped.ensures.served looped.ensures.failed looped.ensures.few looped.ensures.ok looped.ensures.flushed

@@ -1,7 +1,7 @@
 use Rattle.std.proofs.Common.{inl, inr}
-use Rattle.std.proofs.lemmas.Result.{IfErr-weaker, err_from_is_err_and}
-use Rattle.programs.specs.Begun.{IsClosed, WasClosed}
-use Rattle.programs.proofs.Kept.{on_closed}
+use Rattle.std.proofs.lemmas.Result.{err_from_is_err_and}
+use Rattle.programs.specs.Begun.{FailedToClose, IsClosed, WasClosed}
+use Rattle.programs.proofs.Kept.{on_closed, on_unclosed}
 use Rattle.programs.proofs.Services.{kept_loops, kept_stops, match_err, match_ok}
 use Rattle.programs.proofs.serving.loop_store.Goals as goal
 
@@ -16,16 +16,15 @@ returns-clause-looped g c = let ran = c.loop_input-looped in
 
 pub returns-clause-failed : goal.returns-clause-failed
 returns-clause-failed g c = let ran = c.loop_input-looped in
-    IfErr-weaker c.close-closed.result _ _
-    (λ why is. inr (inr (
+    on_unclosed c.close-closed.result (g.S.Stores.ends ran.result.1) _
+    (λ why is ended. inr (inr (
       is,
-      kept_loops g.S.Kept.Keeper _ (WasClosed g.S.Stores.ends) c.in_ok-keeper.keeper ran.result.1
-          c.in_ok-keeper.ensures.begins (c.close-closed.result, c.close-closed.ensures.ends)
-          c.args.given c.args.names g.W.Write.contents
+      kept_loops g.S.Kept.Keeper _ (FailedToClose g.S.Stores.ends why) c.in_ok-keeper.keeper
+          ran.result.1 c.in_ok-keeper.ensures.begins ended c.args.given c.args.names g.W.Write.contents
           c.args.writer.now ran.new.writer
           (match_ok ran.result.0 _ _ _ c.in_ok-looped.was ran.ensures),
     )))
-    c.close-closed.ensures.fault
+    c.close-closed.ensures.ends c.close-closed.ensures.fault
 
 pub returns-in_err-looped-clause-failed : goal.returns-in_err-looped-clause-failed
 returns-in_err-looped-clause-failed g c =

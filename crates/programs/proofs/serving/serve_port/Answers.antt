@@ -9,7 +9,7 @@ returns-clause-served g c = let served = c.serve_connections-served in
     (c.new_clock-clock.result, c.open_book-book.result) (served.new.clock, served.new.book)
     c.new_clock-clock.ensures c.open_book-book.ensures (sym c.into_keeper.ensures)
     served.ensures.safe g.P.Door.Stream.Read.remaining g.P.Door.Stream.Write.contents
-    g.P.Door.Door.gives g.P.Door.Door.fails g.P.Ports.opens c.args.port c.args.count
+    g.P.Door.Door.gives g.P.Door.Door.fails g.P.Ports.opens g.P.Ports.shuts c.args.port c.args.count
     served.result served.ensures.served
 
 pub returns-clause-failed : goal.returns-clause-failed
@@ -19,5 +19,5 @@ returns-clause-failed g c = let served = c.serve_connections-served in
     (c.new_clock-clock.result, c.open_book-book.result) (served.new.clock, served.new.book)
     c.new_clock-clock.ensures c.open_book-book.ensures (sym c.into_keeper.ensures)
     served.ensures.safe g.P.Door.Stream.Read.remaining g.P.Door.Stream.Write.contents
-    g.P.Door.Door.gives g.P.Door.Door.fails g.P.Ports.opens c.args.port c.args.count
+    g.P.Door.Door.gives g.P.Door.Door.fails g.P.Ports.opens g.P.Ports.shuts c.args.port c.args.count
     served.result served.ensures.failed

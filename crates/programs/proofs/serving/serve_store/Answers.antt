@@ -1,8 +1,8 @@
 use Rattle.std.proofs.Common.{◌∙◌, ap, inl, inr}
-use Rattle.std.proofs.lemmas.Result.{IfErr-at_err, IfErr-weaker, err_from_is_err_and}
-use Rattle.programs.specs.Begun.{IsClosed, WasClosed}
+use Rattle.std.proofs.lemmas.Result.{IfErr-at_err, err_from_is_err_and}
+use Rattle.programs.specs.Begun.{FailedToClose, IsClosed, WasClosed}
 use Rattle.programs.specs.Faults.{serve_fault}
-use Rattle.programs.proofs.Kept.{on_closed}
+use Rattle.programs.proofs.Kept.{on_closed, on_unclosed}
 use Rattle.programs.proofs.Services.{kept_served, on_ok_at}
 use Rattle.programs.proofs.serving.serve_store.Goals as goal
 
@@ -17,15 +17,14 @@ returns-clause-served g c = let ran = c.serve_port-served in
 
 pub returns-clause-failed : goal.returns-clause-failed
 returns-clause-failed g c = let ran = c.serve_port-served in
-    IfErr-weaker c.close-closed.result _ _
-    (λ why is. inr (inl (
+    on_unclosed c.close-closed.result (g.S.Stores.ends ran.result.1) _
+    (λ why is ended. inr (inl (
       is,
-      kept_served g.S.Kept.Keeper _ (WasClosed g.S.Stores.ends) c.in_ok-keeper.keeper ran.result.1
-          c.in_ok-keeper.ensures.begins (c.close-closed.result, c.close-closed.ensures.ends)
-          c.args.given c.args.names _
+      kept_served g.S.Kept.Keeper _ (FailedToClose g.S.Stores.ends why) c.in_ok-keeper.keeper
+          ran.result.1 c.in_ok-keeper.ensures.begins ended c.args.given c.args.names _
           (on_ok_at ran.result.0 _ _ c.in_ok-served.was ran.ensures.served),
     )))
-    c.close-closed.ensures.fault
+    c.close-closed.ensures.ends c.close-closed.ensures.fault
 
 pub returns-in_err-served-clause-failed : goal.returns-in_err-served-clause-failed
 returns-in_err-served-clause-failed g c =

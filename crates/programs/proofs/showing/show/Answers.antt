@@ -1,7 +1,6 @@
 use Rattle.std.proofs.Common.{◌∙◌, ap, inr}
 use Rattle.std.proofs.lemmas.Result.{err_from_is_err_and}
 use Rattle.programs.specs.Faults.{stream_fault}
-use Rattle.programs.proofs.Kept.{asked_left}
 use Rattle.programs.proofs.showing.show.Goals as goal
 
 pub returns-clause-shown : goal.returns-clause-shown
@@ -18,12 +17,12 @@ returns-in_err-write_text-clause-fault g c =
     let failed = c.in_err-write_text.ensures.failed in
     let p = err_from_is_err_and c.from_residual-in_err-write_text.result
     c.from_residual-in_err-write_text.ensures.1 in
-    rw (p.1) (inr (inr (inr (
+    rw (p.1) (inr (inr (
       p.2 ∙ ap stream_fault failed.0,
       (
         c.in_ok-bytes.bytes.items,
-        asked_left g.S.Kept.Keeper _ g.S.Stores.ends _ c.in_ok-bytes.ensures.shown,
+        c.in_ok-bytes.ensures.shown,
         rw c.as_slice.ensures.value at failed.1,
         c.in_err-write_text.ensures.cause,
       ),
-    ))))
+    )))

@@ -20,8 +20,10 @@ pub returns-clause-fault : goal.returns-clause-fault
 returns-clause-fault g c = let kept = c.kept_bytes-bytes in
     IfErr-weaker kept.result _ _
     (λ why told. elim told [
-      | inl store ↦ inl (
-        store,
+      | inl failed ↦ inl (
+        failed.0,
+        failed.1,
+        failed.2,
         record {
           keeper = c.args.keeper;
           later = kept.new.keeper;

@@ -1,4 +1,4 @@
-use Rattle.std.proofs.Common.{◌≤◌, ◌<◌, rules, ◌≡◌, subst, sym, ap, refl, ◌∙◌, length, arith}
+use Rattle.std.proofs.Common.{◌≤◌, rules, ◌≡◌, subst, sym, ap, refl, ◌∙◌, length, arith}
 use Rattle.std.specs.FinMap.{entries}
 use Rattle.std.proofs.lemmas.Fn.{always_returns_same}
 use Rattle.std.proofs.lemmas.Result.{err_from_is_err_and}

@@ -1,12 +1,10 @@
 use Rattle.std.proofs.Common.{◌≡◌, ap, length, map, subst, sym, refl, ◌∙◌, arith}
-use Rattle.std.specs.FinMap.{entries}
 use Rattle.std.proofs.lemmas.Result.{err_from_is_err_and}
-use Rattle.ring_model.specs.Ring.{RingRecord}
 use Rattle.store_model.specs.Contents.{Contents, meta_of}
 use Rattle.request_book.specs.Run.{last_hour}
 use Rattle.store_rows.specs.RingRows.{NamedRings}
 use Rattle.store_rows.specs.Stands.{RingContent}
-use Rattle.store_rows.specs.Inner.Sayings.{SayRings, contents_under}
+use Rattle.store_rows.specs.Inner.Sayings.{SayRings}
 use Rattle.store_rows.proofs.FoundRows.{stands, found_in}
 use Rattle.store_rows.proofs.Opens.{meta_said, rings_said, rows_judge, same_meta, schema_of}
 use Rattle.store_rows.proofs.Opens.{spelling_judges}

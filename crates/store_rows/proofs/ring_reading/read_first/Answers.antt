@@ -1,4 +1,4 @@
-use Rattle.std.proofs.Common.{ℕ, Global, Option, Vec, map, map-id, ap, sym, subst, ◌∙◌}
+use Rattle.std.proofs.Common.{ℕ, Global, Option, Vec, map, map-id, sym, subst, ◌∙◌}
 use Rattle.std.proofs.lemmas.Result.{err_from_is_err_and}
 use Rattle.store_rows.specs.Inner.Found.{StandForMoves}
 use Rattle.store_rows.specs.declared.ring_reading.Assignment.{Assignment}

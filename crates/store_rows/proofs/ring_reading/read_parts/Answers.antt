@@ -1,6 +1,5 @@
-use Rattle.std.proofs.Common.{ℕ, List, Option, ap, sym, ◌∙◌, ◌++◌, ◌∷◌, [], ◌*◌, take, drop, arith}
+use Rattle.std.proofs.Common.{ℕ, Option, ap, sym, ◌∙◌, ◌++◌, ◌∷◌, [], ◌*◌, take, drop, arith}
 use Rattle.std.proofs.lemmas.Result.{err_from_is_err_and}
-use Rattle.store_rows.specs.RingRows.{hour_number}
 use Rattle.store_rows.specs.declared.ring_reading.Assignment.{Assignment}
 use Rattle.store_rows.proofs.OneRings.{one_hour}
 use Rattle.store_rows.proofs.Places.{all_seats, hour_read, part_there, seats_then, small_seats}

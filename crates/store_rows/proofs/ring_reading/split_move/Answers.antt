@@ -1,4 +1,4 @@
-use Rattle.std.proofs.Common.{ℕ, Bor, List, Option, Some, ap, map, sym, ◌∙◌}
+use Rattle.std.proofs.Common.{ℕ, Bor, List, Option, Some, ap, map, ◌∙◌}
 use Rattle.std.proofs.lemmas.Result.{err_from_is_err_and}
 use Rattle.store_model.specs.Contents.{moved_of}
 use Rattle.store_model.specs.declared.rows.MovedRow.{MovedRow}

@@ -4,7 +4,7 @@ use Rattle.std.proofs.lemmas.Result.{err_from_is_err_and}
 use Rattle.ring_model.specs.Ring.{RingRecord}
 use Rattle.ring_model.specs.Rings.{is_before}
 use Rattle.store_rows.specs.RingRows.{NamedRings}
-use Rattle.store_rows.proofs.Parting.{Next, named_as_row, next_ring, none_left, stands_of}
+use Rattle.store_rows.proofs.Parting.{named_as_row, next_ring, none_left, stands_of}
 use Rattle.store_rows.proofs.Reading.{fails_likewise, fails_where, reads_likewise}
 use Rattle.store_rows.proofs.rings_reading.read_rings.Goals as goal
 

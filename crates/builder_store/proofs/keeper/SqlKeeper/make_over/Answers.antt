@@ -1,4 +1,4 @@
-use Rattle.std.proofs.Common.{◌∙◌, ◌≤◌, Err, ap, arith, inl, inr, refl, subst, sym}
+use Rattle.std.proofs.Common.{◌≤◌, Err, ap, arith, inl, inr, refl, subst, sym}
 use Rattle.sqlite.specs.Effect.{Database, IsDatabase}
 use Rattle.sqlite.specs.Held.{state}
 use Rattle.sqlite.specs.State.{HasCleanDisk}
@@ -8,7 +8,7 @@ use Rattle.sqlite_trees.specs.Objects.{catalog_tree}
 use Rattle.sqlite_trees.specs.View.{doubt}
 use Rattle.store_tables.specs.Tables.{no_tables}
 use Rattle.builder_store.specs.Making.{rings_alone}
-use Rattle.builder_store.proofs.Gained.{alone_from}
+use Rattle.builder_store.proofs.Finds.{alone_from}
 use Rattle.builder_store.proofs.keeper.SqlKeeper.make_over.Goals as goal
 
 pub holding-requires-clause-holds : goal.holding-requires-clause-holds
@@ -64,6 +64,7 @@ returns-in-Err-clause-refused g c =
     record {
       clean = survives.clean;
       unjudged = c.in-Err.ensures.unjudged;
+      of_connection = c.in-Err.ensures.of_connection;
       taken = λ is clean declared.
           let fresh = c.requires.fresh (before clean) in
           let listed : Lists (old.now.trees catalog_tree) no_tables = subst

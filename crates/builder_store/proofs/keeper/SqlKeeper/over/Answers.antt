@@ -3,7 +3,7 @@ use Rattle.sqlite_trees.specs.View.{doubt}
 use Rattle.sqlite.specs.Held.{state}
 use Rattle.sqlite.specs.State.{HasCleanDisk}
 use Rattle.builder_store.specs.Opening.{IsOpenedAs}
-use Rattle.builder_store.proofs.Gained.{alone_from}
+use Rattle.builder_store.proofs.Finds.{alone_from}
 use Rattle.builder_store.proofs.keeper.SqlKeeper.over.Goals as goal
 
 pub holding-requires-clause-holds : goal.holding-requires-clause-holds
@@ -12,7 +12,7 @@ holding-requires-clause-holds g c = λ clean.
     ∣ (
       it.content,
       alone_from c.one_content.ensures (state g.S.Store c.open_tables.new.conn).committed.trees
-          it.content (record { holdable = it.opens.2.holdable; contents = it.stands }),
+          it.content it.stands,
       it.rings,
       it.count,
       it.hour,
@@ -32,10 +32,7 @@ returns-in-Ok-clause-begins g c =
           let still : HasCleanDisk new = subst (λ h. HasCleanDisk (state g.S.Store h)) is.same
           clean in
           let it = c.in-Ok.ensures.found still in
-          let alone = alone_from c.one_content.ensures new.committed.trees it.content (record {
-            holdable = it.opens.2.holdable;
-            contents = it.stands;
-          }) in
+          let alone = alone_from c.one_content.ensures new.committed.trees it.content it.stands in
           subst (λ x. IsOpenedAs old.committed.trees x) (sym (is.content it.content clean alone))
           it.opens;
     }

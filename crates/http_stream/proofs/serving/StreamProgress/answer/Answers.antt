@@ -12,7 +12,7 @@ returns-in_err-answer_request-clause-answered g c = λ origin before came m.
     let p = err_from_is_err_and c.from_residual.result c.from_residual.ensures.1 in
     rw (p.1, p.2) (
       e.2.0,
-      broken_answer gives came before origin _ _ _ e.0
+      broken_answer c.args.audience gives came before origin _ _ _ e.0
           (ask_at c.args.self.now.buffer c.args.parts) m c.requires.asks e.1 e.2.1,
     )
 
@@ -22,8 +22,8 @@ returns-clause-answered g c = λ origin before came m.
     let ask = ask_at c.args.self.now.buffer c.args.parts in
     let e = c.in_ok-answer_request.ensures.answered in
     let asks = rw (← c.consume.ensures) at c.requires.asks in (
-      λ more. answered_more gives came before origin _ _ e.0 ask m asks more e.1 e.2
+      λ more. answered_more c.args.audience gives came before origin _ _ e.0 ask m asks more e.1 e.2
           c.saturating_add-self.ensures,
-      λ last. answered_last gives came before origin _ _ _ e.0 ask m asks last e.1 e.2
+      λ last. answered_last c.args.audience gives came before origin _ _ _ e.0 ask m asks last e.1 e.2
           c.saturating_add-self.ensures,
     )

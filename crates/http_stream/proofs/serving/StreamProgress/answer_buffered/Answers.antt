@@ -15,7 +15,7 @@ returns-in_err-refuse-in-Faulty-clause-answered g c = λ origin before came m.
     let p = err_from_is_err_and c.from_residual.result c.from_residual.ensures.1 in
     rw (p.1, p.2) (
       f.0,
-      broken_refusal gives came before origin _ _ _ c.in-Faulty.why mid
+      broken_refusal c.args.audience gives came before origin _ _ _ c.in-Faulty.why mid
           c.in-Faulty.ensures (refl, refl) f.1,
     )
 
@@ -24,7 +24,7 @@ returns-in-Faulty-clause-answered g c = λ origin before came m.
     let gives = ItemAnswered g.H.Service c.args.service.now in
     let mid = c.loop-wanted.invariant.midway origin before came m in
     let k = c.in_ok-refuse-in-Faulty.ensures in
-    refused_last gives came before origin _ _ _ c.in-Faulty.why mid c.in-Faulty.ensures (refl, refl)
+    refused_last c.args.audience gives came before origin _ _ _ c.in-Faulty.why mid c.in-Faulty.ensures (refl, refl)
     k.told k.count
 
 pub returns-in_err-answer-in-Whole-clause-answered :
@@ -47,7 +47,7 @@ loop-wanted-smaller g c =
     let parts = c.in-Whole.parts in
     omega (
       arith,
-      HasAsk-shorter buffer (ask_at buffer parts) (drop parts.body.end buffer)
+      HasAsk-shorter c.args.audience buffer (ask_at buffer parts) (drop parts.body.end buffer)
           c.in-Whole.ensures.2,
       ap length c.in_ok-answer-in-Whole.ensures.shorter,
     )

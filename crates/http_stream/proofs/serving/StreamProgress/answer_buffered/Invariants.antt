@@ -11,9 +11,9 @@ invariant-loop-wanted g l =
     let contents = g.W.Write.contents in
     record {
       midway : (origin : _) (before : Option (List ℕ)) (came : List ℕ)
-          → IsMidstream gives came before origin
+          → IsMidstream l.audience gives came before origin
           (stream_place contents l.fn.self (l.fn.clock, l.fn.state) l.fn.writer)
-          → IsMidstream gives came before origin
+          → IsMidstream l.audience gives came before origin
           (stream_place contents l.self (l.clock, l.state) l.writer);
       same : write_faults l.writer ≡ write_faults l.fn.writer;
     }

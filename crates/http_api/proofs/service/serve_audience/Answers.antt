@@ -2,12 +2,12 @@ use Rattle.std.proofs.Common.{refl}
 use Rattle.std.proofs.lemmas.Result.{IfOk-weaker, IfErr-weaker}
 use Rattle.byte_streams.specs.Counted.{reader_of, writer_of}
 use Rattle.http_api.proofs.Servings.{served_run, served_safe, stopped_run, unmoved}
-use Rattle.http_api.proofs.service.serve_stream.Goals as goal
+use Rattle.http_api.proofs.service.serve_audience.Goals as goal
 
 pub returns-clause-served : goal.returns-clause-served
 returns-clause-served g c = IfOk-weaker c.serve_requests.result _ _
     (served_run g.K.Keeper
-    g.C.Clock.tells c.args.names.prefix.now c.args.names.suffix.now
+    g.C.Clock.tells c.args.names.prefix.now c.args.names.suffix.now c.args.audience
     (g.R.Read.remaining (reader_of c.args.reader.now))
     (g.W.Write.contents (writer_of c.args.writer.now))
     (g.W.Write.contents (writer_of c.serve_requests.new.writer))
@@ -17,7 +17,7 @@ returns-clause-served g c = IfOk-weaker c.serve_requests.result _ _
 pub returns-clause-stopped : goal.returns-clause-stopped
 returns-clause-stopped g c = IfErr-weaker c.serve_requests.result _ _
     (stopped_run g.K.Keeper
-    g.C.Clock.tells c.args.names.prefix.now c.args.names.suffix.now
+    g.C.Clock.tells c.args.names.prefix.now c.args.names.suffix.now c.args.audience
     (g.R.Read.remaining (reader_of c.args.reader.now))
     (g.R.Read.remaining (reader_of c.serve_requests.new.reader))
     (g.W.Write.contents (writer_of c.args.writer.now))
@@ -27,7 +27,7 @@ returns-clause-stopped g c = IfErr-weaker c.serve_requests.result _ _
 
 pub returns-clause-safe : goal.returns-clause-safe
 returns-clause-safe g c = served_safe g.K.Keeper g.C.Clock.tells c.args.names.prefix.now
-    c.args.names.suffix.now
+    c.args.names.suffix.now c.args.audience
     _ _ _ _ (c.args.clock.now, c.args.book.now) (
       c.serve_requests.new.clock,
       c.serve_requests.new.state,
