@@ -3,8 +3,8 @@
 
 In README.md and docs/*.md a fenced block of the kind `console` shows a session. A line that begins with `$ ` is a
 command, a line that begins with `> ` goes on with it, and what follows is what it prints, standard error included. The
-commands of a page are run by one `sh`, in a new folder of its own, with `ringd` and the folder `examples` there. What
-they print is compared exactly; a line `...` alone stands for any lines. A page that shows something else fails.
+commands of a page are run by one `sh`, in a new folder of its own, with `ringd`, `ringctl` and the folder `examples`
+there. What they print is compared exactly; a line `...` alone stands for any lines. A page that shows something else fails.
 
 A page writes the port 8642; the check takes a free one in its place. After a command that ends with `&` it waits until
 somebody listens there. At the end of a page all that it started is stopped. A fenced block of the kind `file NAME` is a
@@ -84,7 +84,9 @@ class Session:
         start = f"{room}/bin/ringd"
         Path(start).write_text(f'#!/bin/sh\nexec {shlex.join(common.program())} "$@"\n')
         os.chmod(start, 0o755)
-        settings = {**os.environ, "PATH": f"{room}/bin:{os.environ['PATH']}", "LC_ALL": "C.UTF-8", "HOME": room}
+        os.symlink(TOP / "tools/ringctl", f"{room}/bin/ringctl")
+        settings = {**os.environ, "PATH": f"{room}/bin:{os.environ['PATH']}", "LC_ALL": "C.UTF-8", "HOME": room,
+                    "XDG_STATE_HOME": f"{room}/state"}
         self.here = f"{room}/here"
         self.shell = subprocess.Popen(
             ["sh"], cwd=self.here, env=settings, stdin=subprocess.PIPE, stdout=subprocess.PIPE, stderr=subprocess.STDOUT,
