@@ -26,17 +26,17 @@ module _ {M K N D F T R W E : Type 0} (memory : Keeping M) (files : Keeping K) (
   -- rings and the hour of another, and is in its files.
   abbrev pub DoesOverFiles : Type 0
   DoesOverFiles = DoesAsked memory files (λ name. IsKept files image)
-      (λ keeper answer. EndsIn files disk store keeper answer) (λ name text. ⊤)
+      (λ keeper answer. EndsIn files store keeper answer) (λ name text. ⊤)
       (λ name most why. IsUnreadFile read most why) before after
-      (λ name rings hour. IsMade made new_disk (rings_alone rings hour)) remaining contents told words reader
+      (λ name rings hour. IsMade made new_store (rings_alone rings hour)) remaining contents told words reader
       late_reader writer later errors late_errors
 
   -- The words ask for a task, which failed over the stores in files or was an import that was
   -- refused, or there was no memory to read the words.
   abbrev pub FailsOverFiles : Type 0
   FailsOverFiles = FailsAsked memory files (λ name. IsKept files image)
-      (λ keeper answer. EndsIn files disk store keeper answer) (λ name text. ⊤)
+      (λ keeper answer. EndsIn files store keeper answer) (λ name text. ⊤)
       (λ name most why. IsUnreadFile read most why) before after
-      (λ name rings hour. IsMade made new_disk (rings_alone rings hour)) remaining contents told words reader
+      (λ name rings hour. IsMade made new_store (rings_alone rings hour)) remaining contents told words reader
       late_reader writer later errors late_errors (λ name why. IsNotOpened disk image why)
-      (λ name rings hour why. IsNotMade made new_store (rings_alone rings hour) why)
+      (λ name rings hour why. IsNotMade made (rings_alone rings hour) why)

@@ -1,16 +1,13 @@
 -- The store in a file as programs open it, and as they make it.
-use Rattle.std.specs.Prelude.{◌≡◌, IfErr, OnOk, ℕ}
+use Rattle.std.specs.Prelude.{◌≡◌, OnOk, ℕ}
 use Rattle.ring_words.specs.Limits.{most_numbers}
 use Rattle.sqlite_disk.specs.declared.Disk as disk
 use Rattle.sqlite_disk.specs.declared.Files.{Files}
-use Rattle.sqlite.specs.declared.error.Error.{Error}
 use Rattle.sqlite_store.specs.declared.store.FileStore.{FileStore}
-use Rattle.sqlite_store.specs.FileStore.{view}
-use Rattle.sqlite_trees.specs.View.{IsClean}
 use Rattle.sqlite_trees.specs.declared.store.Store.{Ghosts}
 use Rattle.sqlite_wal.specs.Reads.{AreClean}
 use Rattle.sqlite_wal.specs.Recovery.{Image}
-use Rattle.builder_store.specs.Closing.{AreLeftWith, IsUnclosed}
+use Rattle.builder_store.specs.Closing.{AreFilesOf, AreLeftWith}
 use Rattle.builder_store.specs.Opening.{IsOpenedFrom}
 use Rattle.builder_store.specs.declared.keeper.SqlKeeper.{SqlKeeper}
 use Rattle.programs.specs.Begun.{Closing}
@@ -36,10 +33,13 @@ pub record EndsSettled {K : Type 0} (g : Keeping K) (keeper : K) : Type 0 where
   pub left : g.sound keeper → g.fault_count keeper ≡ 0 →
       LeavesOnly (g.may_leave keeper) (g.content keeper)
 
--- A keeper is in files as it was closed. Where its store had not failed and their disk returned what
--- was written, an opening of them finds what the keeper held and nothing else, also after a crash.
-pub record IsInFiles {K D : Type 0} (g : Keeping K) (d : disk.Ghosts D) (keeper : K) : Type 0 where
+-- A keeper over this store is in the store's files, as it was closed. Where the store had not failed and
+-- its disk returned what was written, an opening of the files finds what the keeper held and nothing
+-- else, also after a crash.
+pub record IsInFiles {K D : Type 0} (g : Keeping K) {d : disk.Ghosts D} (store : FileStore D d)
+    (keeper : K) : Type 0 where
   pub files : Files D
+  pub are : AreFilesOf store files
   pub hold : g.fault_count keeper ≡ 0 → AreClean d files.log files.db →
       AreLeftWith d files (g.content keeper)
 
@@ -47,36 +47,26 @@ pub record IsInFiles {K D : Type 0} (g : Keeping K) (d : disk.Ghosts D) (keeper 
 abbrev pub store_of_keeper : {S : Type 0} {g : Ghosts S} → SqlKeeper S g → S
 store_of_keeper keeper = keeper.conn.store
 
--- A keeper over this store couldn't be closed. Where it had not failed and the disk returned what was
--- written, memory was wanted or the disk failed or refused once more.
-pub record IsStillOpen {K D : Type 0} (g : Keeping K) {d : disk.Ghosts D} (store : FileStore D d)
-    (keeper : K) : Type 0 where
-  pub last : FileStore D d
-  pub error : Error
-  pub cause : g.fault_count keeper ≡ 0 → IsClean (view last) → IsUnclosed store last error
-
--- A keeper was made that has this content and keeps 100,000 requests, and couldn't be closed.
-pub record IsMadeOpen {K D : Type 0} (g : Keeping K) {d : disk.Ghosts D} (store : K → FileStore D d)
-    (content : RingContent) : Type 0 where
+-- A keeper was made that has this content and keeps 100,000 requests.
+pub record IsMadeOpen {K : Type 0} (g : Keeping K) (content : RingContent) : Type 0 where
   pub keeper : K
   pub limit : g.limit keeper ≡ most_numbers
   pub faults : g.fault_count keeper ≡ 0
   pub is : g.sound keeper → g.content keeper ≡ content
-  pub unclosed : IsStillOpen g (store keeper) keeper
 
 -- A keeper was closed, which answered so. That it was done is answered only where the keeper is in
--- its files, and that it failed only where it couldn't be closed.
-pub record EndsIn {K D : Type 0} (g : Keeping K) (d : disk.Ghosts D) (store : K → FileStore D d)
+-- its files.
+pub record EndsIn {K D : Type 0} (g : Keeping K) {d : disk.Ghosts D} (store : K → FileStore D d)
     (keeper : K) (answer : Closing) : Type 0 where
   pub settled : EndsSettled g keeper
-  pub closed : OnOk answer (IsInFiles g d keeper)
-  pub unclosed : IfErr answer (λ why. IsStillOpen g (store keeper) keeper)
+  pub closed : OnOk answer (IsInFiles g (store keeper) keeper)
 
 -- A keeper was made that has this content and keeps 100,000 requests. Its store has not failed, a
 -- crash leaves this content and nothing else, and it is in its files.
-pub record IsMade {K D : Type 0} (g : Keeping K) (d : disk.Ghosts D) (content : RingContent) : Type 0 where
+pub record IsMade {K D : Type 0} (g : Keeping K) {d : disk.Ghosts D} (store : K → FileStore D d)
+    (content : RingContent) : Type 0 where
   pub keeper : K
-  pub closed : IsInFiles g d keeper
+  pub closed : IsInFiles g (store keeper) keeper
   pub limit : g.limit keeper ≡ most_numbers
   pub faults : g.fault_count keeper ≡ 0
   pub is : g.sound keeper → g.content keeper ≡ content

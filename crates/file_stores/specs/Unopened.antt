@@ -7,7 +7,6 @@ use Rattle.byte_streams.specs.declared.fault.StreamFault.TheVariants as stream
 use Rattle.sqlite.specs.Files.{file_state}
 use Rattle.sqlite.specs.State.{HasCleanDisk}
 use Rattle.sqlite_disk.specs.declared.Disk as disks
-use Rattle.sqlite_store.specs.declared.store.FileStore.{FileStore}
 use Rattle.sqlite_wal.specs.Recovery.{Image}
 use Rattle.builder_store.specs.Making.{IsJudgement}
 use Rattle.builder_store.specs.Opening.{HoldsNoStore, IsBadStore}
@@ -66,10 +65,8 @@ pub record IsRefusedMaking (why : ProgramFault) : Type 0 where
   pub unjudged : IsJudgement cause → ⊥
 
 -- A store of this content wasn't made, for such a cause; or it was made and couldn't be closed.
-abbrev pub IsNotMade : {K D : Type 0} → Keeping K → {d : disks.Ghosts D} → (K → FileStore D d)
-    → RingContent → ProgramFault → Type 0
-IsNotMade g store content why = IsRefusedMaking why
-    ⊎ ((why ≡ fault.StoreFault) × IsMadeOpen g store content)
+abbrev pub IsNotMade : {K : Type 0} → Keeping K → RingContent → ProgramFault → Type 0
+IsNotMade g content why = IsRefusedMaking why ⊎ ((why ≡ fault.StoreFault) × IsMadeOpen g content)
 
 -- ---- files
 

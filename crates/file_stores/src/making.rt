@@ -13,7 +13,6 @@ use request_book::Keeper;
 use ring_model::Rings;
 use ring_words::{Hour, Limits};
 use sqlite::{FileFrom, Start};
-use sqlite_disk::Disk;
 use std::marker::PhantomData;
 
 /// Stands for files that are made, and so are empty. What a write that is cut short may leave is
@@ -59,9 +58,9 @@ pub(crate) fn make_store<S: Start>(
     rings: Rings,
     hour: Hour,
 ) -> Result<(), ProgramFault>
-    ensures made { OnOk result (IsMade ⟦<NewKeeper<S> as Keeper<RingMachine>>⟧
-        ⟦<FileFrom<NewFiles<S>> as Disk>⟧ (rings_alone rings hour)) }
-    ensures unmade { IfErr result (IsNotMade ⟦<NewKeeper<S> as Keeper<RingMachine>>⟧ store_of_keeper
+    ensures made { OnOk result (IsMade ⟦<NewKeeper<S> as Keeper<RingMachine>>⟧ store_of_keeper
+        (rings_alone rings hour)) }
+    ensures unmade { IfErr result (IsNotMade ⟦<NewKeeper<S> as Keeper<RingMachine>>⟧
         (rings_alone rings hour)) }
     ensures fault { IfErr result IsStoreFault }
 {

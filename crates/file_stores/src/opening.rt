@@ -63,8 +63,7 @@ fn stands<K: Keeper<RingMachine>>(keeper: K) -> K
 
 /// Closes a store, so that all that it holds is in its file, and says so only where it is.
 pub(crate) fn close_store<S: Start>(keeper: FileKeeper<S>) -> Result<(), ProgramFault>
-    ensures ended { EndsIn ⟦<FileKeeper<S> as Keeper<RingMachine>>⟧ ⟦<FileFrom<S> as Disk>⟧ store_of_keeper
-        keeper result }
+    ensures ended { EndsIn ⟦<FileKeeper<S> as Keeper<RingMachine>>⟧ store_of_keeper keeper result }
     ensures fault { IfErr result (λ why. why ≡ StoreFault) }
 {
     match close_keeper(stands(keeper)) {

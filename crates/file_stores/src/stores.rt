@@ -72,14 +72,14 @@ impl<S: Start> Stores for StoreFiles<S> {
     ghost refuses = { λ name why. IsNotOpened ⟦<FileFrom<HeldFiles<S>> as Disk>⟧ (image_at S.Start)
         why };
 
-    ghost ends = { λ keeper answer. EndsIn ⟦<HeldKeeper<S> as Keeper<RingMachine>>⟧
-        ⟦<FileFrom<HeldFiles<S>> as Disk>⟧ store_of_keeper keeper answer };
+    ghost ends = { λ keeper answer. EndsIn ⟦<HeldKeeper<S> as Keeper<RingMachine>>⟧ store_of_keeper
+        keeper answer };
 
-    ghost is_made = { λ name rings hour. IsMade ⟦<NewKeeper<S> as Keeper<RingMachine>>⟧
-        ⟦<FileFrom<NewFiles<S>> as Disk>⟧ (rings_alone rings hour) };
+    ghost is_made = { λ name rings hour. IsMade ⟦<NewKeeper<S> as Keeper<RingMachine>>⟧ store_of_keeper
+        (rings_alone rings hour) };
 
     ghost is_unmade = { λ name rings hour why. IsNotMade ⟦<NewKeeper<S> as Keeper<RingMachine>>⟧
-        store_of_keeper (rings_alone rings hour) why };
+        (rings_alone rings hour) why };
 
     ghost holds = { λ name text. ⊤ };
 

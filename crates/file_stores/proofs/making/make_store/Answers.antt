@@ -4,7 +4,7 @@ use Rattle.file_stores.proofs.Made.{is_made, is_open}
 use Rattle.file_stores.proofs.making.make_store.Goals as goal
 
 pub returns-clause-made : goal.returns-clause-made
-returns-clause-made g c = is_made _ _ _ _ c.close_store.result c.in-Ok.keeper
+returns-clause-made g c = is_made _ _ _ c.close_store.result c.in-Ok.keeper
     (c.in-Ok.ensures.limit ∙ c.full.ensures.numbers) c.in-Ok.ensures.faults c.in-Ok.ensures.made
     c.close_store.ensures.ended
 
@@ -19,6 +19,6 @@ returns-in-Err-clause-unmade g c = inl (record {
 })
 
 pub returns-clause-unmade : goal.returns-clause-unmade
-returns-clause-unmade g c = is_open _ _ _ _ c.close_store.result c.in-Ok.keeper
+returns-clause-unmade g c = is_open _ _ c.close_store.result c.in-Ok.keeper
     (c.in-Ok.ensures.limit ∙ c.full.ensures.numbers) c.in-Ok.ensures.faults c.in-Ok.ensures.made
-    c.close_store.ensures.ended c.close_store.ensures.fault
+    c.close_store.ensures.fault
