@@ -2,7 +2,8 @@
 """Times the service: bench/service.py [--small] [--write] [FOLDER]
 
 Requests a second over one connection, one at a time and many at once in flight, and over many connections: node lookups,
-a device table of 256 devices, repeats, and new requests that are stored. Beside it in the same run: `wrk`, where it is
+a device table of 256 devices, repeats, and new requests that are stored; and how long the server computes for an answer
+of one connection, by itself and in the kernel: what is left of the time is the client's, and waiting. Beside it in the same run: `wrk`, where it is
 there; nginx, where it is there, with a file of the same size; Python's http.server with a lookup by MD5 in a list behind
 it. FOLDER is where the file lies. --small takes small sizes, --write puts the tables into docs/speed.md.
 """
@@ -12,6 +13,7 @@ import http.server
 import json
 import multiprocessing
 import os
+import pathlib
 import re
 import shutil
 import socket
@@ -110,6 +112,38 @@ def many_in_flight(port, asked):
         return status, count / (time.perf_counter() - begun)
 
 
+def new_in_flight(port, asked):
+    """Answers a second on one connection with many requests in flight, each another one."""
+    with connect(port) as one:
+        count, held, begun = 0, b"", time.perf_counter()
+        while time.perf_counter() - begun < SECONDS:
+            one.sendall(b"".join(next(asked) for _ in range(AT_ONCE)))
+            for _ in range(AT_ONCE):
+                status, _, held = read_answer(one, held)
+            count += AT_ONCE
+        return status, count / (time.perf_counter() - begun)
+
+
+def processor_seconds(server):
+    """Seconds that a server and its children computed so far, by themselves and in the kernel."""
+    found = [0.0, 0.0]
+    for stat in pathlib.Path("/proc").glob("[0-9]*/stat"):
+        with contextlib.suppress(OSError):
+            fields = stat.read_text().rpartition(") ")[2].split()
+            if server in (int(stat.parent.name), int(fields[1])):
+                found[0] += int(fields[11]) / os.sysconf("SC_CLK_TCK")
+                found[1] += int(fields[12]) / os.sysconf("SC_CLK_TCK")
+    return found
+
+
+def alone_and_spent(server, port, asked):
+    """One at a time: the status, the answers a second, and the server's microseconds for each, its own and the kernel's."""
+    before = processor_seconds(server)
+    status, alone = one_at_a_time(port, asked)
+    after = processor_seconds(server)
+    return status, figure(alone), *(f"{1e6 * (late - early) / max(1, alone * SECONDS):.0f}" for early, late in zip(before, after))
+
+
 def by_connections(port, asked, clients):
     """Answers a second over a connection for each request, by so many clients at once."""
     counts, end = [0] * clients, time.perf_counter() + SECONDS
@@ -204,12 +238,12 @@ def figure(number):
 
 @contextlib.contextmanager
 def service(file):
-    """The port of the service over a file, started anew: it ends after 65,535 connections."""
+    """The process and the port of the service over a file, started anew: it ends after 65,535 connections."""
     port = free_port()
     server = subprocess.Popen([*program(), "serve", file, str(port), "65535", "--hour", "0"])
     try:
         wait_until(lambda: is_listening(port))
-        yield port
+        yield server.pid, port
     finally:
         server.kill()
         server.wait()
@@ -222,14 +256,15 @@ def ours(room):
     timed_run("run", "--file", file, given="".join(lines).encode())
     repeat = post(body_of(lines[0]))
     for what, given, target in [("nodes of a path", get(NODES), NODES), (f"device table of {DEVICES}", get(TABLE), TABLE), ("repeat", repeat, None)]:
-        with service(file) as port:
-            status, alone = one_at_a_time(port, again(given))
+        with service(file) as (server, port):
+            alone = alone_and_spent(server, port, again(given))
             _, flight = many_in_flight(port, again(given))
-            told.append([what, status, figure(alone), figure(flight), figure(target and by_wrk(port, target)),
+            told.append([what, *alone, figure(flight), figure(target and by_wrk(port, target)),
                          figure(by_connections(port, again(given), 1)), figure(by_connections(port, again(given), 16))])
-    with service(file) as port:
-        status, alone = one_at_a_time(port, new_ones(10))
-        told.append(["new request, stored", status, figure(alone), "", "",
+    with service(file) as (server, port):
+        alone = alone_and_spent(server, port, new_ones(10))
+        _, flight = new_in_flight(port, new_ones(3000000))
+        told.append(["new request, stored", *alone, figure(flight), "",
                      figure(by_connections(port, new_ones(1000000), 1)), figure(by_connections(port, new_ones(2000000), 16))])
         with connect(port) as one:
             one.sendall(get(NODES))
@@ -242,8 +277,8 @@ def others(room, size):
     python = multiprocessing.Process(target=serve_python, args=(port,), daemon=True)
     python.start()
     wait_until(lambda: is_listening(port))
-    status, alone = one_at_a_time(port, again(get("/nodes")))
-    told.append(["Python's http.server, a lookup", status, figure(alone), "", figure(by_wrk(port, "/nodes")),
+    alone = alone_and_spent(python.pid, port, again(get("/nodes")))
+    told.append(["Python's http.server, a lookup", *alone, "", figure(by_wrk(port, "/nodes")),
                  figure(by_connections(port, again(get("/nodes").replace(b"\r\n\r\n", b"\r\nConnection: close\r\n\r\n")), 1)), ""])
     python.kill()
     port = free_port()
@@ -251,9 +286,9 @@ def others(room, size):
     if nginx and not wait_until(lambda: is_listening(port) or nginx.poll() is not None) or nginx and nginx.poll() is not None:
         print("nginx did not start", file=sys.stderr)
     elif nginx:
-        status, alone = one_at_a_time(port, again(get("/file")))
+        alone = alone_and_spent(nginx.pid, port, again(get("/file")))
         _, flight = many_in_flight(port, again(get("/file")))
-        told.append([f"nginx, a file of {size} bytes", status, figure(alone), figure(flight), figure(by_wrk(port, "/file")),
+        told.append([f"nginx, a file of {size} bytes", *alone, figure(flight), figure(by_wrk(port, "/file")),
                      figure(by_connections(port, again(get("/file")), 1)), figure(by_connections(port, again(get("/file")), 16))])
         nginx.terminate()
         nginx.wait()
@@ -266,7 +301,7 @@ def main():
         os.chmod(room, 0o755)
         told, size = ours(room)
         tell("Requests a second over HTTP", "bench/service.py",
-             ["what is asked", "status", "one connection, one at a time", f"{AT_ONCE} in flight", "wrk, one connection",
+             ["what is asked", "status", "one connection, one at a time", "µs of the server for each", "of the kernel", f"{AT_ONCE} in flight", "wrk, one connection",
               "a connection each", "by 16 clients"], told + others(room, size))
 
 

@@ -14,3 +14,5 @@ pub mod Keeping
 pub mod Rising
 pub mod Orders
 pub mod StepChanges
+pub mod Taking
+pub mod Asking

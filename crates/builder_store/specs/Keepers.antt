@@ -1,5 +1,5 @@
 -- What a keeper over a store holds, and what is left where it is not opened.
-use Rattle.std.specs.Prelude.{[], cond, nat_lt}
+use Rattle.std.specs.Prelude.{◌<◌, [], cond, nat_lt}
 use Rattle.sqlite_trees.specs.Tree.{Trees}
 use Rattle.sqlite_trees.specs.View.{IsClean}
 use Rattle.sqlite_trees.specs.declared.store.Store.{Ghosts}
@@ -21,6 +21,11 @@ module _ {S : Type 0} {g : Ghosts S} where
       (record { state = k.rings; book = []; hour = k.hour })
 
 module _ {S : Type 0} (g : Ghosts S) where
+  -- The disk of what is left has failed or refused.
+  abbrev pub HasMetFaults : Left S → Type 0
+  HasMetFaults (left.Connection conn) = 0 < g.faults conn.store
+  HasMetFaults (left.Store store) = 0 < g.faults store
+
   -- The disk of what is left returned what was written.
   abbrev pub IsCleanLeft : Left S → Type 0
   IsCleanLeft (left.Connection conn) = IsClean (g.view conn.store)

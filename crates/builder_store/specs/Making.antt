@@ -1,10 +1,12 @@
 -- What a store is made with.
-use Rattle.std.specs.Prelude.{ℕ, []}
+use Rattle.std.specs.Prelude.{◌≡◌, ℕ, []}
 use Rattle.store_rows.specs.RingRows.{NamedRings}
 use Rattle.store_rows.specs.Stands.{RingContent}
 use Rattle.builder_store.specs.Opening.{IsBadStore}
+use Rattle.builder_store.specs.declared.fault.FileFault.TheVariants as file
 use Rattle.builder_store.specs.declared.fault.MakeFault.{MakeFault}
 use Rattle.builder_store.specs.declared.fault.MakeFault.TheVariants.{Opening, PathTaken, Taken}
+use Rattle.builder_store.specs.declared.fault.OpenFault.TheVariants.{Store}
 
 -- These rings, no request, and this as the hour from which the book goes on.
 abbrev pub rings_alone : NamedRings → ℕ → RingContent
@@ -15,3 +17,7 @@ abbrev pub IsJudgement : MakeFault → Type 0
 IsJudgement PathTaken = ⊥
 IsJudgement Taken = ⊥
 IsJudgement (Opening why) = IsBadStore why
+
+-- The fault tells that a store over which a connection was made has failed.
+abbrev pub IsFailure : MakeFault → Type 0
+IsFailure why = why ≡ Opening (file.Opening Store)

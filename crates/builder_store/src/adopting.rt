@@ -1,12 +1,14 @@
 //! Taking a connection over.
-ghost use Rattle.std.specs.Prelude.{◌≡◌, ◌≢◌, ◌≤◌, false, IfErr, IfOk};
+ghost use Rattle.std.specs.Prelude.{◌≡◌, ◌≢◌, ◌≤◌, ◌⊎◌, false, IfErr, IfOk, IsTrue};
 ghost use Rattle.sqlite_trees.specs.Tree.{Trees};
-ghost use Rattle.sqlite_trees.specs.View.{doubt};
+ghost use Rattle.sqlite_trees.specs.View.{IsClean, doubt};
 ghost use Rattle.sqlite.specs.Held.{state};
 ghost use Rattle.sqlite.specs.State.{HasCleanDisk};
+ghost use Rattle.store_tables.specs.Failing.{HasFailedSince, tells_failure};
 ghost use Rattle.builder_store.specs.Inner.Faults.{opening_fault};
 ghost use Rattle.builder_store.specs.Inner.Opened.{IsFresh};
-ghost use Rattle.builder_store.specs.declared.fault.OpenFault.TheVariants.{BadRows, BadTables};
+ghost use Rattle.builder_store.specs.declared.fault.OpenFault.TheVariants.{BadRows, BadTables, NoMemory};
+ghost use Rattle.builder_store.specs.declared.fault.OpenFault.TheVariants.{Store as Failed};
 
 use crate::fault::OpenFault;
 use sqlite::{Alter, Connection, Error, ErrorCode};
@@ -60,6 +62,9 @@ pub(crate) fn take_over<S: Alter + Drop>(
         → (state S.Store c).may_leave db → (state S.Store conn).may_leave db) }
     ensures left { IfErr result (λ e. (db : Trees) → S.Store.recovers e.1 db →
         (state S.Store conn).may_leave db) }
+    ensures cause { IfErr result (λ e. IsClean (S.Store.view e.1)
+        → (opening_fault e.0 ≡ NoMemory) ⊎ ((opening_fault e.0 ≡ Failed)
+        × HasFailedSince (state S.Store conn) (S.Store.faults e.1))) }
 {
     let store = conn.into_store();
     if store.is_broken() {
@@ -71,6 +76,7 @@ pub(crate) fn take_over<S: Alter + Drop>(
 /// Why an error of a connection ends an opening.
 pub(crate) fn fault_of(error: &Error) -> OpenFault
     ensures which { result ≡ opening_fault error.now }
+    ensures failed { result ≡ Failed → IsTrue (tells_failure error.now) }
     ensures unjudged { (result ≢ BadRows) × (result ≢ BadTables) }
 {
     match error {

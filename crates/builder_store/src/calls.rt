@@ -1,10 +1,10 @@
 //! What the keeper asks of its connection.
 
-ghost use Rattle.std.specs.Prelude.{◌≡◌, ◌≢◌, ◌↔◌, false, Err, IfOk, IsTrue};
+ghost use Rattle.std.specs.Prelude.{◌≡◌, ◌≢◌, ◌↔◌, [], false, Err, IfErr, IfOk, IsTrue, OnOk};
 ghost use Rattle.ring_words.specs.declared.spelling.SpellingFault.TheVariants as spelling;
 ghost use Rattle.sqlite.specs.Held.{state};
-ghost use Rattle.sqlite.specs.State.{HasCleanDisk, IsLive, IsUnchanged, Survives};
-ghost use Rattle.sqlite.specs.declared.error.Error.TheVariants.{SqliteFailure};
+ghost use Rattle.sqlite.specs.State.{HasCleanDisk, IsLive, IsNotRun, IsUnchanged, Survives};
+ghost use Rattle.sqlite.specs.declared.error.Error.TheVariants.{InvalidQuery, SqliteFailure};
 ghost use Rattle.sqlite.specs.declared.error.ErrorCode.TheVariants.{OutOfMemory};
 ghost use Rattle.request_book.specs.Content.{entry_of};
 ghost use Rattle.request_book.specs.Keeper.{IsFound};
@@ -16,7 +16,7 @@ ghost use Rattle.builder_store.specs.Inner.Tables.{HasTables, IsSettledState};
 
 use request_book::{Found, KeepFault};
 use ring_words::{Command, Key, Reply, SpellingFault};
-use sqlite::{Alter, Connection, Error, ErrorCode};
+use sqlite::{Alter, Connection, Error, ErrorCode, Row};
 use std::alloc::Global;
 use store_rows::read_found;
 use store_tables::find_request;
@@ -32,6 +32,34 @@ pub(crate) fn settle<S: Alter>(conn: &Connection<S>)
 {
     let _schema = conn.schema();
     let _ended = conn.is_autocommit();
+}
+
+/// What the answer to an empty text tells: that it shows no rows, or that it was not run.
+fn told_nothing(answer: Result<Vec<Row>, Error>) -> Result<(), Error>
+    ensures nothing { OnOk result (IfErr answer (λ e. e ≡ InvalidQuery)) }
+    ensures untold { IfErr result (λ e. (answer ≡ Err e) × (e ≢ InvalidQuery)) }
+{
+    match answer {
+        Ok(_) => Ok(()),
+        Err(Error::InvalidQuery) => Ok(()),
+        Err(error) => Err(error),
+    }
+}
+
+/// Asks a connection for nothing, by an empty text. Ok tells that it is open.
+///
+/// Where that text was compiled before, it takes no memory.
+pub(crate) fn ask_nothing<S: Alter>(conn: &mut Connection<S>) -> Result<(), Error>
+    requires { conn.old.in_transaction ≡ false }
+    ensures mode { conn.new.in_transaction ≡ false }
+    ensures answered { HasCleanDisk (state S.Store conn.new) → OnOk result (IsUnchanged
+        (state S.Store conn.old) (state S.Store conn.new)) }
+    ensures unanswered { HasCleanDisk (state S.Store conn.new) → IfErr result (IsNotRun
+        (state S.Store conn.old) (state S.Store conn.new) [] []) }
+    ensures survives { Survives (state S.Store conn.old) (state S.Store conn.new) (λ _. ⊥) }
+{
+    let answer = conn.query_all("", &[]);
+    told_nothing(answer)
 }
 
 /// What a failed statement comes to: want of memory where the store still answers, and else the
@@ -52,12 +80,10 @@ pub(crate) fn cause<S: Alter>(conn: &mut Connection<S>, error: &Error) -> KeepFa
     if !matches!(error, Error::SqliteFailure(ErrorCode::OutOfMemory)) {
         return KeepFault::Store;
     }
-    // It asks for nothing and changes nothing.
-    match conn.prepare("SELECT hour FROM meta") {
-        Ok(_) => {}
-        Err(_) => return KeepFault::Store,
+    match ask_nothing(conn) {
+        Ok(()) => KeepFault::NoMemory,
+        Err(_) => KeepFault::Store,
     }
-    KeepFault::NoMemory
 }
 
 /// What a row comes to that isn't read: memory was wanted, or it is no row of a store.

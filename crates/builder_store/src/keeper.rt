@@ -9,10 +9,10 @@ ghost use Rattle.builder_store.specs.Inner.Tables.{HasTables, fact_prop};
 use crate::adopting::{Left, fault_of, take_over};
 use crate::calls::find;
 use crate::fault::{FileFault, MakeFault, OpenFault};
-use crate::making::make_tables;
+use crate::making::make_ready;
 use crate::planning::keep;
 use crate::reading::Opened;
-use crate::starting::open_tables;
+use crate::starting::open_ready;
 use builder::RingMachine;
 use request_book::{Entry, Found, KeepFault, Keeper};
 use ring_model::Rings;
@@ -66,11 +66,13 @@ impl<S: Alter + Drop> SqlKeeper<S> {
     ghost use Rattle.std.specs.Prelude.{IfErr, IfOk, ◌⊎◌};
     ghost use Rattle.sqlite_trees.specs.Tree.{Trees};
     ghost use Rattle.sqlite_trees.specs.View.{doubt};
-    ghost use Rattle.builder_store.specs.Keepers.{IsCleanLeft, content_of_keeper, left_may_leave};
+    ghost use Rattle.builder_store.specs.Keepers.{HasMetFaults, IsCleanLeft, content_of_keeper};
+    ghost use Rattle.builder_store.specs.Keepers.{left_may_leave};
     ghost use Rattle.std.specs.Prelude.{ℕ};
     ghost use Rattle.store_rows.specs.Stands.{RingContent};
     ghost use Rattle.builder_store.specs.Opening.{AreDeclared, IsMadeOf, IsOpenedAs, KeepsRows};
     ghost use Rattle.builder_store.specs.declared.fault.OpenFault.TheVariants.{BadRows, BadTables};
+    ghost use Rattle.builder_store.specs.declared.fault.OpenFault.TheVariants.{Store as Failed};
 
     /// Opens what the connection's last commit holds, and keeps at most `limits.numbers` requests.
     /// What the connection hasn't committed is rolled back.
@@ -101,6 +103,10 @@ impl<S: Alter + Drop> SqlKeeper<S> {
             → IsOpenedAs (state S.Store conn).committed.trees content → ⊥) }
         ensures missing { IfErr result (λ e. e.0 ≡ BadTables → IsCleanLeft S.Store e.1
             → (made : ℕ) → AreDeclared made (state S.Store conn).committed.trees → ⊥) }
+        // The store is told to have failed only where its disk has failed or refused, or where it
+        // was shut before.
+        ensures failed { IfErr result (λ e. e.0 ≡ Failed → IsCleanLeft S.Store e.1
+            → HasMetFaults S.Store e.1 ⊎ ((state S.Store conn).is_open ≡ false)) }
         // A crash after a refusal leaves what it could leave before, or what an opening makes of
         // it.
         ensures crash { IfErr result (λ e. IsCleanLeft S.Store e.1 → (db : Trees)
@@ -158,7 +164,7 @@ impl<S: Alter + Drop> SqlKeeper<S> {
     {
         one_content();
         let mut conn = conn;
-        match open_tables(alloc, &mut conn) {
+        match open_ready(alloc, &mut conn) {
             Ok(opened) => Ok(SqlKeeper::holding(alloc, conn, opened, limits)),
             Err(fault) => Err((fault, conn)),
         }
@@ -179,7 +185,7 @@ impl<S: Alter + Drop> SqlKeeper<S> {
     {
         one_content();
         let mut conn = conn;
-        match make_tables(alloc, &mut conn, &rings, hour) {
+        match make_ready(alloc, &mut conn, &rings, hour) {
             Ok(()) => {
                 let opened = Opened {
                     rings,
@@ -197,8 +203,9 @@ impl<S: Alter + Drop> SqlKeeper<S> {
     ghost use Rattle.std.specs.Prelude.{IfErr, IfOk, ◌⊎◌};
     ghost use Rattle.sqlite_trees.specs.Tree.{Trees};
     ghost use Rattle.sqlite_trees.specs.View.{doubt};
-    ghost use Rattle.builder_store.specs.Keepers.{IsCleanLeft, content_of_keeper, left_may_leave};
-    ghost use Rattle.builder_store.specs.Making.{IsJudgement, rings_alone};
+    ghost use Rattle.builder_store.specs.Keepers.{HasMetFaults, IsCleanLeft, content_of_keeper};
+    ghost use Rattle.builder_store.specs.Keepers.{left_may_leave};
+    ghost use Rattle.builder_store.specs.Making.{IsFailure, IsJudgement, rings_alone};
     ghost use Rattle.builder_store.specs.Opening.{AreDeclared, Stands};
     ghost use Rattle.builder_store.specs.declared.fault.MakeFault.TheVariants.{Taken};
 
@@ -225,6 +232,10 @@ impl<S: Alter + Drop> SqlKeeper<S> {
             → AreDeclared 0 (state S.Store conn).committed.trees) }
         ensures taken { IfErr result (λ e. e.0 ≡ Taken → IsCleanLeft S.Store e.1
             → AreDeclared 0 (state S.Store conn).committed.trees → ⊥) }
+        // The store is told to have failed only where its disk has failed or refused, or where it
+        // was shut before.
+        ensures failed { IfErr result (λ e. IsFailure e.0 → IsCleanLeft S.Store e.1
+            → HasMetFaults S.Store e.1 ⊎ ((state S.Store conn).is_open ≡ false)) }
         // What is there is judged by nobody, so it is told as bad by nobody.
         ensures unjudged { IfErr result (λ e. IsJudgement e.0 → ⊥) }
         ensures stays { IfErr result (λ e. e.0 ≡ Taken → IsCleanLeft S.Store e.1 → (db : Trees)
@@ -308,6 +319,10 @@ impl<S: Alter> Keeper<RingMachine> for SqlKeeper<S> {
 
     fn is_full(&mut self) -> Result<bool, KeepFault> {
         Ok(self.count >= self.limit as usize)
+    }
+
+    fn count(&mut self) -> Result<usize, KeepFault> {
+        Ok(self.count)
     }
 
     fn hour(&mut self) -> Result<Hour, KeepFault> {

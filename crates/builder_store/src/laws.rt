@@ -1,9 +1,11 @@
 //! What follows from the definitions alone.
-ghost use Rattle.std.specs.Prelude.{◌≡◌, ◌↔◌, ℕ};
+ghost use Rattle.std.specs.Prelude.{◌≡◌, ◌↔◌, ◌<◌, ℕ};
 ghost use Rattle.sqlite_trees.specs.Tree.{Trees};
 ghost use Rattle.ring_words.specs.declared.command.Command.{Command};
 ghost use Rattle.ring_words.specs.declared.command.Reply.{Reply};
 ghost use Rattle.ring_words.specs.declared.request.Limits.{Limits};
+ghost use Rattle.ring_words.specs.Limits.{long_count};
+ghost use Rattle.builder.specs.Safety.{AreValid};
 ghost use Rattle.builder.specs.Step.{State, Step};
 ghost use Rattle.store_rows.specs.Differences.{IsChangedAt};
 ghost use Rattle.store_rows.specs.Stands.{RingContent};
@@ -25,6 +27,14 @@ pub fn opening_finds_what_is_left()
     one_content();
     one_first_content();
 }
+
+/// What an opening finds is valid, whatever tables it finds it in: the rings are, and the hour is
+/// one of 32 bits. So what is said of the life of a store needs no word on the rings that its file
+/// began with.
+pub fn what_is_opened_is_valid()
+    ensures { (db : Trees) (content : RingContent) → IsOpenedAs db content
+        → AreValid content.state × (content.hour < long_count) }
+{}
 
 /// A step of the builder leaves every ring as it was that its command does not name, and takes no
 /// ring, no partition and no published text away. So a commit may look at the named ring alone.

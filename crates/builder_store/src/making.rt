@@ -4,6 +4,7 @@ ghost use Rattle.ring_words.specs.Limits.{long_count};
 ghost use Rattle.sqlite.specs.Held.{state};
 ghost use Rattle.sqlite.specs.State.{HasCleanDisk, Survives};
 ghost use Rattle.store_model.specs.Changes.{prepared};
+ghost use Rattle.store_tables.specs.Failing.{HasFailed};
 ghost use Rattle.store_tables.specs.Tables.{no_tables};
 ghost use Rattle.store_rows.specs.Judging.{meta_now};
 ghost use Rattle.store_rows.specs.Stands.{IsHoldable, contents_for};
@@ -13,9 +14,11 @@ ghost use Rattle.builder_store.specs.Opening.{Stands, no_contents};
 ghost use Rattle.builder_store.specs.Inner.Opened.{IsFresh};
 ghost use Rattle.builder_store.specs.Inner.Tables.{HasTables};
 ghost use Rattle.builder_store.specs.declared.fault.MakeFault.TheVariants.{Taken};
+ghost use Rattle.builder_store.specs.Making.{IsFailure};
 
 use crate::adopting::fault_of;
 use crate::fault::{FileFault, MakeFault, OpenFault};
+use crate::starting::get_ready;
 use ring_model::Rings;
 use ring_words::Hour;
 use sqlite::{Alter, Connection};
@@ -37,7 +40,7 @@ fn rows_alone(alloc: Global, rings: &Rings) -> Result<Change, AllocError>
 
 /// Writes a store of these rings, without a request, whose book goes on from this hour. It is
 /// written in one transaction where nothing is there, and else not at all.
-pub(crate) fn make_tables<S: Alter>(
+fn make_tables<S: Alter>(
     alloc: Global,
     conn: &mut Connection<S>,
     rings: &Rings,
@@ -56,6 +59,8 @@ pub(crate) fn make_tables<S: Alter>(
     ensures of_connection { IfErr result IsMadeOfConnection }
     ensures survives { Survives (state S.Store conn.old) (state S.Store conn.new)
         (λ db. Stands db (rings_alone rings.now hour)) }
+    ensures failed { HasCleanDisk (state S.Store conn.new) → IfErr result (λ why. IsFailure why
+        → HasFailed (state S.Store conn.old) (state S.Store conn.new)) }
 {
     if !is_blank(conn) {
         return Err(MakeFault::Taken);
@@ -67,5 +72,36 @@ pub(crate) fn make_tables<S: Alter>(
     match prepare_store(conn, 0, change.rows(), &meta) {
         Ok(()) => Ok(()),
         Err(error) => Err(MakeFault::Opening(FileFault::Opening(fault_of(&error)))),
+    }
+}
+
+/// Writes such a store, and leaves the connection so that it can be asked for nothing without
+/// memory.
+pub(crate) fn make_ready<S: Alter>(
+    alloc: Global,
+    conn: &mut Connection<S>,
+    rings: &Rings,
+    hour: Hour,
+) -> Result<(), MakeFault>
+    requires mode { conn.old.in_transaction ≡ false }
+    requires fresh { HasCleanDisk (state S.Store conn.old) → IsFresh (state S.Store conn.old) }
+    ensures mode { conn.new.in_transaction ≡ false }
+    ensures nothing { OnOk result (conn.old.schema ≡ no_tables) }
+    ensures tables { HasCleanDisk (state S.Store conn.new) → OnOk result (HasTables
+        (state S.Store conn.new)) }
+    ensures made { HasCleanDisk (state S.Store conn.new) → OnOk result
+        (Stands (state S.Store conn.new).committed.trees (rings_alone rings.now hour)) }
+    ensures taken { result ≡ Err Taken → (conn.new ≡ conn.old) × (conn.old.schema ≢ no_tables) }
+    ensures unjudged { IfErr result (λ why. IsJudgement why → ⊥) }
+    ensures of_connection { IfErr result IsMadeOfConnection }
+    ensures survives { Survives (state S.Store conn.old) (state S.Store conn.new)
+        (λ db. Stands db (rings_alone rings.now hour)) }
+    ensures failed { HasCleanDisk (state S.Store conn.new) → IfErr result (λ why. IsFailure why
+        → HasFailed (state S.Store conn.old) (state S.Store conn.new)) }
+{
+    make_tables(alloc, conn, rings, hour)?;
+    match get_ready(conn) {
+        Ok(()) => Ok(()),
+        Err(fault) => Err(MakeFault::Opening(FileFault::Opening(fault))),
     }
 }

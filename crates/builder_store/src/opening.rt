@@ -4,11 +4,12 @@ ghost use Rattle.store_tables.specs.Tables.{table_count};
 ghost use Rattle.sqlite.specs.Held.{state};
 ghost use Rattle.sqlite.specs.State.{HasCleanDisk, Survives};
 ghost use Rattle.store_tables.specs.Contents.{contents_of};
+ghost use Rattle.store_tables.specs.Failing.{FailsForCause};
 ghost use Rattle.store_tables.specs.Store.{CommitsTables, HasMadeTables, begun_contents};
 ghost use Rattle.store_rows.specs.Judging.{IsFoundIn};
 ghost use Rattle.store_rows.specs.Stands.{RingContent};
 ghost use Rattle.builder_store.specs.Opening.{OpensAs, no_contents};
-ghost use Rattle.builder_store.specs.Inner.Opened.{LeadsInStore, LeadsTo, OpensRows};
+ghost use Rattle.builder_store.specs.Inner.Opened.{FailsOnlyFor, LeadsInStore, LeadsTo, OpensRows};
 ghost use Rattle.builder_store.specs.Inner.Tables.{HasTables, IsSettledState};
 ghost use Rattle.builder_store.specs.declared.fault.OpenFault.TheVariants.{BadRows, BadTables};
 
@@ -33,6 +34,7 @@ pub(crate) fn make_missing<S: Alter>(conn: &mut Connection<S>, made: usize) -> R
     ensures mode { conn.new.in_transaction ≡ false }
     ensures commits { CommitsTables (state S.Store conn.old) (state S.Store conn.new) result
         (begun_contents made (state S.Store conn.old).now.trees) }
+    ensures cause { FailsForCause (state S.Store conn.old) (state S.Store conn.new) result }
 {
     let mut tx = conn.transaction();
     create_missing(&mut tx, made)?;
@@ -55,6 +57,7 @@ pub(crate) fn begin<S: Alter>(
     ensures opens { (HasCleanDisk (state S.Store conn.old) → begun_contents made
         (state S.Store conn.old).now.trees ≡ no_contents)
         → OpensRows no_contents (state S.Store conn.old) (state S.Store conn.new) result }
+    ensures failed { FailsOnlyFor (state S.Store conn.old) (state S.Store conn.new) result }
 {
     nothing_is_holdable();
     let meta = meta_row(0);
@@ -84,6 +87,7 @@ fn migrate<S: Alter>(conn: &mut Connection<S>, judged: Judged) -> Result<Opened,
     ensures survives { Survives (state S.Store conn.old) (state S.Store conn.new)
         (λ trees. (content : RingContent) → IsFoundIn (contents_of (state S.Store conn.old).now.trees) content judged
         → LeadsInStore (contents_of (state S.Store conn.old).now.trees) trees) }
+    ensures failed { FailsOnlyFor (state S.Store conn.old) (state S.Store conn.new) result }
 {
     let Judged {
         rings,
@@ -118,6 +122,7 @@ pub(crate) fn open_rows<S: Alter>(
     ensures bad { result ≡ Err BadRows → HasCleanDisk (state S.Store conn.new)
         → (content : RingContent)
         → OpensAs (contents_of (state S.Store conn.old).now.trees) content → ⊥ }
+    ensures failed { FailsOnlyFor (state S.Store conn.old) (state S.Store conn.new) result }
 {
     let rows = match read_rows(alloc, conn) {
         Ok(rows) => rows,

@@ -1,5 +1,5 @@
 //! Opening and making over memory and over the files at a path.
-ghost use Rattle.std.specs.Prelude.{◌≡◌, ◌≢◌, ◌↔◌, IfErr, IfOk, None, option_map};
+ghost use Rattle.std.specs.Prelude.{◌≡◌, ◌≢◌, ◌↔◌, ◌<◌, IfErr, IfOk, None, option_map};
 ghost use Rattle.sqlite_trees.specs.Tree.{Trees};
 ghost use Rattle.sqlite.specs.Files.{file_state};
 ghost use Rattle.sqlite.specs.Held.{state};
@@ -11,7 +11,7 @@ ghost use Rattle.builder_store.specs.Keepers.{content_of_keeper};
 ghost use Rattle.builder_store.specs.Left.{AreUnopened, IfConnected, IfUnconnected, IsConnected};
 ghost use Rattle.builder_store.specs.Left.{IsConnectedAnd, IsMadeOfConnection, IsOfConnection};
 ghost use Rattle.builder_store.specs.Left.{IsUnconnected, IsUnmadeOver, IsUntouched};
-ghost use Rattle.builder_store.specs.Making.{IsJudgement, rings_alone};
+ghost use Rattle.builder_store.specs.Making.{IsFailure, IsJudgement, rings_alone};
 ghost use Rattle.builder_store.specs.Opening.{HoldsNoStore, HoldsNoTable, HoldsTables, IsBadStore};
 ghost use Rattle.builder_store.specs.Opening.{IsLeftOf, IsMadeOf, IsOpenedFrom, KeepsRows, Stands};
 ghost use Rattle.builder_store.specs.Opening.{nothing};
@@ -19,6 +19,7 @@ ghost use Rattle.builder_store.specs.Inner.Begins.{IsMadeOver};
 ghost use Rattle.builder_store.specs.declared.fault.FileFault.TheVariants.{Opening};
 ghost use Rattle.builder_store.specs.declared.fault.MakeFault.TheVariants.{Taken};
 ghost use Rattle.builder_store.specs.declared.fault.OpenFault.TheVariants.{BadRows, BadTables};
+ghost use Rattle.builder_store.specs.declared.fault.OpenFault.TheVariants.{Store as Failed};
 ghost use Rattle.builder_store.specs.declared.over.FilesLeft.TheVariants.{Files};
 
 use crate::fault::{FileFault, MakeFault, OpenFault};
@@ -41,6 +42,8 @@ pub fn open_memory(alloc: Global, limits: Limits) -> Result<SqlKeeper<MemStore>,
         → content_of_keeper k ≡ nothing) }
     // There is no table yet, and that stands for no rings and no request.
     ensures good { IfErr result (λ fault. (fault ≢ BadRows) × (fault ≢ BadTables)) }
+    // Memory has no disk that fails.
+    ensures unfailed { IfErr result (λ fault. fault ≢ Failed) }
 {
     nothing_is_holdable();
     let Ok(conn) = Connection::open_in_memory(alloc) else {
@@ -142,6 +145,9 @@ pub fn open_from<S: Start>(
         e.0)) }
     ensures bad { IfErr result (λ e. IsBadStore e.0 → IsConnectedAnd e.1 (λ conn.
         HasCleanDisk (file_state conn) → HoldsNoStore (image_at S.Start))) }
+    // The store is told to have failed only where its disk failed or refused.
+    ensures failed { IfErr result (λ e. e.0 ≡ Opening Failed → IsConnectedAnd e.1 (λ conn.
+        HasCleanDisk (file_state conn) → 0 < (file_state conn).faults)) }
     // A crash after a refusal leaves what the files recovered to, or what an opening makes of it;
     // where the rows are refused, no row of it is another.
     ensures rows { IfErr result (λ e. e.0 ≡ Opening BadRows → IsConnectedAnd e.1 (λ conn.
@@ -228,6 +234,9 @@ pub fn make_at<S: Start>(
         e.0)) }
     ensures taken { IfErr result (λ e. e.0 ≡ Taken → IsConnectedAnd e.1 (λ conn.
         HasCleanDisk (file_state conn) → HoldsTables (image_at S.Start))) }
+    // The store is told to have failed only where its disk failed or refused.
+    ensures failed { IfErr result (λ e. IsFailure e.0 → IsConnectedAnd e.1 (λ conn.
+        HasCleanDisk (file_state conn) → 0 < (file_state conn).faults)) }
     // A crash after a refusal leaves what the files recovered to, or what was to be made; where
     // there are tables already, they stay.
     ensures stays { IfErr result (λ e. e.0 ≡ Taken → IsConnectedAnd e.1 (λ conn.

@@ -4,6 +4,7 @@ ghost use Rattle.std.specs.FinMap.{entries};
 ghost use Rattle.sqlite.specs.Held.{state};
 ghost use Rattle.store_model.specs.Contents.{Contents, device_of, meta_of, moved_of, part_of};
 ghost use Rattle.store_model.specs.Contents.{published_of, request_of, ring_of, seat_of};
+ghost use Rattle.store_tables.specs.Failing.{FailsForCause};
 ghost use Rattle.store_tables.specs.Store.{ReadsTables, SeesStore};
 ghost use Rattle.store_rows.specs.Judging.{AreRowsOf};
 ghost use Rattle.builder_store.specs.Opening.{no_contents};
@@ -38,6 +39,7 @@ fn read_first<S: Alter>(
         × (map device_of rows.2.items ≡ entries c.devices) ×
         (map seat_of rows.3.items ≡ entries c.seats)) }
     ensures mode { conn.new.in_transaction ≡ false }
+    ensures cause { FailsForCause (state S.Store conn.old) (state S.Store conn.new) result }
 {
     let meta = all_rows::<MetaRow, S>(alloc, conn)?;
     let rings = all_rows::<RingRow, S>(alloc, conn)?;
@@ -66,6 +68,7 @@ fn read_rest<S: Alter>(
         × (map request_of rows.2.items ≡ entries c.requests) ×
         (map part_of rows.3.items ≡ entries c.parts)) }
     ensures mode { conn.new.in_transaction ≡ false }
+    ensures cause { FailsForCause (state S.Store conn.old) (state S.Store conn.new) result }
 {
     let moved = all_rows::<MovedRow, S>(alloc, conn)?;
     let published = all_rows::<PublishedRow, S>(alloc, conn)?;
@@ -84,6 +87,7 @@ pub(crate) fn read_rows<S: Alter>(
     ensures reads { ReadsTables (state S.Store conn.old) (state S.Store conn.new) result
         (λ c rows. AreRowsOf rows c) }
     ensures mode { conn.new.in_transaction ≡ false }
+    ensures cause { FailsForCause (state S.Store conn.old) (state S.Store conn.new) result }
 {
     let (meta, rings, devices, seats) = read_first(alloc, conn)?;
     let (moved, published, requests, parts) = read_rest(alloc, conn)?;

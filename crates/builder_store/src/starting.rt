@@ -1,16 +1,18 @@
 //! From what tables are there to what they hold.
-ghost use Rattle.std.specs.Prelude.{◌≡◌, ◌≢◌, ◌⊎◌, ◌≤◌, ℕ, false, Err, IfOk, OnOk};
+ghost use Rattle.std.specs.Prelude.{◌≡◌, ◌≢◌, ◌⊎◌, ◌≤◌, ℕ, false, Err, IfErr, IfOk, OnOk};
 ghost use Rattle.store_tables.specs.Tables.{table_count};
 ghost use Rattle.sqlite.specs.Held.{state};
-ghost use Rattle.sqlite.specs.State.{HasCleanDisk, Survives};
+ghost use Rattle.sqlite.specs.State.{HasCleanDisk, IsUnchanged, Survives};
 ghost use Rattle.store_tables.specs.Store.{HasMadeTables, IsStoreWith, begun_contents};
 ghost use Rattle.builder_store.specs.Opening.{AreDeclared, IsMadeOf, IsOpenedAs, KeepsRows, OpensAs};
 ghost use Rattle.store_rows.specs.Stands.{RingContent};
-ghost use Rattle.builder_store.specs.Inner.Opened.{IsFresh, IsOpenedTo, LeadsInStore, LeadsTo};
+ghost use Rattle.builder_store.specs.Inner.Opened.{FailsOnlyFor, IsFresh, IsOpenedTo};
+ghost use Rattle.builder_store.specs.Inner.Opened.{LeadsInStore, LeadsTo};
 ghost use Rattle.builder_store.specs.Inner.Tables.{HasTables};
 ghost use Rattle.builder_store.specs.declared.fault.OpenFault.TheVariants.{BadRows, BadTables};
 
 use crate::adopting::fault_of;
+use crate::calls::ask_nothing;
 use crate::fault::OpenFault;
 use crate::opening::{begin, make_missing, open_rows};
 use crate::reading::Opened;
@@ -44,6 +46,7 @@ fn open_begun<S: Alter>(
     ensures survives { Survives (state S.Store conn.old) (state S.Store conn.new)
         (λ trees. IsStoreWith (begun_contents made (state S.Store conn.old).now.trees) trees
         ⊎ LeadsInStore (begun_contents made (state S.Store conn.old).now.trees) trees) }
+    ensures failed { FailsOnlyFor (state S.Store conn.old) (state S.Store conn.new) result }
 {
     if made == 0 {
         return begin(alloc, conn, 0);
@@ -58,7 +61,51 @@ fn open_begun<S: Alter>(
 }
 
 /// Opens what is there.
-pub(crate) fn open_tables<S: Alter>(
+fn open_tables<S: Alter>(alloc: Global, conn: &mut Connection<S>) -> Result<Opened, OpenFault>
+    requires mode { conn.old.in_transaction ≡ false }
+    requires fresh { HasCleanDisk (state S.Store conn.old) → IsFresh (state S.Store conn.old) }
+    ensures mode { conn.new.in_transaction ≡ false }
+    ensures tables { HasCleanDisk (state S.Store conn.new) → OnOk result (HasTables
+        (state S.Store conn.new)) }
+    ensures found { HasCleanDisk (state S.Store conn.new) → IfOk result
+        (IsOpenedTo (state S.Store conn.old).committed.trees (state S.Store conn.new).committed.trees) }
+    ensures quiet { result ≡ Err BadRows → Survives (state S.Store conn.old)
+        (state S.Store conn.new)
+        (KeepsRows (state S.Store conn.old).committed.trees) }
+    ensures bad { result ≡ Err BadRows → HasCleanDisk (state S.Store conn.new)
+        → (content : RingContent) → IsOpenedAs (state S.Store conn.old).committed.trees content → ⊥ }
+    ensures missing { result ≡ Err BadTables → HasCleanDisk (state S.Store conn.new)
+        → (made : ℕ) → AreDeclared made (state S.Store conn.old).committed.trees → ⊥ }
+    ensures survives { Survives (state S.Store conn.old) (state S.Store conn.new)
+        (IsMadeOf (state S.Store conn.old).committed.trees) }
+    ensures failed { FailsOnlyFor (state S.Store conn.old) (state S.Store conn.new) result }
+{
+    match tables_made(alloc, conn) {
+        Ok(Some(made)) => open_begun(alloc, conn, made),
+        Ok(None) => Err(OpenFault::BadTables),
+        Err(error) => Err(fault_of(&error)),
+    }
+}
+
+/// Asks a connection for nothing a first time, so that it answers later without memory.
+pub(crate) fn get_ready<S: Alter>(conn: &mut Connection<S>) -> Result<(), OpenFault>
+    requires { conn.old.in_transaction ≡ false }
+    ensures mode { conn.new.in_transaction ≡ false }
+    ensures same { HasCleanDisk (state S.Store conn.new) → OnOk result (IsUnchanged
+        (state S.Store conn.old) (state S.Store conn.new)) }
+    ensures other { IfErr result (λ why. (why ≢ BadRows) × (why ≢ BadTables)) }
+    ensures failed { FailsOnlyFor (state S.Store conn.old) (state S.Store conn.new) result }
+    ensures survives { Survives (state S.Store conn.old) (state S.Store conn.new) (λ _. ⊥) }
+{
+    match ask_nothing(conn) {
+        Ok(()) => Ok(()),
+        Err(error) => Err(fault_of(&error)),
+    }
+}
+
+/// Opens what is there, and leaves the connection so that it can be asked for nothing without
+/// memory.
+pub(crate) fn open_ready<S: Alter>(
     alloc: Global,
     conn: &mut Connection<S>,
 ) -> Result<Opened, OpenFault>
@@ -78,10 +125,9 @@ pub(crate) fn open_tables<S: Alter>(
         → (made : ℕ) → AreDeclared made (state S.Store conn.old).committed.trees → ⊥ }
     ensures survives { Survives (state S.Store conn.old) (state S.Store conn.new)
         (IsMadeOf (state S.Store conn.old).committed.trees) }
+    ensures failed { FailsOnlyFor (state S.Store conn.old) (state S.Store conn.new) result }
 {
-    match tables_made(alloc, conn) {
-        Ok(Some(made)) => open_begun(alloc, conn, made),
-        Ok(None) => Err(OpenFault::BadTables),
-        Err(error) => Err(fault_of(&error)),
-    }
+    let opened = open_tables(alloc, conn)?;
+    get_ready(conn)?;
+    Ok(opened)
 }

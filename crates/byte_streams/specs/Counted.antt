@@ -2,6 +2,7 @@
 use Rattle.std.specs.Prelude.{◌≡◌, IsTrue, ℕ, ◌+◌, ◌-◌, ◌^◌, min, MatchResult, Result}
 use Rattle.byte_streams.specs.declared.counted.CountedReader.{CountedReader}
 use Rattle.byte_streams.specs.declared.counted.CountedWriter.{CountedWriter}
+use Rattle.byte_streams.specs.declared.counted.WholeReader.{WholeReader}
 use Rattle.byte_streams.specs.declared.fault.StreamFault.{StreamFault}
 use Rattle.byte_streams.specs.declared.fault.StreamFault.TheVariants.{ReadFailed, WriteFailed}
 use Rattle.byte_streams.specs.declared.fault.StreamFault.TheVariants.{NoMemory}
@@ -17,6 +18,10 @@ read_faults reader = reader.faults
 -- how often the reader may still be asked
 abbrev pub reads_left : {R : Type 0} → CountedReader R → ℕ
 reads_left reader = reader.reads_left
+
+-- the counted reader of what is read to its end
+abbrev pub counted_of : {R : Type 0} → WholeReader R → CountedReader R
+counted_of reader = reader.counted
 
 -- the writer that is counted
 abbrev pub writer_of : {W : Type 0} → CountedWriter W → W

@@ -8,7 +8,7 @@ ghost use Rattle.std.specs.Prelude.{OnOk};
 ghost use Rattle.std.specs.Io.{ReadsAtMost, WritesAtMost};
 ghost use Rattle.std.specs.Io.KnownBytes.{Keeps, ReadConsumes, WriteAppends};
 ghost use Rattle.std.specs.IoError.{error_kind};
-ghost use Rattle.byte_streams.specs.Counted.{IsFlushed, calls_left, one_more, read_faults};
+ghost use Rattle.byte_streams.specs.Counted.{IsFlushed, calls_left, counted_of, one_more, read_faults};
 ghost use Rattle.byte_streams.specs.Counted.{reader_of, reads_left, write_faults, writer_of};
 
 use std::io::{self, Error, ErrorKind, Read, Write};
@@ -81,6 +81,41 @@ impl<R: Read> CountedReader<R> {
             }
         }
         result
+    }
+}
+
+/// A counted reader of what is read to its end before anything is told of it: a file, or a text. No
+/// peer waits at its other end, so nothing has to be flushed first. A server, which is lent a
+/// `CountedReader`, can't make one of it.
+#[derive(Drop)]
+pub struct WholeReader<R> {
+    pub(crate) counted: CountedReader<R>,
+}
+
+impl<R> WholeReader<R> {
+    /// A reader that has not failed yet.
+    pub fn new(inner: R) -> WholeReader<R>
+        ensures inner { reader_of (counted_of result) ≡ inner }
+        ensures faults { read_faults (counted_of result) ≡ 0 }
+        ensures left { reads_left (counted_of result) ≡ 2 ^ 64 - 1 }
+    {
+        WholeReader {
+            counted: CountedReader::new(inner),
+        }
+    }
+
+    /// How often it failed, 2^64 - 1 for more.
+    pub fn faults(&self) -> u64
+        ensures { result ≡ read_faults (counted_of self.now) }
+    {
+        self.counted.faults()
+    }
+
+    /// The inner reader.
+    pub fn into_inner(self) -> R
+        ensures { result ≡ reader_of (counted_of self) }
+    {
+        self.counted.into_inner()
     }
 }
 

@@ -2,11 +2,11 @@
 ghost use Rattle.std.specs.Prelude.{◌≡◌, ◌≤◌, ◌<◌, length, take, IfOk, IfErr, OnOk, vec_len};
 ghost use Rattle.byte_streams.specs.Pieces.{chunk_size};
 ghost use Rattle.std.specs.Io.KnownBytes.{Consumes, IsAtEnd, Keeps};
-ghost use Rattle.byte_streams.specs.Counted.{Counts, IsFlushed, IsReadFault, read_faults};
+ghost use Rattle.byte_streams.specs.Counted.{Counts, IsFlushed, IsReadFault, counted_of, read_faults};
 ghost use Rattle.byte_streams.specs.Counted.{reader_of, reads_left};
 ghost use Rattle.byte_streams.specs.declared.fault.StreamFault.TheVariants.{ReadFailed};
 
-use crate::counted::{CountedReader, CountedWriter};
+use crate::counted::{CountedReader, CountedWriter, WholeReader};
 use crate::fault::StreamFault;
 use std::alloc::{AllocError, Global};
 use std::io::{ErrorKind, Read};
@@ -74,20 +74,18 @@ pub fn read_some<R: Read, W>(
 
 /// Reads all that is left. `ReadFailed` comes where the reader failed, and `NoMemory` where a
 /// growth was refused.
-pub fn read_all<R: Read>(
-    alloc: Global,
-    reader: &mut CountedReader<R>,
-) -> Result<Vec<u8>, StreamFault>
-    ensures bytes { IfOk result (λ bytes.
-        Consumes (R.remaining (reader_of reader.old)) (R.remaining (reader_of reader.new)) bytes.items) }
-    ensures end { OnOk result (IsAtEnd (R.remaining (reader_of reader.new))) }
-    ensures ok { OnOk result (read_faults reader.new ≡ read_faults reader.old) }
-    ensures cause { IfErr result (IsReadFault reader.old reader.new) }
+pub fn read_all<R: Read>(alloc: Global, reader: &mut WholeReader<R>) -> Result<Vec<u8>, StreamFault>
+    ensures bytes { IfOk result (λ bytes. Consumes (R.remaining (reader_of (counted_of reader.old)))
+        (R.remaining (reader_of (counted_of reader.new))) bytes.items) }
+    ensures end { OnOk result (IsAtEnd (R.remaining (reader_of (counted_of reader.new)))) }
+    ensures ok { OnOk result
+        (read_faults (counted_of reader.new) ≡ read_faults (counted_of reader.old)) }
+    ensures cause { IfErr result (IsReadFault (counted_of reader.old) (counted_of reader.new)) }
 {
     let mut chunk = new_chunk(alloc)?;
     let mut bytes = Vec::new(alloc);
     loop {
-        let count = read_piece(reader, &mut chunk)?;
+        let count = read_piece(&mut reader.counted, &mut chunk)?;
         if count == 0 {
             return Ok(bytes);
         }

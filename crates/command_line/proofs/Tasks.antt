@@ -1,7 +1,7 @@
 -- The task that words ask for, from what `clap` says of them.
 use Rattle.std.proofs.Common.{◌≡◌, List, [], true, Option, Some, None, refl, sym, ap}
 use Rattle.ring_words.specs.Limits.{greatest_short}
-use Rattle.std.proofs.Common.{subst, ◌∙◌, ⊎_elim, codes, ℕ, ◌∷◌, slice_index, arith}
+use Rattle.std.proofs.Common.{subst, ◌∙◌, ⊎_elim, codes, ℕ, ◌∷◌, slice_index, arith, length, Bor}
 use Rattle.std.specs.Option.{option_map}
 use Rattle.std.proofs.lemmas.Option.{none-some, same_Some}
 use Rattle.clap.specs.Faults.{fault_of, is_simple_and_free}
@@ -14,14 +14,15 @@ use Rattle.clap.specs.declared.error.Error.{Error}
 use Rattle.clap.specs.declared.error.kind.ErrorKind.TheVariants.{OutOfMemory}
 use Rattle.clap.specs.declared.parser.matches.ArgMatches.{ArgMatches}
 use Rattle.command_line.specs.Shapes.{programs}
-use Rattle.command_line.specs.Tasks.{AskFor, AskForNothing, HasArguments, HasNumber, IfBad}
+use Rattle.command_line.specs.Tasks.{AskFor, AskForNothing, HasArguments, HasNumber, HasText}
+use Rattle.command_line.specs.Tasks.{IfBad}
 use Rattle.command_line.specs.Tasks.{program_of}
 use Rattle.command_line.specs.Inner.Reading.{IsTask}
 use Rattle.command_line.specs.declared.task.ArgsFault.{ArgsFault}
 use Rattle.command_line.specs.declared.task.ArgsFault.TheVariants.{Bad, NoMemory}
 use Rattle.command_line.specs.declared.task.Task.{Task}
-use Rattle.command_line.specs.declared.task.Task.TheVariants.{Run, Serve, Loop, Import, Table}
-use Rattle.command_line.specs.declared.task.Task.TheVariants.{Nodes, Export, Renew}
+use Rattle.command_line.specs.declared.task.Task.TheVariants.{Run, Serve, Service, Loop, Import}
+use Rattle.command_line.specs.declared.task.Task.TheVariants.{Table, Nodes, Export, Renew}
 
 -- words that were read have nothing wrong
 pub right : (app : App) (words : List Text) → app ≡ programs →
@@ -105,6 +106,8 @@ pub no_service : (rows : List Row) →
     HasNumber rows (codes "COUNT") 0 greatest_short count → ⊥) → IsTask (codes "serve") rows None
 no_service rows none (Serve file port count hour names) is_named (file_is, port_is, count_is, hour_is, names_are) =
     none port count port_is count_is
+no_service rows none (Service file port hosts hour_ok names) is_named has =
+    absurd (omega (arith, ap length is_named))
 no_service rows none (Run file) is_named has =
     other_word 114 115 _ _ is_named (λ e. omega (arith, e))
 no_service rows none (Loop file input hour names) is_named has =
@@ -118,4 +121,26 @@ no_service rows none (Nodes file ring account container object names) is_named h
 no_service rows none (Export file ring version written) is_named has =
     other_word 101 115 _ _ is_named (λ e. omega (arith, e))
 no_service rows none (Renew file fresh) is_named has =
+    other_word 114 115 _ _ is_named (λ e. omega (arith, e))
+
+-- where a service that goes on has no port, no task is one
+pub no_service_on : (rows : List Row) →
+    ((file : Bor Text) (port : ℕ) → HasText rows (codes "FILE") file →
+    HasNumber rows (codes "PORT") 1 greatest_short port → ⊥) → IsTask (codes "service") rows None
+no_service_on rows none (Service file port hosts hour_ok names) is_named has = none file port has.0 has.1
+no_service_on rows none (Serve file port count hour names) is_named has =
+    absurd (omega (arith, ap length is_named))
+no_service_on rows none (Run file) is_named has =
+    other_word 114 115 _ _ is_named (λ e. omega (arith, e))
+no_service_on rows none (Loop file input hour names) is_named has =
+    other_word 108 115 _ _ is_named (λ e. omega (arith, e))
+no_service_on rows none (Import file ring caller number csv hour) is_named has =
+    other_word 105 115 _ _ is_named (λ e. omega (arith, e))
+no_service_on rows none (Table file ring) is_named has =
+    other_word 116 115 _ _ is_named (λ e. omega (arith, e))
+no_service_on rows none (Nodes file ring account container object names) is_named has =
+    other_word 110 115 _ _ is_named (λ e. omega (arith, e))
+no_service_on rows none (Export file ring version written) is_named has =
+    other_word 101 115 _ _ is_named (λ e. omega (arith, e))
+no_service_on rows none (Renew file fresh) is_named has =
     other_word 114 115 _ _ is_named (λ e. omega (arith, e))

@@ -2,6 +2,7 @@
 use Rattle.std.specs.Prelude.{List, [], ◌∷◌, Some, codes, false, true}
 use Rattle.clap.specs.Simple.{App, Shape, new_rule, new_shape}
 use Rattle.clap.specs.Walk.{Rule, Text}
+use Rattle.clap.specs.declared.builder.action.ArgAction.TheVariants.{Append, SetTrue}
 
 -- An argument without a name of its own, which has to be there.
 abbrev pub needed : Text → Rule
@@ -10,6 +11,14 @@ needed name = record (new_rule name) { required = true }
 -- An argument that may be there, as `--name TEXT`.
 abbrev pub optional : Text → Rule
 optional name = record (new_rule name) { long = Some name }
+
+-- An argument that may be there several times, each as `--name TEXT`.
+abbrev pub repeated : Text → Rule
+repeated name = record (optional name) { action = Some Append }
+
+-- An argument that may be there, as `--name`.
+abbrev pub flag : Text → Rule
+flag name = record (optional name) { action = Some SetTrue }
 
 -- A program with these arguments.
 abbrev pub program : Text → List Rule → Shape
@@ -32,6 +41,12 @@ service_options = optional (codes "hour") ∷ hash_names
 abbrev pub serve : Shape
 serve = program (codes "serve")
     (needed (codes "FILE") ∷ needed (codes "PORT") ∷ needed (codes "COUNT") ∷ service_options)
+
+-- Serves connections of a port until it is stopped.
+abbrev pub service : Shape
+service = program (codes "service")
+    (needed (codes "FILE") ∷ needed (codes "PORT") ∷ repeated (codes "host") ∷
+    flag (codes "hour-ok") ∷ hash_names)
 
 -- Serves the bytes of a file.
 abbrev pub looping : Shape
@@ -68,5 +83,5 @@ renew = program (codes "renew") (needed (codes "FILE") ∷ needed (codes "NEW") 
 abbrev pub programs : App
 programs = record {
   top = record (new_shape (codes "ringd")) { is_leaf = false; subcommand_required = true };
-  subs = run ∷ serve ∷ looping ∷ import_rows ∷ table_shape ∷ nodes ∷ export ∷ renew ∷ [];
+  subs = run ∷ serve ∷ service ∷ looping ∷ import_rows ∷ table_shape ∷ nodes ∷ export ∷ renew ∷ [];
 }

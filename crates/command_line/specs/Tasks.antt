@@ -1,11 +1,13 @@
 -- What the words of the command line ask for.
-use Rattle.std.specs.Prelude.{◌≡◌, ℕ, List, [], Option, Some, None, MatchOption, codes, option_map}
+use Rattle.std.specs.Prelude.{◌≡◌, ℕ, Bool, List, [], Option, Some, None, MatchOption, codes, map}
+use Rattle.std.specs.Prelude.{option_map}
 use Rattle.ring_words.specs.Limits.{greatest_long, greatest_short}
 use Rattle.std.specs.Prelude.{unwrap_or}
 use Rattle.std.specs.Borrow.{Bor}
 use Rattle.clap.specs.Faults.{fault_of}
 use Rattle.clap.specs.Simple.{subcommand_of}
-use Rattle.clap.specs.Walk.{Row, Text, first_of}
+use Rattle.clap.specs.Walk.{Row, Text, all_of, first_of}
+use Rattle.std.specs.Str.{bytes_eq}
 use Rattle.ring_words.specs.Spelling.{SpellsNumber}
 use Rattle.command_line.specs.Shapes.{programs}
 use Rattle.command_line.specs.declared.task.ArgsFault.{ArgsFault}
@@ -14,8 +16,8 @@ use Rattle.ring_reads.specs.declared.reads.Format.{Format}
 use Rattle.ring_reads.specs.declared.reads.Format.TheVariants as format
 use Rattle.path_lookup.specs.declared.hash.HashNames.{HashNames}
 use Rattle.command_line.specs.declared.task.Task.{Task}
-use Rattle.command_line.specs.declared.task.Task.TheVariants.{Run, Serve, Loop, Import, Table}
-use Rattle.command_line.specs.declared.task.Task.TheVariants.{Nodes, Export, Renew}
+use Rattle.command_line.specs.declared.task.Task.TheVariants.{Run, Serve, Service, Loop, Import}
+use Rattle.command_line.specs.declared.task.Task.TheVariants.{Table, Nodes, Export, Renew}
 
 -- ---- one argument
 
@@ -36,6 +38,14 @@ HasNumber rows id least most n =
 abbrev pub HasHour : List Row → Option ℕ → Type 0
 HasHour rows hour = MatchOption hour (first_of (codes "hour") rows ≡ None)
     (λ h. HasNumber rows (codes "hour") 0 greatest_long h)
+
+-- An argument has these texts, one for each time that it is there.
+abbrev pub HasTexts : List Row → Text → List (Bor Text) → Type 0
+HasTexts rows id texts = map (λ t. t.now) texts ≡ unwrap_or (all_of id rows) []
+
+-- whether an argument without a text is there
+abbrev pub is_flagged : List Row → Text → Bool
+is_flagged rows id = bytes_eq (unwrap_or (first_of id rows) []) (codes "true")
 
 -- What is hashed before and after each path is this, and nothing where it isn't there.
 pub record HaveNames (rows : List Row) (names : HashNames) : Type 0 where
@@ -58,6 +68,7 @@ HasFormat rows written =
 abbrev pub program_of : Task → Text
 program_of (Run file) = codes "run"
 program_of (Serve file port count hour names) = codes "serve"
+program_of (Service file port hosts hour_ok names) = codes "service"
 program_of (Loop file input hour names) = codes "loop"
 program_of (Import file ring caller number csv hour) = codes "import"
 program_of (Table file ring) = codes "table"
@@ -71,6 +82,10 @@ HasArguments rows (Run file) = MayHaveText rows (codes "file") file
 HasArguments rows (Serve file port count hour names) =
     HasText rows (codes "FILE") file × HasNumber rows (codes "PORT") 1 greatest_short port
     × HasNumber rows (codes "COUNT") 0 greatest_short count × HasHour rows hour
+    × HaveNames rows names
+HasArguments rows (Service file port hosts hour_ok names) =
+    HasText rows (codes "FILE") file × HasNumber rows (codes "PORT") 1 greatest_short port
+    × HasTexts rows (codes "host") hosts.items × (hour_ok ≡ is_flagged rows (codes "hour-ok"))
     × HaveNames rows names
 HasArguments rows (Loop file input hour names) =
     HasText rows (codes "FILE") file × HasText rows (codes "INPUT") input

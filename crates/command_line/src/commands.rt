@@ -6,9 +6,9 @@ ghost use Rattle.clap.specs.declared.builder.command.Command.TheViews.{out-Comma
 ghost use Rattle.command_line.specs.Shapes.{programs};
 ghost use Rattle.command_line.specs.Inner.Adding.{rule_told, shape_told, with_rules, with_shapes};
 
-use self::Argument::{Needed, Optional};
+use self::Argument::{Flag, Needed, Optional, Repeated};
 use crate::help::{ABOUT, told_of};
-use clap::{Arg, Command};
+use clap::{Arg, ArgAction, Command};
 use std::alloc::{AllocError, Global};
 
 /// An argument, by its name.
@@ -18,6 +18,10 @@ enum Argument<'a> {
     Needed(&'a str),
     /// It may be there, as `--name TEXT`.
     Optional(&'a str),
+    /// It may be there several times, each as `--name TEXT`.
+    Repeated(&'a str),
+    /// It may be there, as `--name`.
+    Flag(&'a str),
 }
 
 /// A program: what it is called, what is told of it, and its arguments.
@@ -43,6 +47,18 @@ const PROGRAMS: &[Program<'static>] = &[
             Needed("PORT"),
             Needed("COUNT"),
             Optional("hour"),
+            Optional("prefix"),
+            Optional("suffix"),
+        ],
+    },
+    Program {
+        name: "service",
+        about: "Serves HTTP on a port of this machine until it is stopped, to programs alone",
+        arguments: &[
+            Needed("FILE"),
+            Needed("PORT"),
+            Repeated("host"),
+            Flag("hour-ok"),
             Optional("prefix"),
             Optional("suffix"),
         ],
@@ -113,6 +129,8 @@ fn arg_of<'a>(alloc: Global, argument: &Argument<'a>) -> Arg<'a>
     match *argument {
         Needed(name) => Arg::new(alloc, name).required(true),
         Optional(name) => Arg::new(alloc, name).long(name),
+        Repeated(name) => Arg::new(alloc, name).long(name).action(ArgAction::Append),
+        Flag(name) => Arg::new(alloc, name).long(name).action(ArgAction::SetTrue),
     }
 }
 

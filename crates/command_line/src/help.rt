@@ -83,6 +83,26 @@ as before, and nothing is done twice. A client that breaks off ends its own conn
 Each request is decided at the hour of the machine's clock, or always at the one that --hour gives. --prefix and --suffix
 are what the cluster hashes before and after each path; they are empty where they are not given.";
 
+/// What `ringd service --help` tells.
+static SERVICE: &str =
+    "Serves HTTP/1.1 on 127.0.0.1, over the rings in FILE, as 'serve' does, but until it is stopped, and to programs alone.
+
+  ringd service rings.db 8642 --host rings.example.com
+
+It does not answer what a page in a browser sends. A request is refused with 403 NotAllowed, before its body is read, where
+  - its Host is none of 127.0.0.1, localhost, and the names that --host gives, with a port or without. Give the name under
+    which a proxy reaches it; --host may be there several times
+  - it is a POST and has an Origin or a Sec-Fetch-Site, as browsers send them
+  - it is a GET and has a Sec-Fetch-Site other than none and same-origin
+
+On standard error it tells when it begins, with how many numbers FILE keeps, and why it ends. It ends by itself with status
+1 once the store has failed in a request (StoreFault 24: start it again), and with status 3 where another start would change
+nothing: FILE is no store (BadStore 26), the port can't be had (NetFailed 28), or the clock is ahead (ClockAhead 33).
+
+The hour of each request is kept for good, and no later one is decided at an earlier hour. So it does not begin by a clock
+that is more than 24 hours ahead of the last request's hour in FILE: look at the clock, and where it is right, give --hour-ok.
+--prefix and --suffix are as those of 'serve'.";
+
 /// What `ringd loop --help` tells.
 static LOOP: &str =
     "Answers the bytes of the file INPUT as 'serve' would those of one connection, on standard output.
@@ -118,6 +138,7 @@ pub(crate) fn told_of(program: &str) -> Option<&'static str> {
     match program {
         "run" => Some(RUN),
         "serve" => Some(SERVE),
+        "service" => Some(SERVICE),
         "loop" => Some(LOOP),
         "export" => Some(EXPORT),
         "renew" => Some(RENEW),

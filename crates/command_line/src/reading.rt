@@ -1,12 +1,14 @@
 //! The task that the words ask for.
-ghost use Rattle.std.specs.Prelude.{◌≡◌, IfErr, IfOk, codes, map, option_map, string_bytes};
+ghost use Rattle.std.specs.Prelude.{◌≡◌, ◌≢◌, IfErr, IfOk, codes, map, option_map, string_bytes};
 ghost use Rattle.ring_words.specs.Limits.{greatest_short};
 ghost use Rattle.clap.specs.Matches.{found_of};
 ghost use Rattle.clap.specs.Values.{kind_of};
 ghost use Rattle.clap.specs.Walk.{first_of, rows_of};
 ghost use Rattle.clap.specs.declared.error.kind.ErrorKind.{ErrorKind};
-ghost use Rattle.command_line.specs.Tasks.{AskFor, AskForNothing, HaveNames, IfBad};
-ghost use Rattle.command_line.specs.Inner.Reading.{IsFormat, IsHourWord, IsNumberWord, IsTask};
+ghost use Rattle.command_line.specs.Tasks.{AskFor, AskForNothing, HasTexts, HaveNames, IfBad};
+ghost use Rattle.command_line.specs.Tasks.{is_flagged};
+ghost use Rattle.command_line.specs.Inner.Reading.{IsFormat, IsHourWord, IsNumberWord, IsPlace};
+ghost use Rattle.command_line.specs.Inner.Reading.{IsTask};
 
 use crate::commands::command;
 use crate::help::{ABOUT, FORMS};
@@ -71,6 +73,27 @@ fn format_of(matches: &ArgMatches<'_>) -> Option<Format>
     }
 }
 
+/// The texts of an argument that may be there several times.
+fn texts_of<'a>(
+    alloc: Global,
+    matches: &ArgMatches<'a>,
+    name: &str,
+) -> Result<Vec<&'a str>, AllocError>
+    ensures { IfOk result (λ texts. HasTexts (rows_of (found_of matches.now)) name.now texts.items) }
+{
+    match matches.get_strs(name) {
+        Some(texts) => Vec::from_slice(alloc, texts),
+        None => Ok(Vec::new(alloc)),
+    }
+}
+
+/// Whether an argument without a text is there.
+fn is_flagged(matches: &ArgMatches<'_>, name: &str) -> bool
+    ensures { result ≡ is_flagged (rows_of (found_of matches.now)) name.now }
+{
+    text_of(matches, name).unwrap_or("") == "true"
+}
+
 /// What is hashed before and after each path.
 fn names_of<'a>(matches: &ArgMatches<'a>) -> HashNames<'a>
     ensures { HaveNames (rows_of (found_of matches.now)) result }
@@ -99,6 +122,28 @@ fn serve<'a>(matches: &ArgMatches<'a>) -> Option<Task<'a>>
         hour: hour_of(matches)?,
         names: names_of(matches),
     })
+}
+
+/// The file and the port that are to be served, `None` where one of them isn't there.
+fn place_of<'a>(matches: &ArgMatches<'a>) -> Option<(&'a str, Port)>
+    ensures { IsPlace (rows_of (found_of matches.now)) result }
+{
+    Some((text_of(matches, "FILE")?, port_of(matches)?))
+}
+
+fn service<'a>(alloc: Global, matches: &ArgMatches<'a>) -> Result<Option<Task<'a>>, AllocError>
+    ensures { IfOk result (IsTask (codes "service") (rows_of (found_of matches.now))) }
+{
+    let Some((file, port)) = place_of(matches) else {
+        return Ok(None);
+    };
+    Ok(Some(Task::Service {
+        file,
+        port,
+        hosts: texts_of(alloc, matches, "host")?,
+        hour_ok: is_flagged(matches, "hour-ok"),
+        names: names_of(matches),
+    }))
 }
 
 fn looping<'a>(matches: &ArgMatches<'a>) -> Option<Task<'a>>
@@ -168,7 +213,22 @@ fn import_rows<'a>(matches: &ArgMatches<'a>) -> Option<Task<'a>>
 }
 
 /// The task of a program of this name.
-fn task_named<'a>(name: &str, matches: &ArgMatches<'a>) -> Option<Task<'a>>
+fn task_named<'a>(
+    alloc: Global,
+    name: &str,
+    matches: &ArgMatches<'a>,
+) -> Result<Option<Task<'a>>, AllocError>
+    ensures { IfOk result (IsTask name.now (rows_of (found_of matches.now))) }
+{
+    if name == "service" {
+        return service(alloc, matches);
+    }
+    Ok(task_alone(name, matches))
+}
+
+/// The task of a program of this name that needs no memory.
+fn task_alone<'a>(name: &str, matches: &ArgMatches<'a>) -> Option<Task<'a>>
+    requires { name.now ≢ codes "service" }
     ensures { IsTask name.now (rows_of (found_of matches.now)) result }
 {
     match name {
@@ -217,7 +277,7 @@ pub fn task_of<'a>(alloc: Global, words: &'a [String]) -> Result<Task<'a>, ArgsF
     let Some((name, given)) = matches.subcommand() else {
         return Err(bad(alloc, &ABOUT));
     };
-    match task_named(name, given) {
+    match task_named(alloc, name, given)? {
         Some(task) => Ok(task),
         None => Err(bad(alloc, &FORMS)),
     }

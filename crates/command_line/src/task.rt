@@ -8,7 +8,7 @@ use ring_words::{Hour, Port};
 use std::alloc::AllocError;
 
 /// What the words ask for. A text stands as it was written.
-#[derive(Clone, Copy, Debug)]
+#[derive(Debug, Drop)]
 pub enum Task<'a> {
     /// To answer requests and questions, a line each, over this file or over memory.
     Run {
@@ -21,6 +21,16 @@ pub enum Task<'a> {
         port: Port,
         count: u16,
         hour: Option<Hour>,
+        names: HashNames<'a>,
+    },
+    /// To serve connections of HTTP on this port of 127.0.0.1, one after another, until it is
+    /// stopped, for programs that send to the machine's own names or to these hosts. The clock is
+    /// that of the machine. `hour_ok` says that its hour may be far ahead of all that were used.
+    Service {
+        file: &'a str,
+        port: Port,
+        hosts: Vec<&'a str>,
+        hour_ok: bool,
         names: HashNames<'a>,
     },
     /// To answer the bytes of a file as those of one connection of HTTP. The clock is as that of

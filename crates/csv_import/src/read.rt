@@ -1,7 +1,7 @@
 //! Records, one after another.
 ghost use Rattle.std.specs.Prelude.{◌≡◌, ◌≢◌, ◌∷◌, ◌++◌, [], ℕ, List, Some, IfOk, IfErr, MatchBool};
 ghost use Rattle.std.specs.Prelude.{MatchResult, OnOk};
-ghost use Rattle.byte_streams.specs.Counted.{read_faults, reader_of};
+ghost use Rattle.byte_streams.specs.Counted.{counted_of, read_faults, reader_of};
 ghost use Rattle.csv.specs.Records.{fields_of};
 ghost use Rattle.csv_import.specs.Fields.{header};
 ghost use Rattle.csv_import.specs.Inner.Midway.{HasGiven, IsOpen};
@@ -10,7 +10,7 @@ ghost use Rattle.csv_import.specs.declared.fault.CsvFault.TheVariants.{ReadFaile
 
 use crate::fault::{CsvFault, cause_of};
 use crate::row::{is_header, row_of};
-use byte_streams::{CountedReader, StreamFault, read_all};
+use byte_streams::{StreamFault, WholeReader, read_all};
 use csv::{ByteRecord, Reader, ReaderBuilder};
 use ring_words::Row;
 use std::alloc::Global;
@@ -91,18 +91,14 @@ fn rows_from<R: Read + Drop>(alloc: Global, reader: R) -> Result<Vec<Row>, CsvFa
 /// The whole text is read first. ReadFailed comes where the reader failed, and the reader counts
 /// one more fault exactly then; a read that is interrupted is tried again. Else the first fault in
 /// the text is answered, BadHeader, BadRow or BadField, or NoMemory where a growth was refused.
-pub fn read_rows<R: Read>(
-    alloc: Global,
-    reader: &mut CountedReader<R>,
-) -> Result<Vec<Row>, CsvFault>
-    ensures rows { IfOk result (λ rows. (text : List ℕ) → R.remaining (reader_of reader.old) ≡ Some
-        text
+pub fn read_rows<R: Read>(alloc: Global, reader: &mut WholeReader<R>) -> Result<Vec<Row>, CsvFault>
+    ensures rows { IfOk result (λ rows. (text : List ℕ) → R.remaining (reader_of (counted_of reader.old)) ≡ Some text
         → AreRows (records_of text) rows.items) }
     ensures wrong { IfErr result (λ fault. fault ≢ ReadFailed → (text : List ℕ) →
-        R.remaining (reader_of reader.old) ≡ Some text
+        R.remaining (reader_of (counted_of reader.old)) ≡ Some text
         → IsWrong (records_of text) fault) }
-    ensures cause { MatchResult result (λ _. read_faults reader.new ≡ read_faults reader.old)
-        (IsCsvCaused reader.old reader.new) }
+    ensures cause { MatchResult result (λ _. read_faults (counted_of reader.new) ≡ read_faults (counted_of reader.old))
+        (IsCsvCaused (counted_of reader.old) (counted_of reader.new)) }
 {
     let text = match read_all(alloc, reader) {
         Ok(text) => text,

@@ -1,3 +1,3 @@
 pub mod Faults
-pub mod Made
 pub mod FileTexts
+pub mod MadeClosed

@@ -1,4 +1,6 @@
+pub mod Made
 pub mod Opened
+pub mod Closed
 pub mod Unopened
-pub mod Done
+pub mod Texts
 pub mod Inner

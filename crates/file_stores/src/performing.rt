@@ -1,25 +1,21 @@
 //! What the program does over the stores in files.
-ghost use Rattle.std.specs.Prelude.{◌≡◌, ◌≤◌, map, string_bytes};
+ghost use Rattle.std.specs.Prelude.{◌≡◌, ◌≤◌, ◌⊎◌, map, string_bytes};
 ghost use Rattle.command_line.specs.Tasks.{AskForNothing};
-ghost use Rattle.sqlite_wal.specs.Files.{image_at};
 ghost use Rattle.programs.specs.Begun.{OpensNone};
-ghost use Rattle.file_stores.specs.Done.{DoesOverFiles, FailsOverFiles};
-ghost use Rattle.file_stores.specs.Opened.{openings_of, store_of_keeper};
+ghost use Rattle.programs.specs.Performed.{DoesAskedOver, FailsAskedOver};
+ghost use Rattle.file_stores.specs.Opened.{openings_of};
 
-use crate::making::{NewFiles, NewKeeper};
-use crate::stores::{HeldFiles, HeldKeeper, StoreFiles};
+use crate::stores::{HeldKeeper, StoreFiles};
 use builder::RingMachine;
 use byte_streams::{CountedReader, CountedWriter};
-use programs::{MemoryKeeper, perform};
+use programs::{MemoryKeeper, Stores, perform};
 use request_book::Keeper;
-use sqlite::{FileFrom, Start};
-use sqlite_disk::Disk;
-use std::fs::File;
-use std::io::{Read, Take, Write};
+use sqlite::Start;
+use std::io::{Read, Write};
 
 /// Does what the words ask for, as `perform` does, over the stores in files. `S` stands for what the
-/// files hold: the promise is that of `perform`, where the keeper of a store that is opened begins
-/// with the content for which its files stand.
+/// files hold: the promise is that of `perform`, where stores are opened, made and closed and files
+/// are read as `StoreFiles` does that.
 pub fn perform_over_files<S: Start, R: Read, W: Write, E: Write>(
     rt: &HostRuntime,
     words: &[String],
@@ -28,21 +24,15 @@ pub fn perform_over_files<S: Start, R: Read, W: Write, E: Write>(
     errors: &mut CountedWriter<E>,
     stores: &mut StoreFiles<S>,
 ) -> u8
-    ensures status { result ≤ 2 }
-    ensures done { result ≡ 0 → DoesOverFiles ⟦<MemoryKeeper as Keeper<RingMachine>>⟧
-        ⟦<HeldKeeper<S> as Keeper<RingMachine>>⟧ ⟦<FileFrom<HeldFiles<S>> as Disk>⟧ store_of_keeper
-        ⟦<NewKeeper<S> as Keeper<RingMachine>>⟧ ⟦<FileFrom<NewFiles<S>> as Disk>⟧ store_of_keeper
-        (image_at S.Start)
-        ⟦<Take<File> as Read>⟧.remaining (openings_of stores.old) (openings_of stores.new) R.remaining
-        W.contents E.contents (map string_bytes words.now)
-        reader.old reader.new writer.old writer.new errors.old errors.new }
-    ensures fault { result ≡ 1 → FailsOverFiles ⟦<MemoryKeeper as Keeper<RingMachine>>⟧
-        ⟦<HeldKeeper<S> as Keeper<RingMachine>>⟧ ⟦<FileFrom<HeldFiles<S>> as Disk>⟧ store_of_keeper
-        ⟦<NewKeeper<S> as Keeper<RingMachine>>⟧ ⟦<FileFrom<NewFiles<S>> as Disk>⟧ store_of_keeper
-        (image_at S.Start)
-        ⟦<Take<File> as Read>⟧.remaining (openings_of stores.old) (openings_of stores.new) R.remaining
-        W.contents E.contents (map string_bytes words.now)
-        reader.old reader.new writer.old writer.new errors.old errors.new }
+    ensures status { result ≤ 3 }
+    ensures done { result ≡ 0 → DoesAskedOver ⟦<StoreFiles<S> as Stores>⟧
+        ⟦<HeldKeeper<S> as Keeper<RingMachine>>⟧ ⟦<MemoryKeeper as Keeper<RingMachine>>⟧ stores.old
+        stores.new R.remaining W.contents reader.old reader.new writer.old writer.new E.contents
+        errors.old errors.new (map string_bytes words.now) }
+    ensures fault { (result ≡ 1) ⊎ (result ≡ 3) → FailsAskedOver ⟦<StoreFiles<S> as Stores>⟧
+        ⟦<HeldKeeper<S> as Keeper<RingMachine>>⟧ ⟦<MemoryKeeper as Keeper<RingMachine>>⟧ stores.old
+        stores.new R.remaining W.contents reader.old reader.new writer.old writer.new E.contents
+        errors.old errors.new (map string_bytes words.now) result }
     ensures nothing { result ≡ 2 → AskForNothing (map string_bytes words.now)
         × (reader.new ≡ reader.old) × (writer.new ≡ writer.old)
         × OpensNone (openings_of stores.old) (openings_of stores.new) }

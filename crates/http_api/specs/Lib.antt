@@ -1,4 +1,5 @@
 pub mod Hours
 pub mod Http
 pub mod Served
+pub mod Sites
 pub mod Inner

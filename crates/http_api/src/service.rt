@@ -5,6 +5,7 @@ ghost use Rattle.byte_streams.specs.Counted.{FailsWithCause, LeavesFlushed};
 ghost use Rattle.http_api.specs.Http.{IsFaultAnswer};
 ghost use Rattle.http_api.specs.Inner.Telling.{DeliversAt, IsImportTold, IsMessageTold};
 ghost use Rattle.http_api.specs.Served.{ServesHttp};
+ghost use Rattle.http_api.specs.Sites.{site_names};
 ghost use Rattle.http_api.specs.Inner.Answering.{HttpAnswers, HttpLoses};
 ghost use Rattle.http_messages.specs.declared.audience.Audience.TheVariants.{Anyone};
 ghost use Rattle.http_stream.specs.Serving.{RequestsServedOn, RequestsStoppedOn};
@@ -13,11 +14,12 @@ ghost use Rattle.ring_book.specs.Book.{Asked, Made};
 use crate::answers::{told_answer, told_csv};
 use crate::clock::Clock;
 use crate::reads::{ReadWay, answer_read};
+use crate::site::Site;
 use builder::{MessageFault, RingMachine, Told, read_delivery};
-use byte_streams::{CountedReader, CountedWriter, StreamFault};
+use byte_streams::{CountedReader, CountedWriter, StreamFault, WholeReader};
 use csv_import::{CsvFault, read_rows};
 use http_messages::{Audience, Method, route_fault_text};
-use http_routes::{Routes, TargetAsk, TargetFault, read_target};
+use http_routes::{TargetAsk, TargetFault};
 use http_stream::{Service, serve_requests};
 use path_lookup::HashNames;
 use request_book::{Book, Keeper};
@@ -30,10 +32,9 @@ use std::marker::PhantomData;
 
 /// Answers requests by a clock and a book of the builder.
 #[derive(Drop)]
-struct RingService<'a, K, C> {
+struct RingService<'s, 'n, K, C> {
     alloc: Global,
-    routes: Routes,
-    names: HashNames<'a>,
+    site: &'s Site<'n>,
     kinds: PhantomData<(K, C)>,
 }
 
@@ -79,7 +80,7 @@ fn answer_import<K: Keeper<RingMachine>, C: Clock>(
     ensures { (asked : Asked) × Made K.Keeper book.old book.new asked
         × IsImportTold C.tells clock.old clock.new ring key body.now asked result }
 {
-    match read_rows(alloc, &mut CountedReader::new(body)) {
+    match read_rows(alloc, &mut WholeReader::new(body)) {
         Ok(rows) => {
             let act = Act::Import(Rows::new(rows));
             Ok(deliver_now(clock, book, key, Command { ring, act }))
@@ -103,16 +104,16 @@ fn answer_fault(alloc: Global, fault: TargetFault, is_last: bool) -> Result<Vec<
     }
 }
 
-impl<'a, K: Keeper<RingMachine>, C: Clock> Service for RingService<'a, K, C> {
+impl<'s, 'n, K: Keeper<RingMachine>, C: Clock> Service for RingService<'s, 'n, K, C> {
     type Clock = C;
 
     type State = Book<RingMachine, K>;
 
     ghost answers = { λ service. HttpAnswers K.Keeper C.tells
-        service.names.prefix.now service.names.suffix.now };
+        (site_names service.site.now).prefix.now (site_names service.site.now).suffix.now };
 
     ghost loses = { λ service. HttpLoses K.Keeper C.tells
-        service.names.prefix.now service.names.suffix.now };
+        (site_names service.site.now).prefix.now (site_names service.site.now).suffix.now };
 
     fn answer(
         &self,
@@ -125,10 +126,10 @@ impl<'a, K: Keeper<RingMachine>, C: Clock> Service for RingService<'a, K, C> {
     ) -> Result<Vec<u8>, AllocError> {
         let alloc = self.alloc;
         let way = ReadWay {
-            names: self.names,
+            names: self.site.names(),
             is_last,
         };
-        match read_target(alloc, &self.routes, method, target) {
+        match self.site.read(alloc, method, target) {
             Ok(TargetAsk::Deliver) => {
                 let told = answer_message(alloc, clock, book, body)?;
                 told_answer(alloc, &told, is_last)
@@ -153,7 +154,7 @@ impl<'a, K: Keeper<RingMachine>, C: Clock> Service for RingService<'a, K, C> {
 /// `POST /v1/requests` delivers the message in the body; `POST /v1/import/RING?caller=C&number=N`
 /// the rows of the CSV table in the body, as one numbered import. `GET /v1/rings/RING/` with
 /// `devices`, `balance`, `nodes?account=A` (perhaps with `&container=C&object=O`) or `text/VERSION`
-/// reads a ring. Paths are hashed between names.
+/// reads a ring. Paths are hashed between the names of the site.
 ///
 /// The deliveries are one run of the book, each at the hour that the clock tells then: each number
 /// is decided once, in the order of the requests, and every repeat gets its kept reply. A read is
@@ -171,13 +172,13 @@ pub fn serve_audience<R: Read, W: Write, C: Clock, K: Keeper<RingMachine>>(
     writer: &mut CountedWriter<W>,
     clock: &mut C,
     book: &mut Book<RingMachine, K>,
-    names: HashNames<'_>,
+    site: &Site<'_>,
 ) -> Result<u32, StreamFault>
     ensures served { IfOk result (RequestsServedOn audience.entry R.remaining W.contents
-        (ServesHttp K.Keeper C.tells names.entry.prefix.now names.entry.suffix.now)
+        (ServesHttp K.Keeper C.tells (site_names site.now).prefix.now (site_names site.now).suffix.now)
         reader.old writer.old writer.new (clock.old, book.old) (clock.new, book.new)) }
     ensures stopped { IfErr result (RequestsStoppedOn audience.entry R.remaining W.contents
-        (ServesHttp K.Keeper C.tells names.entry.prefix.now names.entry.suffix.now)
+        (ServesHttp K.Keeper C.tells (site_names site.now).prefix.now (site_names site.now).suffix.now)
         reader.old reader.new writer.old writer.new (clock.old, book.old) (clock.new, book.new)) }
     ensures cause { FailsWithCause reader.old reader.new writer.old writer.new result }
     ensures flushed { LeavesFlushed writer.new result }
@@ -187,11 +188,9 @@ pub fn serve_audience<R: Read, W: Write, C: Clock, K: Keeper<RingMachine>>(
     ensures safe { K.sound book.new.keeper
         → IsSafeRun book.old.machine.limits (K.content book.old.keeper) (K.content book.new.keeper) }
 {
-    let routes = Routes::new(alloc)?;
     let service = RingService {
         alloc,
-        routes,
-        names,
+        site,
         kinds: PhantomData::<(K, C)>,
     };
     serve_requests(alloc, audience, reader, writer, &service, clock, book)
@@ -220,5 +219,6 @@ pub fn serve_stream<R: Read, W: Write, C: Clock, K: Keeper<RingMachine>>(
     ensures safe { K.sound book.new.keeper
         → IsSafeRun book.old.machine.limits (K.content book.old.keeper) (K.content book.new.keeper) }
 {
-    serve_audience(alloc, Audience::Anyone, reader, writer, clock, book, names)
+    let site = Site::new(alloc, names);
+    serve_audience(alloc, Audience::Anyone, reader, writer, clock, book, &site)
 }

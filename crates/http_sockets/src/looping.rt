@@ -16,7 +16,7 @@ use crate::server::Server;
 use crate::serving::{close, converse};
 use builder::RingMachine;
 use byte_streams::{CountedWriter, StreamFault, write_text};
-use http_api::Clock;
+use http_api::{Clock, Site};
 use http_messages::Audience;
 use path_lookup::HashNames;
 use request_book::{Book, Keeper};
@@ -100,7 +100,8 @@ fn serve_capped<
     let pace = Pace::new(Alone(time), Patience::usual());
     let reader = TimedReader::new(ends.reader, &pace);
     let writer = CappedWriter::new(TimedWriter::new(ends.writer, &pace), MOST_LOOPED);
-    let talk = converse(alloc, Audience::Anyone, reader, writer, clock, book, names);
+    let site = Site::new(alloc, names);
+    let talk = converse(alloc, Audience::Anyone, reader, writer, clock, book, &site);
     close(talk.stream, time, Patience::usual());
     talk.result
 }

@@ -3,6 +3,7 @@ ghost use Rattle.std.specs.Prelude.{◌≡◌, ◌+◌, ◌^◌, ◌<◌, IfErr,
 ghost use Rattle.builder.specs.Safety.{IsSafeRun};
 ghost use Rattle.byte_streams.specs.Counted.{Counts};
 ghost use Rattle.http_api.specs.Served.{ServesHttp};
+ghost use Rattle.http_api.specs.Sites.{site_names};
 ghost use Rattle.http_sockets.specs.Connections.{IsTalk, OneServed, PortFailed, PortServed};
 ghost use Rattle.http_sockets.specs.Connections.{ServedUntil, ServedUpTo};
 ghost use Rattle.http_sockets.specs.Inner.Stopping.{ServesEnds, StopsServing};
@@ -16,7 +17,7 @@ use crate::fault::{ServeFault, ServiceEnd};
 use crate::server::Server;
 use builder::RingMachine;
 use byte_streams::{CountedReader, CountedWriter, StreamFault};
-use http_api::{Clock, serve_audience};
+use http_api::{Clock, Site, serve_audience};
 use http_messages::Audience;
 use path_lookup::HashNames;
 use request_book::{Book, Keeper};
@@ -49,28 +50,20 @@ pub(crate) fn converse<
     writer: W,
     clock: &mut C,
     book: &mut Book<RingMachine, K>,
-    names: HashNames<'_>,
+    site: &Site<'_>,
 ) -> Conversation<S, W>
     ensures served { IfOk result.result (RequestsServed audience.entry
-        (ServesHttp K.Keeper C.tells names.entry.prefix.now names.entry.suffix.now)
+        (ServesHttp K.Keeper C.tells (site_names site.now).prefix.now (site_names site.now).suffix.now)
         (S.remaining reader.entry.stream) (W.contents writer) (W.contents result.writer)
         (clock.old, book.old) (clock.new, book.new)) }
     ensures stopped { IfErr result.result (StopsServing audience.entry K.Keeper C.tells
-        names.entry.prefix.now names.entry.suffix.now (S.remaining reader.entry.stream)
+        (site_names site.now).prefix.now (site_names site.now).suffix.now (S.remaining reader.entry.stream)
         (S.remaining result.stream) (W.contents writer) (W.contents result.writer)
         (clock.old, book.old) (clock.new, book.new)) }
 {
     let mut reader = CountedReader::new(reader);
     let mut writer = CountedWriter::new(writer);
-    let result = serve_audience(
-        alloc,
-        audience,
-        &mut reader,
-        &mut writer,
-        clock,
-        book,
-        names,
-    );
+    let result = serve_audience(alloc, audience, &mut reader, &mut writer, clock, book, site);
     Conversation {
         result,
         stream: reader.into_inner().into_inner(),
@@ -96,10 +89,10 @@ fn serve_one<D: Door, C: Clock, K: Keeper<RingMachine>>(
     ends: Ends<D::Stream>,
     clock: &mut C,
     book: &mut Book<RingMachine, K>,
-    names: HashNames<'_>,
+    site: &Site<'_>,
 )
-    ensures { ServesEnds audience.entry K.Keeper C.tells names.entry.prefix.now
-        names.entry.suffix.now D.Stream.remaining D.Stream.contents ends.reader ends.writer
+    ensures { ServesEnds audience.entry K.Keeper C.tells (site_names site.now).prefix.now
+        (site_names site.now).suffix.now D.Stream.remaining D.Stream.contents ends.reader ends.writer
         (clock.old, book.old) (clock.new, book.new) }
 {
     // Answers that are written are sent at once. Where the machine can't, they come later.
@@ -107,13 +100,14 @@ fn serve_one<D: Door, C: Clock, K: Keeper<RingMachine>>(
     let pace = Pace::new(door, door.patience());
     let reader = TimedReader::new(ends.reader, &pace);
     let writer = TimedWriter::new(ends.writer, &pace);
-    let talk = converse(door.alloc(), audience, reader, writer, clock, book, names);
+    let talk = converse(door.alloc(), audience, reader, writer, clock, book, site);
     if talk.result.is_ok() || pace.is_over() {
         close(talk.stream, door, door.patience());
     }
 }
 
-/// Serves so many connections, one after another: what an audience sends on them.
+/// Serves so many connections, one after another: what an audience sends on them. Their routes are
+/// made once.
 ///
 /// A stream's fault ends its connection alone, and the next one is served; what ends by time is
 /// a fault. `NetFailed` says that no connection came any more.
@@ -131,10 +125,11 @@ pub fn serve<D: Door, C: Clock, K: Keeper<RingMachine>>(
     ensures safe { K.sound book.new.keeper → IsSafeRun book.old.machine.limits
         (K.content book.old.keeper) (K.content book.new.keeper) }
 {
+    let site = Site::new(door.alloc(), names);
     let mut served = 0;
     while served < count {
         let ends = door.accept()?;
-        serve_one(&*door, audience, ends, clock, book, names);
+        serve_one(&*door, audience, ends, clock, book, &site);
         served += 1;
     }
     Ok(())
@@ -159,12 +154,13 @@ pub fn serve_on<D: Door, C: Clock, K: Keeper<RingMachine>>(
     ensures safe { K.sound book.new.keeper → IsSafeRun book.old.machine.limits
         (K.content book.old.keeper) (K.content book.new.keeper) }
 {
+    let site = Site::new(door.alloc(), names);
     let mut served = 0u64;
     while served < u64::MAX {
         let Ok(ends) = door.accept() else {
             return ServiceEnd::NetFailed;
         };
-        serve_one(&*door, audience, ends, clock, book, names);
+        serve_one(&*door, audience, ends, clock, book, &site);
         served += 1;
         if book.is_closed() {
             return ServiceEnd::StoreFailed;

@@ -1,18 +1,28 @@
 //! The bytes that were read and are not answered yet.
 ghost use Rattle.std.specs.Prelude.{◌≡◌, ◌≤◌, ◌+◌, ◌++◌, ℕ, List, [], length, drop, IfOk, IsTrue};
-ghost use Rattle.http_stream.specs.Inner.Midstream.{buffer_room};
+ghost use Rattle.http_stream.specs.Inner.Midstream.{buffer_room, piece_size};
 ghost use Rattle.std.specs.Prelude.{◌↔◌, ◌<◌, vec_len, vec_capacity};
 ghost use Rattle.httparse.specs.Spans.{IsWithin, span_bytes};
 ghost use Rattle.http_messages.specs.Requests.{IsLook};
 
-use byte_streams::CHUNK;
 use http_messages::{Audience, Look, MAX_BODY, MAX_HEAD, look_at};
 use httparse::spans::Span;
 use std::alloc::{AllocError, Global};
 use std::marker::Model;
 
+/// How many bytes are read at once, at most. Most requests are shorter, and room that is made for a
+/// connection is filled with zeros.
+const PIECE: usize = 16384;
+
 /// How many bytes there is room for: a request of the greatest length, and one more read.
-const ROOM: usize = MAX_HEAD + MAX_BODY + CHUNK;
+const ROOM: usize = MAX_HEAD + MAX_BODY + PIECE;
+
+/// Room for what is read at once.
+pub fn new_piece(alloc: Global) -> Result<Vec<u8>, AllocError>
+    ensures { IfOk result (λ piece. vec_len piece ≡ piece_size) }
+{
+    vec![in alloc; 0u8; PIECE]
+}
 
 /// The bytes that were read and are not answered yet. Contracts see them as a list.
 #[derive(Drop)]

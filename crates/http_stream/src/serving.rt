@@ -1,7 +1,6 @@
 //! The requests of a stream are answered.
 ghost use Rattle.std.specs.Prelude.{◌≡◌, ◌≤◌, ◌<◌, ◌+◌, ℕ, min, List, [], length, drop};
 ghost use Rattle.std.specs.Prelude.{IfOk, IfErr, IfSome, OnOk};
-ghost use Rattle.byte_streams.specs.Pieces.{chunk_size};
 ghost use Rattle.byte_streams.specs.Counted.{Counts, FailsWithCause, LeavesFlushed, reads_left};
 ghost use Rattle.byte_streams.specs.Counted.{write_faults};
 ghost use Rattle.byte_streams.specs.InTurn.{InTurn};
@@ -12,12 +11,13 @@ ghost use Rattle.http_messages.specs.Requests.{HasAsk, IsLook, ask_at, longest_b
 ghost use Rattle.http_messages.specs.declared.request.Look.TheVariants.{More};
 ghost use Rattle.http_stream.specs.Answers.{ItemAnswered};
 ghost use Rattle.http_stream.specs.Serving.{RequestsServedOn, RequestsStoppedOn};
+ghost use Rattle.http_stream.specs.Inner.Midstream.{piece_size};
 ghost use Rattle.http_stream.specs.Inner.Steps.{AnswersAsk, AnswersNext, AnswersWhole};
 ghost use Rattle.http_stream.specs.Inner.Steps.{PutsText, ReadsUpTo, stream_place};
 
-use crate::buffer::Buffer;
+use crate::buffer::{Buffer, new_piece};
 use crate::service::Service;
-use byte_streams::{CountedReader, CountedWriter, Outbox, StreamFault, new_chunk, read_some};
+use byte_streams::{CountedReader, CountedWriter, Outbox, StreamFault, read_some};
 use http_messages::{Audience, HeadFault, Look, RequestParts, no_memory_text, refusal_text};
 use std::alloc::{AllocError, Global};
 use std::io::{Read, Write};
@@ -166,7 +166,7 @@ impl StreamProgress {
     ) -> Result<bool, StreamFault>
         requires short { length self.old.buffer < wanted }
         requires most { wanted ≤ (longest_head + longest_body) }
-        requires room { length chunk.old ≡ chunk_size }
+        requires room { length chunk.old ≡ piece_size }
         ensures count { self.new.answered ≡ self.old.answered }
         ensures read { ReadsUpTo R.remaining W.contents wanted reader.old reader.new
             writer.old writer.new self.old self.new result }
@@ -221,7 +221,7 @@ pub fn serve_requests<R: Read, W: Write, H: Service>(
     ensures flushed { LeavesFlushed writer.new result }
 {
     let mut progress = StreamProgress::new(alloc)?;
-    let mut chunk = new_chunk(alloc)?;
+    let mut chunk = new_piece(alloc)?;
     while let Some(wanted) = progress.answer_buffered(audience, service, clock, state, writer)? {
         if !progress.read_up_to(wanted, reader, writer, &mut chunk)? {
             return Ok(progress.answered);

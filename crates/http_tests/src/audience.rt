@@ -1,7 +1,7 @@
 //! Whose requests are answered by a service for programs alone.
 use crate::serving::{NO_NAMES, clock_at, open};
 use byte_streams::{CountedReader, CountedWriter};
-use http_api::serve_audience;
+use http_api::{Site, serve_audience};
 use http_messages::Audience;
 use ring_words::Limits;
 use std::alloc::{AllocError, Global};
@@ -30,7 +30,7 @@ fn answered(alloc: Global, stream: &str) -> Result<Vec<u8>, AllocError> {
         &mut writer,
         &mut clock,
         &mut book,
-        NO_NAMES,
+        &Site::new(alloc, NO_NAMES),
     );
     match told {
         Ok(_) => Ok(writer.into_inner()),

@@ -27,7 +27,7 @@ fn told(alloc: Global, line: &str) -> Result<String, AllocError> {
 }
 
 /// What the words of a line ask for.
-static ASKED: [(&str, &str); 15] = [
+static ASKED: [(&str, &str); 18] = [
     ("run", "Run { file: None }"),
     ("run --file F", "Run { file: Some(\"F\") }"),
     ("table F object", "Table { file: \"F\", ring: \"object\" }"),
@@ -65,6 +65,18 @@ static ASKED: [(&str, &str); 15] = [
         "Serve { file: \"F\", port: Bounded { number: 1 }, count: 65535, hour: Some(9), names: HashNames { prefix: [120], suffix: [121] } }",
     ),
     (
+        "service F 8642",
+        "Service { file: \"F\", port: Bounded { number: 8642 }, hosts: [], hour_ok: false, names: HashNames { prefix: [], suffix: [] } }",
+    ),
+    (
+        "service --hour-ok F 65535",
+        "Service { file: \"F\", port: Bounded { number: 65535 }, hosts: [], hour_ok: true, names: HashNames { prefix: [], suffix: [] } }",
+    ),
+    (
+        "service F --host a.example 1 --host=b --prefix x --hour-ok --suffix y",
+        "Service { file: \"F\", port: Bounded { number: 1 }, hosts: [\"a.example\", \"b\"], hour_ok: true, names: HashNames { prefix: [120], suffix: [121] } }",
+    ),
+    (
         "loop F input --suffix=y --hour=0",
         "Loop { file: \"F\", input: \"input\", hour: Some(0), names: HashNames { prefix: [], suffix: [121] } }",
     ),
@@ -79,7 +91,7 @@ static ASKED: [(&str, &str); 15] = [
 ];
 
 /// Lines whose argument is not of its form.
-static NOT_OF_ITS_FORM: [&str; 16] = [
+static NOT_OF_ITS_FORM: [&str; 19] = [
     // ports and counts
     "serve F 0 1",
     "serve F 65536 1",
@@ -89,6 +101,9 @@ static NOT_OF_ITS_FORM: [&str; 16] = [
     "serve F 80 65536",
     "serve F 80 01",
     "serve F 80 1.0",
+    "service F 0",
+    "service F 65536",
+    "service F http",
     // hours
     "serve F 80 1 --hour 4294967296",
     "loop F input --hour -1",
@@ -101,7 +116,7 @@ static NOT_OF_ITS_FORM: [&str; 16] = [
     "export F object 7 --format json",
 ];
 
-static OTHER_WORDS: [&str; 27] = [
+static OTHER_WORDS: [&str; 35] = [
     "",
     "ran",
     "Run",
@@ -116,6 +131,14 @@ static OTHER_WORDS: [&str; 27] = [
     "serve F 80",
     "serve F 80 1 more",
     "serve 80 1 --file F",
+    "service F",
+    "service F 80 1",
+    "service F 80 --hour 5",
+    "service F 80 --host",
+    "service F 80 --hour-ok --hour-ok",
+    "service F 80 --hour-ok=yes",
+    "service F 80 --prefix x --prefix y",
+    "service --help",
     "loop F",
     "loop F input 80",
     "renew F",

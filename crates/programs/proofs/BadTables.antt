@@ -52,4 +52,5 @@ module _ (Holds : List ℕ → Type 0) (IsUnread : ℕ → ProgramFault → Type
   lost_table fault.NetFailed unread is = absurd is
   lost_table fault.BadPath unread is = absurd is
   lost_table fault.NoVersion unread is = absurd is
+  lost_table fault.ClockAhead unread is = absurd is
   lost_table fault.WriteFailed unread is = absurd is

@@ -171,6 +171,9 @@ shown_failed memory stores Begins Ends remaining contents reader writer later Ho
     after Refuses IsUnmade (task.Serve file port count given names) showing why (inr work) =
     absurd showing
 shown_failed memory stores Begins Ends remaining contents reader writer later Holds IsUnread before
+    after Refuses IsUnmade (task.Service file port hosts hour_ok names) showing why (inr work) =
+    absurd showing
+shown_failed memory stores Begins Ends remaining contents reader writer later Holds IsUnread before
     after Refuses IsUnmade (task.Loop file input given names) showing why (inr work) = absurd showing
 shown_failed memory stores Begins Ends remaining contents reader writer later Holds IsUnread before
     after Refuses IsUnmade (task.Import file ring caller number csv given) showing why (inr work) =

@@ -8,11 +8,11 @@ use Rattle.builder.specs.Step.{State}
 use Rattle.ring_messages.specs.declared.told.Told.{Told}
 use Rattle.ring_words.specs.declared.device.Row.{Row}
 use Rattle.programs.specs.Importing.{Imports}
-use Rattle.programs.specs.Begun.{Closing}
+use Rattle.programs.specs.Begun.{Closing, IsCloseFault, IsStoreFault}
 use Rattle.programs.specs.Running.{AnswersLines, StopsLines}
 use Rattle.programs.specs.Showing.{IsAsked}
 use Rattle.programs.specs.declared.faults.ProgramFault.{ProgramFault}
-use Rattle.programs.specs.declared.faults.ProgramFault.TheVariants.{StoreFault}
+use Rattle.programs.specs.declared.faults.ProgramFault.TheVariants as fault
 use Rattle.programs.specs.declared.importing.ImportAsk.{ImportAsk}
 use Rattle.programs.proofs.Runs.{answers, asked, imports, stops}
 use Rattle.ring_book.specs.Book.{Keeping}
@@ -35,10 +35,27 @@ unclosed closed Ends why is = subst Ends is
 
 -- what holds of a keeper whose closing failed
 pub on_unclosed : (closed : Closing) (Ends : Closing → Type 0) (Whole : ProgramFault → Type 0)
-    → ((why : ProgramFault) → why ≡ StoreFault → Ends (Err why) → Whole why) → Ends closed
-    → IfErr closed (λ why. why ≡ StoreFault) → IfErr closed Whole
+    → ((why : ProgramFault) → IsCloseFault why → Ends (Err why) → Whole why) → Ends closed
+    → IfErr closed IsCloseFault → IfErr closed Whole
 on_unclosed (Ok value) Ends Whole make ended is = tt
 on_unclosed (Err why) Ends Whole make ended is = make why is ended
+
+-- the fault of a closing is one of the store's
+pub unclosed_store : (why : ProgramFault) → IsCloseFault why → IsStoreFault why
+unclosed_store fault.StoreFault is = tt
+unclosed_store fault.NoMemory is = tt
+unclosed_store fault.NoFile is = absurd is
+unclosed_store fault.ReadFailed is = absurd is
+unclosed_store fault.TooLong is = absurd is
+unclosed_store fault.NoRing is = absurd is
+unclosed_store fault.NotAssigned is = absurd is
+unclosed_store fault.Unreadable is = absurd is
+unclosed_store fault.BadStore is = absurd is
+unclosed_store fault.NetFailed is = absurd is
+unclosed_store fault.BadPath is = absurd is
+unclosed_store fault.NoVersion is = absurd is
+unclosed_store fault.ClockAhead is = absurd is
+unclosed_store fault.WriteFailed is = absurd is
 
 -- The keeper of a store begins so, and another one, which was made of it, is left so.
 module _ {K : Type 0} (g : Keeping K) (Begins Ends : K → Type 0) (kept left : K)

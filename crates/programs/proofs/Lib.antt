@@ -4,5 +4,6 @@ pub mod Kept
 pub mod Renewals
 pub mod Runs
 pub mod Services
+pub mod Telling
 pub mod Lives
 pub mod ProgramLives

@@ -12,6 +12,9 @@ use Rattle.http_sockets.specs.Connections.{AnswersFirst, LoopFails, OneServed}
 use Rattle.http_sockets.specs.Hours.{TellsGiven}
 use Rattle.http_sockets.specs.declared.fault.ServeFault.{ServeFault}
 use Rattle.http_sockets.specs.declared.fault.ServeFault.TheVariants as serving
+use Rattle.http_sockets.specs.declared.fault.ServiceEnd.{ServiceEnd}
+use Rattle.http_sockets.specs.declared.fault.ServiceEnd.TheVariants as ended
+use Rattle.http_api.specs.Served.{ServesHttp}
 use Rattle.byte_streams.specs.Counted.{write_faults}
 use Rattle.line_api.proofs.Serving.{proper_lines}
 use Rattle.byte_streams.specs.declared.counted.CountedReader.{CountedReader}
@@ -49,7 +52,7 @@ use Rattle.ring_messages.specs.declared.told.Told.TheVariants as told
 use Rattle.ring_reads.specs.declared.reads.Question.{Question}
 use Rattle.http_sockets.specs.Listening.{AcceptsNone, HasAcceptedNone}
 use Rattle.programs.specs.Begun.{AreServiceLimits, Closing, FailedToClose, IsBegun, IsClosed}
-use Rattle.programs.specs.Begun.{IsClosedWhole}
+use Rattle.programs.specs.Begun.{HasNotFailed, IsClosedWhole}
 use Rattle.programs.specs.Begun.{IsStoreFault, OpensNone, OpensOne, WasClosed, WasClosedAfter}
 use Rattle.programs.specs.Importing.{FailsTold, FailsToDeliver, FailsToImport, Imports, IsToldAs, TellsImport}
 use Rattle.programs.specs.Importing.{TellsNothing, WritesTold}
@@ -57,13 +60,15 @@ use Rattle.programs.specs.Life.{FailsBefore, ComesOfFile, CrashEndsRun, GoesOnWi
 use Rattle.programs.specs.Life.{IsOneRun, RunsStore, TellsBadTable, store_of}
 use Rattle.programs.specs.Calls.{ended_calls, failed_calls, failed_loop_calls, failed_port_calls}
 use Rattle.programs.specs.Calls.{fewer_calls, import_calls, line_calls, loop_calls, looped_calls}
-use Rattle.programs.specs.Calls.{port_calls, run_calls, serve_calls}
+use Rattle.programs.specs.Calls.{port_calls, run_calls, serve_calls, service_calls, stops_calls}
 use Rattle.programs.specs.Calls.{stopped_calls, stopped_loop_calls, told_calls, undelivered_calls}
-use Rattle.programs.specs.Calls.{unimported_calls, untold_calls, work_calls}
+use Rattle.programs.specs.Calls.{unimported_calls, until_calls, untold_calls, work_calls}
 use Rattle.programs.specs.Performed.{EndsBy, EndsSo, FailsSo, FailsToDo, FailsToShowStore}
 use Rattle.programs.specs.Performed.{ImportsFile, ShowsStore}
 use Rattle.programs.specs.Renewing.{FailsToRead, FailsToRenew, IsRead}
 use Rattle.programs.specs.Running.{AnswersLines, FailsLines, StopsLines}
+use Rattle.programs.specs.Service.{ServesPrograms, StopsOnMachine, StopsService, WasAsked}
+use Rattle.programs.specs.Service.{tcp_contents}
 use Rattle.programs.specs.Serving.{FailsToLoop, FailsToLoopInput, FailsToServePort, Service}
 use Rattle.programs.specs.Serving.{ServesFewer, ServesOne, ServesPort, accepts_tcp, shuts_tcp}
 use Rattle.programs.specs.Serving.{tcp_remaining}
@@ -71,6 +76,7 @@ use Rattle.programs.specs.Showing.{AsksShown, IsAsked, ShowsNothing}
 use Rattle.programs.specs.declared.faults.ProgramFault.{ProgramFault}
 use Rattle.programs.specs.declared.faults.ProgramFault.TheVariants as fault
 use Rattle.programs.specs.declared.importing.ImportAsk.{ImportAsk}
+use Rattle.programs.specs.declared.service.ServiceAsk.{ServiceAsk}
 use Rattle.programs.specs.declared.performing.Ending.TheVariants.{Done, Refused}
 
 -- the limits of a service are those of any other
@@ -290,6 +296,53 @@ module _ {K : Type 0} (g : Keeping K) (Begins Ends : K → Type 0) (none : Stays
         → IsOneRun g Begins Ends (looped_calls g Begins Ends given names s)
     looped_run s = one_run_of s.first s.last s.opened s.left s.led.0
 
+-- A keeper that begins so was asked, and is left so.
+module _ {K : Type 0} (g : Keeping K) (Begins Ends : K → Type 0) where
+  -- a run from what it became is one from what it was
+  asked_first : (keeper found : K) (calls : Calls) → Begins keeper → WasAsked g keeper found
+      → HasNotFailed g found → IsOneRun g (λ k. k ≡ found) Ends calls → IsOneRun g Begins Ends calls
+  asked_first keeper found calls begins asked unfailed one =
+      let at_found : g.sound one.later → g.sound found =
+      λ sound. subst g.sound one.opened (one.stays_sound sound) in
+      record {
+        keeper = keeper;
+        later = one.later;
+        opened = begins;
+        closed = one.closed;
+        stays_sound = λ sound. asked.sound (at_found sound);
+        run = λ limits full sound. subst (λ n. Run (Step limits) (g.limit keeper) (nat_lt 0 n)
+            (g.content keeper) calls (g.content one.later)) (unfailed ∙ sym asked.unfailed)
+            (subst (λ l. Run (Step limits) l (nat_lt 0 (g.fault_count found))
+            (g.content keeper) calls (g.content one.later)) asked.limit
+            (subst (λ c. Run (Step limits) (g.limit found) (nat_lt 0 (g.fault_count found)) c calls
+            (g.content one.later)) (asked.content (at_found sound))
+            (subst (λ k. Run (Step limits) (g.limit k) (nat_lt 0 (g.fault_count k)) (g.content k)
+            calls (g.content one.later)) one.opened (one.run limits full sound))));
+        proper = one.proper;
+      }
+
+  module _ {C D S : Type 0} (tells : C → ℕ → C → Type 0) (ask : ServiceAsk) (clock : C)
+      (remaining contents : S → Option (List ℕ)) (gives : D → S → S → D → Type 0)
+      (fails : D → D → Type 0) (opens : ℕ → D → Type 0) (shuts : ℕ → Type 0) where
+    abbrev Serves : ServiceEnd → Type 0
+    Serves = ServesPrograms g tells ask clock Begins Ends remaining contents gives fails opens
+
+    served_from : (end : ServiceEnd) (s : Serves end) (items : _) (texts : List (List ℕ))
+        (serves : ServesHttp g tells ask.names.prefix.now ask.names.suffix.now s.first items texts
+        s.last) → IsOneRun g Begins Ends serves.calls
+    served_from end s items texts serves = asked_first s.keeper s.first.1.keeper serves.calls s.opened
+        s.asked s.judged.unfailed (made_run g (λ k. k ≡ s.first.1.keeper) Ends s.first.1 s.last.1
+        serves.calls (record { full = s.full; keeper = refl }) s.left serves.made
+        (proper_requests g tells ask.names.prefix.now ask.names.suffix.now s.first items texts s.last
+        serves))
+
+    -- the run of a service until something ended it
+    programs_run : (end : ServiceEnd) (s : Serves end) → IsOneRun g Begins Ends (until_calls g tells ask
+        clock remaining contents gives fails opens shuts Begins Ends end s)
+    programs_run ended.StoreFailed s = served_from ended.StoreFailed s _ _ s.served.1.1.serves
+    programs_run ended.NetFailed s = served_from ended.NetFailed s _ _ s.served.1.1.all.serves
+    programs_run ended.AllServed s = served_from ended.AllServed s _ _ s.served.1.serves
+
 -- one run of a store is one of a store of whose end less is known
 left_run : {K : Type 0} (g : Keeping K) (Begins Ends Late : K → Type 0) {calls : Calls}
     → ((keeper : K) → Ends keeper → Late keeper) → IsOneRun g Begins Ends calls
@@ -427,6 +480,30 @@ module _ {K W : Type 0} (stores : Keeping K) (Begins : K → Type 0)
           (WasClosed Ends) none given names tcp_remaining accepts_tcp AcceptsNone
           (λ _ server. HasAcceptedNone server) shuts_tcp port count served)
 
+      stops_once : {C D S : Type 0} (tells : C → ℕ → C → Type 0) (ask : ServiceAsk) (clock : C)
+          (remaining sent : S → Option (List ℕ)) (gives : D → S → S → D → Type 0)
+          (fails : D → D → Type 0) (opens : ℕ → D → Type 0) (shuts : ℕ → Type 0) (why : ProgramFault)
+          → OpensOne before after
+          → (stopped : StopsService stores tells Begins Ends ask clock remaining sent gives fails
+          opens shuts Refuses why)
+          → OpensOnce why (stops_calls stores tells ask clock remaining sent gives fails opens shuts
+          Begins Ends Refuses why stopped)
+      stops_once tells ask clock remaining sent gives fails opens shuts why one (inl refused) =
+          inl (refused, one)
+      stops_once tells ask clock remaining sent gives fails opens shuts why one (inr (inl never)) =
+          inr (still_run stores Begins (WasClosed Ends) none never.keeper never.later never.opened
+          never.left never.asked.sound never.asked.content)
+      stops_once tells ask clock remaining sent gives fails opens shuts why one
+          (inr (inr (end, is, served))) = inr (programs_run stores Begins (WasClosed Ends) tells ask
+          clock remaining sent gives fails opens shuts end served)
+
+      service_failed : (t : Task) (why : ProgramFault) → OpensOne before after
+          → (stopped : StopsOnMachine stores Begins Ends Refuses t why)
+          → OpensOnce why (service_calls stores Begins Ends Refuses t why stopped)
+      service_failed t why one stopped = stops_once TellsGiven stopped.ask stopped.clock tcp_remaining
+          tcp_contents accepts_tcp AcceptsNone (λ _ server. HasAcceptedNone server) shuts_tcp why one
+          stopped.stops
+
       loop_failed : (given : Option ℕ) (names : HashNames) (why : ProgramFault)
           → OpensOne before after
           → (failed : FailsToLoop stores Begins Ends given names contents writer later Refuses why)
@@ -549,6 +626,7 @@ module _ {M K R W : Type 0} (memory : Keeping M) (stores : Keeping K)
         remaining contents reader late_reader writer later all.0
     done_once (task.Serve file port count given names) all = served_run stores (Begins file.now)
         (IsClosed Ends) none given names port count all.2
+    done_once (task.Service file port hosts hour_ok names) all = absurd all
     done_once (task.Loop file input given names) all = looped_run stores (Begins file.now)
         (IsClosed Ends) none given names all.1.2.0
     done_once (task.Import file ring caller number csv given) all = table_run stores
@@ -577,6 +655,7 @@ module _ {M K R W : Type 0} (memory : Keeping M) (stores : Keeping K)
         csv _ given all.1
     refused_once (task.Run file) all = absurd all
     refused_once (task.Serve file port count given names) all = absurd all
+    refused_once (task.Service file port hosts hour_ok names) all = absurd all
     refused_once (task.Loop file input given names) all = absurd all
     refused_once (task.Table file ring) all = absurd all
     refused_once (task.Nodes file ring account container object names) all = absurd all
@@ -600,6 +679,9 @@ module _ {M K R W : Type 0} (memory : Keeping M) (stores : Keeping K)
     work_failed (task.Serve file port count given names) why all = at_opening (serve_failed stores
         (Begins file.now) Ends none more contents writer later before after (Refuses file.now) given names port
         count why all.3 all.2)
+    work_failed (task.Service file port hosts hour_ok names) why all = at_opening (service_failed stores
+        (Begins file.now) Ends none more contents writer later before after (Refuses file.now)
+        (task.Service file port hosts hour_ok names) why all.3 all.2)
     work_failed (task.Loop file input given names) why all = at_file (input_failed stores
         (Begins file.now) Ends none more contents writer later before after (Refuses file.now) Holds IsUnread file
         input given names why all.1)

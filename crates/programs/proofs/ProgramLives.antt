@@ -1,10 +1,10 @@
 -- All programs over one store, one after another, come to one run.
 use Rattle.std.proofs.Common.{◌≡◌, ◌∙◌, ◌∷◌, [], ℕ, List, None, Some, ap, append-nil, inl, inr}
-use Rattle.std.proofs.Common.{append_assoc, refl, subst, sym}
+use Rattle.std.proofs.Common.{append_assoc, subst, sym}
 use Rattle.std.proofs.lemmas.List.Elements.{All-cons, All-nil, recursion_from_All}
 use Rattle.std.specs.List.{AllByRecursion}
 use Rattle.std.specs.Option.{option_to_list}
-use Rattle.std.specs.Prelude.{◌++◌, All, Err, IsSomeAnd, Ok, Option, false, is_some, nat_lt}
+use Rattle.std.specs.Prelude.{◌++◌, All, IsSomeAnd, Option, false, is_some, nat_lt}
 use Rattle.std.specs.Prelude.{true}
 use Rattle.builder.proofs.KeptReplies.{life_keeps}
 use Rattle.builder.proofs.Lives.{safe_life}
@@ -15,10 +15,7 @@ use Rattle.builder.specs.Step.{Step}
 use Rattle.request_book.proofs.FirstCalls.{closed_called, none_fails}
 use Rattle.request_book.proofs.Runs.{run_snoc}
 use Rattle.request_book.proofs.Calls.{failed-new, failed-ok}
-use Rattle.request_book.specs.Call.{Call, Deliver, Load, failed, finds_closed, meets_fault}
-use Rattle.request_book.specs.Content.{Content}
-use Rattle.request_book.specs.declared.book.Fault.TheVariants.{BookFull, Closed, NoMemory}
-use Rattle.request_book.specs.declared.book.Fault.TheVariants.{NumberReused, StoreFault}
+use Rattle.request_book.specs.Call.{Call, failed, finds_closed, meets_fault}
 use Rattle.request_book.specs.Called.{Called}
 use Rattle.request_book.specs.Run.{Run}
 use Rattle.ring_book.specs.Book.{Asked, Keeping}

@@ -89,3 +89,9 @@ IsStoreFault fault.StoreFault = ⊤
 IsStoreFault fault.BadStore = ⊤
 IsStoreFault fault.NoMemory = ⊤
 IsStoreFault _ = ⊥
+
+-- The fault is one of closing a store: its files failed, or there was no memory.
+abbrev pub IsCloseFault : ProgramFault → Type 0
+IsCloseFault fault.StoreFault = ⊤
+IsCloseFault fault.NoMemory = ⊤
+IsCloseFault _ = ⊥

@@ -1,6 +1,6 @@
 -- Which calls of its store's book a task made: those that its lines or its requests led to, or the
 -- delivery of its import.
-use Rattle.std.specs.Prelude.{◌≡◌, ◌⊎◌, ◌∷◌, [], ℕ, List, Option, Some}
+use Rattle.std.specs.Prelude.{◌∷◌, [], ℕ, List, Option, Some}
 use mathlib.Core.Logic.{inl, inr}
 use Rattle.byte_streams.specs.Counted.{write_faults}
 use Rattle.byte_streams.specs.declared.counted.CountedReader.{CountedReader}
@@ -15,6 +15,8 @@ use Rattle.http_messages.specs.declared.audience.Audience.TheVariants.{Anyone}
 use Rattle.http_sockets.specs.Connections.{AnswersFirst, LoopFails, PortFailed}
 use Rattle.http_sockets.specs.declared.fault.ServeFault.{ServeFault}
 use Rattle.http_sockets.specs.declared.fault.ServeFault.TheVariants as serving
+use Rattle.http_sockets.specs.declared.fault.ServiceEnd.{ServiceEnd}
+use Rattle.http_sockets.specs.declared.fault.ServiceEnd.TheVariants as ended
 use Rattle.http_sockets.specs.Hours.{TellsGiven}
 use Rattle.http_sockets.specs.Listening.{AcceptsNone, HasAcceptedNone}
 use Rattle.path_lookup.specs.declared.hash.HashNames.{HashNames}
@@ -28,11 +30,13 @@ use Rattle.programs.specs.Importing.{FailsToDeliver, FailsToImport, Imports, Tel
 use Rattle.programs.specs.Importing.{TellsNothing}
 use Rattle.programs.specs.Performed.{EndsSo, FailsSo, FailsToDo}
 use Rattle.programs.specs.Running.{AnswersLines, FailsLines, StopsLines}
+use Rattle.programs.specs.Service.{ServesPrograms, StopsOnMachine, StopsService, tcp_contents}
 use Rattle.programs.specs.Serving.{FailsToLoop, FailsToLoopInput, FailsToServePort, ServesFewer}
 use Rattle.programs.specs.Serving.{ServesOne, ServesPort, Service, accepts_tcp, shuts_tcp}
 use Rattle.programs.specs.Serving.{tcp_remaining}
 use Rattle.programs.specs.declared.faults.ProgramFault.{ProgramFault}
 use Rattle.programs.specs.declared.importing.ImportAsk.{ImportAsk}
+use Rattle.programs.specs.declared.service.ServiceAsk.{ServiceAsk}
 use Rattle.programs.specs.declared.performing.Ending.{Ending}
 use Rattle.programs.specs.declared.performing.Ending.TheVariants.{Done}
 
@@ -117,6 +121,29 @@ module _ {K : Type 0} (g : Keeping K) (Begins Ends : K → Type 0) where
     failed_loop_calls first last before after (serving.Stream stream.NoMemory)
         (same, inr (one, is)) = one.serves.calls
 
+-- A service was asked for, by this clock. The streams of connections tell so of their bytes; doors
+-- give them so, or fail so to give one; and ports open them so, or can't be had.
+module _ {K C D S : Type 0} (g : Keeping K) (tells : C → ℕ → C → Type 0) (ask : ServiceAsk) (clock : C)
+    (remaining contents : S → Option (List ℕ)) (gives : D → S → S → D → Type 0)
+    (fails : D → D → Type 0) (opens : ℕ → D → Type 0) (shuts : ℕ → Type 0) where
+  -- the calls that the requests of its connections led to until something ended it
+  abbrev pub until_calls : (Begins Ends : K → Type 0) (end : ServiceEnd)
+      → ServesPrograms g tells ask clock Begins Ends remaining contents gives fails opens end
+      → BookCalls
+  until_calls Begins Ends ended.StoreFailed served = served.served.1.1.serves.calls
+  until_calls Begins Ends ended.NetFailed served = served.served.1.1.all.serves.calls
+  until_calls Begins Ends ended.AllServed served = served.served.1.serves.calls
+
+  -- so they are where it stopped, if it began
+  abbrev pub stops_calls : (Begins : K → Type 0) (Ends : K → Closing → Type 0)
+      (Refuses : ProgramFault → Type 0) (why : ProgramFault)
+      → StopsService g tells Begins Ends ask clock remaining contents gives fails opens shuts Refuses
+      why → BookCalls
+  stops_calls Begins Ends Refuses why (inl refused) = []
+  stops_calls Begins Ends Refuses why (inr (inl never)) = []
+  stops_calls Begins Ends Refuses why (inr (inr (end, is, served))) =
+      until_calls Begins (WasClosed Ends) end served
+
 -- A task failed over a keeper that begins so, and ends so with what closing it answers.
 module _ {K : Type 0} (g : Keeping K) (Begins : K → Type 0) (Ends : K → Closing → Type 0) where
   -- the calls of a program that answered lines
@@ -134,6 +161,13 @@ module _ {K : Type 0} (g : Keeping K) (Begins : K → Type 0) (Ends : K → Clos
       answers
 
   module _ (Refuses : ProgramFault → Type 0) where
+    -- of a service that was served until something ended it
+    abbrev pub service_calls : (t : Task) (why : ProgramFault)
+        → StopsOnMachine g Begins Ends Refuses t why → BookCalls
+    service_calls t why stopped = stops_calls g TellsGiven stopped.ask stopped.clock tcp_remaining
+        tcp_contents accepts_tcp AcceptsNone (λ _ server. HasAcceptedNone server) shuts_tcp Begins Ends
+        Refuses why stopped.stops
+
     -- of one that delivered rows
     abbrev pub undelivered_calls : (ask : ImportAsk) (rows : List Row) (hour : ℕ) (why : ProgramFault)
         → FailsToDeliver g Begins Ends Refuses ask rows hour why → BookCalls
@@ -160,7 +194,7 @@ module _ {K : Type 0} (g : Keeping K) (Begins : K → Type 0) (Ends : K → Clos
           told_calls g Begins (IsClosed Ends) Holds IsUnread before after ask given t told
 
   module _ (given : Option ℕ) (names : HashNames) where
-    -- of a service
+    -- of one that served connections
     abbrev pub serve_calls : (Refuses : ProgramFault → Type 0) (port count : ℕ) (why : ProgramFault)
         → FailsToServePort g Begins Ends given names Refuses port count why → BookCalls
     serve_calls Refuses port count why (inl refused) = []
@@ -226,6 +260,9 @@ module _ {M K R W : Type 0} (memory : Keeping M) (stores : Keeping K)
     work_calls (task.Serve file port count given names) why failed =
         serve_calls stores (Begins file.now) Ends given names (Refuses file.now) port count why
         failed.2
+    work_calls (task.Service file port hosts hour_ok names) why failed =
+        service_calls stores (Begins file.now) Ends (Refuses file.now)
+        (task.Service file port hosts hour_ok names) why failed.2
     work_calls (task.Loop file input given names) why failed =
         loop_calls stores (Begins file.now) Ends given names contents writer later (Refuses file.now)
         (IsUnread input.now) before after why failed.1

@@ -28,6 +28,7 @@ program_fault_name fault.NetFailed = codes "NetFailed"
 program_fault_name fault.TooLong = codes "TooLong"
 program_fault_name fault.BadPath = codes "BadPath"
 program_fault_name fault.NoVersion = codes "NoVersion"
+program_fault_name fault.ClockAhead = codes "ClockAhead"
 program_fault_name fault.ReadFailed = codes "ReadFailed"
 program_fault_name fault.WriteFailed = codes "WriteFailed"
 
@@ -44,6 +45,7 @@ fault_number fault.NetFailed = 28
 fault_number fault.TooLong = 29
 fault_number fault.BadPath = 30
 fault_number fault.NoVersion = 32
+fault_number fault.ClockAhead = 33
 fault_number fault.ReadFailed = 50
 fault_number fault.WriteFailed = 51
 
@@ -81,3 +83,10 @@ GetsText contents old new text =
     (contents (writer_of new)) text × IsFlushed new)
     ⊎ ((write_faults new ≡ one_more (write_faults old)) × WritesBeginning (contents (writer_of old))
     (contents (writer_of new)) text)
+
+-- The writer got these texts, one after another.
+abbrev pub GetsTexts : {E : Type 0} → (E → Option (List ℕ)) → CountedWriter E → CountedWriter E →
+    List (List ℕ) → Type 0
+GetsTexts contents old new [] = new ≡ old
+GetsTexts {E} contents old new (text ∷ texts) = (mid : CountedWriter E)
+    × GetsText contents old mid text × GetsTexts contents mid new texts

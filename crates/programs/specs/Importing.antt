@@ -24,7 +24,8 @@ use Rattle.ring_words.specs.Texts.{is_label}
 use Rattle.ring_words.specs.declared.command.Act.TheVariants as act
 use Rattle.ring_words.specs.declared.command.Reply.{Reply}
 use Rattle.ring_words.specs.declared.device.Row.{Row}
-use Rattle.programs.specs.Begun.{Closing, FailedToClose, IsBegun, IsClosed, IsStoreFault}
+use Rattle.programs.specs.Begun.{Closing, FailedToClose, IsBegun, IsCloseFault, IsClosed}
+use Rattle.programs.specs.Begun.{IsStoreFault}
 use Rattle.programs.specs.Begun.{OpensNone, OpensOne}
 use Rattle.programs.specs.Serving.{TellsHour}
 use Rattle.programs.specs.Tables.{HoldsTable, IsBadTable, IsNoTable}
@@ -108,7 +109,7 @@ module _ {K : Type 0} (g : Keeping K) (Begins : K → Type 0) (Ends : K → Clos
   -- delivered, and closing it failed so.
   abbrev pub FailsToDeliver : ImportAsk → List Row → ℕ → ProgramFault → Type 0
   FailsToDeliver ask rows hour why = (Refuses why × IsStoreFault why)
-      ⊎ ((why ≡ fault.StoreFault) × ((t : Told)
+      ⊎ (IsCloseFault why × ((t : Told)
       × Imports g Begins (FailedToClose Ends why) ask rows hour t))
 
   -- A file may hold such a text, or give no text of at most so many bytes for such a fault, and of

@@ -2,3 +2,5 @@
 pub mod Asked
 pub mod Forms
 pub mod Showing
+pub mod Tellings
+pub mod Until

@@ -1,10 +1,12 @@
 pub mod Faults
 pub mod Begun
+pub mod Tables
+pub mod Left
 pub mod Running
 pub mod Serving
+pub mod Service
 pub mod Importing
 pub mod Showing
-pub mod Tables
 pub mod Renewing
 pub mod Performed
 pub mod Calls

@@ -46,6 +46,7 @@ abbrev pub store_of : Task → Option (List ℕ)
 store_of (task.Run None) = None
 store_of (task.Run (Some file)) = Some file.now
 store_of (task.Serve file port count given names) = Some file.now
+store_of (task.Service file port hosts hour_ok names) = Some file.now
 store_of (task.Loop file input given names) = Some file.now
 store_of (task.Import file ring caller number csv given) = Some file.now
 store_of (task.Table file ring) = Some file.now

@@ -1,5 +1,6 @@
 -- What a program does that words ask for.
-use Rattle.std.specs.Prelude.{◌≡◌, ◌≢◌, ◌⊎◌, ℕ, List, [], Option, None, Some}
+use Rattle.std.specs.Prelude.{◌≡◌, ◌≢◌, ◌⊎◌, ◌++◌, ◌∷◌, ⊤, ℕ, List, [], Option, None, Some}
+use mathlib.Core.Logic.{inl, inr}
 use Rattle.std.specs.Borrow.{Bor}
 use Rattle.byte_streams.specs.declared.counted.CountedReader.{CountedReader}
 use Rattle.byte_streams.specs.declared.counted.CountedWriter.{CountedWriter}
@@ -7,13 +8,17 @@ use Rattle.byte_streams.specs.declared.fault.StreamFault.{StreamFault}
 use Rattle.command_line.specs.Tasks.{AskFor}
 use Rattle.command_line.specs.declared.task.Task.{Task}
 use Rattle.command_line.specs.declared.task.Task.TheVariants as task
-use Rattle.programs.specs.Faults.{GetsText, fault_line, stream_fault}
+use Rattle.programs.specs.Faults.{GetsText, GetsTexts, fault_line, stream_fault}
 use Rattle.programs.specs.Importing.{AnswersImport, AsksImport, FailsToImport}
-use Rattle.programs.specs.Begun.{Closing, IsAny, IsClosed, IsClosedWhole, IsNew, OpensNone, OpensOne}
+use Rattle.programs.specs.Begun.{Closing, IsAny, IsClosed, IsClosedWhole, IsNew, OpensNone}
+use Rattle.programs.specs.Begun.{OpensOne}
 use Rattle.programs.specs.Begun.{OpensTwo}
 use Rattle.builder.specs.Step.{State}
+use Rattle.programs.specs.Left.{Closes, FailsToMake, GivesNoText, GivesText, MakesStore}
+use Rattle.programs.specs.Left.{RefusesToOpen}
 use Rattle.programs.specs.Renewing.{FailsToRenew, Renews}
 use Rattle.programs.specs.Running.{AnswersLines, FailsLines, StopsLines}
+use Rattle.programs.specs.Service.{StopsOnMachine, fault_status, machine_lines}
 use Rattle.programs.specs.Serving.{FailsToLoopInput, FailsToServePort, LoopsInput}
 use Rattle.programs.specs.Serving.{ServesPort}
 use Rattle.programs.specs.Showing.{AsksShown, FailsToShow, IsFormFault, HasBadWord}
@@ -23,6 +28,7 @@ use Rattle.programs.specs.declared.faults.ProgramFault.TheVariants as fault
 use Rattle.programs.specs.declared.importing.ImportAsk.{ImportAsk}
 use Rattle.programs.specs.declared.performing.Ending.{Ending}
 use Rattle.programs.specs.declared.performing.Ending.TheVariants.{Done, Refused}
+use Rattle.programs.specs.declared.stores.Stores as store_calls
 use Rattle.ring_reads.specs.declared.reads.Question.{Question}
 use Rattle.ring_book.specs.Book.{Keeping}
 
@@ -138,6 +144,10 @@ module _ {M K R W : Type 0} (memory : Keeping M) (stores : Keeping K)
           × (later ≡ writer) × FailsToServePort stores (Begins file.now) Ends given names
           (Refuses file.now) port count why
           × OpensOne before after
+      FailsToDo (task.Service file port hosts hour_ok names) why = (late_reader ≡ reader)
+          × (later ≡ writer) × StopsOnMachine stores (Begins file.now) Ends (Refuses file.now)
+          (task.Service file port hosts hour_ok names) why
+          × OpensOne before after
       FailsToDo (task.Loop file input given names) why = (late_reader ≡ reader)
           × FailsToLoopInput stores (Begins file.now) Ends given names contents writer later
           (Refuses file.now) (IsUnread input.now) before after why
@@ -170,30 +180,77 @@ module _ {M K R W : Type 0} (memory : Keeping M) (stores : Keeping K)
           × OpensNone before after)
           ⊎ FailsToDo t why
 
--- The words of a command line are these, and a third stream tells of faults, before and after.
+      -- the lines that a task told before it told its fault: a service tells some, and no other task
+      abbrev pub work_lines : (t : Task) (why : ProgramFault) → FailsToDo t why → List (List ℕ)
+      work_lines (task.Service file port hosts hour_ok names) why failed = machine_lines stores
+          (Begins file.now) Ends (Refuses file.now) (task.Service file port hosts hour_ok names) why
+          failed.2
+      work_lines _ why failed = []
+
+      -- the same of a task whose words may be at fault
+      abbrev pub task_lines : (t : Task) (why : ProgramFault) → FailsSo t why → List (List ℕ)
+      task_lines t why (inl words) = []
+      task_lines t why (inr failed) = work_lines t why failed
+
+-- A third stream tells of faults, before and after.
 module _ {M K R W E : Type 0} (memory : Keeping M) (stores : Keeping K)
     (Begins : List ℕ → K → Type 0) (Ends : K → Closing → Type 0)
     (Holds : List ℕ → List ℕ → Type 0) (IsUnread : List ℕ → ℕ → ProgramFault → Type 0)
     (before after : ℕ) (IsMade : List ℕ → State → ℕ → Type 0) (remaining : R → Option (List ℕ))
-    (contents : W → Option (List ℕ)) (told : E → Option (List ℕ)) (words : List (List ℕ))
+    (contents : W → Option (List ℕ)) (told : E → Option (List ℕ))
     (reader late_reader : CountedReader R)
     (writer later : CountedWriter W) (errors late_errors : CountedWriter E) where
-  -- The words ask for a task, which was done, and no fault was told.
-  abbrev pub DoesAsked : Type 0
-  DoesAsked = (t : Task) × AskFor words t
-      × EndsSo memory stores Begins Ends remaining contents reader late_reader writer later Holds IsUnread
-      before after IsMade t Done × (late_errors ≡ errors)
+  -- A task was done, and no fault was told.
+  abbrev pub IsTaskDone : Task → Type 0
+  IsTaskDone t = EndsSo memory stores Begins Ends remaining contents reader late_reader writer later
+      Holds IsUnread before after IsMade t Done × (late_errors ≡ errors)
 
-  -- The words ask for a task, which had a fault that was told, or was an import that was refused,
-  -- and then no fault was told. Or there was no memory to read the words: that was told, the other
-  -- streams were not touched, and no store was opened or made.
-  abbrev pub FailsAsked : (List ℕ → ProgramFault → Type 0)
-      → (List ℕ → State → ℕ → ProgramFault → Type 0) → Type 0
-  FailsAsked Refuses IsUnmade = ((t : Task) × AskFor words t × (((why : ProgramFault)
-      × FailsSo memory stores Begins Ends remaining contents reader late_reader writer later Holds IsUnread
-      before after Refuses IsUnmade t why
-      × GetsText told errors late_errors (fault_line why))
-      ⊎ (EndsSo memory stores Begins Ends remaining contents reader late_reader writer later Holds IsUnread
-      before after IsMade t Refused × (late_errors ≡ errors))))
-      ⊎ ((late_reader ≡ reader) × (later ≡ writer) × OpensNone before after
-      × GetsText told errors late_errors (fault_line fault.NoMemory))
+  module _ (Refuses : List ℕ → ProgramFault → Type 0)
+      (IsUnmade : List ℕ → State → ℕ → ProgramFault → Type 0) where
+    -- A task had a fault that was told, behind what it told before, and ended with the status that
+    -- tells it; or it was an import that was refused, and then no fault was told.
+    abbrev pub FailsAt : Task → ℕ → Type 0
+    FailsAt t status = ((why : ProgramFault)
+        × (failed : FailsSo memory stores Begins Ends remaining contents reader late_reader writer
+        later Holds IsUnread before after Refuses IsUnmade t why)
+        × (status ≡ fault_status t why)
+        × GetsTexts told errors late_errors (task_lines memory stores Begins Ends remaining contents
+        reader late_reader writer later Holds IsUnread before after Refuses IsUnmade t why failed
+        ++ fault_line why ∷ []))
+        ⊎ (EndsSo memory stores Begins Ends remaining contents reader late_reader writer later Holds
+        IsUnread before after IsMade t Refused × (late_errors ≡ errors) × (status ≡ 1))
+
+  -- The words of a command line are these.
+  module _ (words : List (List ℕ)) where
+    -- The words ask for a task, which was done, and no fault was told.
+    abbrev pub DoesAsked : Type 0
+    DoesAsked = (t : Task) × AskFor words t × IsTaskDone t
+
+    -- The words ask for a task, which failed. Or there was no memory to read the words: that was
+    -- told, the other streams were not touched, and no store was opened or made.
+    abbrev pub FailsAsked : (List ℕ → ProgramFault → Type 0)
+        → (List ℕ → State → ℕ → ProgramFault → Type 0) → ℕ → Type 0
+    FailsAsked Refuses IsUnmade status =
+        ((t : Task) × AskFor words t × FailsAt Refuses IsUnmade t status)
+        ⊎ ((late_reader ≡ reader) × (later ≡ writer) × OpensNone before after × (status ≡ 1)
+        × GetsText told errors late_errors (fault_line fault.NoMemory))
+
+-- Stores are these, before and after, and of what their calls give back programs keep the answer.
+module _ {S K U C N V F T M R W : Type 0} (g : store_calls.Ghosts S K U C N V F T)
+    (kept : Keeping K) (memory : Keeping M) (before after : S) (remaining : R → Option (List ℕ))
+    (contents : W → Option (List ℕ)) (reader late_reader : CountedReader R)
+    (writer later : CountedWriter W) where
+  -- A third stream tells of faults, before and after.
+  module _ {E : Type 0} (told : E → Option (List ℕ)) (errors late_errors : CountedWriter E) where
+    -- What these words ask for was done over these stores.
+    abbrev pub DoesAskedOver : List (List ℕ) → Type 0
+    DoesAskedOver = DoesAsked memory kept g.begins (Closes g) (GivesText g) (GivesNoText g)
+        (g.openings before) (g.openings after) (MakesStore g) remaining contents told reader late_reader
+        writer later errors late_errors
+
+    -- It failed over them, or was an import that was refused, or there was no memory to read the
+    -- words; and this is the status.
+    abbrev pub FailsAskedOver : List (List ℕ) → ℕ → Type 0
+    FailsAskedOver words = FailsAsked memory kept g.begins (Closes g) (GivesText g) (GivesNoText g)
+        (g.openings before) (g.openings after) (MakesStore g) remaining contents told reader late_reader
+        writer later errors late_errors words (RefusesToOpen g) (FailsToMake g)

@@ -4,11 +4,11 @@ use Rattle.builder.specs.Step.{State}
 use Rattle.request_book.specs.Keeper.{LeavesOnly}
 use Rattle.request_book.specs.declared.keeper.KeepFault.{KeepFault}
 use Rattle.ring_book.specs.Book.{Keeping}
-use Rattle.programs.specs.Begun.{Closing, FailedToClose, IsClosedWhole, IsStoreFault, OpensOne}
+use Rattle.programs.specs.Begun.{Closing, FailedToClose, IsCloseFault, IsClosedWhole, IsStoreFault}
+use Rattle.programs.specs.Begun.{OpensOne}
 use Rattle.programs.specs.Begun.{OpensTwo, WasClosedAfter}
 use Rattle.programs.specs.Faults.{keep_fault}
 use Rattle.programs.specs.declared.faults.ProgramFault.{ProgramFault}
-use Rattle.programs.specs.declared.faults.ProgramFault.TheVariants as fault
 
 -- A keeper that begins so is read and left so, and this is so of its rings and its hour. It keeps
 -- its content, and a crash leaves that and nothing else.
@@ -39,7 +39,7 @@ module _ {K : Type 0} (old : Keeping K) (Begins : K → Type 0) (Ends : K → Cl
   FailsToRead why = (Refuses why × IsStoreFault why)
       ⊎ ((cause : KeepFault) × (why ≡ keep_fault cause)
       × IsRead old Begins (WasClosedAfter old Ends cause) (λ rings hour. ⊤))
-      ⊎ ((why ≡ fault.StoreFault) × IsRead old Begins (FailedToClose Ends why) (λ rings hour. ⊤))
+      ⊎ (IsCloseFault why × IsRead old Begins (FailedToClose Ends why) (λ rings hour. ⊤))
 
   -- This fault came of renewing it: one of reading it, and no other store was made or opened; or it
   -- was read and stays as it was, and making a new one of its rings and its hour failed so.

@@ -11,9 +11,9 @@ use Rattle.line_stream.specs.Serving.{LinesServed, LinesStopped}
 use Rattle.line_api.specs.Served.{ServesLines}
 use Rattle.request_book.specs.Book.{Parts}
 use Rattle.programs.specs.Faults.{stream_fault}
-use Rattle.programs.specs.Begun.{Closing, FailedToClose, IsBegun, IsStoreFault, WasClosed}
+use Rattle.programs.specs.Begun.{Closing, FailedToClose, IsBegun, IsCloseFault, IsStoreFault}
+use Rattle.programs.specs.Begun.{WasClosed}
 use Rattle.programs.specs.declared.faults.ProgramFault.{ProgramFault}
-use Rattle.programs.specs.declared.faults.ProgramFault.TheVariants as fault
 use Rattle.ring_book.specs.Book.{Keeping}
 
 -- The lines of a stream were answered by a book that was opened for them over a keeper that begins
@@ -65,5 +65,5 @@ module _ {K : Type 0} (g : Keeping K) (Begins : K → Type 0) (Ends : K → Clos
       × StopsLines g Begins (WasClosed Ends) remaining contents reader late_reader writer late_writer
       cause)
       ⊎ (Refuses why × IsStoreFault why × (late_reader ≡ reader) × (late_writer ≡ writer))
-      ⊎ ((why ≡ fault.StoreFault) × AnswersLines g Begins (FailedToClose Ends why) remaining contents
+      ⊎ (IsCloseFault why × AnswersLines g Begins (FailedToClose Ends why) remaining contents
       reader late_reader writer late_writer)

@@ -20,7 +20,8 @@ use Rattle.http_sockets.specs.declared.server.Server.{Server}
 use Rattle.path_lookup.specs.declared.hash.HashNames.{HashNames}
 use Rattle.request_book.specs.Book.{Parts}
 use Rattle.programs.specs.Faults.{serve_fault}
-use Rattle.programs.specs.Begun.{Closing, FailedToClose, IsBegun, IsStoreFault, OpensNone}
+use Rattle.programs.specs.Begun.{Closing, FailedToClose, IsBegun, IsCloseFault, IsStoreFault}
+use Rattle.programs.specs.Begun.{OpensNone}
 use Rattle.programs.specs.Begun.{OpensOne, WasClosed}
 use Rattle.programs.specs.Tables.{HoldsShort, IsFileFault}
 use Rattle.programs.specs.declared.faults.ProgramFault.{ProgramFault}
@@ -138,7 +139,7 @@ module _ {K : Type 0} (g : Keeping K) (Begins : K → Type 0) (Ends : K → Clos
     -- more.
     abbrev pub FailsToServe : (ProgramFault → Type 0) → (ℕ → Type 0) → ℕ → ℕ → ProgramFault → Type 0
     FailsToServe Refuses shuts port count why = (Refuses why × IsStoreFault why)
-        ⊎ ((why ≡ fault.StoreFault) × ServesConnections g Begins (FailedToClose Ends why) given names
+        ⊎ (IsCloseFault why × ServesConnections g Begins (FailedToClose Ends why) given names
         remaining gives fails opens port count)
         ⊎ ((why ≡ fault.NetFailed) × ServesFewer g Begins (WasClosed Ends) given names remaining gives
         fails opens shuts port count)
@@ -155,7 +156,7 @@ module _ {K : Type 0} (g : Keeping K) (Begins : K → Type 0) (Ends : K → Clos
     FailsToLoop Refuses why = (Refuses why × IsStoreFault why × (later ≡ writer))
         ⊎ ((cause : ServeFault) × (why ≡ serve_fault cause)
         × StopsLoop g Begins (WasClosed Ends) given names contents writer later cause)
-        ⊎ ((why ≡ fault.StoreFault)
+        ⊎ (IsCloseFault why
         × LoopsOnce g Begins (FailedToClose Ends why) given names contents writer later)
 
     -- This fault ended it: the file gave no such input, for that fault, the writer wasn't touched,

@@ -21,7 +21,7 @@ use Rattle.command_line.specs.declared.task.Task.TheVariants as task
 use Rattle.ring_words.specs.Spelling.{SpellsName, SpellsNumber}
 use Rattle.ring_words.specs.Texts.{is_label}
 use Rattle.request_book.specs.declared.keeper.KeepFault.{KeepFault}
-use Rattle.programs.specs.Begun.{Closing, FailedToClose, IsClosedWhole, IsStoreFault}
+use Rattle.programs.specs.Begun.{Closing, FailedToClose, IsCloseFault, IsClosedWhole, IsStoreFault}
 use Rattle.programs.specs.Begun.{WasClosed, WasClosedAfter}
 use Rattle.programs.specs.Faults.{keep_fault}
 use Rattle.programs.specs.declared.faults.ProgramFault.{ProgramFault}
@@ -149,7 +149,7 @@ module _ {K : Type 0} (g : Keeping K) (Begins : K → Type 0) (Ends : K → Clos
   abbrev pub ShowsNothing : List ℕ → List ℕ → Question → ProgramFault → Type 0
   ShowsNothing prefix suffix question why = ((cause : KeepFault) × (why ≡ keep_fault cause)
       × IsAsked g Begins (WasClosedAfter g Ends cause) (λ rings hour. ⊤))
-      ⊎ ((why ≡ fault.StoreFault) × ((text : List ℕ)
+      ⊎ (IsCloseFault why × ((text : List ℕ)
       × IsAsked g Begins (FailedToClose Ends why) (ShowsAs prefix suffix question text)))
       ⊎ IsAsked g Begins (WasClosed Ends) (λ rings hour. HidesAs question why rings)
 

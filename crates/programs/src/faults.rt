@@ -35,6 +35,8 @@ pub enum ProgramFault {
     BadPath,
     /// The ring has no text that is published under the version.
     NoVersion,
+    /// The clock is more than 24 hours ahead of the greatest hour that the store keeps.
+    ClockAhead,
     /// A stream couldn't be read.
     ReadFailed,
     /// A stream couldn't be written.
@@ -118,6 +120,7 @@ fn fault_line(fault: ProgramFault) -> &'static str
         ProgramFault::TooLong => "ringd: TooLong 29\n",
         ProgramFault::BadPath => "ringd: BadPath 30\n",
         ProgramFault::NoVersion => "ringd: NoVersion 32\n",
+        ProgramFault::ClockAhead => "ringd: ClockAhead 33\n",
         ProgramFault::ReadFailed => "ringd: ReadFailed 50\n",
         ProgramFault::WriteFailed => "ringd: WriteFailed 51\n",
     }

@@ -9,13 +9,15 @@ ghost use Rattle.programs.specs.Importing.{AnswersImport, FailsToImport, TellsIm
 ghost use Rattle.programs.specs.Importing.{FailsToDeliver, TellsNothing, told_line};
 ghost use Rattle.programs.specs.Showing.{IsFormFault, IsNoName, IsNoNumber};
 ghost use Rattle.programs.specs.Begun.{IsClosed, OpensOne};
+ghost use Rattle.programs.specs.Left.{Closes, GivesNoText, GivesText, RefusesToOpen};
 
 use crate::book::open_book;
+use crate::dropping::{close_store, open_store, read_text};
 use crate::faults::ProgramFault;
 use crate::hours::hour_of;
 use crate::stores::Stores;
 use builder::{RingMachine, Told, status_of};
-use byte_streams::{CountedReader, CountedWriter, StreamFault, write_text};
+use byte_streams::{CountedWriter, StreamFault, WholeReader, write_text};
 use csv_import::{CsvFault, read_rows};
 use http_api::told_csv;
 use line_api::answer_text;
@@ -89,7 +91,7 @@ fn rows_of(alloc: Global, text: &[u8]) -> Result<Vec<Row>, CsvFault>
     ensures wrong { IfErr result (λ why. why ≢ CsvFault.ReadFailed
         → IsWrong (records_of text.now) why) }
 {
-    read_rows(alloc, &mut CountedReader::new(text))
+    read_rows(alloc, &mut WholeReader::new(text))
 }
 
 /// What the fault of a text is told as. Its reads don't fail, so that one is told as want of memory.
@@ -106,10 +108,11 @@ fn text_fault(fault: CsvFault) -> CsvFault
 
 /// The rows of the table in a file, of at most 65,536 bytes.
 fn read_table<S: Stores>(rt: &HostRuntime, csv: &str) -> Result<Vec<Row>, TableFault>
-    ensures rows { IfOk result (λ rows. HoldsTable (S.holds csv.now) rows.items) }
-    ensures wrong { IfErr result (HasNoRows (S.holds csv.now) (S.is_unread csv.now)) }
+    ensures rows { IfOk result (λ rows. HoldsTable (GivesText S.Stores csv.now) rows.items) }
+    ensures wrong { IfErr result (HasNoRows (GivesText S.Stores csv.now) (GivesNoText S.Stores
+        csv.now)) }
 {
-    let text = S::read(rt, csv, MOST_BYTES)?;
+    let text = read_text::<S>(rt, csv, MOST_BYTES)?;
     match rows_of(rt.alloc(), text.as_slice()) {
         Ok(rows) => Ok(rows),
         Err(fault) => Err(TableFault::Csv(text_fault(fault))),
@@ -187,14 +190,14 @@ fn deliver_to_store<S: Stores>(
     stores: &mut S,
 ) -> Result<Told, ProgramFault>
     ensures opened { OpensOne (S.openings stores.old) (S.openings stores.new) }
-    ensures told { IfOk result (Imports S.Kept.Keeper (S.begins file.now) (IsClosed S.ends) ask
-        rows.items hour) }
-    ensures fault { IfErr result (FailsToDeliver S.Kept.Keeper (S.begins file.now) S.ends
-        (S.refuses file.now) ask rows.items hour) }
+    ensures told { IfOk result (Imports S.Kept.Keeper (S.begins file.now) (IsClosed (Closes
+        S.Stores)) ask rows.items hour) }
+    ensures fault { IfErr result (FailsToDeliver S.Kept.Keeper (S.begins file.now) (Closes S.Stores)
+        (RefusesToOpen S.Stores file.now) ask rows.items hour) }
 {
-    let keeper = stores.open(rt, file)?;
+    let keeper = open_store(rt, file, stores)?;
     let (told, keeper) = deliver_rows(rt.alloc(), keeper, ask, rows, hour);
-    S::close(keeper)?;
+    close_store::<S>(keeper)?;
     Ok(told)
 }
 
@@ -207,12 +210,12 @@ fn tell_import<S: Stores>(
     given: Option<Hour>,
     stores: &mut S,
 ) -> Result<Told, ProgramFault>
-    ensures told { IfOk result (TellsImport S.Kept.Keeper (S.begins file.now) (IsClosed S.ends)
-        (S.holds csv.now) (S.is_unread csv.now) (S.openings stores.old) (S.openings stores.new) ask
-        given) }
-    ensures fault { IfErr result (TellsNothing S.Kept.Keeper (S.begins file.now) S.ends
-        (S.refuses file.now) (S.holds csv.now) (S.is_unread csv.now) (S.openings stores.old)
-        (S.openings stores.new) ask given) }
+    ensures told { IfOk result (TellsImport S.Kept.Keeper (S.begins file.now) (IsClosed (Closes
+        S.Stores)) (GivesText S.Stores csv.now) (GivesNoText S.Stores csv.now) (S.openings
+        stores.old) (S.openings stores.new) ask given) }
+    ensures fault { IfErr result (TellsNothing S.Kept.Keeper (S.begins file.now) (Closes S.Stores)
+        (RefusesToOpen S.Stores file.now) (GivesText S.Stores csv.now) (GivesNoText S.Stores
+        csv.now) (S.openings stores.old) (S.openings stores.new) ask given) }
 {
     match read_table::<S>(rt, csv) {
         Ok(rows) => deliver_to_store(rt, file, ask, rows, hour_of(rt, given), stores),
@@ -232,12 +235,13 @@ pub(crate) fn import_table<S: Stores, W: Write>(
     writer: &mut CountedWriter<W>,
     stores: &mut S,
 ) -> Result<u16, ProgramFault>
-    ensures answered { IfOk result (AnswersImport S.Kept.Keeper (S.begins file.now) (IsClosed S.ends)
-        (S.holds csv.now) (S.is_unread csv.now) (S.openings stores.old) (S.openings stores.new)
-        W.contents writer.old writer.new ask given) }
-    ensures failed { IfErr result (FailsToImport S.Kept.Keeper (S.begins file.now) S.ends
-        (S.refuses file.now) (S.holds csv.now) (S.is_unread csv.now) (S.openings stores.old)
-        (S.openings stores.new) W.contents writer.old writer.new ask given) }
+    ensures answered { IfOk result (AnswersImport S.Kept.Keeper (S.begins file.now) (IsClosed
+        (Closes S.Stores)) (GivesText S.Stores csv.now) (GivesNoText S.Stores csv.now) (S.openings
+        stores.old) (S.openings stores.new) W.contents writer.old writer.new ask given) }
+    ensures failed { IfErr result (FailsToImport S.Kept.Keeper (S.begins file.now) (Closes S.Stores)
+        (RefusesToOpen S.Stores file.now) (GivesText S.Stores csv.now) (GivesNoText S.Stores
+        csv.now) (S.openings stores.old) (S.openings stores.new) W.contents writer.old writer.new
+        ask given) }
 {
     let told = tell_import(rt, file, csv, ask, given, stores)?;
     Ok(write_told(rt.alloc(), writer, &told)?)

@@ -1,8 +1,11 @@
 //! What follows from the definitions alone.
 ghost use Rattle.programs.specs.Begun.{IsClosed, WasClosed};
 ghost use Rattle.programs.specs.Life.{CrashEndsRun, CrashLeavesCall, CrashLeavesHeld, DoneIsOneRun};
-ghost use Rattle.programs.specs.Life.{FailedIsOneRun, GoesOnWithLife, ProgramsAreOneRun, RefusedIsOneRun};
+ghost use Rattle.programs.specs.Life.{FailedIsOneRun, GoesOnWithLife, ProgramsAreOneRun};
+ghost use Rattle.programs.specs.Life.{RefusedIsOneRun};
 ghost use Rattle.programs.specs.Life.{ProgramsStayValid};
+ghost use Rattle.programs.specs.Left.{Closes, FailsToMake, GivesNoText, GivesText, MakesStore};
+ghost use Rattle.programs.specs.Left.{RefusesToOpen};
 
 use crate::lines::MemoryKeeper;
 use crate::stores::Stores;
@@ -16,10 +19,12 @@ use std::io::{Read, Write};
 /// left as it closed it. So are those of an import that was refused, unless its table tells no rows:
 /// then that was told in place of it.
 pub fn a_program_is_one_run<S: Stores, R: Read, W: Write>()
-    ensures done { DoneIsOneRun ⟦<MemoryKeeper as Keeper<RingMachine>>⟧ S.Kept.Keeper S.begins S.ends
-        S.holds S.is_unread R.remaining W.contents S.is_made }
+    ensures done { DoneIsOneRun ⟦<MemoryKeeper as Keeper<RingMachine>>⟧ S.Kept.Keeper S.begins
+        (Closes S.Stores) (GivesText S.Stores) (GivesNoText S.Stores) R.remaining W.contents
+        (MakesStore S.Stores) }
     ensures refused { RefusedIsOneRun ⟦<MemoryKeeper as Keeper<RingMachine>>⟧ S.Kept.Keeper S.begins
-        S.ends S.holds S.is_unread R.remaining W.contents S.is_made }
+        (Closes S.Stores) (GivesText S.Stores) (GivesNoText S.Stores) R.remaining W.contents
+        (MakesStore S.Stores) }
 {
     calls_go_on::<RingMachine, S::Kept>();
     run_goes_on::<RingMachine>();
@@ -28,8 +33,9 @@ pub fn a_program_is_one_run<S: Stores, R: Read, W: Write>()
 /// The calls of a program that failed are one run of its store too, which was closed then; or its
 /// fault is one that comes before the store is opened, or of the opening.
 pub fn a_failed_program_is_one_run<S: Stores, R: Read, W: Write>()
-    ensures { FailedIsOneRun ⟦<MemoryKeeper as Keeper<RingMachine>>⟧ S.Kept.Keeper S.begins S.ends
-        S.holds S.is_unread R.remaining W.contents S.refuses S.is_unmade }
+    ensures { FailedIsOneRun ⟦<MemoryKeeper as Keeper<RingMachine>>⟧ S.Kept.Keeper S.begins (Closes
+        S.Stores) (GivesText S.Stores) (GivesNoText S.Stores) R.remaining W.contents (RefusesToOpen
+        S.Stores) (FailsToMake S.Stores) }
 {
     calls_go_on::<RingMachine, S::Kept>();
     run_goes_on::<RingMachine>();
@@ -38,8 +44,8 @@ pub fn a_failed_program_is_one_run<S: Stores, R: Read, W: Write>()
 /// A program that found what the one before it left goes on with the life of the store, whether it
 /// closed the store well or failed.
 pub fn programs_are_one_life<S: Stores>()
-    ensures done { GoesOnWithLife S.Kept.Keeper S.begins (IsClosed S.ends) }
-    ensures failed { GoesOnWithLife S.Kept.Keeper S.begins (WasClosed S.ends) }
+    ensures done { GoesOnWithLife S.Kept.Keeper S.begins (IsClosed (Closes S.Stores)) }
+    ensures failed { GoesOnWithLife S.Kept.Keeper S.begins (WasClosed (Closes S.Stores)) }
 {}
 
 /// Between calls a crash leaves what the book holds, and after a call, whatever it was answered, what
@@ -60,6 +66,6 @@ pub fn a_crash_ends_a_run<K: Keeper<RingMachine>>()
 /// start to the next, and a repeat in any later program gets the reply that was kept. Where the first
 /// program found nothing, the rings are valid all the way.
 pub fn all_programs_are_one_run<S: Stores>()
-    ensures one { ProgramsAreOneRun S.Kept.Keeper S.begins S.ends }
-    ensures valid { ProgramsStayValid S.Kept.Keeper S.begins S.ends }
+    ensures one { ProgramsAreOneRun S.Kept.Keeper S.begins (Closes S.Stores) }
+    ensures valid { ProgramsStayValid S.Kept.Keeper S.begins (Closes S.Stores) }
 {}

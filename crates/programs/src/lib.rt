@@ -9,6 +9,7 @@
 #![tactic(auto)]
 
 mod book;
+mod dropping;
 mod faults;
 mod hours;
 mod importing;
@@ -16,6 +17,7 @@ pub mod laws;
 mod lines;
 mod performing;
 mod renewing;
+mod service;
 mod serving;
 mod showing;
 mod stores;

@@ -2,8 +2,10 @@
 ghost use Rattle.std.specs.Prelude.{◌≡◌, IfErr, OnOk};
 ghost use Rattle.programs.specs.Begun.{IsAny, IsClosed, IsNew, OpensOne};
 ghost use Rattle.programs.specs.Running.{AnswersLines, StopsLines, FailsLines};
+ghost use Rattle.programs.specs.Left.{Closes, RefusesToOpen};
 
 use crate::book::open_book;
+use crate::dropping::{close_store, open_store};
 use crate::faults::ProgramFault;
 use crate::stores::Stores;
 use builder::RingMachine;
@@ -74,14 +76,15 @@ pub(crate) fn run_over_store<S: Stores, R: Read, W: Write>(
     stores: &mut S,
 ) -> Result<(), ProgramFault>
     ensures opened { OpensOne (S.openings stores.old) (S.openings stores.new) }
-    ensures answered { OnOk result (AnswersLines S.Kept.Keeper (S.begins file.now) (IsClosed S.ends)
-        R.remaining W.contents reader.old reader.new writer.old writer.new) }
-    ensures failed { IfErr result (FailsLines S.Kept.Keeper (S.begins file.now) S.ends R.remaining
-        W.contents reader.old reader.new writer.old writer.new (S.refuses file.now)) }
+    ensures answered { OnOk result (AnswersLines S.Kept.Keeper (S.begins file.now) (IsClosed (Closes
+        S.Stores)) R.remaining W.contents reader.old reader.new writer.old writer.new) }
+    ensures failed { IfErr result (FailsLines S.Kept.Keeper (S.begins file.now) (Closes S.Stores)
+        R.remaining W.contents reader.old reader.new writer.old writer.new (RefusesToOpen S.Stores
+        file.now)) }
 {
-    let keeper = stores.open(rt, file)?;
+    let keeper = open_store(rt, file, stores)?;
     let (answered, keeper) = answer_lines(rt.alloc(), keeper, reader, writer);
-    let closed = S::close(keeper);
+    let closed = close_store::<S>(keeper);
     answered?;
     closed
 }

@@ -1,18 +1,25 @@
 //! What the program does over three streams.
-ghost use Rattle.std.specs.Prelude.{◌≡◌, ◌⊎◌, ◌≤◌, Err, IfErr, IfOk, Ok, OnOk, map};
+ghost use Rattle.std.specs.Prelude.{◌≡◌, ◌≢◌, ◌⊎◌, ◌≤◌, Err, IfErr, IfOk, Ok, OnOk, map};
 ghost use Rattle.std.specs.Prelude.{string_bytes};
 ghost use Rattle.command_line.specs.Tasks.{AskForNothing};
 ghost use Rattle.programs.specs.Begun.{OpensNone, OpensOne};
-ghost use Rattle.programs.specs.Performed.{DoesAsked, EndsBy, EndsSo, FailsAsked, FailsSo};
-ghost use Rattle.programs.specs.Performed.{FailsToRun, ImportsFile, OpensGiven, Runs, ShowsStore};
+ghost use Rattle.programs.specs.Performed.{DoesAskedOver, EndsBy, FailsAskedOver, FailsToRun};
+ghost use Rattle.programs.specs.Inner.Tellings.{EndsAtOver, EndsOver, FailsOver, FailsTellingOver};
+ghost use Rattle.programs.specs.Inner.Tellings.{IsService};
+ghost use Rattle.programs.specs.Performed.{ImportsFile, OpensGiven, Runs, ShowsStore};
+ghost use Rattle.programs.specs.Service.{fault_status};
 ghost use Rattle.programs.specs.Inner.Asked.{FailsToImportAsked, FailsToShowAsked};
 ghost use Rattle.programs.specs.Inner.Showing.{FailsToShowTask, IsShowing, ShowsTask};
 ghost use Rattle.programs.specs.declared.performing.Ending.TheVariants.{Done};
+ghost use Rattle.programs.specs.Left.{Closes, FailsToMake, GivesNoText, GivesText, MakesStore};
+ghost use Rattle.programs.specs.Left.{RefusesToOpen};
 
 use crate::faults::{ProgramFault, tell_fault};
+use crate::hours::new_clock;
 use crate::importing::{ImportAsk, ask_import, import_table};
 use crate::lines::{MemoryKeeper, run_over_memory, run_over_store};
 use crate::renewing::renew_store;
+use crate::service::{ServiceAsk, is_lasting, serve_programs};
 use crate::serving::{loop_file, serve_store};
 use crate::showing::{ask_nodes, ask_published, ask_tables, show};
 use crate::stores::Stores;
@@ -27,6 +34,12 @@ use std::io::{Read, Write};
 
 /// The status of what was done.
 const DONE: u16 = 200;
+
+/// The status of a program that failed, or whose import was refused.
+const FAILED: u8 = 1;
+
+/// The status of a service that ended by a fault which another start wouldn't mend.
+const LASTING: u8 = 3;
 
 /// What is shown without a path hashes none.
 const NO_NAMES: HashNames<'static> = HashNames {
@@ -53,10 +66,11 @@ fn run<S: Stores, R: Read, W: Write>(
 ) -> Result<(), ProgramFault>
     ensures opened { OpensGiven (S.openings stores.old) (S.openings stores.new) file.entry }
     ensures done { OnOk result (Runs ⟦<MemoryKeeper as Keeper<RingMachine>>⟧ S.Kept.Keeper S.begins
-        S.ends R.remaining W.contents reader.old reader.new writer.old writer.new file.entry) }
-    ensures failed { IfErr result (FailsToRun ⟦<MemoryKeeper as Keeper<RingMachine>>⟧ S.Kept.Keeper
-        S.begins S.ends R.remaining W.contents reader.old reader.new writer.old writer.new S.refuses
+        (Closes S.Stores) R.remaining W.contents reader.old reader.new writer.old writer.new
         file.entry) }
+    ensures failed { IfErr result (FailsToRun ⟦<MemoryKeeper as Keeper<RingMachine>>⟧ S.Kept.Keeper
+        S.begins (Closes S.Stores) R.remaining W.contents reader.old reader.new writer.old
+        writer.new (RefusesToOpen S.Stores) file.entry) }
 {
     match file {
         Some(file) => run_over_store(rt, file, reader, writer, stores),
@@ -73,13 +87,13 @@ fn show_asked<S: Stores, W: Write>(
     writer: &mut CountedWriter<W>,
     stores: &mut S,
 ) -> Result<Ending, ProgramFault>
-    ensures done { IfOk result (λ ending. (ending ≡ Done)
-        × ShowsStore S.Kept.Keeper (S.begins file.now) S.ends W.contents writer.old writer.new
-        names.entry.prefix.now names.entry.suffix.now (λ question. asked ≡ Ok question)
-        × OpensOne (S.openings stores.old) (S.openings stores.new)) }
-    ensures failed { IfErr result (FailsToShowAsked S.Kept.Keeper (S.begins file.now) S.ends W.contents
-        writer.old writer.new (S.openings stores.old) (S.openings stores.new) (S.refuses file.now)
-        names.entry.prefix.now names.entry.suffix.now asked) }
+    ensures done { IfOk result (λ ending. (ending ≡ Done) × ShowsStore S.Kept.Keeper (S.begins
+        file.now) (Closes S.Stores) W.contents writer.old writer.new names.entry.prefix.now
+        names.entry.suffix.now (λ question. asked ≡ Ok question) × OpensOne (S.openings stores.old)
+        (S.openings stores.new)) }
+    ensures failed { IfErr result (FailsToShowAsked S.Kept.Keeper (S.begins file.now) (Closes
+        S.Stores) W.contents writer.old writer.new (S.openings stores.old) (S.openings stores.new)
+        (RefusesToOpen S.Stores file.now) names.entry.prefix.now names.entry.suffix.now asked) }
 {
     let question = asked?;
     show(rt, file, names, &question, writer, stores)?;
@@ -95,10 +109,11 @@ fn show_task<S: Stores, W: Write>(
 ) -> Result<Ending, ProgramFault>
     requires { IsShowing task.now }
     ensures done { IfOk result (λ ending. (ending ≡ Done)
-        × ShowsTask S.Kept.Keeper S.begins S.ends W.contents writer.old writer.new
+        × ShowsTask S.Kept.Keeper S.begins (Closes S.Stores) W.contents writer.old writer.new
         (S.openings stores.old) (S.openings stores.new) task.now) }
-    ensures failed { IfErr result (FailsToShowTask S.Kept.Keeper S.begins S.ends W.contents writer.old
-        writer.new (S.openings stores.old) (S.openings stores.new) S.refuses task.now) }
+    ensures failed { IfErr result (FailsToShowTask S.Kept.Keeper S.begins (Closes S.Stores)
+        W.contents writer.old writer.new (S.openings stores.old) (S.openings stores.new)
+        (RefusesToOpen S.Stores) task.now) }
 {
     let alloc = rt.alloc();
     match task {
@@ -146,13 +161,14 @@ fn import<S: Stores, W: Write>(
     writer: &mut CountedWriter<W>,
     stores: &mut S,
 ) -> Result<Ending, ProgramFault>
-    ensures ended { IfOk result (λ ending. ImportsFile S.Kept.Keeper (S.begins file.now) S.ends
-        W.contents writer.old writer.new (S.holds csv.now) (S.is_unread csv.now)
-        (S.openings stores.old) (S.openings stores.new) (λ ask. asked ≡ Ok ask) given
-        (EndsBy ending)) }
-    ensures failed { IfErr result (FailsToImportAsked S.Kept.Keeper (S.begins file.now) S.ends W.contents
-        writer.old writer.new (S.openings stores.old) (S.openings stores.new) (S.holds csv.now)
-        (S.is_unread csv.now) (S.refuses file.now) asked given) }
+    ensures ended { IfOk result (λ ending. ImportsFile S.Kept.Keeper (S.begins file.now) (Closes
+        S.Stores) W.contents writer.old writer.new (GivesText S.Stores csv.now) (GivesNoText
+        S.Stores csv.now) (S.openings stores.old) (S.openings stores.new) (λ ask. asked ≡ Ok ask)
+        given (EndsBy ending)) }
+    ensures failed { IfErr result (FailsToImportAsked S.Kept.Keeper (S.begins file.now) (Closes
+        S.Stores) W.contents writer.old writer.new (S.openings stores.old) (S.openings stores.new)
+        (GivesText S.Stores csv.now) (GivesNoText S.Stores csv.now) (RefusesToOpen S.Stores
+        file.now) asked given) }
 {
     let ask = asked?;
     if import_table(rt, file, csv, ask, given, writer, stores)? == DONE {
@@ -162,7 +178,7 @@ fn import<S: Stores, W: Write>(
     }
 }
 
-/// Does a task.
+/// Does a task that is no service.
 fn perform_task<S: Stores, R: Read, W: Write>(
     rt: &HostRuntime,
     task: &Task<'_>,
@@ -170,12 +186,13 @@ fn perform_task<S: Stores, R: Read, W: Write>(
     writer: &mut CountedWriter<W>,
     stores: &mut S,
 ) -> Result<Ending, ProgramFault>
-    ensures ended { IfOk result (EndsSo ⟦<MemoryKeeper as Keeper<RingMachine>>⟧ S.Kept.Keeper
-        S.begins S.ends R.remaining W.contents reader.old reader.new writer.old writer.new S.holds
-        S.is_unread (S.openings stores.old) (S.openings stores.new) S.is_made task.now) }
-    ensures failed { IfErr result (FailsSo ⟦<MemoryKeeper as Keeper<RingMachine>>⟧ S.Kept.Keeper
-        S.begins S.ends R.remaining W.contents reader.old reader.new writer.old writer.new S.holds
-        S.is_unread (S.openings stores.old) (S.openings stores.new) S.refuses S.is_unmade task.now) }
+    requires { IsService task.now → ⊥ }
+    ensures ended { IfOk result (EndsOver S.Stores S.Kept.Keeper
+        ⟦<MemoryKeeper as Keeper<RingMachine>>⟧ stores.old stores.new R.remaining W.contents
+        reader.old reader.new writer.old writer.new task.now) }
+    ensures failed { IfErr result (FailsOver S.Stores S.Kept.Keeper
+        ⟦<MemoryKeeper as Keeper<RingMachine>>⟧ stores.old stores.new R.remaining W.contents
+        reader.old reader.new writer.old writer.new task.now) }
 {
     let alloc = rt.alloc();
     match task {
@@ -193,6 +210,7 @@ fn perform_task<S: Stores, R: Read, W: Write>(
             serve_store(rt, rt, *file, *port, *count, *hour, *names, stores)?;
             Ok(Ending::Done)
         }
+        Task::Service { .. } => unreachable!(),
         Task::Loop {
             file,
             input,
@@ -223,12 +241,86 @@ fn perform_task<S: Stores, R: Read, W: Write>(
     }
 }
 
+/// Does a task. A service is served until something ends it, and tells what it begins with, or why
+/// it doesn't.
+fn carry_out<S: Stores, R: Read, W: Write, E: Write>(
+    rt: &HostRuntime,
+    task: &Task<'_>,
+    reader: &mut CountedReader<R>,
+    writer: &mut CountedWriter<W>,
+    errors: &mut CountedWriter<E>,
+    stores: &mut S,
+) -> Result<Ending, ProgramFault>
+    ensures ended { IfOk result (EndsOver S.Stores S.Kept.Keeper
+        ⟦<MemoryKeeper as Keeper<RingMachine>>⟧ stores.old stores.new R.remaining W.contents
+        reader.old reader.new writer.old writer.new task.now) }
+    ensures untold { OnOk result (errors.new ≡ errors.old) }
+    ensures failed { IfErr result (FailsTellingOver S.Stores S.Kept.Keeper
+        ⟦<MemoryKeeper as Keeper<RingMachine>>⟧ stores.old stores.new R.remaining W.contents
+        reader.old reader.new writer.old writer.new E.contents errors.old errors.new task.now) }
+{
+    if let Task::Service {
+        file,
+        port,
+        hosts,
+        hour_ok,
+        names,
+    } = task
+    {
+        let ask = ServiceAsk {
+            file: *file,
+            port: *port,
+            hosts: hosts.as_slice(),
+            hour_ok: *hour_ok,
+            names: *names,
+        };
+        let clock = new_clock(rt, None);
+        return Err(serve_programs(rt, rt, &ask, clock, errors, stores));
+    }
+    perform_task(rt, task, reader, writer, stores)
+}
+
+/// The status of a program that a fault ended.
+fn fault_status(task: &Task<'_>, fault: ProgramFault) -> u8
+    ensures { result ≡ fault_status task.now fault }
+{
+    match task {
+        Task::Service { .. } => { if is_lasting(fault) { LASTING } else { FAILED } }
+        _ => FAILED,
+    }
+}
+
+/// Does a task, tells the fault that came of it, and answers the exit status.
+fn finish<S: Stores, R: Read, W: Write, E: Write>(
+    rt: &HostRuntime,
+    task: &Task<'_>,
+    reader: &mut CountedReader<R>,
+    writer: &mut CountedWriter<W>,
+    errors: &mut CountedWriter<E>,
+    stores: &mut S,
+) -> u8
+    ensures { EndsAtOver S.Stores S.Kept.Keeper ⟦<MemoryKeeper as Keeper<RingMachine>>⟧ stores.old
+        stores.new R.remaining W.contents reader.old reader.new writer.old writer.new E.contents
+        errors.old errors.new task.now result }
+{
+    match carry_out(rt, task, reader, writer, errors, stores) {
+        Ok(Ending::Done) => 0,
+        Ok(Ending::Refused) => FAILED,
+        Err(fault) => {
+            tell_fault(errors, fault);
+            fault_status(task, fault)
+        }
+    }
+}
+
 /// Does what the words ask for over three streams and the stores and files that they name, and
-/// answers the exit status: 0 when it is done, 1 after a fault or where an import is refused, and 2
-/// where the words ask for nothing, or for help. The first word is the program's own name.
+/// answers the exit status: 0 when it is done, 1 after a fault or where an import is refused, 2 where
+/// the words ask for nothing, or for help, and 3 where a service ended by a fault that another start
+/// wouldn't mend. The first word is the program's own name.
 ///
-/// A fault is told on `errors`, as one line with its name and its number, and nothing else is
-/// written there with status 0 or 1. With status 2 `clap` tells there what may be written.
+/// A fault is told on `errors`, as one line with its name and its number. A service tells there in one
+/// line when it begins, and in one why it doesn't by this clock. Nothing else is written there with
+/// status 0, 1 or 3. With status 2 `clap` tells there what may be written.
 pub fn perform<S: Stores, R: Read, W: Write, E: Write>(
     rt: &HostRuntime,
     words: &[String],
@@ -237,33 +329,24 @@ pub fn perform<S: Stores, R: Read, W: Write, E: Write>(
     errors: &mut CountedWriter<E>,
     stores: &mut S,
 ) -> u8
-    ensures status { result ≤ 2 }
-    ensures done { result ≡ 0 → DoesAsked ⟦<MemoryKeeper as Keeper<RingMachine>>⟧ S.Kept.Keeper
-        S.begins S.ends S.holds S.is_unread (S.openings stores.old) (S.openings stores.new) S.is_made
-        R.remaining W.contents E.contents
-        (map string_bytes words.now)
-        reader.old reader.new writer.old writer.new errors.old errors.new }
-    ensures fault { result ≡ 1 → FailsAsked ⟦<MemoryKeeper as Keeper<RingMachine>>⟧ S.Kept.Keeper
-        S.begins S.ends S.holds S.is_unread (S.openings stores.old) (S.openings stores.new) S.is_made
-        R.remaining W.contents E.contents
-        (map string_bytes words.now)
-        reader.old reader.new writer.old writer.new errors.old errors.new S.refuses S.is_unmade }
+    ensures status { result ≤ 3 }
+    ensures done { result ≡ 0 → DoesAskedOver S.Stores S.Kept.Keeper
+        ⟦<MemoryKeeper as Keeper<RingMachine>>⟧ stores.old stores.new R.remaining W.contents
+        reader.old reader.new writer.old writer.new E.contents errors.old errors.new
+        (map string_bytes words.now) }
+    ensures fault { (result ≡ 1) ⊎ (result ≡ 3) → FailsAskedOver S.Stores S.Kept.Keeper
+        ⟦<MemoryKeeper as Keeper<RingMachine>>⟧ stores.old stores.new R.remaining W.contents
+        reader.old reader.new writer.old writer.new E.contents errors.old errors.new
+        (map string_bytes words.now) result }
     ensures nothing { result ≡ 2 → AskForNothing (map string_bytes words.now)
         × (reader.new ≡ reader.old) × (writer.new ≡ writer.old)
         × OpensNone (S.openings stores.old) (S.openings stores.new) }
 {
     match task_of(rt.alloc(), words) {
-        Ok(task) => match perform_task(rt, &task, reader, writer, stores) {
-            Ok(Ending::Done) => 0,
-            Ok(Ending::Refused) => 1,
-            Err(fault) => {
-                tell_fault(errors, fault);
-                1
-            }
-        },
+        Ok(task) => finish(rt, &task, reader, writer, errors, stores),
         Err(ArgsFault::NoMemory) => {
             tell_fault(errors, ProgramFault::NoMemory);
-            1
+            FAILED
         }
         Err(ArgsFault::Bad(text)) => {
             let _ = write_text(errors, text.as_bytes());

@@ -2,10 +2,13 @@
 ghost use Rattle.std.specs.Prelude.{◌≡◌, ⊤, IfErr, IfOk, OnOk};
 ghost use Rattle.request_book.specs.Keeper.{LeavesOnly};
 ghost use Rattle.request_book.specs.declared.keeper.KeepFault.{KeepFault};
-ghost use Rattle.programs.specs.Begun.{HasFailedBy, HasNotFailed, IsClosedWhole, OpensOne, OpensTwo};
+ghost use Rattle.programs.specs.Begun.{HasFailedBy, HasNotFailed, IsClosedWhole, OpensOne};
+ghost use Rattle.programs.specs.Begun.{OpensTwo};
 ghost use Rattle.programs.specs.Faults.{keep_fault};
 ghost use Rattle.programs.specs.Renewing.{FailsToRead, FailsToRenew, IsRead, Renews};
+ghost use Rattle.programs.specs.Left.{Closes, FailsToMake, MakesStore, RefusesToOpen};
 
+use crate::dropping::{close_store, make_store, open_store};
 use crate::faults::ProgramFault;
 use crate::stores::Stores;
 use builder::RingMachine;
@@ -69,14 +72,14 @@ fn read_store<S: Stores>(
     stores: &mut S,
 ) -> Result<(Rings, Hour), ProgramFault>
     ensures opened { OpensOne (S.openings stores.old) (S.openings stores.new) }
-    ensures found { IfOk result (λ found. IsRead S.Kept.Keeper (S.begins file.now)
-        (IsClosedWhole S.Kept.Keeper S.ends) (λ rings hour. (rings ≡ found.0) × (hour ≡ found.1))) }
-    ensures fault { IfErr result (FailsToRead S.Kept.Keeper (S.begins file.now) S.ends
-        (S.refuses file.now)) }
+    ensures found { IfOk result (λ found. IsRead S.Kept.Keeper (S.begins file.now) (IsClosedWhole
+        S.Kept.Keeper (Closes S.Stores)) (λ rings hour. (rings ≡ found.0) × (hour ≡ found.1))) }
+    ensures fault { IfErr result (FailsToRead S.Kept.Keeper (S.begins file.now) (Closes S.Stores)
+        (RefusesToOpen S.Stores file.now)) }
 {
-    let keeper = stores.open(rt, file)?;
+    let keeper = open_store(rt, file, stores)?;
     let (found, keeper) = found_in(keeper);
-    let closed = S::close(keeper);
+    let closed = close_store::<S>(keeper);
     let found = found?;
     closed?;
     Ok(found)
@@ -91,11 +94,11 @@ pub(crate) fn renew_store<S: Stores>(
 ) -> Result<(), ProgramFault>
     ensures opened { OnOk result (OpensTwo (S.openings stores.old) (S.openings stores.new)) }
     ensures renewed { OnOk result (Renews S.Kept.Keeper (S.begins file.now)
-        (IsClosedWhole S.Kept.Keeper S.ends) (S.is_made new.now)) }
-    ensures fault { IfErr result (FailsToRenew S.Kept.Keeper (S.begins file.now) S.ends
-        (S.refuses file.now) (S.is_unmade new.now) (S.openings stores.old)
+        (IsClosedWhole S.Kept.Keeper (Closes S.Stores)) (MakesStore S.Stores new.now)) }
+    ensures fault { IfErr result (FailsToRenew S.Kept.Keeper (S.begins file.now) (Closes S.Stores)
+        (RefusesToOpen S.Stores file.now) (FailsToMake S.Stores new.now) (S.openings stores.old)
         (S.openings stores.new)) }
 {
     let (rings, hour) = read_store(rt, file, stores)?;
-    stores.make(rt, new, rings, hour)
+    make_store(rt, new, rings, hour, stores)
 }

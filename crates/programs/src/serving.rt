@@ -4,8 +4,10 @@ ghost use Rattle.http_sockets.specs.declared.fault.ServeFault.TheVariants.{NetFa
 ghost use Rattle.programs.specs.Serving.{FailsToLoop, FailsToLoopInput, FailsToServe, LoopsInput};
 ghost use Rattle.programs.specs.Serving.{LoopsOnce, ServesConnections, ServesFewer, StopsLoop};
 ghost use Rattle.programs.specs.Begun.{IsClosed, OpensOne};
+ghost use Rattle.programs.specs.Left.{Closes, GivesNoText, GivesText, RefusesToOpen};
 
 use crate::book::open_book;
+use crate::dropping::{close_store, open_store, read_text};
 use crate::faults::ProgramFault;
 use crate::hours::new_clock;
 use crate::stores::Stores;
@@ -74,16 +76,16 @@ pub(crate) fn serve_store<S: Stores, P: Ports + Drop>(
     stores: &mut S,
 ) -> Result<(), ProgramFault>
     ensures opened { OpensOne (S.openings stores.old) (S.openings stores.new) }
-    ensures served { OnOk result (ServesConnections S.Kept.Keeper (S.begins file.now)
-        (IsClosed S.ends) given names.entry P.Door.Stream.remaining P.Door.gives P.Door.fails P.opens
-        port count) }
-    ensures failed { IfErr result (FailsToServe S.Kept.Keeper (S.begins file.now) S.ends
+    ensures served { OnOk result (ServesConnections S.Kept.Keeper (S.begins file.now) (IsClosed
+        (Closes S.Stores)) given names.entry P.Door.Stream.remaining P.Door.gives P.Door.fails
+        P.opens port count) }
+    ensures failed { IfErr result (FailsToServe S.Kept.Keeper (S.begins file.now) (Closes S.Stores)
         given names.entry P.Door.Stream.remaining P.Door.gives P.Door.fails P.opens
-        (S.refuses file.now) P.shuts port count) }
+        (RefusesToOpen S.Stores file.now) P.shuts port count) }
 {
-    let keeper = stores.open(rt, file)?;
+    let keeper = open_store(rt, file, stores)?;
     let (served, keeper) = serve_port(rt, ports, keeper, port, count, given, names);
-    let closed = S::close(keeper);
+    let closed = close_store::<S>(keeper);
     served?;
     closed
 }
@@ -99,14 +101,14 @@ fn loop_store<S: Stores, W: Write>(
     stores: &mut S,
 ) -> Result<(), ProgramFault>
     ensures opened { OpensOne (S.openings stores.old) (S.openings stores.new) }
-    ensures looped { OnOk result (LoopsOnce S.Kept.Keeper (S.begins file.now) (IsClosed S.ends) given
-        names.entry W.contents writer.old writer.new) }
-    ensures failed { IfErr result (FailsToLoop S.Kept.Keeper (S.begins file.now) S.ends given
-        names.entry W.contents writer.old writer.new (S.refuses file.now)) }
+    ensures looped { OnOk result (LoopsOnce S.Kept.Keeper (S.begins file.now) (IsClosed (Closes
+        S.Stores)) given names.entry W.contents writer.old writer.new) }
+    ensures failed { IfErr result (FailsToLoop S.Kept.Keeper (S.begins file.now) (Closes S.Stores)
+        given names.entry W.contents writer.old writer.new (RefusesToOpen S.Stores file.now)) }
 {
-    let keeper = stores.open(rt, file)?;
+    let keeper = open_store(rt, file, stores)?;
     let (looped, keeper) = loop_input(rt, keeper, input, given, names, writer);
-    let closed = S::close(keeper);
+    let closed = close_store::<S>(keeper);
     looped?;
     closed
 }
@@ -123,12 +125,13 @@ pub(crate) fn loop_file<S: Stores, W: Write>(
     stores: &mut S,
 ) -> Result<(), ProgramFault>
     ensures opened { OnOk result (OpensOne (S.openings stores.old) (S.openings stores.new)) }
-    ensures looped { OnOk result (LoopsInput S.Kept.Keeper (S.begins file.now) (IsClosed S.ends) given
-        names.entry W.contents writer.old writer.new (S.holds input.now)) }
-    ensures failed { IfErr result (FailsToLoopInput S.Kept.Keeper (S.begins file.now) S.ends given
-        names.entry W.contents writer.old writer.new (S.refuses file.now) (S.is_unread input.now)
-        (S.openings stores.old) (S.openings stores.new)) }
+    ensures looped { OnOk result (LoopsInput S.Kept.Keeper (S.begins file.now) (IsClosed (Closes
+        S.Stores)) given names.entry W.contents writer.old writer.new (GivesText S.Stores
+        input.now)) }
+    ensures failed { IfErr result (FailsToLoopInput S.Kept.Keeper (S.begins file.now) (Closes
+        S.Stores) given names.entry W.contents writer.old writer.new (RefusesToOpen S.Stores
+        file.now) (GivesNoText S.Stores input.now) (S.openings stores.old) (S.openings stores.new)) }
 {
-    let bytes = S::read(rt, input, MOST_LOOPED as u32)?;
+    let bytes = read_text::<S>(rt, input, MOST_LOOPED as u32)?;
     loop_store(rt, file, &bytes, given, names, writer, stores)
 }

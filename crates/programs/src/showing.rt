@@ -7,9 +7,12 @@ ghost use Rattle.programs.specs.Begun.{OpensOne};
 ghost use Rattle.programs.specs.Faults.{keep_fault};
 ghost use Rattle.programs.specs.Showing.{AsksNodes, AsksPublished, AsksTables, FailsToShow};
 ghost use Rattle.programs.specs.Showing.{HidesAs, ShowsNothing};
-ghost use Rattle.programs.specs.Showing.{IsAsked, IsFormFault, IsNoName, IsNoNumber, ShowsRead, ShowsAs};
+ghost use Rattle.programs.specs.Showing.{IsAsked, IsFormFault, IsNoName, IsNoNumber, ShowsAs};
+ghost use Rattle.programs.specs.Showing.{ShowsRead};
 ghost use Rattle.programs.specs.Showing.{hidden_fault, names_given};
+ghost use Rattle.programs.specs.Left.{Closes, RefusesToOpen};
 
+use crate::dropping::{close_store, open_store};
 use crate::faults::ProgramFault;
 use crate::stores::Stores;
 use builder::RingMachine;
@@ -189,16 +192,16 @@ fn store_bytes<S: Stores>(
     stores: &mut S,
 ) -> Result<Vec<u8>, ProgramFault>
     ensures opened { OpensOne (S.openings stores.old) (S.openings stores.new) }
-    ensures shown { IfOk result (λ bytes. IsAsked S.Kept.Keeper (S.begins file.now)
-        (IsClosedWhole S.Kept.Keeper S.ends) (ShowsAs names.entry.prefix.now names.entry.suffix.now question.now
-        bytes.items)) }
-    ensures fault { IfErr result (λ why. (S.refuses file.now why × IsStoreFault why)
-        ⊎ ShowsNothing S.Kept.Keeper (S.begins file.now) S.ends names.entry.prefix.now
+    ensures shown { IfOk result (λ bytes. IsAsked S.Kept.Keeper (S.begins file.now) (IsClosedWhole
+        S.Kept.Keeper (Closes S.Stores)) (ShowsAs names.entry.prefix.now names.entry.suffix.now
+        question.now bytes.items)) }
+    ensures fault { IfErr result (λ why. (RefusesToOpen S.Stores file.now why × IsStoreFault why)
+        ⊎ ShowsNothing S.Kept.Keeper (S.begins file.now) (Closes S.Stores) names.entry.prefix.now
         names.entry.suffix.now question.now why) }
 {
-    let keeper = stores.open(rt, file)?;
+    let keeper = open_store(rt, file, stores)?;
     let (bytes, keeper) = told_bytes(rt.alloc(), keeper, names, question);
-    let closed = S::close(keeper);
+    let closed = close_store::<S>(keeper);
     let bytes = bytes?;
     closed?;
     Ok(bytes)
@@ -215,11 +218,11 @@ pub(crate) fn show<S: Stores, W: Write>(
 ) -> Result<(), ProgramFault>
     ensures opened { OpensOne (S.openings stores.old) (S.openings stores.new) }
     ensures shown { OnOk result (ShowsRead S.Kept.Keeper (S.begins file.now)
-        (IsClosedWhole S.Kept.Keeper S.ends) W.contents
+        (IsClosedWhole S.Kept.Keeper (Closes S.Stores)) W.contents
         writer.old writer.new names.entry.prefix.now names.entry.suffix.now question.now) }
-    ensures fault { IfErr result (FailsToShow S.Kept.Keeper (S.begins file.now) S.ends
+    ensures fault { IfErr result (FailsToShow S.Kept.Keeper (S.begins file.now) (Closes S.Stores)
         W.contents writer.old writer.new names.entry.prefix.now names.entry.suffix.now
-        (S.refuses file.now) question.now) }
+        (RefusesToOpen S.Stores file.now) question.now) }
 {
     let bytes = store_bytes(rt, file, names, question, stores)?;
     Ok(write_text(writer, bytes.as_slice())?)

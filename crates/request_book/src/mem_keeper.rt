@@ -79,6 +79,10 @@ impl<M: Machine> Keeper<M> for MemKeeper<M::State, M::Command, M::Reply> {
         Ok(self.entries.len() >= self.limit as usize)
     }
 
+    fn count(&mut self) -> Result<usize, KeepFault> {
+        Ok(self.entries.len())
+    }
+
     fn hour(&mut self) -> Result<Hour, KeepFault> {
         Ok(self.hour)
     }

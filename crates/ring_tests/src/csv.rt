@@ -2,7 +2,7 @@
 //! where there is memory.
 mod reading;
 
-use byte_streams::CountedReader;
+use byte_streams::WholeReader;
 use csv_import::{CsvFault, read_rows};
 use ring_words::Row;
 use std::alloc::{AllocError, Global};
@@ -253,7 +253,7 @@ fn told(alloc: Global, rows: &[Row]) -> Result<String, AllocError> {
 
 /// The rows in a text, or its fault.
 fn rows_in(alloc: Global, text: &[u8]) -> Result<Vec<Row>, CsvFault> {
-    read_rows(alloc, &mut CountedReader::new(text))
+    read_rows(alloc, &mut WholeReader::new(text))
 }
 
 /// Bytes with others behind them.

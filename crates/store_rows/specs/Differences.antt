@@ -144,6 +144,12 @@ pub record WritesDifferences (old new : Contents) (changes : List RowChange) : T
 abbrev pub with_state : RingContent → NamedRings → RingContent
 with_state content rings = record { state = rings; book = content.book; hour = content.hour }
 
+-- So many rows differ between what stands for a content with the old rings and what stands for it
+-- with the new ones.
+abbrev pub DifferBy : NamedRings → NamedRings → ℕ → Type 0
+DifferBy old new count = (content : RingContent) → content.state ≡ old →
+    count ≡ differing_rows (contents_for content) (contents_for (with_state content new))
+
 -- The changes lead from what stands for a content with the old rings to what stands for it with the
 -- new ones. They write the differences and no more.
 pub record IsChange (old new : NamedRings) (changes : List RowChange) : Type 0 where

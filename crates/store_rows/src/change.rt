@@ -127,12 +127,11 @@ impl Change {
     ghost use Rattle.std.specs.Prelude.{◌≡◌, ◌≤◌, [], IfOk, length};
     ghost use Rattle.ring_words.specs.Limits.{most_devices};
     ghost use Rattle.store_model.specs.Entries.{name_number_cmp};
-    ghost use Rattle.store_rows.specs.Differences.{Grows, IsChange, IsChangedAt, differing_rows};
-    ghost use Rattle.store_rows.specs.Differences.{with_state};
+    ghost use Rattle.store_rows.specs.Differences.{DifferBy, Grows, IsChange, IsChangedAt};
     ghost use Rattle.store_rows.specs.Inner.Written.{AreRowsBetween};
     ghost use Rattle.store_rows.specs.Inner.Lacking.{gone};
     ghost use Rattle.store_rows.specs.RingRows.{NamedRings, device_entries};
-    ghost use Rattle.store_rows.specs.Stands.{AreRings, RingContent, contents_for};
+    ghost use Rattle.store_rows.specs.Stands.{AreRings};
 
     /// The change of the rows by which rings differ, where so many devices are there no more.
     fn of_rows(alloc: Global, rows: WrittenRows, gone_devices: usize) -> Result<Change, AllocError>
@@ -142,8 +141,7 @@ impl Change {
         ensures counted { IfOk result (λ change. (old new : NamedRings) → AreRings old → AreRings new
             → Grows old new → AreRowsBetween old new rows
             → gone_devices ≡ length (gone name_number_cmp (device_entries old) (device_entries new))
-            → (content : RingContent) → content.state ≡ old → change.1 ≡ differing_rows
-            (contents_for content) (contents_for (with_state content new))) }
+            → DifferBy old new change.1) }
     {
         let keys = keys_of(alloc, &rows.dropped)?;
         let written = rows.rings.len() + rows.devices.len() + rows.parts.len() + rows.texts.len();
@@ -166,8 +164,7 @@ impl Change {
         ensures leads { IfOk result (λ change. IsChangedAt name.now old.now new.now
             → IsChange old.now new.now change.0) }
         ensures counted { IfOk result (λ change. IsChangedAt name.now old.now new.now
-            → (content : RingContent) → content.state ≡ old.now → change.1 ≡ differing_rows
-            (contents_for content) (contents_for (with_state content new.now))) }
+            → DifferBy old.now new.now change.1) }
         ensures rings { IfOk result (λ _. AreRings new.now) }
     {
         rings_are_proper(old);
@@ -184,9 +181,7 @@ impl Change {
     /// The change that makes these rings where there is none. It writes all their rows.
     pub fn making(alloc: Global, rings: &Rings) -> Result<Change, AllocError>
         ensures leads { IfOk result (λ change. IsChange [] rings.now change.0) }
-        ensures counted { IfOk result (λ change. (content : RingContent) → content.state ≡ []
-            → change.1 ≡ differing_rows (contents_for content) (contents_for
-            (with_state content rings.now))) }
+        ensures counted { IfOk result (λ change. DifferBy [] rings.now change.1) }
         ensures rings { IfOk result (λ _. AreRings rings.now) }
     {
         rings_are_proper(rings);

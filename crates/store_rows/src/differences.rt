@@ -10,11 +10,11 @@ ghost use Rattle.ring_words.specs.Texts.{address_limit};
 ghost use Rattle.store_model.specs.Entries.{name_cmp, name_number_cmp};
 ghost use Rattle.store_model.specs.Contents.{device_of, part_of, published_of, ring_of};
 ghost use Rattle.store_rows.specs.Differences.{has_same, is_same_device, is_same_part};
-ghost use Rattle.store_rows.specs.Differences.{is_same_ring, is_same_text};
+ghost use Rattle.store_rows.specs.Differences.{is_same_ring};
 ghost use Rattle.store_rows.specs.Inner.Lacking.{Succeeds, added_ring, device_entries_of};
 ghost use Rattle.store_rows.specs.Inner.Lacking.{device_in, device_value, is_kept_text, lacking};
 ghost use Rattle.store_rows.specs.Inner.Lacking.{part_at, part_in, part_value, ring_value, rows_at};
-ghost use Rattle.store_rows.specs.Inner.Lacking.{text_entries_of, text_in};
+ghost use Rattle.store_rows.specs.Inner.Lacking.{lacking_texts, text_entries_of, text_in};
 ghost use Rattle.store_rows.specs.RingRows.{device_entry, part_entries_of, published_entry};
 
 use crate::ring_rows::{device_row, part_row, partition_seats, published_row, ring_row};
@@ -371,8 +371,7 @@ pub(crate) fn push_texts(
 ) -> Result<(), AllocError>
     ensures { OnOk result (IfSome (option_map (λ ring. ring.now) old.entry) (λ before. Succeeds
         before ring.now) → map published_of into.new.items ≡ map published_of into.old.items ++
-        lacking name_number_cmp is_same_text (rows_at text_entries_of name.now
-        (option_map (λ ring. ring.now) old.entry)) (text_entries_of (name.now, ring.now))) }
+        lacking_texts name.now (option_map (λ ring. ring.now) old.entry) ring.now) }
 {
     if has_as_many_texts(old, ring) {
         return Ok(());

@@ -7,4 +7,6 @@ pub mod Creates
 pub mod Reading
 pub mod Writing
 pub mod Inside
+pub mod Refusals
+pub mod Failing
 pub mod PlainSchemas

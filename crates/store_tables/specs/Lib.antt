@@ -3,4 +3,5 @@ pub mod Tables
 pub mod Entries
 pub mod Contents
 pub mod Store
+pub mod Failing
 pub mod Inner

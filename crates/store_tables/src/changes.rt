@@ -7,6 +7,7 @@ ghost use Rattle.store_model.specs.Changes.{with_change, changed_all, prepared, 
 ghost use Rattle.store_model.specs.Changes.{with_kept};
 ghost use Rattle.sqlite.specs.State.{HasCleanDisk};
 ghost use Rattle.store_tables.specs.Contents.{contents_of};
+ghost use Rattle.store_tables.specs.Failing.{FailsForCause};
 ghost use Rattle.store_tables.specs.Inner.Writing.{Writes};
 ghost use Rattle.store_tables.specs.Store.{CommitsTables, HasMadeTables, Reaches, SeesStore};
 ghost use Rattle.store_tables.specs.Store.{begun_contents};
@@ -24,6 +25,8 @@ fn apply_one<S: Alter>(tx: &mut Transaction<'_, S>, change: &RowChange) -> Resul
     ensures same_reference { tx.new.conn.ghost_name ≡ tx.old.conn.ghost_name }
     ensures writes { Writes (state S.Store tx.old.conn.now) (state S.Store tx.new.conn.now) result
         (λ c. with_change c change.now) }
+    ensures cause { FailsForCause (state S.Store tx.old.conn.now)
+        (state S.Store tx.new.conn.now) result }
 {
     match change {
         RowChange::DropDevice(key) => drop_device(tx, key),
@@ -43,6 +46,8 @@ pub(crate) fn apply<S: Alter>(
     ensures same_reference { tx.new.conn.ghost_name ≡ tx.old.conn.ghost_name }
     ensures writes { Writes (state S.Store tx.old.conn.now) (state S.Store tx.new.conn.now) result
         (λ c. changed_all c changes.now) }
+    ensures cause { FailsForCause (state S.Store tx.old.conn.now)
+        (state S.Store tx.new.conn.now) result }
 {
     'changes: for change in changes {
         apply_one(tx, change)?;
@@ -136,6 +141,8 @@ fn write_prepared<S: Alter>(
     ensures reaches { Reaches (state S.Store tx.old.conn.now) (state S.Store tx.new.conn.now) result
         (prepared (begun_contents made (state S.Store tx.old.conn.now).now.trees)
         changes.now meta.now) }
+    ensures cause { FailsForCause (state S.Store tx.old.conn.now)
+        (state S.Store tx.new.conn.now) result }
 {
     create_missing(tx, made)?;
     apply(tx, changes)?;
@@ -161,6 +168,7 @@ pub fn prepare_store<S: Alter>(
     ensures mode { conn.new.in_transaction ≡ false }
     ensures commits { CommitsTables (state S.Store conn.old) (state S.Store conn.new) result
         (prepared (begun_contents made (state S.Store conn.old).now.trees) changes.now meta.now) }
+    ensures cause { FailsForCause (state S.Store conn.old) (state S.Store conn.new) result }
 {
     let mut tx = conn.transaction();
     write_prepared(&mut tx, made, changes, meta)?;

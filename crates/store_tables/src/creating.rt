@@ -4,6 +4,7 @@ ghost use Rattle.std.specs.Prelude.{◌≡◌, ◌<◌, ◌≤◌, ◌+◌};
 ghost use Rattle.store_tables.specs.Tables.{table_count};
 ghost use Rattle.sqlite.specs.Held.{state};
 ghost use Rattle.sqlite.specs.State.{HasCleanDisk};
+ghost use Rattle.store_tables.specs.Failing.{FailsForCause};
 ghost use Rattle.store_tables.specs.Store.{HasMadeTables, Reaches, begun_contents};
 ghost use Rattle.store_tables.specs.Inner.Making.{MakesTables};
 ghost use Rattle.store_tables.specs.Inner.Texts.{create_text as text_of};
@@ -72,6 +73,8 @@ fn create_next<S: Alter>(tx: &mut Transaction<'_, S>, made: usize) -> Result<(),
     ensures same_reference { tx.new.conn.ghost_name ≡ tx.old.conn.ghost_name }
     ensures makes { MakesTables made (made + 1) (state S.Store tx.old.conn.now)
         (state S.Store tx.new.conn.now) result }
+    ensures cause { FailsForCause (state S.Store tx.old.conn.now)
+        (state S.Store tx.new.conn.now) result }
 {
     run(tx, create_text(made), &[])
 }
@@ -87,6 +90,8 @@ pub(crate) fn create_range<S: Alter>(
         → HasMadeTables made (state S.Store tx.old.conn.now).now }
     ensures same_reference { tx.new.conn.ghost_name ≡ tx.old.conn.ghost_name }
     ensures makes { MakesTables made all (state S.Store tx.old.conn.now)
+        (state S.Store tx.new.conn.now) result }
+    ensures cause { FailsForCause (state S.Store tx.old.conn.now)
         (state S.Store tx.new.conn.now) result }
 {
     'tables: for at in made..all {
@@ -104,6 +109,8 @@ pub fn create_missing<S: Alter>(tx: &mut Transaction<'_, S>, made: usize) -> Res
     ensures same_reference { tx.new.conn.ghost_name ≡ tx.old.conn.ghost_name }
     ensures reaches { Reaches (state S.Store tx.old.conn.now) (state S.Store tx.new.conn.now) result
         (begun_contents made (state S.Store tx.old.conn.now).now.trees) }
+    ensures cause { FailsForCause (state S.Store tx.old.conn.now)
+        (state S.Store tx.new.conn.now) result }
 {
     create_range(tx, made, TABLE_COUNT)
 }

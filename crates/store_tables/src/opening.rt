@@ -1,8 +1,9 @@
 //! What is there when a connection is taken over.
 
-ghost use Rattle.std.specs.Prelude.{◌≡◌, ◌≤◌, ◌↔◌, IfOk, IfSome, IsTrue, None, OnOk, false, ℕ};
+ghost use Rattle.std.specs.Prelude.{◌≡◌, ◌≤◌, ◌↔◌, IfErr, IfOk, IfSome, IsTrue, None, OnOk, false, ℕ};
 ghost use Rattle.sqlite.specs.Held.{state};
 ghost use Rattle.sqlite.specs.State.{HasCleanDisk};
+ghost use Rattle.store_tables.specs.Failing.{FailsForCause, tells_failure};
 ghost use Rattle.store_tables.specs.Store.{AreOrdered, HasMadeTables};
 ghost use Rattle.store_tables.specs.Tables.{no_tables, schema_of_first, table_count};
 
@@ -19,6 +20,7 @@ fn make_first<S: Alter>(conn: &mut Connection<S>, made: usize) -> Result<(), Err
         → HasMadeTables 0 (state S.Store conn.old).now }
     ensures schema { HasCleanDisk (state S.Store conn.new) → OnOk result (conn.new.schema
         ≡ schema_of_first made) }
+    ensures cause { FailsForCause (state S.Store conn.old) (state S.Store conn.new) result }
 {
     let mut tx = conn.transaction();
     create_range(&mut tx, 0, made)?;
@@ -28,7 +30,8 @@ fn make_first<S: Alter>(conn: &mut Connection<S>, made: usize) -> Result<(), Err
 /// A database in memory that has the first tables of the store.
 fn first_tables(alloc: Global, made: usize) -> Result<Connection<MemStore>, Error>
     requires { made ≤ table_count }
-    ensures { IfOk result (λ c. c.schema ≡ schema_of_first made) }
+    ensures schema { IfOk result (λ c. c.schema ≡ schema_of_first made) }
+    ensures unfailed { IfErr result (λ e. tells_failure e ≡ false) }
 {
     let mut conn = Connection::open_in_memory(alloc)?;
     make_first(&mut conn, made)?;
@@ -47,6 +50,8 @@ pub fn tables_made<S: Alter>(alloc: Global, conn: &Connection<S>) -> Result<Opti
         → AreOrdered (state S.Store conn.now).now
         → IfOk result (λ found. IfSome found
         (λ made. HasMadeTables made (state S.Store conn.now).now)) }
+    // It is told by a database in memory, which does not fail.
+    ensures unfailed { IfErr result (λ e. tells_failure e ≡ false) }
 {
     let schema = conn.schema();
     let made = schema.tables.as_slice().len();

@@ -1,9 +1,10 @@
 //! The statements that read.
 
-ghost use Rattle.std.specs.Prelude.{◌≡◌, false, pos, map, option_map, slice_get, IfOk};
+ghost use Rattle.std.specs.Prelude.{◌≡◌, false, pos, map, option_map, slice_get, IfErr, IfOk};
 ghost use Rattle.std.specs.FinMap.{get};
 ghost use Rattle.sqlite.specs.Held.{state};
 ghost use Rattle.store_model.specs.Contents.{kept_of};
+ghost use Rattle.store_tables.specs.Failing.{FailsForCause, tells_failure};
 ghost use Rattle.store_tables.specs.Inner.Told.{told};
 ghost use Rattle.store_tables.specs.Inner.Shown.{Lists, shown_as};
 ghost use Rattle.store_tables.specs.Store.{ReadsTables, SeesStore};
@@ -41,7 +42,8 @@ pub trait Listed: Sized {
 
     /// The row, from its columns.
     fn read(row: &Row) -> Result<Self, Error>
-        ensures { IfOk result (λ it. shown_as layout row.now ≡ entry it) };
+        ensures entry { IfOk result (λ it. shown_as layout row.now ≡ entry it) }
+        ensures unfailed { IfErr result (λ e. tells_failure e ≡ false) };
 }
 
 // All rows of `meta`, by rising key.
@@ -305,7 +307,8 @@ impl Listed for PartRow {
 
 /// Rows of a table, each from its columns.
 fn rows_in<T: Listed + Drop>(alloc: Global, shown: &[Row]) -> Result<Vec<T>, Error>
-    ensures { IfOk result (λ rows. map T.entry rows.items ≡ map (shown_as T.layout) shown.now) }
+    ensures unfailed { IfErr result (λ e. tells_failure e ≡ false) }
+    ensures rows { IfOk result (λ rows. map T.entry rows.items ≡ map (shown_as T.layout) shown.now) }
 {
     let mut rows = Vec::new(alloc);
     'rows: for row in shown {
@@ -323,6 +326,7 @@ pub fn all_rows<T: Listed + Drop, S: Alter>(
     ensures reads { ReadsTables (state S.Store conn.old) (state S.Store conn.new) result
         (λ c rows. map T.entry rows.items ≡ T.listed c) }
     ensures mode { conn.old.in_transaction ≡ false → conn.new.in_transaction ≡ false }
+    ensures cause { FailsForCause (state S.Store conn.old) (state S.Store conn.new) result }
 {
     let shown = conn.query_all(T::query(), &[])?;
     rows_in(alloc, &shown)

@@ -8,6 +8,7 @@ ghost use Rattle.store_model.specs.Contents.{device_key, device_of, published_of
 ghost use Rattle.store_model.specs.Contents.{with_device_row, with_published_row, with_request};
 ghost use Rattle.store_model.specs.Contents.{without_device, without_moved, without_seats};
 ghost use Rattle.store_tables.specs.Contents.{contents_of};
+ghost use Rattle.store_tables.specs.Failing.{FailsForCause};
 ghost use Rattle.store_tables.specs.Inner.Writing.{Writes, WritesOver};
 ghost use Rattle.store_tables.specs.Store.{Becomes, SeesStore};
 
@@ -31,6 +32,8 @@ pub(crate) fn run<S: Alter>(
         → KeepsCommit (state S.Store tx.old.conn.now) (state S.Store tx.new.conn.now) }
     ensures survives { Survives (state S.Store tx.old.conn.now) (state S.Store tx.new.conn.now)
         (λ _. ⊥) }
+    ensures cause { FailsForCause (state S.Store tx.old.conn.now)
+        (state S.Store tx.new.conn.now) result }
 {
     tx.execute(sql, params)?;
     Ok(())
@@ -53,6 +56,8 @@ fn count<S: Alter>(
         → KeepsCommit (state S.Store tx.old.conn.now) (state S.Store tx.new.conn.now) }
     ensures survives { Survives (state S.Store tx.old.conn.now) (state S.Store tx.new.conn.now)
         (λ _. ⊥) }
+    ensures cause { FailsForCause (state S.Store tx.old.conn.now)
+        (state S.Store tx.new.conn.now) result }
 {
     tx.execute(sql, params)
 }
@@ -77,14 +82,18 @@ pub(crate) trait Replaces {
         ensures kept { HasCleanDisk (state S.Store tx.new.conn.now)
             → KeepsCommit (state S.Store tx.old.conn.now) (state S.Store tx.new.conn.now) }
         ensures survives { Survives (state S.Store tx.old.conn.now) (state S.Store tx.new.conn.now)
-            (λ _. ⊥) };
+            (λ _. ⊥) }
+        ensures cause { FailsForCause (state S.Store tx.old.conn.now)
+            (state S.Store tx.new.conn.now) result };
 
     /// Puts it beside the rows that are there.
     fn add<S: Alter>(&self, tx: &mut Transaction<'_, S>) -> Result<(), Error>
         requires { SeesStore (state S.Store tx.old.conn.now) }
         ensures same_reference { tx.new.conn.ghost_name ≡ tx.old.conn.ghost_name }
         ensures writes { Writes (state S.Store tx.old.conn.now) (state S.Store tx.new.conn.now) result
-            (λ c. with_row c self.now) };
+            (λ c. with_row c self.now) }
+        ensures cause { FailsForCause (state S.Store tx.old.conn.now)
+            (state S.Store tx.new.conn.now) result };
 }
 
 impl Replaces for MetaRow {
@@ -177,6 +186,8 @@ pub(crate) fn put<T: Replaces, S: Alter>(tx: &mut Transaction<'_, S>, row: &T) -
     ensures same_reference { tx.new.conn.ghost_name ≡ tx.old.conn.ghost_name }
     ensures writes { Writes (state S.Store tx.old.conn.now) (state S.Store tx.new.conn.now) result
         (λ c. T.with_row c row.now) }
+    ensures cause { FailsForCause (state S.Store tx.old.conn.now)
+        (state S.Store tx.new.conn.now) result }
 {
     let set = row.set(tx)?;
     if set > 0 {
@@ -194,6 +205,8 @@ pub(crate) fn put_published<S: Alter>(
     ensures same_reference { tx.new.conn.ghost_name ≡ tx.old.conn.ghost_name }
     ensures writes { Writes (state S.Store tx.old.conn.now) (state S.Store tx.new.conn.now) result
         (λ c. with_published_row c (published_of row.now).0 (published_of row.now).1) }
+    ensures cause { FailsForCause (state S.Store tx.old.conn.now)
+        (state S.Store tx.new.conn.now) result }
 {
     run(
         tx,
@@ -212,6 +225,8 @@ pub(crate) fn add_device<S: Alter>(
     ensures same_reference { tx.new.conn.ghost_name ≡ tx.old.conn.ghost_name }
     ensures writes { Writes (state S.Store tx.old.conn.now) (state S.Store tx.new.conn.now) result
         (λ c. with_device_row c (device_of row.now).0 (device_of row.now).1) }
+    ensures cause { FailsForCause (state S.Store tx.old.conn.now)
+        (state S.Store tx.new.conn.now) result }
 {
     run(
         tx,
@@ -264,6 +279,8 @@ pub(crate) fn drop_device<S: Alter>(
     ensures same_reference { tx.new.conn.ghost_name ≡ tx.old.conn.ghost_name }
     ensures writes { Writes (state S.Store tx.old.conn.now) (state S.Store tx.new.conn.now) result
         (λ c. without_device c (device_key key.now)) }
+    ensures cause { FailsForCause (state S.Store tx.old.conn.now)
+        (state S.Store tx.new.conn.now) result }
 {
     run(
         tx,
@@ -278,6 +295,8 @@ pub(crate) fn clear_seats<S: Alter>(tx: &mut Transaction<'_, S>) -> Result<(), E
     ensures same_reference { tx.new.conn.ghost_name ≡ tx.old.conn.ghost_name }
     ensures writes { Writes (state S.Store tx.old.conn.now) (state S.Store tx.new.conn.now) result
         (λ c. without_seats c) }
+    ensures cause { FailsForCause (state S.Store tx.old.conn.now)
+        (state S.Store tx.new.conn.now) result }
 {
     run(tx, "DELETE FROM seat", &[])
 }
@@ -288,6 +307,8 @@ pub(crate) fn clear_moved<S: Alter>(tx: &mut Transaction<'_, S>) -> Result<(), E
     ensures same_reference { tx.new.conn.ghost_name ≡ tx.old.conn.ghost_name }
     ensures writes { Writes (state S.Store tx.old.conn.now) (state S.Store tx.new.conn.now) result
         (λ c. without_moved c) }
+    ensures cause { FailsForCause (state S.Store tx.old.conn.now)
+        (state S.Store tx.new.conn.now) result }
 {
     run(tx, "DELETE FROM moved", &[])
 }

@@ -1,6 +1,7 @@
 //! The keeper at work, over memory and over files in memory.
 ghost use Rattle.std.specs.Prelude.{◌≡◌, IfOk};
 
+mod commands;
 mod deeds;
 mod failing;
 mod files;

@@ -2,9 +2,9 @@
 use Rattle.std.specs.Prelude.{List, ◌++◌, [], ◌∷◌, map, false}
 use Rattle.clap.specs.Simple.{App, Shape, on_top}
 use Rattle.clap.specs.Walk.{Rule}
-use Rattle.command_line.specs.Shapes.{needed, optional, program}
+use Rattle.command_line.specs.Shapes.{flag, needed, optional, program, repeated}
 use Rattle.command_line.specs.declared.commands.Argument.{Argument}
-use Rattle.command_line.specs.declared.commands.Argument.TheVariants.{Needed, Optional}
+use Rattle.command_line.specs.declared.commands.Argument.TheVariants.{Flag, Needed, Optional, Repeated}
 use Rattle.command_line.specs.declared.commands.Program.{Program}
 
 -- The command has these arguments, behind those that it had.
@@ -15,6 +15,8 @@ with_rules app rules = on_top (λ shape. record shape { rules = shape.rules ++ r
 abbrev pub rule_told : Argument → Rule
 rule_told (Needed name) = needed name.now
 rule_told (Optional name) = optional name.now
+rule_told (Repeated name) = repeated name.now
+rule_told (Flag name) = flag name.now
 
 -- what a parse reads of a program that is told so
 abbrev pub shape_told : Program → Shape

@@ -1,7 +1,10 @@
 -- What reading the arguments of a program answers.
-use Rattle.std.specs.Prelude.{◌≡◌, ℕ, List, Option, Some, None}
+use Rattle.std.specs.Prelude.{◌≡◌, ℕ, List, Option, Some, None, codes}
 use Rattle.clap.specs.Walk.{Row, Text}
-use Rattle.command_line.specs.Tasks.{HasArguments, HasFormat, HasHour, HasNumber, program_of}
+use Rattle.std.specs.Borrow.{Bor}
+use Rattle.ring_words.specs.Limits.{greatest_short}
+use Rattle.command_line.specs.Tasks.{HasArguments, HasFormat, HasHour, HasNumber, HasText}
+use Rattle.command_line.specs.Tasks.{program_of}
 use Rattle.ring_reads.specs.declared.reads.Format.{Format}
 use Rattle.command_line.specs.declared.task.Task.{Task}
 
@@ -21,6 +24,13 @@ IsHourWord rows None = (hour : Option ℕ) → HasHour rows hour → ⊥
 abbrev pub IsNumberWord : List Row → Text → ℕ → ℕ → Option ℕ → Type 0
 IsNumberWord rows id least most (Some n) = HasNumber rows id least most n
 IsNumberWord rows id least most None = (n : ℕ) → HasNumber rows id least most n → ⊥
+
+-- These are the file and the port that are given; None stands for arguments without one of them.
+abbrev pub IsPlace : List Row → Option (Bor Text × ℕ) → Type 0
+IsPlace rows (Some place) = HasText rows (codes "FILE") place.0 ×
+    HasNumber rows (codes "PORT") 1 greatest_short place.1
+IsPlace rows None = (file : Bor Text) (port : ℕ) → HasText rows (codes "FILE") file →
+    HasNumber rows (codes "PORT") 1 greatest_short port → ⊥
 
 -- The format is the one that is named, if one is; None stands for a word that names none.
 abbrev pub IsFormat : List Row → Option Format → Type 0

@@ -13,12 +13,15 @@ use Rattle.http_messages.specs.declared.audience.Audience.{Audience}
 use Rattle.http_messages.specs.Requests.{HasAsk}
 use Rattle.http_stream.specs.Streams.{Item, Calls, Refuses, Follow, BeginWith}
 use Rattle.http_stream.specs.Answers.{joined}
-use Rattle.byte_streams.specs.Pieces.{chunk_size}
 use Rattle.http_messages.specs.Requests.{longest_body, longest_head}
+
+-- how many bytes are read at once, at most
+abbrev pub piece_size : ℕ
+piece_size = 16384
 
 -- how many bytes of a stream wait at most: a request of the greatest length, and one more read
 abbrev pub buffer_room : ℕ
-buffer_room = longest_head + longest_body + chunk_size
+buffer_room = longest_head + longest_body + piece_size
 
 -- The bytes begin with these requests, of which none is the last, and then the rest comes.
 abbrev pub LeadTo : Audience → List ℕ → List Item → List ℕ → Type 0

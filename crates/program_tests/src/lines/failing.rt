@@ -60,6 +60,10 @@ impl<K: Keeper<RingMachine>> Keeper<RingMachine> for Failing<K> {
         self.kept.is_full()
     }
 
+    fn count(&mut self) -> Result<usize, KeepFault> {
+        self.kept.count()
+    }
+
     fn hour(&mut self) -> Result<Hour, KeepFault> {
         self.kept.hour()
     }

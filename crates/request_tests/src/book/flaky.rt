@@ -88,6 +88,13 @@ impl<M: Machine, K: Keeper<M>> Keeper<M> for Flaky<K> {
         self.kept.is_full()
     }
 
+    fn count(&mut self) -> Result<usize, KeepFault> {
+        if self.fails_now() {
+            return Err(KeepFault::Store);
+        }
+        self.kept.count()
+    }
+
     fn hour(&mut self) -> Result<Hour, KeepFault> {
         if self.fails_now() {
             return Err(KeepFault::Store);

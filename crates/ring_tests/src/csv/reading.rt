@@ -1,6 +1,6 @@
 //! Rows by readers that give little at a time or fail, and rows in great number.
 use super::{NAMES, TWO_ROWS, joined, rows_in, told};
-use byte_streams::CountedReader;
+use byte_streams::WholeReader;
 use csv_import::{CsvFault, read_rows};
 use ring_words::Row;
 use std::alloc::{AllocError, Global};
@@ -9,7 +9,7 @@ use test_fixtures::Giver;
 
 /// Whether the two rows are read where so many bytes come at a time.
 fn are_read_by(alloc: Global, text: &[u8], size: usize) -> Result<bool, CsvFault> {
-    let mut reader = CountedReader::new(Giver::new(text, size, 0x1000));
+    let mut reader = WholeReader::new(Giver::new(text, size, 0x1000));
     let rows = read_rows(alloc, &mut reader)?;
     Ok(told(alloc, &rows)?.as_str() == TWO_ROWS)
 }
@@ -45,7 +45,7 @@ fn is_all_or_nothing(
 /// Whether a reader that fails at one of its reads leaves no rows, or `None` where it leaves
 /// something else.
 fn fails_at(alloc: Global, text: &[u8], place: u32) -> Result<Option<bool>, AllocError> {
-    let mut reader = CountedReader::new(Giver::new(text, 5, place));
+    let mut reader = WholeReader::new(Giver::new(text, 5, place));
     let found = read_rows(alloc, &mut reader);
     let fails = found.is_err();
     Ok(is_all_or_nothing(alloc, reader.faults(), found)?.then_some(fails))

@@ -10,7 +10,7 @@ use Rattle.ring_model.specs.Valid.{IsValid}
 use Rattle.ring_words.specs.declared.device.Device.{Device}
 use Rattle.store_model.specs.Entries as rows
 use Rattle.store_rows.specs.RingRows.{ring_entry, device_entry, part_entry, published_entry}
-use Rattle.store_rows.specs.Differences.{KeepsTexts, has_same, is_same_ring}
+use Rattle.store_rows.specs.Differences.{KeepsTexts, has_same, is_same_ring, is_same_text}
 
 -- The new entries that the old ones do not have, or have otherwise.
 abbrev pub lacking : {K V : Type 0} → (K → K → Ordering) → (V → V → Bool) → List (K × V) →
@@ -66,6 +66,12 @@ device_entries_of e = map (device_entry e.0) e.1.devices
 -- The rows of the published texts of one ring.
 abbrev pub text_entries_of : List ℕ × RingRecord → List (rows.NameNumber × List ℕ)
 text_entries_of e = map (published_entry e.0) e.1.published
+
+-- The rows of a ring's published texts that another ring of its name, if there is one, has not.
+abbrev pub lacking_texts : List ℕ → Option RingRecord → RingRecord →
+    List (rows.NameNumber × List ℕ)
+lacking_texts name old ring = lacking rows.name_number_cmp is_same_text
+    (rows_at text_entries_of name old) (text_entries_of (name, ring))
 
 -- Two published texts under one version are taken for the same, where no published text changes.
 abbrev pub is_kept_text : List ℕ → List ℕ → Bool

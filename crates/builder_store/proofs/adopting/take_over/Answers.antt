@@ -1,4 +1,8 @@
-use Rattle.std.proofs.Common.{◌≡◌, ◌∙◌, ap, arith, false, subst, sym}
+use Rattle.std.proofs.Common.{◌≡◌, ◌∙◌, ap, arith, false, inl, inr, refl, subst, sym}
+use Rattle.std.proofs.lemmas.Bool.{cases_Bool}
+use Rattle.builder_store.proofs.Taking.{if_err_two, over_fails}
+use Rattle.sqlite.specs.Held.{state}
+use Rattle.sqlite_schema.specs.declared.schema.Schema.{Schema}
 use Rattle.sqlite_trees.specs.View.{IsClean, IsShaped}
 use Rattle.sqlite_trees.specs.declared.store.Shape.TheVariants as shape
 use Rattle.sqlite_catalog.specs.Listing.{IsSound}
@@ -86,3 +90,36 @@ returns-clause-left g c = IfErr-weaker c.over.result _ _ (λ e quiet db may.
 pub returns-then-is_broken-clause-left : goal.returns-then-is_broken-clause-left
 returns-then-is_broken-clause-left g c = λ db may.
     c.into_store-store.ensures.quiet.outcomes db may
+
+pub returns-then-is_broken-clause-cause : goal.returns-then-is_broken-clause-cause
+returns-then-is_broken-clause-cause g c = λ clean.
+    let undone = c.into_store-store.ensures.undone in
+    let quiet = c.into_store-store.ensures.quiet in
+    let broken = sym (c.is_broken.ensures clean) ∙ c.if-is_broken.true in
+    inr (
+      refl,
+      elim (cases_Bool (g.S.Store.view c.args.conn.store).is_open) [
+        | inl was ↦ elim (quiet.closes clean was) [
+          | inl still ↦ absurd (let a = (undone.undone still).1 in let b = broken in cc)
+          | inr met ↦ inl met
+        ]
+        | inr shut ↦ inr shut
+      ],
+    )
+
+pub returns-clause-cause : goal.returns-clause-cause
+returns-clause-cause g c = if_err_two c.over.result _ _ _ (λ e harm failed clean.
+    let v = g.S.Store.view c.into_store-store.result in
+    let undone = c.into_store-store.ensures.undone in
+    let quiet = c.into_store-store.ensures.quiet in
+    let early : IsClean v = omega (arith, harm.clean, clean) in
+    let whole : v.is_broken ≡ false = sym (c.is_broken.ensures early) ∙ c.if-is_broken.false in
+    let is_open = open_if v.is_open v.is_broken (g.met.S.Store.broken_if_shut
+    c.into_store-store.result) whole in
+    let sound = c.into_store-store.ensures.sound early v.committed
+    (g.met.S.Store.stays c.into_store-store.result is_open) in
+    let same : v.trees ≡ v.committed = (undone.undone is_open).0 ∙ sym
+    ((undone.kept early).committed is_open) in
+    over_fails (state g.S.Store c.args.conn) v.trees _ _ e.0 quiet.counts (subst
+    (λ t. (schema : Schema) × IsSound schema t) (sym same) sound) (failed clean))
+    c.over.ensures.unharmed c.over.ensures.err

@@ -85,3 +85,11 @@ returns-in-Err-make_over-clause-crash g c = λ clean db may.
       reads = found.reads;
       left = c.in-Err-make_over.ensures.refused.crash clean db may;
     }
+
+pub returns-in-Err-clause-failed : goal.returns-in-Err-clause-failed
+returns-in-Err-clause-failed g c = λ is. absurd (c.in-Err.ensures.unmade.0
+    (subst IsMadeOfConnection (sym is) tt))
+
+pub returns-in-Err-make_over-clause-failed : goal.returns-in-Err-make_over-clause-failed
+returns-in-Err-make_over-clause-failed g c = λ is clean. omega
+    (arith, c.in-Err-make_over.ensures.refused.failed is clean)

@@ -83,3 +83,11 @@ returns-in-Err-over-clause-crash g c = λ clean db may.
       reads = found.reads;
       left = c.in-Err-over.ensures.refused.crash clean db may;
     }
+
+pub returns-in-Err-clause-failed : goal.returns-in-Err-clause-failed
+returns-in-Err-clause-failed g c = λ is. absurd (c.in-Err.ensures.unmade.0
+    (subst IsOfConnection (sym is) tt))
+
+pub returns-in-Err-over-clause-failed : goal.returns-in-Err-over-clause-failed
+returns-in-Err-over-clause-failed g c = λ is clean. omega
+    (arith, c.in-Err-over.ensures.refused.failed (same_cause _ _ is) clean)

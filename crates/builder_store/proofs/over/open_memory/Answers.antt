@@ -1,4 +1,4 @@
-use Rattle.std.proofs.Common.{subst}
+use Rattle.std.proofs.Common.{arith, subst}
 use Rattle.sqlite.specs.Held.{state}
 use Rattle.sqlite.specs.Steps.{over_memory}
 use Rattle.sqlite_rules.specs.Lists.{Has}
@@ -41,3 +41,7 @@ returns-clause-good c =
       λ is. refused.rows is undoubted nothing (empty_opens s e c.nothing_is_holdable.ensures),
       λ is. refused.tables is undoubted 0 (empty_declared s e),
     )
+
+pub returns-clause-unfailed : goal.returns-clause-unfailed
+returns-clause-unfailed c = λ is. absurd (omega
+    (arith, c.in-Err.ensures.refused.failed is undoubted))

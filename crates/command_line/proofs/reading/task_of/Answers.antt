@@ -7,14 +7,14 @@ pub returns-in-Err-clause-nothing : goal.returns-in-Err-clause-nothing
 returns-in-Err-clause-nothing c = bad_by _ _ _
     (refused _ _ c.in-Err.error c.in_ok-command.ensures c.in-Err.ensures.kinds) c.fault_of.ensures
 
-pub returns-in-Some-task_named-clause-task : goal.returns-in-Some-task_named-clause-task
-returns-in-Some-task_named-clause-task c = asked _ _ c.in-Ok.matches c.in-Some.name.now
-    (rows_of (found_of c.in-Some.given.now)) c.in-Some-task_named.task c.in_ok-command.ensures
+pub returns-in-Some-2-clause-task : goal.returns-in-Some-2-clause-task
+returns-in-Some-2-clause-task c = asked _ _ c.in-Ok.matches c.in-Some.name.now
+    (rows_of (found_of c.in-Some.given.now)) c.in-Some-2.task c.in_ok-command.ensures
     c.in-Ok.ensures.kinds c.in-Ok.ensures.matches c.in-Some.ensures.name c.in-Some.ensures.rows
-    c.in-Some-task_named.ensures
+    (rw c.in-Some-2.is at c.in_ok-task.ensures)
 
 pub returns-clause-nothing : goal.returns-clause-nothing
 returns-clause-nothing c = bad_if _ _
     (not_asked _ _ c.in-Ok.matches c.in-Some.name.now (rows_of (found_of c.in-Some.given.now))
     c.in_ok-command.ensures c.in-Ok.ensures.matches c.in-Some.ensures.name c.in-Some.ensures.rows
-    c.in-None.ensures)
+    (rw c.in-None.is at c.in_ok-task.ensures))

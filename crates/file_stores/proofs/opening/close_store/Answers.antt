@@ -4,7 +4,6 @@ pub returns-in-Ok-clause-ended : goal.returns-in-Ok-clause-ended
 returns-in-Ok-clause-ended g c = record {
   settled = c.stands.ensures.left;
   closed = record {
-    files = c.in-Ok.files;
     are = rw c.stands.ensures.same at c.in-Ok.ensures.files;
     hold = rw c.stands.ensures.same at c.in-Ok.ensures.left;
   };
@@ -13,5 +12,8 @@ returns-in-Ok-clause-ended g c = record {
 pub returns-in-Err-clause-ended : goal.returns-in-Err-clause-ended
 returns-in-Err-clause-ended g c = record {
   settled = c.stands.ensures.left;
-  closed = tt;
+  closed = record {
+    told = c.close_fault-why.ensures.told;
+    unclosed = rw c.stands.ensures.same at c.in-Err.ensures.unclosed;
+  };
 }

@@ -1,13 +1,13 @@
-use Rattle.std.proofs.Common.{refl}
 use Rattle.std.proofs.lemmas.Result.{IfOk-weaker, IfErr-weaker}
 use Rattle.byte_streams.specs.Counted.{reader_of, writer_of}
-use Rattle.http_api.proofs.Servings.{served_run, served_safe, stopped_run, unmoved}
+use Rattle.http_api.specs.Sites.{site_names}
+use Rattle.http_api.proofs.Servings.{served_run, served_safe, stopped_run}
 use Rattle.http_api.proofs.service.serve_audience.Goals as goal
 
 pub returns-clause-served : goal.returns-clause-served
 returns-clause-served g c = IfOk-weaker c.serve_requests.result _ _
     (served_run g.K.Keeper
-    g.C.Clock.tells c.args.names.prefix.now c.args.names.suffix.now c.args.audience
+    g.C.Clock.tells (site_names c.args.site.now).prefix.now (site_names c.args.site.now).suffix.now c.args.audience
     (g.R.Read.remaining (reader_of c.args.reader.now))
     (g.W.Write.contents (writer_of c.args.writer.now))
     (g.W.Write.contents (writer_of c.serve_requests.new.writer))
@@ -17,7 +17,7 @@ returns-clause-served g c = IfOk-weaker c.serve_requests.result _ _
 pub returns-clause-stopped : goal.returns-clause-stopped
 returns-clause-stopped g c = IfErr-weaker c.serve_requests.result _ _
     (stopped_run g.K.Keeper
-    g.C.Clock.tells c.args.names.prefix.now c.args.names.suffix.now c.args.audience
+    g.C.Clock.tells (site_names c.args.site.now).prefix.now (site_names c.args.site.now).suffix.now c.args.audience
     (g.R.Read.remaining (reader_of c.args.reader.now))
     (g.R.Read.remaining (reader_of c.serve_requests.new.reader))
     (g.W.Write.contents (writer_of c.args.writer.now))
@@ -26,15 +26,10 @@ returns-clause-stopped g c = IfErr-weaker c.serve_requests.result _ _
     c.serve_requests.ensures.stopped
 
 pub returns-clause-safe : goal.returns-clause-safe
-returns-clause-safe g c = served_safe g.K.Keeper g.C.Clock.tells c.args.names.prefix.now
-    c.args.names.suffix.now c.args.audience
+returns-clause-safe g c = served_safe g.K.Keeper g.C.Clock.tells (site_names c.args.site.now).prefix.now
+    (site_names c.args.site.now).suffix.now c.args.audience
     _ _ _ _ (c.args.clock.now, c.args.book.now) (
       c.serve_requests.new.clock,
       c.serve_requests.new.state,
     ) _ _ _ c.serve_requests.result
     (returns-clause-served g c) (returns-clause-stopped g c)
-
-pub returns-in_err-routes-clause-safe : goal.returns-in_err-routes-clause-safe
-returns-in_err-routes-clause-safe g c = unmoved g.K.Keeper g.C.Clock.tells c.args.names.prefix.now
-    c.args.names.suffix.now
-    c.args.book.now c.args.book.now refl

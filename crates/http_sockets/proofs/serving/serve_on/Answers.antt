@@ -18,7 +18,7 @@ loop-served-init g c = record {
 }
 
 pub loop-served-preserved : goal.loop-served-preserved
-loop-served-preserved g c = record {
+loop-served-preserved g c = let one = rw c.new-site.ensures at c.serve_one.ensures in record {
   within = omega (arith, c.loop-served-test.true);
   open_book = none _ c.if-is_closed.ensures.1;
   all = one_more g.K.Keeper g.C.Clock.tells c.args.names.prefix.now c.args.names.suffix.now
@@ -26,8 +26,7 @@ loop-served-preserved g c = record {
       c.loop-served.served c.args.door.now c.loop-served.door c.accept.new.self
       c.in-Ok.ends.reader c.in-Ok.ends.writer (c.args.clock.now, c.args.book.now)
       (c.loop-served.clock, c.loop-served.book) (c.serve_one.new.clock, c.serve_one.new.book)
-      c.loop-served.invariant.all c.in-Ok.ensures.given c.serve_one.ensures.0
-      c.serve_one.ensures.1 c.serve_one.ensures.2;
+      c.loop-served.invariant.all c.in-Ok.ensures.given one.0 one.1 one.2;
 }
 
 pub returns-in_default-clause-safe : goal.returns-in_default-clause-safe
@@ -38,7 +37,7 @@ returns-in_default-clause-safe g c = safe_all g.K.Keeper g.C.Clock.tells c.args.
     c.args.book.now c.loop-served.book c.loop-served.invariant.all
 
 pub returns-then-is_closed-clause-served : goal.returns-then-is_closed-clause-served
-returns-then-is_closed-clause-served g c = (
+returns-then-is_closed-clause-served g c = let one = rw c.new-site.ensures at c.serve_one.ensures in (
   c.if-is_closed.ensures.0 refl,
   (
     c.loop-served.served + 1,
@@ -47,8 +46,7 @@ returns-then-is_closed-clause-served g c = (
         c.loop-served.served c.args.door.now c.loop-served.door c.accept.new.self
         c.in-Ok.ends.reader c.in-Ok.ends.writer (c.args.clock.now, c.args.book.now)
         (c.loop-served.clock, c.loop-served.book) (c.serve_one.new.clock, c.serve_one.new.book)
-        c.loop-served.invariant.all c.in-Ok.ensures.given c.serve_one.ensures.0
-        c.serve_one.ensures.1 c.serve_one.ensures.2,
+        c.loop-served.invariant.all c.in-Ok.ensures.given one.0 one.1 one.2,
   ),
 )
 

@@ -1,5 +1,5 @@
 use Rattle.std.proofs.Common.{◌≡◌, ℕ, List, vec_len}
-use Rattle.byte_streams.specs.Pieces.{chunk_size}
+use Rattle.http_stream.specs.Inner.Midstream.{piece_size}
 use Rattle.std.specs.Io.KnownBytes.{Consumes}
 use Rattle.byte_streams.specs.Counted.{read_faults, reader_of, reads_left, write_faults, writer_of}
 use Rattle.http_stream.specs.Answers.{ItemAnswered}
@@ -9,7 +9,7 @@ use Rattle.http_stream.proofs.serving.serve_requests.Given as goal
 
 abbrev pub invariant-loop-chunk : goal.invariant-loop-chunk
 invariant-loop-chunk g l = record {
-  room : vec_len l.chunk ≡ chunk_size;
+  room : vec_len l.chunk ≡ piece_size;
   came : (bytes : List ℕ) × Consumes (g.R.Read.remaining (reader_of l.fn.reader))
       (g.R.Read.remaining (reader_of l.reader)) bytes
       × IsMidstream l.audience (ItemAnswered g.H.Service l.service) bytes

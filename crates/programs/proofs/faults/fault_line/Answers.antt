@@ -37,6 +37,9 @@ returns-in-BadPath c = rw (c.in-BadPath.is, two_digits 3 0 (lit≤ tt) (lit< tt)
 pub returns-in-NoVersion : goal.returns-in-NoVersion
 returns-in-NoVersion c = rw (c.in-NoVersion.is, two_digits 3 2 (lit≤ tt) (lit< tt) (lit< tt)) refl
 
+pub returns-in-ClockAhead : goal.returns-in-ClockAhead
+returns-in-ClockAhead c = rw (c.in-ClockAhead.is, two_digits 3 3 (lit≤ tt) (lit< tt) (lit< tt)) refl
+
 pub returns-in-ReadFailed : goal.returns-in-ReadFailed
 returns-in-ReadFailed c = rw (c.in-ReadFailed.is, two_digits 5 0 (lit≤ tt) (lit< tt) (lit< tt)) refl
 

@@ -2,26 +2,27 @@ use Rattle.std.proofs.Common.{inr}
 use Rattle.std.proofs.lemmas.Result.{err_from_is_err_and}
 use Rattle.programs.specs.Begun.{FailedToClose, IsClosed}
 use Rattle.programs.proofs.Kept.{imports_kept}
+use Rattle.programs.specs.Left.{Closes}
 use Rattle.programs.proofs.importing.deliver_to_store.Goals as goal
 
 pub returns-clause-told : goal.returns-clause-told
 returns-clause-told g c = let delivered = c.deliver_rows-told in
-    imports_kept g.S.Kept.Keeper _ (IsClosed g.S.Stores.ends) c.in_ok-keeper.keeper
-    delivered.result.1 c.in_ok-keeper.ensures.begins c.in_ok-close.ensures.ends c.args.ask
+    imports_kept g.S.Kept.Keeper _ (IsClosed (Closes g.S.Stores)) c.in_ok-keeper.keeper
+    delivered.result.1 c.in_ok-keeper.ensures.begins c.in_ok-close_store.ensures.ends c.args.ask
     c.args.rows.items c.args.hour delivered.result.0 delivered.ensures
 
-pub returns-in_err-close-clause-fault : goal.returns-in_err-close-clause-fault
-returns-in_err-close-clause-fault g c =
+pub returns-in_err-close_store-clause-fault : goal.returns-in_err-close_store-clause-fault
+returns-in_err-close_store-clause-fault g c =
     let delivered = c.deliver_rows-told in
-    let p = err_from_is_err_and c.from_residual-in_err-close.result
-    c.from_residual-in_err-close.ensures.1 in
+    let p = err_from_is_err_and c.from_residual-in_err-close_store.result
+    c.from_residual-in_err-close_store.ensures.1 in
     rw (p.1, p.2) (inr (
-      c.in_err-close.ensures.fault,
+      c.in_err-close_store.ensures.fault,
       (
         delivered.result.0,
-        imports_kept g.S.Kept.Keeper _ (FailedToClose g.S.Stores.ends c.in_err-close.field-0.0)
+        imports_kept g.S.Kept.Keeper _ (FailedToClose (Closes g.S.Stores) c.in_err-close_store.field-0.0)
             c.in_ok-keeper.keeper delivered.result.1 c.in_ok-keeper.ensures.begins
-            c.in_err-close.ensures.ends c.args.ask
+            c.in_err-close_store.ensures.ends c.args.ask
             c.args.rows.items c.args.hour delivered.result.0 delivered.ensures,
       ),
     ))

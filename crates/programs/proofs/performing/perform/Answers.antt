@@ -1,17 +1,17 @@
-use Rattle.std.proofs.Common.{inl, inr, refl}
-use Rattle.programs.proofs.Endings.{refused_as}
+use Rattle.std.proofs.Common.{inl}
+use Rattle.programs.proofs.Telling.{at_most_three, done_at, failed_at, never_two}
 use Rattle.programs.proofs.performing.perform.Goals as goal
 
-pub returns-in-Ok-Refused-clause-fault : goal.returns-in-Ok-Refused-clause-fault
-returns-in-Ok-Refused-clause-fault g c = λ one. inl (
-  c.in-Ok.task,
-  c.in-Ok.ensures.task,
-  inr (
-    refused_as _ g.S.Kept.Keeper g.S.Stores.begins g.S.Stores.ends g.R.Read.remaining g.W.Write.contents
-        c.args.reader.now c.perform_task.new.reader c.args.writer.now c.perform_task.new.writer
-        g.S.Stores.holds g.S.Stores.is_unread _ _ g.S.Stores.is_made c.in-Ok.task _ _
-        c.in-Ok-Refused.field-0-is
-        c.in-Ok-Refused.ensures.ended,
-    refl,
-  ),
-)
+pub returns-in-Ok-clause-status : goal.returns-in-Ok-clause-status
+returns-in-Ok-clause-status g c = at_most_three c.finish.result _ _ c.finish.ensures
+
+pub returns-in-Ok-clause-done : goal.returns-in-Ok-clause-done
+returns-in-Ok-clause-done g c = λ zero.
+    (c.in-Ok.task, c.in-Ok.ensures.task, done_at c.finish.result _ _ c.finish.ensures zero)
+
+pub returns-in-Ok-clause-fault : goal.returns-in-Ok-clause-fault
+returns-in-Ok-clause-fault g c = λ failed. inl
+    (c.in-Ok.task, c.in-Ok.ensures.task, failed_at c.finish.result _ _ c.finish.ensures failed)
+
+pub returns-in-Ok-clause-nothing : goal.returns-in-Ok-clause-nothing
+returns-in-Ok-clause-nothing g c = λ two. absurd (never_two c.finish.result _ _ c.finish.ensures two)

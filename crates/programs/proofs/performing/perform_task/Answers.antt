@@ -3,12 +3,14 @@ use Rattle.std.proofs.lemmas.Result.{IfErr-weaker, err_from_is_err_and}
 use Rattle.programs.specs.Inner.Showing.{IsShowing}
 use Rattle.programs.proofs.Endings.{as_asked, ends_as, failed_asked, fails_as}
 use Rattle.programs.proofs.Endings.{imported_as, shown_failed}
+use Rattle.programs.specs.Left.{Closes, FailsToMake, GivesNoText, GivesText, MakesStore}
+use Rattle.programs.specs.Left.{RefusesToOpen}
 use Rattle.programs.proofs.performing.perform_task.Goals as goal
 
 pub returns-in-Import-clause-ended : goal.returns-in-Import-clause-ended
-returns-in-Import-clause-ended g c = imported_as _ g.S.Kept.Keeper g.S.Stores.begins g.S.Stores.ends
+returns-in-Import-clause-ended g c = imported_as _ g.S.Kept.Keeper g.S.Stores.begins (Closes g.S.Stores)
     g.R.Read.remaining g.W.Write.contents c.args.reader.now c.args.reader.now c.args.writer.now
-    c.import.new.writer g.S.Stores.holds g.S.Stores.is_unread _ _ g.S.Stores.is_made _ c.import.result
+    c.import.new.writer (GivesText g.S.Stores) (GivesNoText g.S.Stores) _ _ (MakesStore g.S.Stores) _ c.import.result
     c.ask_import-asked.result c.in-Import.file c.in-Import.ring c.in-Import.caller
     c.in-Import.number c.in-Import.csv c.in-Import.hour c.in-Import.is refl
     c.ask_import-asked.ensures.asked c.import.ensures.ended
@@ -22,9 +24,9 @@ returns-in-Import-clause-failed g c = rw c.in-Import.is (failed_asked
 
 pub returns-in_ok-serve_store-in-Serve-clause-ended : goal.returns-in_ok-serve_store-in-Serve-clause-ended
 returns-in_ok-serve_store-in-Serve-clause-ended g c =
-    ends_as _ g.S.Kept.Keeper g.S.Stores.begins g.S.Stores.ends g.R.Read.remaining g.W.Write.contents
-    c.args.reader.now c.args.reader.now c.args.writer.now c.args.writer.now g.S.Stores.holds
-    g.S.Stores.is_unread _ _ g.S.Stores.is_made _ _ _
+    ends_as _ g.S.Kept.Keeper g.S.Stores.begins (Closes g.S.Stores) g.R.Read.remaining g.W.Write.contents
+    c.args.reader.now c.args.reader.now c.args.writer.now c.args.writer.now (GivesText g.S.Stores)
+    (GivesNoText g.S.Stores) _ _ (MakesStore g.S.Stores) _ _ _
     c.in-Serve.is (
       refl,
       refl,
@@ -36,9 +38,9 @@ pub returns-in_err-serve_store-in-Serve-clause-failed : goal.returns-in_err-serv
 returns-in_err-serve_store-in-Serve-clause-failed g c =
     let p = err_from_is_err_and c.from_residual-in_err-serve_store-in-Serve.result
     c.from_residual-in_err-serve_store-in-Serve.ensures.1 in
-    rw (p.1, p.2) (fails_as _ g.S.Kept.Keeper g.S.Stores.begins g.S.Stores.ends g.R.Read.remaining
+    rw (p.1, p.2) (fails_as _ g.S.Kept.Keeper g.S.Stores.begins (Closes g.S.Stores) g.R.Read.remaining
     g.W.Write.contents c.args.reader.now c.args.reader.now c.args.writer.now c.args.writer.now
-    g.S.Stores.holds g.S.Stores.is_unread _ _ g.S.Stores.refuses g.S.Stores.is_unmade _ _ _ c.in-Serve.is
+    (GivesText g.S.Stores) (GivesNoText g.S.Stores) _ _ (RefusesToOpen g.S.Stores) (FailsToMake g.S.Stores) _ _ _ c.in-Serve.is
     (inr (
       refl,
       refl,
@@ -48,9 +50,9 @@ returns-in_err-serve_store-in-Serve-clause-failed g c =
 
 pub returns-in_ok-loop_file-in-Loop-clause-ended : goal.returns-in_ok-loop_file-in-Loop-clause-ended
 returns-in_ok-loop_file-in-Loop-clause-ended g c =
-    ends_as _ g.S.Kept.Keeper g.S.Stores.begins g.S.Stores.ends g.R.Read.remaining g.W.Write.contents
-    c.args.reader.now c.args.reader.now c.args.writer.now c.loop_file.new.writer g.S.Stores.holds
-    g.S.Stores.is_unread _ _ g.S.Stores.is_made _ _ _ c.in-Loop.is (
+    ends_as _ g.S.Kept.Keeper g.S.Stores.begins (Closes g.S.Stores) g.R.Read.remaining g.W.Write.contents
+    c.args.reader.now c.args.reader.now c.args.writer.now c.loop_file.new.writer (GivesText g.S.Stores)
+    (GivesNoText g.S.Stores) _ _ (MakesStore g.S.Stores) _ _ _ c.in-Loop.is (
       refl,
       c.in_ok-loop_file-in-Loop.ensures.looped,
       c.in_ok-loop_file-in-Loop.ensures.opened,
@@ -60,9 +62,9 @@ pub returns-in_err-loop_file-in-Loop-clause-failed : goal.returns-in_err-loop_fi
 returns-in_err-loop_file-in-Loop-clause-failed g c =
     let p = err_from_is_err_and c.from_residual-in_err-loop_file-in-Loop.result
     c.from_residual-in_err-loop_file-in-Loop.ensures.1 in
-    rw (p.1, p.2) (fails_as _ g.S.Kept.Keeper g.S.Stores.begins g.S.Stores.ends g.R.Read.remaining
+    rw (p.1, p.2) (fails_as _ g.S.Kept.Keeper g.S.Stores.begins (Closes g.S.Stores) g.R.Read.remaining
     g.W.Write.contents c.args.reader.now c.args.reader.now c.args.writer.now c.loop_file.new.writer
-    g.S.Stores.holds g.S.Stores.is_unread _ _ g.S.Stores.refuses g.S.Stores.is_unmade _ _ _ c.in-Loop.is
+    (GivesText g.S.Stores) (GivesNoText g.S.Stores) _ _ (RefusesToOpen g.S.Stores) (FailsToMake g.S.Stores) _ _ _ c.in-Loop.is
     (inr (refl, c.in_err-loop_file-in-Loop.ensures.failed)))
 
 pub returns-in-Table-clause-failed : goal.returns-in-Table-clause-failed
@@ -75,7 +77,17 @@ returns-in-Table-clause-failed g c =
       ]
     ] in
     IfErr-weaker c.show_task.result _ _ (shown_failed _ g.S.Kept.Keeper g.S.Stores.begins
-    g.S.Stores.ends g.R.Read.remaining g.W.Write.contents c.args.reader.now c.args.writer.now
-    c.show_task.new.writer g.S.Stores.holds g.S.Stores.is_unread
+    (Closes g.S.Stores) g.R.Read.remaining g.W.Write.contents c.args.reader.now c.args.writer.now
+    c.show_task.new.writer (GivesText g.S.Stores) (GivesNoText g.S.Stores)
     (g.S.Stores.openings c.args.stores.now) (g.S.Stores.openings c.show_task.new.stores)
-    g.S.Stores.refuses g.S.Stores.is_unmade c.args.task.now showing) c.show_task.ensures.failed
+    (RefusesToOpen g.S.Stores) (FailsToMake g.S.Stores) c.args.task.now showing) c.show_task.ensures.failed
+
+pub returns-in_err-renew_store-in-Renew-clause-failed : goal.returns-in_err-renew_store-in-Renew-clause-failed
+returns-in_err-renew_store-in-Renew-clause-failed g c =
+    let p = err_from_is_err_and c.from_residual-in_err-renew_store-in-Renew.result
+    c.from_residual-in_err-renew_store-in-Renew.ensures.1 in
+    rw (p.1, p.2) (fails_as _ g.S.Kept.Keeper g.S.Stores.begins (Closes g.S.Stores)
+    g.R.Read.remaining g.W.Write.contents c.args.reader.now c.args.reader.now c.args.writer.now
+    c.args.writer.now (GivesText g.S.Stores) (GivesNoText g.S.Stores) _ _
+    (RefusesToOpen g.S.Stores) (FailsToMake g.S.Stores) _ _ _ c.in-Renew.is
+    (inr (refl, refl, c.in_err-renew_store-in-Renew.ensures.fault)))

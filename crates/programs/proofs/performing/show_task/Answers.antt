@@ -1,9 +1,10 @@
 use Rattle.std.proofs.Common.{inl, inr, refl, []}
 use Rattle.programs.proofs.Endings.{as_asked, ended_shown, failed_asked}
+use Rattle.programs.specs.Left.{Closes}
 use Rattle.programs.proofs.performing.show_task.Goals as goal
 
 pub returns-in-Table-clause-done : goal.returns-in-Table-clause-done
-returns-in-Table-clause-done g c = rw c.in-Table.is (ended_shown _ _ g.S.Stores.ends g.W.Write.contents
+returns-in-Table-clause-done g c = rw c.in-Table.is (ended_shown _ _ (Closes g.S.Stores) g.W.Write.contents
     c.args.writer.now c.show_asked.new.writer c.show_asked.result c.ask_tables.result [] [] _ _ _
     c.ask_tables.ensures.asked (λ s one. (refl, (s, one))) c.show_asked.ensures.done)
 
@@ -15,7 +16,7 @@ returns-in-Table-clause-failed g c = rw c.in-Table.is (failed_asked
     c.show_asked.ensures.failed)
 
 pub returns-in-Nodes-clause-done : goal.returns-in-Nodes-clause-done
-returns-in-Nodes-clause-done g c = rw c.in-Nodes.is (ended_shown _ _ g.S.Stores.ends g.W.Write.contents
+returns-in-Nodes-clause-done g c = rw c.in-Nodes.is (ended_shown _ _ (Closes g.S.Stores) g.W.Write.contents
     c.args.writer.now c.show_asked-in-Nodes.new.writer c.show_asked-in-Nodes.result c.ask_nodes-asked.result _ _ _ _ _
     c.ask_nodes-asked.ensures.asked (λ s one. (refl, (s, one))) c.show_asked-in-Nodes.ensures.done)
 
@@ -28,7 +29,7 @@ returns-in-Nodes-clause-failed g c = rw c.in-Nodes.is (failed_asked
 
 pub returns-in-Export-clause-done : goal.returns-in-Export-clause-done
 returns-in-Export-clause-done g c = rw c.in-Export.is
-    (ended_shown _ _ g.S.Stores.ends g.W.Write.contents
+    (ended_shown _ _ (Closes g.S.Stores) g.W.Write.contents
     c.args.writer.now c.show_asked-in-Export.new.writer c.show_asked-in-Export.result c.ask_published-asked.result [] [] _ _ _
     c.ask_published-asked.ensures.asked (λ s one. (refl, (s, one))) c.show_asked-in-Export.ensures.done)
 

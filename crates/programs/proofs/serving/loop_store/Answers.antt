@@ -3,28 +3,29 @@ use Rattle.std.proofs.lemmas.Result.{err_from_is_err_and}
 use Rattle.programs.specs.Begun.{FailedToClose, IsClosed, WasClosed}
 use Rattle.programs.proofs.Kept.{on_closed, on_unclosed}
 use Rattle.programs.proofs.Services.{kept_loops, kept_stops, match_err, match_ok}
+use Rattle.programs.specs.Left.{Closes}
 use Rattle.programs.proofs.serving.loop_store.Goals as goal
 
 pub returns-clause-looped : goal.returns-clause-looped
 returns-clause-looped g c = let ran = c.loop_input-looped in
-    on_closed c.close-closed.result (g.S.Stores.ends ran.result.1) _
-    (λ ended. kept_loops g.S.Kept.Keeper _ (IsClosed g.S.Stores.ends) c.in_ok-keeper.keeper ran.result.1
+    on_closed c.close_store-closed.result (Closes g.S.Stores ran.result.1) _
+    (λ ended. kept_loops g.S.Kept.Keeper _ (IsClosed (Closes g.S.Stores)) c.in_ok-keeper.keeper ran.result.1
     c.in_ok-keeper.ensures.begins ended c.args.given c.args.names g.W.Write.contents
     c.args.writer.now ran.new.writer
     (match_ok ran.result.0 _ _ _ c.in_ok-looped.was ran.ensures))
-    c.close-closed.ensures.ends
+    c.close_store-closed.ensures.ends
 
 pub returns-clause-failed : goal.returns-clause-failed
 returns-clause-failed g c = let ran = c.loop_input-looped in
-    on_unclosed c.close-closed.result (g.S.Stores.ends ran.result.1) _
+    on_unclosed c.close_store-closed.result (Closes g.S.Stores ran.result.1) _
     (λ why is ended. inr (inr (
       is,
-      kept_loops g.S.Kept.Keeper _ (FailedToClose g.S.Stores.ends why) c.in_ok-keeper.keeper
+      kept_loops g.S.Kept.Keeper _ (FailedToClose (Closes g.S.Stores) why) c.in_ok-keeper.keeper
           ran.result.1 c.in_ok-keeper.ensures.begins ended c.args.given c.args.names g.W.Write.contents
           c.args.writer.now ran.new.writer
           (match_ok ran.result.0 _ _ _ c.in_ok-looped.was ran.ensures),
     )))
-    c.close-closed.ensures.ends c.close-closed.ensures.fault
+    c.close_store-closed.ensures.ends c.close_store-closed.ensures.fault
 
 pub returns-in_err-looped-clause-failed : goal.returns-in_err-looped-clause-failed
 returns-in_err-looped-clause-failed g c =
@@ -34,8 +35,8 @@ returns-in_err-looped-clause-failed g c =
     rw (p.1) (inr (inl (
       c.in_err-looped.field-0.0,
       p.2,
-      kept_stops g.S.Kept.Keeper _ (WasClosed g.S.Stores.ends) c.in_ok-keeper.keeper ran.result.1
-          c.in_ok-keeper.ensures.begins (c.close-closed.result, c.close-closed.ensures.ends)
+      kept_stops g.S.Kept.Keeper _ (WasClosed (Closes g.S.Stores)) c.in_ok-keeper.keeper ran.result.1
+          c.in_ok-keeper.ensures.begins (c.close_store-closed.result, c.close_store-closed.ensures.ends)
           c.args.given c.args.names g.W.Write.contents
           c.args.writer.now ran.new.writer c.in_err-looped.field-0.0
           (match_err ran.result.0 _ _ _ c.in_err-looped.was ran.ensures),

@@ -4,27 +4,28 @@ use Rattle.programs.specs.Begun.{FailedToClose, IsClosed, WasClosed}
 use Rattle.programs.specs.Faults.{serve_fault}
 use Rattle.programs.proofs.Kept.{on_closed, on_unclosed}
 use Rattle.programs.proofs.Services.{kept_served, on_ok_at}
+use Rattle.programs.specs.Left.{Closes}
 use Rattle.programs.proofs.serving.serve_store.Goals as goal
 
 pub returns-clause-served : goal.returns-clause-served
 returns-clause-served g c = let ran = c.serve_port-served in
-    on_closed c.close-closed.result (g.S.Stores.ends ran.result.1) _
-    (λ ended. kept_served g.S.Kept.Keeper _ (IsClosed g.S.Stores.ends) c.in_ok-keeper.keeper
+    on_closed c.close_store-closed.result (Closes g.S.Stores ran.result.1) _
+    (λ ended. kept_served g.S.Kept.Keeper _ (IsClosed (Closes g.S.Stores)) c.in_ok-keeper.keeper
     ran.result.1
     c.in_ok-keeper.ensures.begins ended c.args.given c.args.names _
     (on_ok_at ran.result.0 _ _ c.in_ok-served.was ran.ensures.served))
-    c.close-closed.ensures.ends
+    c.close_store-closed.ensures.ends
 
 pub returns-clause-failed : goal.returns-clause-failed
 returns-clause-failed g c = let ran = c.serve_port-served in
-    on_unclosed c.close-closed.result (g.S.Stores.ends ran.result.1) _
+    on_unclosed c.close_store-closed.result (Closes g.S.Stores ran.result.1) _
     (λ why is ended. inr (inl (
       is,
-      kept_served g.S.Kept.Keeper _ (FailedToClose g.S.Stores.ends why) c.in_ok-keeper.keeper
+      kept_served g.S.Kept.Keeper _ (FailedToClose (Closes g.S.Stores) why) c.in_ok-keeper.keeper
           ran.result.1 c.in_ok-keeper.ensures.begins ended c.args.given c.args.names _
           (on_ok_at ran.result.0 _ _ c.in_ok-served.was ran.ensures.served),
     )))
-    c.close-closed.ensures.ends c.close-closed.ensures.fault
+    c.close_store-closed.ensures.ends c.close_store-closed.ensures.fault
 
 pub returns-in_err-served-clause-failed : goal.returns-in_err-served-clause-failed
 returns-in_err-served-clause-failed g c =
@@ -34,7 +35,7 @@ returns-in_err-served-clause-failed g c =
     let failed = IfErr-at_err _ c.in_err-served.was ran.ensures.failed in
     rw (p.1) (inr (inr (
       p.2 ∙ ap serve_fault failed.0,
-      kept_served g.S.Kept.Keeper _ (WasClosed g.S.Stores.ends) c.in_ok-keeper.keeper ran.result.1
-          c.in_ok-keeper.ensures.begins (c.close-closed.result, c.close-closed.ensures.ends)
+      kept_served g.S.Kept.Keeper _ (WasClosed (Closes g.S.Stores)) c.in_ok-keeper.keeper ran.result.1
+          c.in_ok-keeper.ensures.begins (c.close_store-closed.result, c.close_store-closed.ensures.ends)
           c.args.given c.args.names _ failed.1,
     )))

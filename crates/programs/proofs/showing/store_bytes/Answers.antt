@@ -3,14 +3,15 @@ use Rattle.std.proofs.lemmas.Result.{err_from_is_err_and}
 use Rattle.programs.specs.Begun.{FailedToClose, IsClosedWhole, WasClosed, WasClosedAfter}
 use Rattle.programs.proofs.Kept.{asked_kept, at_end, unclosed}
 use Rattle.programs.proofs.Runs.{at_err, at_ok, at_value}
+use Rattle.programs.specs.Left.{Closes}
 use Rattle.programs.proofs.showing.store_bytes.Goals as goal
 
 pub returns-clause-shown : goal.returns-clause-shown
 returns-clause-shown g c = let told = c.told_bytes-bytes in
-    asked_kept g.S.Kept.Keeper _ (IsClosedWhole g.S.Kept.Keeper g.S.Stores.ends)
+    asked_kept g.S.Kept.Keeper _ (IsClosedWhole g.S.Kept.Keeper (Closes g.S.Stores))
     c.in_ok-keeper.keeper told.result.1 c.in_ok-keeper.ensures.begins (
-      at_end c.close-closed.result (g.S.Stores.ends told.result.1) c.in_ok-closed.was
-          c.close-closed.ensures.ends,
+      at_end c.close_store-closed.result (Closes g.S.Stores told.result.1) c.in_ok-closed.was
+          c.close_store-closed.ensures.ends,
       at_ok told.result.0 _ _ c.in_ok-bytes.was told.ensures.whole,
     ) _
     (at_value told.result.0 c.in_ok-bytes.bytes _ c.in_ok-bytes.was told.ensures.shown)
@@ -24,14 +25,14 @@ returns-in_err-bytes-clause-fault g c =
       | inl failed ↦ inl (
         failed.0,
         failed.1,
-        asked_kept g.S.Kept.Keeper _ (WasClosedAfter g.S.Kept.Keeper g.S.Stores.ends failed.0)
+        asked_kept g.S.Kept.Keeper _ (WasClosedAfter g.S.Kept.Keeper (Closes g.S.Stores) failed.0)
             c.in_ok-keeper.keeper told.result.1 c.in_ok-keeper.ensures.begins
-            ((c.close-closed.result, c.close-closed.ensures.ends), failed.2) _ failed.3,
+            ((c.close_store-closed.result, c.close_store-closed.ensures.ends), failed.2) _ failed.3,
       )
-      | inr hides ↦ inr (inr (asked_kept g.S.Kept.Keeper _ (WasClosed g.S.Stores.ends)
+      | inr hides ↦ inr (inr (asked_kept g.S.Kept.Keeper _ (WasClosed (Closes g.S.Stores))
           c.in_ok-keeper.keeper
           told.result.1 c.in_ok-keeper.ensures.begins
-          (c.close-closed.result, c.close-closed.ensures.ends) _ hides))
+          (c.close_store-closed.result, c.close_store-closed.ensures.ends) _ hides))
     ]))
 
 pub returns-in_err-closed-clause-fault : goal.returns-in_err-closed-clause-fault
@@ -40,14 +41,14 @@ returns-in_err-closed-clause-fault g c =
     let p = err_from_is_err_and c.from_residual-in_err-closed.result
     c.from_residual-in_err-closed.ensures.1 in
     rw (p.1, p.2) (inr (inr (inl (
-      at_err c.close-closed.result c.in_err-closed.field-0.0 _ c.in_err-closed.was
-          c.close-closed.ensures.fault,
+      at_err c.close_store-closed.result c.in_err-closed.field-0.0 _ c.in_err-closed.was
+          c.close_store-closed.ensures.fault,
       (
         c.in_ok-bytes.bytes.items,
-        asked_kept g.S.Kept.Keeper _ (FailedToClose g.S.Stores.ends c.in_err-closed.field-0.0)
+        asked_kept g.S.Kept.Keeper _ (FailedToClose (Closes g.S.Stores) c.in_err-closed.field-0.0)
             c.in_ok-keeper.keeper told.result.1 c.in_ok-keeper.ensures.begins
-            (unclosed c.close-closed.result (g.S.Stores.ends told.result.1)
-            c.in_err-closed.field-0.0 c.in_err-closed.was c.close-closed.ensures.ends) _
+            (unclosed c.close_store-closed.result (Closes g.S.Stores told.result.1)
+            c.in_err-closed.field-0.0 c.in_err-closed.was c.close_store-closed.ensures.ends) _
             (at_value told.result.0 c.in_ok-bytes.bytes _ c.in_ok-bytes.was told.ensures.shown),
       ),
     ))))

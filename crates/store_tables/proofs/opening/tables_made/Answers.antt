@@ -12,6 +12,6 @@ returns-then-not-branch-clause-missing g c = λ none made low is.
     let many : length c.as_slice-made.result.now ≡ made = ap length c.as_slice-made.ensures ∙ ap
     (λ (s : Schema). length s.tables) seen ∙ first_count made low in
     let other : c.schema.result.now ≡ schema_of_first made = c.schema.ensures.value ∙
-    c.in_ok-first.ensures ∙ ap schema_of_first many in
+    c.in_ok-first.ensures.schema ∙ ap schema_of_first many in
     absurd (clash _ (c.in_ok-are_same.ensures.plain (subst IsPlainSchema (sym seen)
     (made_plain (take made all_tables))) (seen ∙ sym other)) c.if-not-branch.true)

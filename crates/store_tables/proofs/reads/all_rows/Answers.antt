@@ -1,5 +1,6 @@
 use Rattle.std.proofs.Common.{[], map, rules}
 use Rattle.sqlite.specs.Held.{state}
+use Rattle.store_tables.proofs.Failing.{hands_on, query_fails, unfailing}
 use Rattle.store_tables.proofs.Reading.{reads_listed, reads_nothing}
 use Rattle.store_tables.proofs.reads.all_rows.Goals as goal
 
@@ -13,4 +14,16 @@ returns-clause-reads g c = reads_listed c.query.result.now g.T.Listed.layout g.T
     c.query.ensures (state g.S.Store c.args.conn.now) (state g.S.Store c.query_all.new.self)
     c.requires c.query_all.ensures.survives c.rows_in.result
     (λ rows. map g.T.Listed.entry rows.items) _ c.in_ok-shown.shown.items c.deref.ensures.value
-    c.in_ok-shown.ensures.ok c.rows_in.ensures
+    c.in_ok-shown.ensures.ok c.rows_in.ensures.rows
+
+pub returns-in_err-shown-clause-cause : goal.returns-in_err-shown-clause-cause
+returns-in_err-shown-clause-cause g c =
+    let old = state g.S.Store c.args.conn.now in
+    let new = state g.S.Store c.query_all.new.self in
+    hands_on old new c.query_all.result c.from_residual.result c.in_err-shown.field-0.0
+    (search rules) (search rules)
+    (query_fails _ _ old new c.query_all.result c.query_all.ensures.err)
+
+pub returns-clause-cause : goal.returns-clause-cause
+returns-clause-cause g c = unfailing (state g.S.Store c.args.conn.now)
+    (state g.S.Store c.query_all.new.self) c.rows_in.result c.rows_in.ensures.unfailed

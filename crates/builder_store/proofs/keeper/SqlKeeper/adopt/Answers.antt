@@ -3,6 +3,7 @@ use Rattle.sqlite.specs.Held.{state}
 use Rattle.sqlite.specs.State.{HasCleanDisk}
 use Rattle.builder_store.specs.Keepers.{content_of_keeper}
 use Rattle.builder_store.specs.Opening.{AreDeclared, IsMadeOf, IsOpenedAs, KeepsRows}
+use Rattle.builder_store.proofs.Taking.{met_before}
 use Rattle.builder_store.proofs.keeper.SqlKeeper.adopt.Goals as goal
 
 pub returns-in-Ok-over-clause-limit : goal.returns-in-Ok-over-clause-limit
@@ -55,3 +56,11 @@ returns-in-Err-over-clause-missing g c = λ failed clean made declared.
     let before : HasCleanDisk mid = omega (arith, c.in-Err-over.ensures.refused.clean, clean) in
     c.in-Err-over.ensures.refused.tables failed clean made (subst (AreDeclared made)
     (sym (c.in-Ok.ensures.same before)) declared)
+
+pub returns-in-Err-clause-failed : goal.returns-in-Err-clause-failed
+returns-in-Err-clause-failed g c = λ told clean. met_before (state g.S.Store c.args.conn) _
+    c.in-Err.error _ c.fault_of.ensures.which (c.in-Err.ensures.cause clean) told
+
+pub returns-in-Err-over-clause-failed : goal.returns-in-Err-over-clause-failed
+returns-in-Err-over-clause-failed g c = λ told clean.
+    inl (omega (arith, c.in-Err-over.ensures.refused.failed told clean))

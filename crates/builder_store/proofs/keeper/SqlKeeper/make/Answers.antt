@@ -2,6 +2,8 @@ use Rattle.std.proofs.Common.{arith, inl, inr, subst, sym}
 use Rattle.sqlite.specs.Held.{state}
 use Rattle.sqlite.specs.State.{HasCleanDisk}
 use Rattle.builder_store.specs.Opening.{AreDeclared}
+use Rattle.builder_store.proofs.Causes.{failed_opening}
+use Rattle.builder_store.proofs.Taking.{met_before}
 use Rattle.builder_store.proofs.keeper.SqlKeeper.make.Goals as goal
 
 pub returns-in-Ok-make_over-clause-limit : goal.returns-in-Ok-make_over-clause-limit
@@ -51,3 +53,11 @@ returns-in-Err-make_over-clause-crash g c = λ clean db left.
           (g.met.S.Store.stays c.in-Ok.conn.store (c.in-Ok.ensures.fresh before).is_open)))
       | inr made ↦ inr made
     ]
+
+pub returns-in-Err-clause-failed : goal.returns-in-Err-clause-failed
+returns-in-Err-clause-failed g c = λ told clean. met_before (state g.S.Store c.args.conn) _
+    c.in-Err.error _ c.fault_of.ensures.which (c.in-Err.ensures.cause clean) (failed_opening _ told)
+
+pub returns-in-Err-make_over-clause-failed : goal.returns-in-Err-make_over-clause-failed
+returns-in-Err-make_over-clause-failed g c = λ told clean.
+    inl (omega (arith, c.in-Err-make_over.ensures.refused.failed told clean))

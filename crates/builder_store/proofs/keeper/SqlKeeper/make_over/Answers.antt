@@ -9,6 +9,7 @@ use Rattle.sqlite_trees.specs.View.{doubt}
 use Rattle.store_tables.specs.Tables.{no_tables}
 use Rattle.builder_store.specs.Making.{rings_alone}
 use Rattle.builder_store.proofs.Finds.{alone_from}
+use Rattle.builder_store.proofs.Taking.{met_while_open}
 use Rattle.builder_store.proofs.keeper.SqlKeeper.make_over.Goals as goal
 
 pub holding-requires-clause-holds : goal.holding-requires-clause-holds
@@ -16,7 +17,7 @@ holding-requires-clause-holds g c = λ clean.
     let content = rings_alone c.args.rings c.args.hour in
     ∣ (
       content,
-      alone_from c.one_content.ensures (state g.S.Store c.make_tables.new.conn).committed.trees
+      alone_from c.one_content.ensures (state g.S.Store c.make_ready.new.conn).committed.trees
           content (c.in-Ok.ensures.made clean),
       refl,
       refl,
@@ -26,7 +27,7 @@ holding-requires-clause-holds g c = λ clean.
 pub returns-in-Ok-clause-begins : goal.returns-in-Ok-clause-begins
 returns-in-Ok-clause-begins g c =
     let old = state g.S.Store c.args.conn in
-    let new = state g.S.Store c.make_tables.new.conn in
+    let new = state g.S.Store c.make_ready.new.conn in
     let content = rings_alone c.args.rings c.args.hour in
     let is = c.holding.ensures in
     record {
@@ -57,7 +58,7 @@ returns-in-Ok-clause-begins g c =
 pub returns-in-Err-clause-refused : goal.returns-in-Err-clause-refused
 returns-in-Err-clause-refused g c =
     let old = state g.S.Store c.args.conn in
-    let new = state g.S.Store c.make_tables.new.conn in
+    let new = state g.S.Store c.make_ready.new.conn in
     let survives = c.in-Err.ensures.survives in
     let before : HasCleanDisk new → HasCleanDisk old = λ clean. omega
     (arith, survives.clean, clean) in
@@ -65,6 +66,8 @@ returns-in-Err-clause-refused g c =
       clean = survives.clean;
       unjudged = c.in-Err.ensures.unjudged;
       of_connection = c.in-Err.ensures.of_connection;
+      failed = λ is clean. met_while_open old new (c.requires.fresh (before clean)).is_open
+          (c.in-Err.ensures.failed clean is);
       taken = λ is clean declared.
           let fresh = c.requires.fresh (before clean) in
           let listed : Lists (old.now.trees catalog_tree) no_tables = subst

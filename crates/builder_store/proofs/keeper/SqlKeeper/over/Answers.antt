@@ -4,6 +4,7 @@ use Rattle.sqlite.specs.Held.{state}
 use Rattle.sqlite.specs.State.{HasCleanDisk}
 use Rattle.builder_store.specs.Opening.{IsOpenedAs}
 use Rattle.builder_store.proofs.Finds.{alone_from}
+use Rattle.builder_store.proofs.Taking.{met_while_open}
 use Rattle.builder_store.proofs.keeper.SqlKeeper.over.Goals as goal
 
 pub holding-requires-clause-holds : goal.holding-requires-clause-holds
@@ -11,7 +12,7 @@ holding-requires-clause-holds g c = λ clean.
     let it = c.in-Ok.ensures.found clean in
     ∣ (
       it.content,
-      alone_from c.one_content.ensures (state g.S.Store c.open_tables.new.conn).committed.trees
+      alone_from c.one_content.ensures (state g.S.Store c.open_ready.new.conn).committed.trees
           it.content it.stands,
       it.rings,
       it.count,
@@ -21,13 +22,13 @@ holding-requires-clause-holds g c = λ clean.
 pub returns-in-Ok-clause-begins : goal.returns-in-Ok-clause-begins
 returns-in-Ok-clause-begins g c =
     let old = state g.S.Store c.args.conn in
-    let new = state g.S.Store c.open_tables.new.conn in
+    let new = state g.S.Store c.open_ready.new.conn in
     let is = c.holding.ensures in
     record {
       limit = is.limit;
       faults = is.faults;
       clean = subst (λ h. doubt old.is_clean ≤ doubt (state g.S.Store h).is_clean) (sym is.same)
-          c.open_tables.ensures.survives.clean;
+          c.open_ready.ensures.survives.clean;
       found = λ clean.
           let still : HasCleanDisk new = subst (λ h. HasCleanDisk (state g.S.Store h)) is.same
           clean in
@@ -40,15 +41,17 @@ returns-in-Ok-clause-begins g c =
 pub returns-in-Err-clause-refused : goal.returns-in-Err-clause-refused
 returns-in-Err-clause-refused g c =
     let old = state g.S.Store c.args.conn in
-    let new = state g.S.Store c.open_tables.new.conn in
-    let survives = c.open_tables.ensures.survives in
+    let new = state g.S.Store c.open_ready.new.conn in
+    let survives = c.open_ready.ensures.survives in
     let before : HasCleanDisk new → HasCleanDisk old = λ clean. omega
     (arith, survives.clean, clean) in
     record {
       clean = survives.clean;
-      rows = λ is. c.open_tables.ensures.bad (c.in-Err.is ∙ ap Err is);
-      tables = λ is. c.open_tables.ensures.missing (c.in-Err.is ∙ ap Err is);
-      kept = λ is clean db may. elim ((c.open_tables.ensures.quiet (c.in-Err.is ∙ ap Err is)).crash
+      rows = λ is. c.open_ready.ensures.bad (c.in-Err.is ∙ ap Err is);
+      tables = λ is. c.open_ready.ensures.missing (c.in-Err.is ∙ ap Err is);
+      failed = λ is clean. met_while_open old new (c.requires.fresh (before clean)).is_open
+          (c.open_ready.ensures.failed clean (c.in-Err.is ∙ ap Err is));
+      kept = λ is clean db may. elim ((c.open_ready.ensures.quiet (c.in-Err.is ∙ ap Err is)).crash
           clean db may) [
             | inl was ↦ inl (g.met.S.Store.settled c.args.conn.store db (c.requires.fresh
                 (before clean)).is_open was)

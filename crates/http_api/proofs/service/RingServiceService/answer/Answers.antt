@@ -35,7 +35,7 @@ returns-in_ok-told-in-Ok-Import g c =
 pub returns-in-Ok-Read : goal.returns-in-Ok-Read
 returns-in-Ok-Read g c =
     let asks = rw c.in-Ok-Read.field-0-is at c.in-Ok-Read.ensures in
-    let told = c.answer_read.ensures in
+    let told = rw c.names.ensures at c.answer_read.ensures in
     read_answered g.K.Keeper
     g.C.Clock.tells _ _
     (record {

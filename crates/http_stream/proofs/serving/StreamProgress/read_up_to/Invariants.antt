@@ -1,5 +1,5 @@
 use Rattle.std.proofs.Common.{◌≡◌, ◌≤◌, ◌<◌, ℕ, List, [], ◌++◌, length}
-use Rattle.byte_streams.specs.Pieces.{chunk_size}
+use Rattle.http_stream.specs.Inner.Midstream.{piece_size}
 use Rattle.std.specs.Io.KnownBytes.{Consumes, Appends}
 use Rattle.byte_streams.specs.Counted.{IsFlushed, read_faults, reader_of, reads_left, write_faults}
 use Rattle.byte_streams.specs.Counted.{writer_of}
@@ -14,7 +14,7 @@ invariant-loop-reader g l = record {
   count : l.self.answered ≡ l.fn.self.answered;
   wrote : Appends (g.W.Write.contents (writer_of l.fn.writer))
       (g.W.Write.contents (writer_of l.writer)) l.fn.self.outbox;
-  room : length l.chunk ≡ chunk_size;
+  room : length l.chunk ≡ piece_size;
   flushed : IsFlushed l.writer;
   reads : read_faults l.reader ≡ read_faults l.fn.reader;
   writes : write_faults l.writer ≡ write_faults l.fn.writer;

@@ -1,0 +1,16 @@
+use Rattle.std.proofs.Common.{◌≡◌, ◌⊎◌, inl, inr, subst, sym, ℕ}
+use Rattle.programs.proofs.Telling.{fault_statuses, texts_then}
+use Rattle.programs.proofs.performing.finish.Goals as goal
+
+pub returns-in-Err : goal.returns-in-Err
+returns-in-Err g c = inr (
+  subst (λ (status : ℕ). (status ≡ 1) ⊎ (status ≡ 3)) (sym c.fault_status.ensures)
+      (fault_statuses c.args.task.now c.in-Err.fault),
+  inl (
+    c.in-Err.fault,
+    c.in-Err.ensures.failed.0,
+    c.fault_status.ensures,
+    texts_then g.E.Write.contents c.args.errors.now c.carry_out.new.errors c.tell_fault.new.errors _ _
+        c.in-Err.ensures.failed.1 c.tell_fault.ensures,
+  ),
+)

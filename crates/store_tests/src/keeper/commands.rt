@@ -1,0 +1,77 @@
+//! The commands that the worked rows lack, over the store.
+use super::{runs_in_memory, runs_in_turn};
+use ring_words::Limits;
+use std::test::Fail;
+use test_fixtures::rows::{FIRST, WorkedRow};
+
+/// What comes behind the first rebalance of two devices, and a repeat.
+const REST: [WorkedRow; 9] = [
+    (
+        0,
+        20,
+        "'do':'import','rows':[[1,1,'10.0.0.3',6200,'d2','50.00'],[1,1,'10.0.0.1',6200,'d0','75.00']]",
+        "200 {'added':1,'done':'import','reweighted':1,'version':4}",
+    ),
+    (
+        0,
+        21,
+        "'do':'set_weight','id':1,'weight':'25.00'",
+        "200 {'done':'set_weight','version':5}",
+    ),
+    (
+        0,
+        22,
+        "'do':'publish'",
+        "200 {'done':'publish','version':5}",
+    ),
+    (
+        0,
+        23,
+        "'do':'raise_power'",
+        "200 {'done':'raise_power','version':6}",
+    ),
+    (
+        0,
+        24,
+        "'do':'set_hours','min_hours':1",
+        "200 {'done':'set_hours','version':7}",
+    ),
+    (
+        0,
+        25,
+        "'do':'pretend_passed'",
+        "200 {'done':'pretend_passed','version':8}",
+    ),
+    (
+        0,
+        26,
+        "'do':'remove','id':2",
+        "200 {'done':'remove','version':9}",
+    ),
+    (
+        0,
+        27,
+        "'do':'publish'",
+        "200 {'done':'publish','version':9}",
+    ),
+    (
+        0,
+        22,
+        "'do':'publish'",
+        "200 {'done':'publish','version':5}",
+    ),
+];
+
+#[test]
+fn each_command_is_kept_in_the_store(rt: HostRuntime) -> Result<(), Fail> {
+    let runs: [&[WorkedRow]; 2] = [&FIRST, &REST];
+    assert!(rt; runs_in_memory(rt.alloc(), Limits::full(), &runs)?);
+    Ok(())
+}
+
+#[test]
+fn each_command_is_found_where_its_file_is_opened_again(rt: HostRuntime) -> Result<(), Fail> {
+    let runs: [&[WorkedRow]; 4] = [&FIRST, &REST, &FIRST, &REST];
+    assert_eq!(rt; runs_in_turn(rt.alloc(), &runs)?, 4);
+    Ok(())
+}
