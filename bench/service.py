@@ -39,11 +39,11 @@ def rows():
 
 
 def get(target):
-    return f"GET {target} HTTP/1.1\r\nHost: a\r\n\r\n".encode()
+    return f"GET {target} HTTP/1.1\r\nHost: localhost\r\n\r\n".encode()
 
 
 def post(body):
-    return f"POST /v1/requests HTTP/1.1\r\nHost: a\r\nContent-Length: {len(body)}\r\n\r\n{body}".encode()
+    return f"POST /v1/requests HTTP/1.1\r\nHost: localhost\r\nContent-Length: {len(body)}\r\n\r\n{body}".encode()
 
 
 def body_of(line):
@@ -238,9 +238,9 @@ def figure(number):
 
 @contextlib.contextmanager
 def service(file):
-    """The process and the port of the service over a file, started anew: it ends after 65,535 connections."""
+    """The process and the port of a service over a file."""
     port = free_port()
-    server = subprocess.Popen([*program(), "serve", file, str(port), "65535", "--hour", "0"])
+    server = subprocess.Popen([*program(), "service", file, str(port), "--hour-ok"], stderr=subprocess.DEVNULL)
     try:
         wait_until(lambda: is_listening(port))
         yield server.pid, port
