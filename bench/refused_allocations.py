@@ -1,6 +1,6 @@
 #!/usr/bin/env python3
 """Refuses each allocation of a run of the built program, one in each run:
-bench/refused_allocations.py [--store] [--every N] [FILE ..]
+bench/refused_allocations.py [--store] [--every N] [--lasting N] [FILE ..]
 
 Each line of the files (examples/rebalance.jsonl and bench/more.jsonl where none are named) is sent twice. Whichever
 allocation is refused, at most one answer may be lost, `503 {"fault":"NoMemory","rule":23}` stands in its place, and every
@@ -10,7 +10,8 @@ and ends with status 1.
 With --store the runs are over a new file each. There the store may also be told as failed, and the book is closed from then
 on, or the file is not opened. Whichever it was, a second run over the file, unharmed, answers every request as the second
 run of an unharmed file does, and a third one every question too: each number was decided once, and the rings are right.
---every takes every Nth allocation alone.
+--every takes every Nth allocation alone. --lasting refuses N allocations in a row, so that several answers may be lost: each as
+want of memory, and none as a store that failed, which stays open and answers what comes later.
 
 RINGD names the program, as for checks/. The C compiler `cc` makes the library that refuses.
 """
@@ -26,6 +27,7 @@ TOP = Path(__file__).resolve().parent.parent
 sys.path.append(str(TOP / "checks"))
 from common import program  # noqa: E402
 
+LASTING = int(sys.argv[sys.argv.index("--lasting") + 1]) if "--lasting" in sys.argv else 1
 LOST = '503 {"fault":"NoMemory","rule":23}'
 FAILED = ('503 {"fault":"StoreFault","rule":24}', '503 {"fault":"Closed","rule":25}')
 REFUSING = r"""
@@ -34,11 +36,12 @@ REFUSING = r"""
 #include <stdlib.h>
 extern void *__libc_malloc(size_t);
 extern void *__libc_realloc(void *, size_t);
-static long count, at = -1;
+static long count, at = -1, last;
 static int is_refused(void) {
-    if (!count++) { char *s = getenv("REFUSE"); at = s ? atol(s) : 0; }
-    if (count == at) errno = ENOMEM;
-    return count == at;
+    if (!count++) { char *s = getenv("REFUSE"); char *n = getenv("LASTING"); at = s ? atol(s) : 0; last = at + (n ? atol(n) : 1); }
+    int is_in = at > 0 && count >= at && count < last;
+    if (is_in) errno = ENOMEM;
+    return is_in;
 }
 void *malloc(size_t n) { return is_refused() ? 0 : __libc_malloc(n); }
 void *realloc(void *p, size_t n) { return is_refused() ? 0 : __libc_realloc(p, n); }
@@ -67,6 +70,8 @@ def judged(run, want):
     differing = [one for one, other in zip(got, want) if one != other]
     if run.returncode == 0 and len(got) == len(want) and differing in ([], [LOST]):
         return "one answer lost, its repeat right" if differing else "no difference"
+    if LASTING > 1 and run.returncode == 0 and len(got) == len(want) and set(differing) == {LOST}:
+        return "several answers lost"
     if run.returncode == 1 and not got and run.stderr == b"ringd: NoMemory 23\n":
         return "NoMemory before the first line"
     return "WRONG"
@@ -93,7 +98,9 @@ def judged_over_store(run, is_right, want):
         return "WRONG"
     if differing in ([], [LOST]):
         return "one answer lost, its repeat right" if differing else "no difference"
-    if differing[0] == FAILED[0] and all(one in FAILED for one in differing):
+    if LASTING > 1 and set(differing) == {LOST}:
+        return "several answers lost, the store open"
+    if LASTING == 1 and differing[0] == FAILED[0] and all(one in FAILED for one in differing):
         return "the store told as failed, and closed from then on"
     return "WRONG"
 
@@ -111,7 +118,7 @@ def main():
         numbers = itertools.count()
 
         def run(at, *over):
-            settings = {**os.environ, "LD_PRELOAD": library, "REFUSE": str(at), "COUNT": count}
+            settings = {**os.environ, "LD_PRELOAD": library, "REFUSE": str(at), "LASTING": str(LASTING), "COUNT": count}
             return subprocess.run([*program(), "run", *over], input=text, capture_output=True, env=settings)
 
         def outcome(at):
