@@ -130,6 +130,16 @@ def try_proxy(checks, tls):
     for what, want, path, words in rows:
         checks.same(what, asked(tls, path, *words), want)
     checks.same("another name", asked(tls, "/v1/rings/photos/devices", *reader, name="evil.example"), "000")
+    other = asked(tls, "/v1/rings/photos/devices", *reader, "-H", "Host: evil.example")
+    checks.same("another Host than the name of the connection", other, "000")
+
+
+def try_behind(checks, port):
+    """Whom the service hears that comes by no proxy."""
+    for host, want in [(NAME, "200"), ("evil.example", "403")]:
+        words = ["curl", "-s", "-o", os.devnull, "-w", "%{http_code}", "--max-time", "20", "-H", f"Host: {host}"]
+        told = subprocess.run([*words, f"http://127.0.0.1:{port}/v1/rings/photos/devices"], capture_output=True, text=True, timeout=60)
+        checks.same(f"beside the proxy, a request to {host}", told.stdout, want)
 
 
 def proxy(checks):
@@ -145,11 +155,12 @@ def proxy(checks):
         if not checks.show("nginx -t", told.returncode == 0, told):
             return
         probe = [str(FOLDER / "ringd-probe"), str(port)]
-        served = subprocess.Popen([*program(), "serve", f"{room}/rings.db", str(port), "100"])
+        served = subprocess.Popen([*program(), "service", f"{room}/rings.db", str(port), "--host", NAME], stderr=subprocess.DEVNULL)
         passed = subprocess.Popen(["nginx", "-c", f"{room}/nginx.conf"], stderr=subprocess.DEVNULL)
         try:
             if checks.show("both listen", wait_until(lambda: is_listening(port) and is_listening(tls))):
                 try_proxy(checks, tls)
+                try_behind(checks, port)
                 checks.same("the probe of a service that runs", subprocess.run(probe, capture_output=True, timeout=60).returncode, 0)
         finally:
             for one in (passed, served):
