@@ -3,7 +3,7 @@
 
 Starts the built program as `serve` on free ports and talks to it by curl, by Python's http.client and by plain sockets:
 each route, requests that are refused, repeats after a kill, clients that are silent, stop midway, read nothing or
-break off. What is slow goes side by side, so it takes a minute and a half; --long sends more random requests.
+break off. What is slow goes side by side, so it takes about a minute; --long sends more random requests.
 """
 import hashlib
 import http.client
