@@ -9,6 +9,8 @@ from common import TOP, free_port, message, program, scratch, wait_until, is_lis
 
 FOLDER = TOP / "deploy"
 NAME = "rings.example.org"
+# how long systemd waits for a program that is to stop, where a unit says nothing of it
+MOST_TO_STOP = 90
 LOGINS = {"ops": "secret", "reader": "password"}
 
 
@@ -20,18 +22,53 @@ def are_shown(checks):
         checks.same(f"deploy/{file.name} stands on a page", block and block[1], file.read_text())
 
 
+def guard(checks):
+    """The unit begins with no clock that is far ahead, unless a file beside it says so."""
+    started = {name: re.findall(r"(?m)^ExecStart=(.*)$", (FOLDER / name).read_text()) for name in ("ringd.service", "ringd-hour-ok.conf")}
+    unit = started["ringd.service"]
+    checks.show("the unit does not give --hour-ok", len(unit) == 1 and "--hour-ok" not in unit[0], unit)
+    checks.same("ringd-hour-ok.conf starts the same with it", started["ringd-hour-ok.conf"], ["", *(f"{one} --hour-ok" for one in unit)])
+
+
+def probing(checks):
+    """The probe's unit waits as long as clients may, and starts nothing that was stopped."""
+    unit, probe = (FOLDER / "ringd-probe.service").read_text(), (FOLDER / "ringd-probe").read_text()
+    checks.same("it has no plain restart", re.findall(r"systemctl (\S+)", unit), ["try-restart"])
+    first = re.search(r"(?m)^ExecStart=/bin/sh -c '(.*)'$", unit)[1]
+    with scratch() as room:
+        Path(f"{room}/systemctl").write_text('#!/bin/sh\necho "$@"\n')
+        os.chmod(f"{room}/systemctl", 0o755)
+        for what, ends, want in [("an answer: nothing is done", "true", b""), ("no answer: what runs is started again", "false", b"try-restart ringd\n")]:
+            text = first.replace("/usr/local/bin/ringd-probe", ends)
+            told = subprocess.run(["/bin/sh", "-c", text], capture_output=True, timeout=60, env={"PATH": f"{room}:/usr/bin:/bin"})
+            checks.same(what, (told.returncode, told.stdout), (0, want))
+    in_line = int(re.search(r"line cost the next client (\d+)\.", (TOP / "docs/http.md").read_text())[1])
+    waits = {name: int(re.search(rf"--{name} (\d+)", probe)[1]) for name in ("max-time", "retry-max-time")}
+    checks.show(f"the probe waits longer than the {in_line} seconds of the page", waits["max-time"] > in_line, waits)
+    most = 60 * int(re.search(r"(?m)^TimeoutStartSec=(\d+)min$", unit)[1])
+    checks.show(f"its unit has {most} seconds for that and for the stop", most > sum(waits.values()) + MOST_TO_STOP, waits)
+
+
 def units(checks):
     """The units, as systemd reads them."""
     if not shutil.which("systemd-analyze"):
         return checks.skip("systemd-analyze verify", "it is not on this machine")
+
+    def verify(room, file, what):
+        told = subprocess.run(["systemd-analyze", "verify", f"{room}/{file}"], capture_output=True, timeout=60)
+        wrong = [line for line in told.stderr.decode().splitlines() if room in line or file in line]
+        checks.show(f"systemd-analyze verify {what}", told.returncode == 0 and not wrong, told)
+
+    installed = lambda file: re.sub(r"/usr/local/bin/\S+", "/bin/true", file.read_text())
     with scratch() as room:
-        for file in [*FOLDER.glob("*.service"), *FOLDER.glob("*.timer")]:
-            text = re.sub(r"/usr/local/bin/\S+", "/bin/true", file.read_text())
-            Path(f"{room}/{file.name}").write_text(text)
-        for file in sorted(os.listdir(room)):
-            told = subprocess.run(["systemd-analyze", "verify", f"{room}/{file}"], capture_output=True, timeout=60)
-            wrong = [line for line in told.stderr.decode().splitlines() if room in line or file in line]
-            checks.show(f"systemd-analyze verify {file}", told.returncode == 0 and not wrong, told)
+        files = sorted([*FOLDER.glob("*.service"), *FOLDER.glob("*.timer")])
+        for file in files:
+            Path(f"{room}/{file.name}").write_text(installed(file))
+        for file in files:
+            verify(room, file.name, file.name)
+        os.mkdir(f"{room}/ringd.service.d")
+        Path(f"{room}/ringd.service.d/hour-ok.conf").write_text(installed(FOLDER / "ringd-hour-ok.conf"))
+        verify(room, "ringd.service", "ringd.service with ringd-hour-ok.conf")
 
 
 def firewall(checks):
@@ -93,6 +130,16 @@ def try_proxy(checks, tls):
     for what, want, path, words in rows:
         checks.same(what, asked(tls, path, *words), want)
     checks.same("another name", asked(tls, "/v1/rings/photos/devices", *reader, name="evil.example"), "000")
+    other = asked(tls, "/v1/rings/photos/devices", *reader, "-H", "Host: evil.example")
+    checks.same("another Host than the name of the connection", other, "000")
+
+
+def try_behind(checks, port):
+    """Whom the service hears that comes by no proxy."""
+    for host, want in [(NAME, "200"), ("evil.example", "403")]:
+        words = ["curl", "-s", "-o", os.devnull, "-w", "%{http_code}", "--max-time", "20", "-H", f"Host: {host}"]
+        told = subprocess.run([*words, f"http://127.0.0.1:{port}/v1/rings/photos/devices"], capture_output=True, text=True, timeout=60)
+        checks.same(f"beside the proxy, a request to {host}", told.stdout, want)
 
 
 def proxy(checks):
@@ -108,11 +155,12 @@ def proxy(checks):
         if not checks.show("nginx -t", told.returncode == 0, told):
             return
         probe = [str(FOLDER / "ringd-probe"), str(port)]
-        served = subprocess.Popen([*program(), "serve", f"{room}/rings.db", str(port), "100"])
+        served = subprocess.Popen([*program(), "service", f"{room}/rings.db", str(port), "--host", NAME], stderr=subprocess.DEVNULL)
         passed = subprocess.Popen(["nginx", "-c", f"{room}/nginx.conf"], stderr=subprocess.DEVNULL)
         try:
             if checks.show("both listen", wait_until(lambda: is_listening(port) and is_listening(tls))):
                 try_proxy(checks, tls)
+                try_behind(checks, port)
                 checks.same("the probe of a service that runs", subprocess.run(probe, capture_output=True, timeout=60).returncode, 0)
         finally:
             for one in (passed, served):

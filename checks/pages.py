@@ -123,7 +123,7 @@ def check_page(checks, page):
     sessions = [commands(at, held) for kind, at, held in found if kind == "console"]
     if not sessions:
         return
-    missing = [word for word in ("serve", "renew") if f"$ ringd {word} " in page.read_text() and not has(word)]
+    missing = [word for word in ("serve", "service", "renew") if f"$ ringd {word} " in page.read_text() and not has(word)]
     if missing:
         return checks.skip(str(name), f"the program has no {' and no '.join(missing)}")
     count, wrong, changes = sum(map(len, sessions)), 0, []
@@ -167,7 +167,7 @@ def main():
 
     parts = [of(page) for page in pages if "```console" in page.read_text()]
     if len(pages) > 1:
-        parts += [deploy.are_shown, deploy.units, deploy.firewall, deploy.proxy]
+        parts += [deploy.are_shown, deploy.guard, deploy.probing, deploy.units, deploy.firewall, deploy.proxy]
     return checks.run(*parts)
 
 

@@ -3,7 +3,7 @@
 
 Starts the built program as `serve` on free ports and talks to it by curl, by Python's http.client and by plain sockets:
 each route, requests that are refused, repeats after a kill, clients that are silent, stop midway, read nothing or
-break off. What is slow goes side by side, so it takes under a minute; --long sends more random requests.
+break off. What is slow goes side by side, so it takes about a minute; --long sends more random requests.
 """
 import hashlib
 import http.client
@@ -580,19 +580,19 @@ def reads_slowly(checks):
             stop.set()
             one.close()
             sipping.join()
-            checks.show(f"the other is answered after {took:.1f} seconds", answered == 404 and took < 25, (answered, took))
+            checks.show(f"the other is answered after {took:.1f} seconds", answered == 404 and took < 14, (answered, took))
 
 
 def in_line(checks):
-    """Twenty idle clients in line before one that asks: each costs about a second."""
+    """Fifty idle clients in line before one that asks: each costs about a second."""
     with scratch() as room, Server(f"{room}/rings.db") as server:
-        idle = [server.connect() for _ in range(20)]
+        idle = [server.connect() for _ in range(50)]
         begun = time.monotonic()
         answered = server.ask("GET", "/v2", seconds=90)[0]
         took = time.monotonic() - begun
         for one in idle:
             one.close()
-        checks.show(f"the one behind them is answered after {took:.1f} seconds", answered == 404 and 15 < took < 30, (answered, took))
+        checks.show(f"the one behind them is answered after {took:.1f} seconds", answered == 404 and 45 < took < 60, (answered, took))
 
 
 def address(checks):
