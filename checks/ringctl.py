@@ -312,7 +312,7 @@ def until_done(checks):
         made = ctl.start("rebalance", "late", "--until-done")
         try:
             said = made.stdout.readline(), made.stderr.readline()
-            waits = (r"ringctl: late: devices still lack 2 of their seats: "
+            waits = (r"ringctl: late: publish version 2 and distribute it now; devices still lack 2 of their seats: "
                      r"waits until \d{4}-\d\d-\d\d \d\d:\d\d \S+, 2[34] h \d+ min\n")
             is_told = said[0].startswith("late: version 2, 8 seats changed") and re.fullmatch(waits, said[1])
             checks.show("it says what is to come, and how long it waits", is_told, said)
@@ -578,6 +578,15 @@ def strangers(checks):
             told = ctl("publish", "photos")
             stays = told[0] == 4 and "as number 1" in told[2]
             checks.show("401 after an answer that was lost: it stays in the journal", stays, told)
+    with scratch() as room, Between(0, [lambda given, ask: plain(401, "<html>")] * 2) as between:
+        ctl = Ctl(room, "--url", url(between.port))
+        where = f"{url(between.port)} answers 401: it asks for another login than ~/.netrc has for 127.0.0.1"
+        checks.same("a login that is wanted", ctl("publish", "photos"), refused(f"{where}; nothing was done"))
+        Path(room, ".netrc").write_text("machine 127.0.0.1 login ops password secret\n")
+        Path(room, ".netrc").chmod(0o600)
+        ctl("publish", "photos")
+        logins = [b"Authorization: Basic b3BzOnNlY3JldA==" in given for given in between.seen]
+        checks.same("a login is given where ~/.netrc has one", logins, [False, True])
 
 
 # ---- Journals
