@@ -126,6 +126,8 @@ def check_page(checks, page):
     missing = [word for word in ("serve", "renew") if f"$ ringd {word} " in page.read_text() and not has(word)]
     if missing:
         return checks.skip(str(name), f"the program has no {' and no '.join(missing)}")
+    if "$ sqlite3 " in page.read_text() and not shutil.which("sqlite3"):
+        return checks.skip(str(name), "sqlite3 is not on this machine")
     count, wrong, changes = sum(map(len, sessions)), 0, []
     with scratch() as room:
         session = Session(room)
