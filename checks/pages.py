@@ -6,6 +6,8 @@ command, a line that begins with `> ` goes on with it, and what follows is what 
 commands of a page are run by one `sh`, in a new folder of its own, with `ringd`, `ringctl` and the folder `examples`
 there. What they print is compared exactly; a line `...` alone stands for any lines. A page that shows something else fails.
 
+A page that uses `sqlite3` is passed over where that is not there.
+
 A page writes the port 8642; the check takes a free one in its place. After a command that ends with `&` it waits until
 somebody listens there. At the end of a page all that it started is stopped. A fenced block of the kind `file NAME` is a
 file of the folder, which stands there before the first command of the page.
@@ -126,6 +128,8 @@ def check_page(checks, page):
     missing = [word for word in ("serve", "service", "renew") if f"$ ringd {word} " in page.read_text() and not has(word)]
     if missing:
         return checks.skip(str(name), f"the program has no {' and no '.join(missing)}")
+    if "$ sqlite3 " in page.read_text() and not shutil.which("sqlite3"):
+        return checks.skip(str(name), "sqlite3 is not on this machine")
     count, wrong, changes = sum(map(len, sessions)), 0, []
     with scratch() as room:
         session = Session(room)

@@ -42,7 +42,7 @@ class Ctl:
     """ringctl with a folder of its own, where its journal lies, and the same options each time."""
 
     def __init__(self, room, *options):
-        self.room, self.options = room, [str(it) for it in options]
+        self.room, self.options, self.begun = room, [str(it) for it in options], 0
         self.journal = Path(room, "state/ringctl/journal")
 
     def start(self, *words, stop=None):
@@ -55,16 +55,22 @@ class Ctl:
         return subprocess.Popen(command, env=settings, cwd=self.room, text=True, **pipes)
 
     def __call__(self, *words, stop=None):
-        """The status, standard output and standard error."""
+        """The status, standard output, and standard error without the line on a journal that begins: it is counted."""
         made = self.start(*words, stop=stop)
         try:
-            told = made.communicate(timeout=50)
+            told, errors = made.communicate(timeout=50)
         finally:
             made.kill()  # where it has not ended by itself
-        return (made.returncode, *told)
+        errors, begun = re.subn(BEGINS, "", errors, flags=re.M)
+        self.begun += begun
+        return made.returncode, told, errors
 
     def entries(self):
         return [json.loads(line) for line in self.journal.read_text().splitlines()]
+
+
+BEGINS = (r"^ringctl: begins the journal \S+, with the caller [a-z0-9-]+; "
+          r'if there was one before, see "A lost journal" in ringctl --help\n')
 
 
 def url(port):
@@ -87,6 +93,18 @@ def refused(text):
     return 1, "", f"ringctl: {text}\n"
 
 
+SHOWN = """   id region  zone address          port     weight state   wanted    has balance name
+    0      1     1 10.0.0.1         6200     100.00 open         8      8    0.00 sda
+    1      1     1 10.0.0.2         6200     100.00 open         8      8    0.00 sdb
+    2      1     2 10.0.0.3         6200     100.00 open         8      8    0.00 sda
+    3      1     2 10.0.0.4         6200     100.00 open         8      8    0.00 sda
+balance 0.00 dispersion 0.00 version 7
+"""
+SHOWN_JSON = common.compact({
+    "ring": "photos", "version": 7, "balance": 0, "dispersion": 0,
+    "devices": [{"id": place, "region": 1, "zone": 1 + place // 2, "address": f"10.0.0.{place + 1}", "port": 6200,
+                 "name": name, "weight": "100.00", "state": "open", "wanted": 8, "has": 8}
+                for place, name in enumerate(["sda", "sdb", "sda", "sda"])]}) + "\n"
 FORM = "rREGIONzZONE-ADDRESS:PORT/NAME, as r1z1-10.0.0.1:6200/sda"
 # Every command, and what people are told of it.
 SESSION = [
@@ -104,7 +122,9 @@ SESSION = [
     ("import photos moved.csv",
      refused("photos: row 2 is refused: the ring has the device in another region or zone; no row was imported")),
     ("import photos head.csv", refused("the first line of the CSV file is not region,zone,address,port,name,weight")),
-    ("import photos field.csv", refused("row 1 of the CSV file: the weight is not of its form")),
+    ("import photos field.csv",
+     refused("row 1 of the CSV file: the weight is not of its form; "
+             "it is a number from 0.00 to 1000000.00 with two decimals, as 100.00")),
     ("import photos short.csv", refused("row 1 of the CSV file has not six fields")),
     ("import photos none.csv", refused("none.csv cannot be read: No such file or directory")),
     ("devices photos", (0, DEVICES, "")),
@@ -116,6 +136,8 @@ SESSION = [
     ("remove photos r9z1-10.0.0.2:6200/sdb",
      refused("photos has no device r9z1-10.0.0.2:6200/sdb, but d1 is r1z1-10.0.0.2:6200/sdb")),
     ("rebalance photos --seed 1", done("photos: version 7, 32 seats changed, balance 0.00 %, dispersion 0.00 %")),
+    ("show photos", (0, SHOWN, "")),
+    ("show photos --json", (0, SHOWN_JSON, "")),
     ("remove photos d3", done("photos: version 8, d3 is marked and leaves at the next rebalance")),
     ("remove photos r1z2-10.0.0.4:6200/sda", refused("photos: device 3 is marked and leaves at the next rebalance")),
     ("set_hours photos 0", done("photos: version 9, a partition that moved stays for 0 hours")),
@@ -128,6 +150,7 @@ SESSION = [
     ("nodes photos a/b",
      refused("this is no path: an account and a container are 1 to 256 bytes without /, an object 1 to 1024")),
     ("balance pictures", refused("there is no ring pictures")),
+    ("show pictures", refused("there is no ring pictures")),
     ("finish", (0, "", "")),
 ]
 READS = ["balance photos", "nodes photos alice", "nodes photos alice --json", "nodes photos alice cats",
@@ -140,6 +163,7 @@ def write_tables(room):
     Path(room, "head.csv").write_text(TABLE[1:])
     Path(room, "field.csv").write_text(TABLE.replace("50.00", "50"))
     Path(room, "short.csv").write_text(TABLE.replace(",50.00", ""))
+    Path(room, "ports.csv").write_text(TABLE.replace("6200,sda,50.00", "6201,sda,50.00"))
 
 
 def session(checks):
@@ -172,6 +196,13 @@ def session(checks):
         warned = by_url("add", "photos", "r1z1-10.0.0.2:6201/sdb", "1")
         want = "ringctl: photos has d1, r1z1-10.0.0.2:6200/sdb, which differs in its port: is it the same disk?\n"
         checks.same("a disk that is there under another port", warned, (0, "photos: version 12, added d4\n", want))
+        warned = by_file("import", "photos", "ports.csv")
+        want = ("ringctl: row 1: photos has d0, r1z1-10.0.0.1:6200/sda, which differs in its port: "
+                "is it the same disk?\n"
+                "ringctl: photos: row 3 is refused: the device is marked and leaves at the next rebalance; "
+                "no row was imported\n")
+        checks.same("one in a file", warned, (1, "", want))
+        checks.same("a journal that begins is told once", (by_url.begun, by_file.begun), (1, 1))
 
 
 def whole(what, text, least, most):
@@ -205,6 +236,9 @@ BAD = [
     ("publish photos --url ftp://a", "the URL is ftp://a; it is as http://127.0.0.1:8642, without a login, ? and #"),
     ("publish photos --file a.db --url http://a", "--url and --file: it is one of them"),
     ("publish photos --file a.db --ringd nothing", "there is no program nothing: --ringd PATH names it"),
+    ("rebalance photos --hours 24", "--hours is for --until-done"),
+    ("rebalance photos --until-done --hours x", whole("the number of hours", "x", 0, 65535)),
+    ("rebalance photos --until-done --hour 480000", "--until-done waits by the clock, and --hour holds it"),
 ]
 
 
@@ -216,6 +250,12 @@ def bad_words(checks):
             told = list(workers.map(lambda it: ctl(*it[0].split()), BAD))
         for (words, want), got in zip(BAD, told):
             checks.same(words, got, (2, "", f"ringctl: {want}\n"))
+        status, shown, errors = ctl("rebalance", "photos", "--until-done")
+        want = f"ringctl: the journal {ctl.journal} has not set the hours of photos: --hours N names them\n"
+        checks.same("hours that nobody has named", (status, shown, errors), (2, "", want))
+        status, shown, errors = ctl("publish", "photos", "--hour", int(time.time()))
+        is_told = status == 2 and "it is in whole hours since 1970, which are" in errors
+        checks.show("seconds for hours", is_told, (status, shown, errors))
         status, shown, errors = ctl("dance", "photos")
         checks.show("a command that is none", status == 2 and not shown and "dance" in errors, (status, shown, errors))
         status, shown, errors = ctl("--help")
@@ -236,6 +276,8 @@ def dry(checks):
         checks.same("an import", ctl("import", "photos", "rows.csv", "--caller", "me"), (0, want, ""))
         want = "GET /v1/rings/photos/nodes?account=a%20b&container=%2B\n"
         checks.same("a read", ctl("nodes", "photos", "a b", "+"), (0, want, ""))
+        want = "GET /v1/rings/photos/balance\nGET /v1/rings/photos/devices\n"
+        checks.same("a read of both tables", ctl("show", "photos"), (0, want, ""))
         asks = "ringctl: a dry run asks nobody: name the device by its number, as d3\n"
         checks.same("a device by its words", ctl("remove", "photos", DEVICE, "--caller", "me"), (2, "", asks))
         program = program_file(room)
@@ -243,6 +285,45 @@ def dry(checks):
         line = '7 {"caller":"me","do":"publish","number":1,"ring":"photos"}\n'
         checks.same("over a file", over("publish", "photos"), (0, f"{program} run --file {room}/rings.db\n{line}", ""))
         checks.show("no journal and no file was made", not ctl.journal.exists() and not Path(room, "rings.db").exists())
+
+
+def until_done(checks):
+    """Rebalances that are repeated until nothing is left to move."""
+    row = "region,zone,address,port,name,weight\n1,1,10.0.0.1,6200,sda,{}\n1,2,10.0.0.2,6200,sda,100.00\n"
+    with scratch() as room, Server(f"{room}/rings.db") as server:
+        ctl = Ctl(room, "--url", url(server.port))
+        Path(room, "even.csv").write_text(row.format("100.00"))
+        Path(room, "heavy.csv").write_text(row.format("300.00"))
+        ctl("create", "even", 3, 1, 24)
+        ctl("import", "even", "even.csv")
+        want = (0, "even: version 2, 8 seats changed, balance 0.00 %, dispersion 0.00 %\n",
+                "ringctl: even: done, each device has what it wants\n")
+        checks.same("at once, where no device lacks a seat", ctl("rebalance", "even", "--until-done"), want)
+        ctl("create", "heavy", 2, 2, 24)  # device 0 wants 6 of 8 seats, and 4 partitions give it 4
+        ctl("import", "heavy", "heavy.csv")
+        ctl("set_hours", "heavy", 0)
+        want = (0, "heavy: version 3, 8 seats changed, balance 100.00 %, dispersion 0.00 %\n"
+                   "heavy: version 4, 0 seats changed, balance 100.00 %, dispersion 0.00 %\n",
+                "ringctl: heavy: done, nothing moves any more; devices still lack 2 of their seats "
+                "(docs/placement.md says why)\n")
+        checks.same("at last, where nothing moves any more", ctl("rebalance", "heavy", "--until-done"), want)
+        ctl("create", "late", 2, 2, 24)
+        ctl("import", "late", "heavy.csv")
+        made = ctl.start("rebalance", "late", "--until-done")
+        try:
+            said = made.stdout.readline(), made.stderr.readline()
+            waits = (r"ringctl: late: publish version 2 and distribute it now; devices still lack 2 of their seats: "
+                     r"waits until \d{4}-\d\d-\d\d \d\d:\d\d \S+, 2[34] h \d+ min\n")
+            is_told = said[0].startswith("late: version 2, 8 seats changed") and re.fullmatch(waits, said[1])
+            checks.show("it says what is to come, and how long it waits", is_told, said)
+            checks.same("meanwhile others change rings", ctl("set_hours", "late", 23)[0], 0)
+        finally:
+            made.kill()
+            made.communicate()
+        checks.same("nothing is left where it was killed", ctl("finish"), (0, "", ""))
+        refusal = refused("late: there are fewer open devices than replicas")
+        ctl("set_weight", "late", "d0", 0)
+        checks.same("a refusal ends it", ctl("rebalance", "late", "--until-done"), refusal)
 
 
 # ---- ringctl is killed
@@ -497,6 +578,15 @@ def strangers(checks):
             told = ctl("publish", "photos")
             stays = told[0] == 4 and "as number 1" in told[2]
             checks.show("401 after an answer that was lost: it stays in the journal", stays, told)
+    with scratch() as room, Between(0, [lambda given, ask: plain(401, "<html>")] * 2) as between:
+        ctl = Ctl(room, "--url", url(between.port))
+        where = f"{url(between.port)} answers 401: it asks for another login than ~/.netrc has for 127.0.0.1"
+        checks.same("a login that is wanted", ctl("publish", "photos"), refused(f"{where}; nothing was done"))
+        Path(room, ".netrc").write_text("machine 127.0.0.1 login ops password secret\n")
+        Path(room, ".netrc").chmod(0o600)
+        ctl("publish", "photos")
+        logins = [b"Authorization: Basic b3BzOnNlY3JldA==" in given for given in between.seen]
+        checks.same("a login is given where ~/.netrc has one", logins, [False, True])
 
 
 # ---- Journals
@@ -596,7 +686,8 @@ def busy_file(checks):
         ctl = Ctl(room, "--file", "rings.db", "--ringd", program_file(room))
         with Server(f"{room}/rings.db", hour=HOUR) as server:
             made = ctl.start("rebalance", "photos")
-            said = made.stderr.readline()
+            begun, said = made.stderr.readline(), made.stderr.readline()
+            checks.show("it says that it begins a journal", re.fullmatch(BEGINS, begun), begun)
             why = "StoreFault 24: another program has the file, or it cannot be read and written"
             checks.same("it says what it waits for", said, f"ringctl: waits for {room}/rings.db: {why}\n")
             server.stop()
@@ -609,8 +700,8 @@ def busy_file(checks):
 
 def main():
     checks = Checks("ringctl.py", 240)
-    return checks.run(session, bad_words, dry, killed_by_url, killed_over_file, lost_answers, restarted, strangers,
-                      at_once, torn, callers, busy_file)
+    return checks.run(session, bad_words, dry, until_done, killed_by_url, killed_over_file, lost_answers, restarted,
+                      strangers, at_once, torn, callers, busy_file)
 
 
 if __name__ == "__main__":
