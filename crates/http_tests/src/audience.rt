@@ -107,7 +107,7 @@ const CREATE_OF_A_PAGE: &str =
     "POST /v1/requests HTTP/1.1\r\nHost: localhost\r\nOrigin: null\r\nContent-Length: 95\r\n\r\n{\"caller\":\"ops\",\"do\":\"create\",\"min_hours\":24,\"number\":1,\"power\":2,\"replicas\":1,\"ring\":\"object\"}";
 
 #[test]
-fn nothing_is_read_behind_a_head_that_is_not_allowed(rt: HostRuntime) -> Result<(), Fail> {
+fn nothing_is_done_behind_a_head_that_is_not_allowed(rt: HostRuntime) -> Result<(), Fail> {
     assert!(rt; answered(rt.alloc(), CREATE_OF_A_PAGE)?.as_slice() == NOT_ALLOWED.as_bytes());
     Ok(())
 }

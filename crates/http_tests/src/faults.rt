@@ -167,12 +167,20 @@ fn answers_are_written_before_more_is_read(rt: HostRuntime) -> Result<(), Fail> 
 /// A request that says that it is the last.
 static LAST: &str = "GET /v2 HTTP/1.1\r\nHost: a\r\nConnection: close\r\n\r\n";
 
+/// A request that is refused by its head: it has no Host.
+static REFUSED: &str = "POST /v1/requests HTTP/1.1\r\nContent-Length: 95\r\n\r\n";
+
+/// Whether a stream is answered without a second read, which would fail.
+fn is_answered_at_once(alloc: Global, stream: &str) -> Result<bool, AllocError> {
+    let mut book = open(alloc, Limits::full());
+    let taker = Taker::new(alloc, 1000, u32::MAX);
+    let came = serve(alloc, &mut book, stream, (1000, 2), taker)?;
+    Ok(came.fault.is_none() && came.read_faults == 0 && !came.text.is_empty())
+}
+
 #[test]
-fn nothing_is_read_behind_the_last_request(rt: HostRuntime) -> Result<(), Fail> {
-    let mut book = open(rt.alloc(), Limits::full());
-    let taker = Taker::new(rt.alloc(), 1000, u32::MAX);
-    // A second read would fail.
-    let came = serve(rt.alloc(), &mut book, LAST, (1000, 2), taker)?;
-    assert!(rt; came.fault.is_none() && came.read_faults == 0 && !came.text.is_empty());
+fn nothing_is_read_behind_the_last_answer(rt: HostRuntime) -> Result<(), Fail> {
+    assert!(rt; is_answered_at_once(rt.alloc(), LAST)?);
+    assert!(rt; is_answered_at_once(rt.alloc(), REFUSED)?);
     Ok(())
 }
