@@ -8,3 +8,6 @@ pub mod Text
 pub mod Cutting
 pub mod Whole
 pub mod Once
+pub mod LineCounts
+pub mod Stopped
+pub mod StopLines

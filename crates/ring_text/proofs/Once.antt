@@ -12,7 +12,7 @@ use Rattle.ring_text.specs.Inner.Reading.{AreRingLines}
 use Rattle.ring_text.specs.declared.head.Head.{Head}
 use Rattle.ring_text.proofs.Text.{lines_of_text, split-lines, all_words}
 use Rattle.ring_text.proofs.Whole.{head_of, first_texts, length-first_texts, head_is, one_head}
-use Rattle.ring_text.proofs.Whole.{device_texts, partition_texts, head_within, cut_within}
+use Rattle.ring_text.proofs.Whole.{texts_of_devices, texts_of_partitions, head_within, cut_within}
 use Rattle.ring_text.proofs.Whole.{parts_are, lines_of_made}
 
 abbrev Texts : Type 0
@@ -30,7 +30,7 @@ one_snapshot ts s t a b =
     let g : Head = head_of s in
     let tells = head_within ts s a in
     let cut = cut_within ts g s tells a in
-    let x : Texts × Texts = (device_texts s, partition_texts s) in
+    let x : Texts × Texts = (texts_of_devices s, texts_of_partitions s) in
     let mine = parts_are ts g x s tells cut a in
     sym (lines_of_made ts g x s.devices s.seats t tells cut mine.devices mine.seats b).is
 

@@ -89,7 +89,7 @@ same_numbers (n ∷ ns) (m ∷ ms) h i e =
     (ap (λ (t : List (List ℕ)). drop 1 t) e) in
     ap₂ (λ (x : ℕ) (more : List ℕ). x ∷ more) first rest
 
-one_partition : (replicas : ℕ) (line : List ℕ) (ns ms : List ℕ) → 0 < replicas →
+pub one_partition : (replicas : ℕ) (line : List ℕ) (ns ms : List ℕ) → 0 < replicas →
     IsPartitionLine replicas line ns → IsPartitionLine replicas line ms → ns ≡ ms
 one_partition replicas line ns ms some h i =
     same_numbers ns ms h.limits i.limits (sym (words_of_partition replicas line _ ns some refl h) ∙

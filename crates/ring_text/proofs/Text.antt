@@ -181,6 +181,10 @@ ascii_lines (l ∷ ls) h =
     (printed l (All-head AreWords l ls h))) (All-cons low 10 [] (lit< tt) (All-nil low)))
     (ascii_lines ls (All-tail AreWords l ls h))
 
+pub text_is_ascii : (bytes : List ℕ) (s : SnapshotRecord) → Spells bytes s →
+    All (λ b. b < 128) bytes
+text_is_ascii bytes s spells = rw spells.text (ascii_lines (lines_of s) (all_words s spells.valid))
+
 pub text_is_utf8 : (bytes : List ℕ) (s : SnapshotRecord) → Spells bytes s → IsUtf8 bytes
 text_is_utf8 bytes s spells = IsUtf8-from_ascii bytes (IsAscii-from_all bytes
-    (rw spells.text (ascii_lines (lines_of s) (all_words s spells.valid))))
+    (text_is_ascii bytes s spells))

@@ -14,6 +14,8 @@ use Rattle.ring_text.specs.Inner.Reading.{text_at, IsHead, IsNumberAfter, IsName
 use Rattle.ring_text.specs.Inner.Reading.{AreDeviceLines, ArePartitionLines, IsMadeOfLines}
 use Rattle.ring_text.specs.Inner.Reading.{AreRingLines, made}
 use Rattle.ring_text.specs.declared.head.Head.{Head}
+pub use Rattle.ring_text.specs.Inner.Stopping.{texts_of_devices, head_of, last_texts}
+pub use Rattle.ring_text.specs.Inner.Stopping.{texts_of_partitions}
 use Rattle.ring_text.proofs.Text.{seats_below}
 use Rattle.ring_text.proofs.Devices.{same_devices}
 use Rattle.ring_text.proofs.Partitions.{same_seats}
@@ -25,28 +27,9 @@ Texts = List (List ℕ)
 abbrev joined : Texts → List ℕ
 joined words = join_with_byte 32 words
 
--- what the first lines of a snapshot's text tell
-abbrev pub head_of : SnapshotRecord → Head
-head_of s = record {
-  name = s.name;
-  version = s.version;
-  power = s.power;
-  replicas = s.replicas;
-  devices = length s.devices;
-}
-
--- the lines of a snapshot's text, by their kinds
+-- the first lines of a snapshot's text
 abbrev pub first_texts : SnapshotRecord → Texts
 first_texts s = map joined (head_lines s)
-
-abbrev pub device_texts : SnapshotRecord → Texts
-device_texts s = map joined (map device_line s.devices)
-
-abbrev pub partition_texts : SnapshotRecord → Texts
-partition_texts s = map joined (partition_lines (2 ^ s.power) s.replicas s.seats)
-
-abbrev pub last_texts : SnapshotRecord → Texts
-last_texts s = device_texts s ++ codes "seats" ∷ (partition_texts s ++ codes "end" ∷ [] ∷ [])
 
 regrouped : (h d r : List Texts) (a e : Texts) → map joined (h ++ d ++ a ∷ [] ++ r ++ e ∷ []) ++
     [] ∷ [] ≡ map joined h ++ (map joined d ++ joined a ∷ (map joined r ++ joined e ∷ [] ∷ []))
@@ -102,7 +85,7 @@ one_head ts g h a b =
 -- ---- the parts of a text
 
 cut_is_of : (s : SnapshotRecord) → IsCut (length s.devices) (2 ^ s.power) (last_texts s)
-    (device_texts s, partition_texts s)
+    (texts_of_devices s, texts_of_partitions s)
 cut_is_of s = record {
   is = refl;
   devices = simp length-map;
@@ -131,8 +114,8 @@ parts_are ts g x s tells cut are =
     let there : IsCut (length s.devices) (2 ^ s.power) (last_texts s) x =
     rw back at (subst (λ (h : Head). IsCut h.devices (2 ^ h.power) (drop 6 ts) x) same cut) in
     let pair = one_cut (length s.devices) (2 ^ s.power) (last_texts s) x (
-      device_texts s,
-      partition_texts s,
+      texts_of_devices s,
+      texts_of_partitions s,
     ) there (cut_is_of s) in
     let count : length x.1 ≡ 2 ^ s.power = there.partitions in
     let replicas : g.replicas ≡ s.replicas = ap (λ (h : Head). h.replicas) same in
@@ -164,8 +147,8 @@ head_within ts s are =
 
 pub cut_within : (ts : Texts) (g : Head) (s : SnapshotRecord) → IsHead (take 6 ts) g →
     AreRingLines ts s → IsCut g.devices (2 ^ g.power) (drop 6 ts) (
-      device_texts s,
-      partition_texts
+      texts_of_devices s,
+      texts_of_partitions
           s,
     )
 cut_within ts g s tells are =
@@ -173,8 +156,8 @@ cut_within ts g s tells are =
     (first_texts s) (last_texts s) 6 (length-first_texts s) in
     let same : g ≡ head_of s = one_head (take 6 ts) g (head_of s) tells (head_within ts s are) in
     rw back (subst (λ (h : Head). IsCut h.devices (2 ^ h.power) (last_texts s) (
-      device_texts s,
-      partition_texts s,
+      texts_of_devices s,
+      texts_of_partitions s,
     )) (sym same) (cut_is_of s))
 
 -- ---- from the parts to the text
@@ -205,7 +188,7 @@ lines_made ts g x ds seats tells cut devices partitions valid =
     let count : length ds ≡ g.devices =
     sym (simp length-map at (ap (λ (t : Texts). length t) devices.are)) ∙ cut.devices in
     let front : take 6 ts ≡ first_texts s = first_texts_of (take 6 ts) s (rw count tells) in
-    let rows : x.1 ≡ partition_texts s = rw cut.partitions at partitions.are in
+    let rows : x.1 ≡ texts_of_partitions s = rw cut.partitions at partitions.are in
     let back : drop 6 ts ≡ last_texts s = cut.is ∙ ap₂ (λ (a b : Texts). a ++ codes "seats" ∷
     (b ++ codes "end" ∷ [] ∷ [])) devices.are rows in
     record {

@@ -1,3 +1,4 @@
 pub mod Snapshot
 pub mod Spelling
+pub mod Stops
 pub mod Inner

@@ -11,6 +11,7 @@ pub mod laws;
 mod lines;
 mod read;
 mod state;
+mod stops;
 mod taking;
 mod words;
 mod write;
@@ -18,6 +19,7 @@ mod write;
 pub use read::read_ring;
 use ring_words::SpellingFault;
 pub use state::Snapshot;
+pub use stops::stop_line;
 pub use taking::snapshot;
 pub use write::write_ring;
 

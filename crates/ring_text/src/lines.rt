@@ -40,7 +40,7 @@ fn device_of(alloc: Global, words: &[&str]) -> Result<Device, TextFault>
 }
 
 /// The device of a line.
-fn device_at(alloc: Global, line: &str) -> Result<Device, TextFault>
+pub(crate) fn device_at(alloc: Global, line: &str) -> Result<Device, TextFault>
     ensures { Reads (IsDeviceLine line.now) result }
 {
     let words = parts_of(alloc, line, ' ')?;
@@ -74,7 +74,11 @@ fn numbers_of(alloc: Global, words: &[&str]) -> Result<Vec<DeviceId>, TextFault>
 }
 
 /// The devices of a partition's line, so many as there are replicas.
-fn partition_at(alloc: Global, line: &str, replicas: Replicas) -> Result<Vec<DeviceId>, TextFault>
+pub(crate) fn partition_at(
+    alloc: Global,
+    line: &str,
+    replicas: Replicas,
+) -> Result<Vec<DeviceId>, TextFault>
     ensures { ReadsAs (λ numbers. numbers.items) (IsPartitionLine replicas line.now) result }
 {
     let words = parts_of(alloc, line, ' ')?;

@@ -7,7 +7,7 @@ ghost use Rattle.ring_words.specs.Spelling.{Reads};
 ghost use Rattle.ring_words.specs.Inner.ReadsAs.{ReadsAs};
 
 use crate::TextFault;
-use crate::head::{Head, read_head};
+use crate::head::{FIRST_LINES, Head, read_head};
 use crate::lines::{devices_of, seats_of};
 use crate::state::Snapshot;
 use crate::taking::snapshot;
@@ -82,10 +82,10 @@ fn checked(
 fn read_lines(alloc: Global, lines: &[&str]) -> Result<Snapshot, TextFault>
     ensures { Reads (AreRingLines (map (λ line. line.now) lines.now)) result }
 {
-    if lines.len() < 6 {
+    if lines.len() < FIRST_LINES {
         return Err(TextFault::Bad);
     }
-    let (first, rest) = lines.split_at(6);
+    let (first, rest) = lines.split_at(FIRST_LINES);
     let head = read_head(alloc, first)?;
     let (device_lines, partition_lines) = cut(rest, head.devices, partition_count(head.power))?;
     let devices = devices_of(alloc, device_lines)?;

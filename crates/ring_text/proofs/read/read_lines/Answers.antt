@@ -9,13 +9,13 @@ use Rattle.ring_text.specs.Inner.Reading.{IsMadeOfLines}
 use Rattle.ring_text.specs.Inner.Reading.{AreRingLines}
 use Rattle.ring_words.proofs.Spelled.{reads_err, as_reads_err, reads_same}
 use Rattle.ring_text.proofs.Cutting.{Texts, Lent, seen, seen-take, seen-drop}
-use Rattle.ring_text.proofs.Whole.{head_of, device_texts, partition_texts, at_least_six}
+use Rattle.ring_text.proofs.Whole.{head_of, texts_of_devices, texts_of_partitions, at_least_six}
 use Rattle.ring_text.proofs.Whole.{head_within, cut_within, parts_are, lines_of_parts}
 use Rattle.ring_text.proofs.Whole.{lines_of_made}
 use Rattle.ring_text.proofs.read.read_lines.Goals as goal
 
-pub returns-then-lines-lt6 : goal.returns-then-lines-lt6
-returns-then-lines-lt6 c = λ s are.
+pub returns-then-lines-lt-FIRST_LINES : goal.returns-then-lines-lt-FIRST_LINES
+returns-then-lines-lt-FIRST_LINES c = λ s are.
     let six : 6 ≤ length c.args.lines.now = simp length-map at (at_least_six (seen c.args.lines.now)
     s are) in
     omega arith
@@ -52,7 +52,7 @@ returns-in_err-device_lines c =
     (seen c.split_at.result.1.now)) (AreRingLines (seen lines)) c.in_err-device_lines.field-0.0
     c.in_err-device_lines.ensures
     (λ s are. (
-      (device_texts s, partition_texts s),
+      (texts_of_devices s, texts_of_partitions s),
       rw (rest, c.partition_count.ensures.value)
           (cut_within (seen lines) head s tells are),
     )))
