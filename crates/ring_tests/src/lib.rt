@@ -8,11 +8,15 @@ mod csv;
 #[cfg(test)]
 mod fixtures;
 #[cfg(test)]
+mod founding;
+#[cfg(test)]
 mod model;
 #[cfg(test)]
 mod paths;
 #[cfg(test)]
 mod share;
+#[cfg(test)]
+mod stops;
 #[cfg(test)]
 mod swift;
 #[cfg(test)]
