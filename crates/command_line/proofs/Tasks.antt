@@ -14,15 +14,15 @@ use Rattle.clap.specs.declared.error.Error.{Error}
 use Rattle.clap.specs.declared.error.kind.ErrorKind.TheVariants.{OutOfMemory}
 use Rattle.clap.specs.declared.parser.matches.ArgMatches.{ArgMatches}
 use Rattle.command_line.specs.Shapes.{programs}
-use Rattle.command_line.specs.Tasks.{AskFor, AskForNothing, HasArguments, HasNumber, HasText}
-use Rattle.command_line.specs.Tasks.{IfBad}
-use Rattle.command_line.specs.Tasks.{program_of}
+use Rattle.command_line.specs.Tasks.{AskFor, AskForNothing, HasArguments, HasHour, HasNumber, HasText}
+use Rattle.command_line.specs.Tasks.{IfBad, program_of}
 use Rattle.command_line.specs.Inner.Reading.{IsTask}
 use Rattle.command_line.specs.declared.task.ArgsFault.{ArgsFault}
 use Rattle.command_line.specs.declared.task.ArgsFault.TheVariants.{Bad, NoMemory}
 use Rattle.command_line.specs.declared.task.Task.{Task}
 use Rattle.command_line.specs.declared.task.Task.TheVariants.{Run, Serve, Service, Loop, Import}
-use Rattle.command_line.specs.declared.task.Task.TheVariants.{Table, Nodes, Export, Renew}
+use Rattle.command_line.specs.declared.task.Task.TheVariants.{Table, Nodes, Export, Renew, Found}
+use Rattle.command_line.specs.declared.task.Task.TheVariants.{Version}
 
 -- words that were read have nothing wrong
 pub right : (app : App) (words : List Text) → app ≡ programs →
@@ -122,6 +122,10 @@ no_service rows none (Export file ring version written) is_named has =
     other_word 101 115 _ _ is_named (λ e. omega (arith, e))
 no_service rows none (Renew file fresh) is_named has =
     other_word 114 115 _ _ is_named (λ e. omega (arith, e))
+no_service rows none (Found fresh texts min_hours hour from) is_named has =
+    other_word 102 115 _ _ is_named (λ e. omega (arith, e))
+no_service rows none Version is_named has =
+    other_word 118 115 _ _ is_named (λ e. omega (arith, e))
 
 -- where a service that goes on has no port, no task is one
 pub no_service_on : (rows : List Row) →
@@ -144,3 +148,35 @@ no_service_on rows none (Export file ring version written) is_named has =
     other_word 101 115 _ _ is_named (λ e. omega (arith, e))
 no_service_on rows none (Renew file fresh) is_named has =
     other_word 114 115 _ _ is_named (λ e. omega (arith, e))
+no_service_on rows none (Found fresh texts min_hours hour from) is_named has =
+    other_word 102 115 _ _ is_named (λ e. omega (arith, e))
+no_service_on rows none Version is_named has =
+    other_word 118 115 _ _ is_named (λ e. omega (arith, e))
+
+-- where founding has no hours, no task is one
+pub no_found : (rows : List Row) →
+    ((min_hours : ℕ) (hour : Option ℕ) →
+    HasNumber rows (codes "min-hours") 0 greatest_short min_hours → HasHour rows hour → ⊥) →
+    IsTask (codes "found") rows None
+no_found rows none (Found fresh texts min_hours hour from) is_named has =
+    none min_hours hour has.2 has.3
+no_found rows none (Run file) is_named has =
+    other_word 114 102 _ _ is_named (λ e. omega (arith, e))
+no_found rows none (Serve file port count hour names) is_named has =
+    other_word 115 102 _ _ is_named (λ e. omega (arith, e))
+no_found rows none (Service file port hosts hour_ok names) is_named has =
+    other_word 115 102 _ _ is_named (λ e. omega (arith, e))
+no_found rows none (Loop file input hour names) is_named has =
+    other_word 108 102 _ _ is_named (λ e. omega (arith, e))
+no_found rows none (Import file ring caller number csv hour) is_named has =
+    other_word 105 102 _ _ is_named (λ e. omega (arith, e))
+no_found rows none (Table file ring) is_named has =
+    other_word 116 102 _ _ is_named (λ e. omega (arith, e))
+no_found rows none (Nodes file ring account container object names) is_named has =
+    other_word 110 102 _ _ is_named (λ e. omega (arith, e))
+no_found rows none (Export file ring version written) is_named has =
+    other_word 101 102 _ _ is_named (λ e. omega (arith, e))
+no_found rows none (Renew file fresh) is_named has =
+    other_word 114 102 _ _ is_named (λ e. omega (arith, e))
+no_found rows none Version is_named has =
+    other_word 118 102 _ _ is_named (λ e. omega (arith, e))

@@ -8,9 +8,17 @@ use Rattle.clap.specs.declared.builder.action.ArgAction.TheVariants.{Append, Set
 abbrev pub needed : Text → Rule
 needed name = record (new_rule name) { required = true }
 
+-- An argument without a name of its own, which has to be there and may be there several times.
+abbrev pub several : Text → Rule
+several name = record (needed name) { action = Some Append }
+
 -- An argument that may be there, as `--name TEXT`.
 abbrev pub optional : Text → Rule
 optional name = record (new_rule name) { long = Some name }
+
+-- An argument that has to be there, as `--name TEXT`.
+abbrev pub named : Text → Rule
+named name = record (optional name) { required = true }
 
 -- An argument that may be there several times, each as `--name TEXT`.
 abbrev pub repeated : Text → Rule
@@ -79,9 +87,20 @@ export = program (codes "export")
 abbrev pub renew : Shape
 renew = program (codes "renew") (needed (codes "FILE") ∷ needed (codes "NEW") ∷ [])
 
+-- Makes a new file of rings as they stand.
+abbrev pub found : Shape
+found = program (codes "found")
+    (needed (codes "NEW") ∷ several (codes "TEXT") ∷ named (codes "min-hours") ∷
+    optional (codes "hour") ∷ optional (codes "from") ∷ [])
+
+-- Tells the version.
+abbrev pub version : Shape
+version = program (codes "version") []
+
 -- All that may be written: the name of a program, and its arguments.
 abbrev pub programs : App
 programs = record {
   top = record (new_shape (codes "ringd")) { is_leaf = false; subcommand_required = true };
-  subs = run ∷ serve ∷ service ∷ looping ∷ import_rows ∷ table_shape ∷ nodes ∷ export ∷ renew ∷ [];
+  subs = run ∷ serve ∷ service ∷ looping ∷ import_rows ∷ table_shape ∷ nodes ∷ export ∷ renew ∷ found
+      ∷ version ∷ [];
 }

@@ -1,5 +1,5 @@
 -- What the words of the command line ask for.
-use Rattle.std.specs.Prelude.{◌≡◌, ℕ, Bool, List, [], Option, Some, None, MatchOption, codes, map}
+use Rattle.std.specs.Prelude.{◌≡◌, ⊤, ℕ, Bool, List, [], Option, Some, None, MatchOption, codes, map}
 use Rattle.std.specs.Prelude.{option_map}
 use Rattle.ring_words.specs.Limits.{greatest_long, greatest_short}
 use Rattle.std.specs.Prelude.{unwrap_or}
@@ -17,7 +17,8 @@ use Rattle.ring_reads.specs.declared.reads.Format.TheVariants as format
 use Rattle.path_lookup.specs.declared.hash.HashNames.{HashNames}
 use Rattle.command_line.specs.declared.task.Task.{Task}
 use Rattle.command_line.specs.declared.task.Task.TheVariants.{Run, Serve, Service, Loop, Import}
-use Rattle.command_line.specs.declared.task.Task.TheVariants.{Table, Nodes, Export, Renew}
+use Rattle.command_line.specs.declared.task.Task.TheVariants.{Table, Nodes, Export, Renew, Found}
+use Rattle.command_line.specs.declared.task.Task.TheVariants.{Version}
 
 -- ---- one argument
 
@@ -75,6 +76,8 @@ program_of (Table file ring) = codes "table"
 program_of (Nodes file ring account container object names) = codes "nodes"
 program_of (Export file ring version written) = codes "export"
 program_of (Renew file fresh) = codes "renew"
+program_of (Found fresh texts min_hours hour from) = codes "found"
+program_of Version = codes "version"
 
 -- The arguments of a program are those of the task.
 abbrev pub HasArguments : List Row → Task → Type 0
@@ -105,6 +108,11 @@ HasArguments rows (Export file ring version written) =
     × HasText rows (codes "VERSION") version × HasFormat rows written
 HasArguments rows (Renew file fresh) =
     HasText rows (codes "FILE") file × HasText rows (codes "NEW") fresh
+HasArguments rows (Found fresh texts min_hours hour from) =
+    HasText rows (codes "NEW") fresh × HasTexts rows (codes "TEXT") texts.items
+    × HasNumber rows (codes "min-hours") 0 greatest_short min_hours × HasHour rows hour
+    × MayHaveText rows (codes "from") from
+HasArguments rows Version = ⊤
 
 -- The words, of which the first is the program's own name, ask for this task: nothing is wrong with
 -- them, they name its program, and each of its arguments is there as they say.

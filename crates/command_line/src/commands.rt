@@ -6,7 +6,7 @@ ghost use Rattle.clap.specs.declared.builder.command.Command.TheViews.{out-Comma
 ghost use Rattle.command_line.specs.Shapes.{programs};
 ghost use Rattle.command_line.specs.Inner.Adding.{rule_told, shape_told, with_rules, with_shapes};
 
-use self::Argument::{Flag, Needed, Optional, Repeated};
+use self::Argument::{Flag, Named, Needed, Optional, Repeated, Several};
 use crate::help::{ABOUT, told_of};
 use clap::{Arg, ArgAction, Command};
 use std::alloc::{AllocError, Global};
@@ -16,8 +16,13 @@ use std::alloc::{AllocError, Global};
 enum Argument<'a> {
     /// It has to be there, in its place.
     Needed(&'a str),
+    /// It has to be there, behind all others that stand in their places, and may be there several
+    /// times.
+    Several(&'a str),
     /// It may be there, as `--name TEXT`.
     Optional(&'a str),
+    /// It has to be there, as `--name TEXT`.
+    Named(&'a str),
     /// It may be there several times, each as `--name TEXT`.
     Repeated(&'a str),
     /// It may be there, as `--name`.
@@ -119,6 +124,22 @@ const PROGRAMS: &[Program<'static>] = &[
         about: "Makes a new file with the rings of one that is full of numbers",
         arguments: &[Needed("FILE"), Needed("NEW")],
     },
+    Program {
+        name: "found",
+        about: "Makes a new file with rings that hold data, as they stand",
+        arguments: &[
+            Needed("NEW"),
+            Several("TEXT"),
+            Named("min-hours"),
+            Optional("hour"),
+            Optional("from"),
+        ],
+    },
+    Program {
+        name: "version",
+        about: "Tells the version, which files it opens, and what proved it",
+        arguments: &[],
+    },
 ];
 
 /// An argument, for `clap`.
@@ -128,7 +149,11 @@ fn arg_of<'a>(alloc: Global, argument: &Argument<'a>) -> Arg<'a>
 {
     match *argument {
         Needed(name) => Arg::new(alloc, name).required(true),
+        Several(name) => Arg::new(alloc, name)
+            .required(true)
+            .action(ArgAction::Append),
         Optional(name) => Arg::new(alloc, name).long(name),
+        Named(name) => Arg::new(alloc, name).long(name).required(true),
         Repeated(name) => Arg::new(alloc, name).long(name).action(ArgAction::Append),
         Flag(name) => Arg::new(alloc, name).long(name).action(ArgAction::SetTrue),
     }

@@ -133,6 +133,24 @@ there. FILE stays as it was: keep it, for it has the replies that were given.
 Numbers begin anew in NEW: a request that was answered in FILE would be carried out once more. So let the callers come to
 rest, stop the service, renew the file, give the callers other names, from ops-1 to ops-2, say, and start over NEW.";
 
+/// What `ringd found --help` tells.
+static FOUND: &str =
+    "Makes NEW, a file with rings that hold data already, as they stand: nothing moves by it.
+
+  ringd found rings.db object.text container.text --min-hours 24
+
+Each TEXT is a file with the text of a ring, as 'export' writes it and tools/from_swift.py makes of a builder file of
+OpenStack Swift. The ring comes in under the name in its text, with its version, its devices and their numbers, and each
+seat where it is. Its next device gets the number behind the greatest, and nothing of it is published yet.
+
+Each partition counts as moved at the hour of the machine's clock, or at the one that --hour gives, so a rebalance moves
+none of them before --min-hours hours have passed, but the seats of marked devices, which go at once. --from FILE also takes the rings, the published texts and the hour of
+FILE, which stays as it was.
+
+NEW must not be there. Nothing is made where a text is that of no ring (BadText 31, with the line where it stops on standard
+error), is longer than 1048576 bytes (TooLong 29) or is not there (NoFile 27), where two rings have one name (RingExists 2),
+and where there are more than 16 (TooManyRings 3).";
+
 /// What the help of this program tells beside its arguments, where that is more than a line.
 pub(crate) fn told_of(program: &str) -> Option<&'static str> {
     match program {
@@ -142,6 +160,7 @@ pub(crate) fn told_of(program: &str) -> Option<&'static str> {
         "loop" => Some(LOOP),
         "export" => Some(EXPORT),
         "renew" => Some(RENEW),
+        "found" => Some(FOUND),
         _ => None,
     }
 }
@@ -152,6 +171,8 @@ pub(crate) static FORMS: &str = "error: an argument is not of its form
   PORT              a whole number from 1 to 65535
   COUNT             a whole number from 0 to 65535
   --hour <hour>     a whole number from 0 to 4294967295, the hours since 1970
+  --min-hours <min-hours>
+                    a whole number from 0 to 65535
   --format <format> text or swift
 
 Numbers are written in digits, without leading zeros. For more information, try '--help'.

@@ -7,8 +7,8 @@ ghost use Rattle.clap.specs.Walk.{first_of, rows_of};
 ghost use Rattle.clap.specs.declared.error.kind.ErrorKind.{ErrorKind};
 ghost use Rattle.command_line.specs.Tasks.{AskFor, AskForNothing, HasTexts, HaveNames, IfBad};
 ghost use Rattle.command_line.specs.Tasks.{is_flagged};
-ghost use Rattle.command_line.specs.Inner.Reading.{IsFormat, IsHourWord, IsNumberWord, IsPlace};
-ghost use Rattle.command_line.specs.Inner.Reading.{IsTask};
+ghost use Rattle.command_line.specs.Inner.Reading.{AreHours, IsFormat, IsHourWord, IsNumberWord};
+ghost use Rattle.command_line.specs.Inner.Reading.{IsPlace, IsTask};
 
 use crate::commands::command;
 use crate::help::{ABOUT, FORMS};
@@ -212,6 +212,43 @@ fn import_rows<'a>(matches: &ArgMatches<'a>) -> Option<Task<'a>>
     })
 }
 
+/// For how many hours a moved partition stays, `None` where it is no number from 0 to 65535.
+fn min_hours_of(matches: &ArgMatches<'_>) -> Option<u16>
+    ensures { IsNumberWord (rows_of (found_of matches.now)) (codes "min-hours") 0 greatest_short
+        result }
+{
+    match read_number16(text_of(matches, "min-hours")?) {
+        Ok(hours) => Some(hours),
+        Err(_) => None,
+    }
+}
+
+/// For how many hours a moved partition stays, and the hour of founding, if that is given; `None`
+/// where one of them is none.
+fn hours_of(matches: &ArgMatches<'_>) -> Option<(u16, Option<Hour>)>
+    ensures { AreHours (rows_of (found_of matches.now)) result }
+{
+    Some((min_hours_of(matches)?, hour_of(matches)?))
+}
+
+fn found<'a>(alloc: Global, matches: &ArgMatches<'a>) -> Result<Option<Task<'a>>, AllocError>
+    ensures { IfOk result (IsTask (codes "found") (rows_of (found_of matches.now))) }
+{
+    let Some(new) = text_of(matches, "NEW") else {
+        return Ok(None);
+    };
+    let Some((min_hours, hour)) = hours_of(matches) else {
+        return Ok(None);
+    };
+    Ok(Some(Task::Found {
+        new,
+        texts: texts_of(alloc, matches, "TEXT")?,
+        min_hours,
+        hour,
+        from: text_of(matches, "from"),
+    }))
+}
+
 /// The task of a program of this name.
 fn task_named<'a>(
     alloc: Global,
@@ -223,12 +260,16 @@ fn task_named<'a>(
     if name == "service" {
         return service(alloc, matches);
     }
+    if name == "found" {
+        return found(alloc, matches);
+    }
     Ok(task_alone(name, matches))
 }
 
 /// The task of a program of this name that needs no memory.
 fn task_alone<'a>(name: &str, matches: &ArgMatches<'a>) -> Option<Task<'a>>
-    requires { name.now ≢ codes "service" }
+    requires service { name.now ≢ codes "service" }
+    requires found { name.now ≢ codes "found" }
     ensures { IsTask name.now (rows_of (found_of matches.now)) result }
 {
     match name {
@@ -240,6 +281,7 @@ fn task_alone<'a>(name: &str, matches: &ArgMatches<'a>) -> Option<Task<'a>>
         "nodes" => nodes(matches),
         "export" => export(matches),
         "renew" => renew(matches),
+        "version" => Some(Task::Version),
         _ => None,
     }
 }

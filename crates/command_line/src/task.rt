@@ -76,6 +76,18 @@ pub enum Task<'a> {
         file: &'a str,
         new: &'a str,
     },
+    /// To make a new file with the rings of these texts as they stand, beside those of a file, if
+    /// one is given. Each partition of theirs counts as moved at the hour, or at that of the
+    /// machine's clock, and stays for so many hours.
+    Found {
+        new: &'a str,
+        texts: Vec<&'a str>,
+        min_hours: u16,
+        hour: Option<Hour>,
+        from: Option<&'a str>,
+    },
+    /// To tell of which version the program is.
+    Version,
 }
 
 /// Why words ask for nothing.

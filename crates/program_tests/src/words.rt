@@ -27,11 +27,24 @@ fn told(alloc: Global, line: &str) -> Result<String, AllocError> {
 }
 
 /// What the words of a line ask for.
-static ASKED: [(&str, &str); 18] = [
+static ASKED: [(&str, &str); 22] = [
     ("run", "Run { file: None }"),
     ("run --file F", "Run { file: Some(\"F\") }"),
     ("table F object", "Table { file: \"F\", ring: \"object\" }"),
     ("renew F G", "Renew { file: \"F\", new: \"G\" }"),
+    ("version", "Version"),
+    (
+        "found G a.text --min-hours 24",
+        "Found { new: \"G\", texts: [\"a.text\"], min_hours: 24, hour: None, from: None }",
+    ),
+    (
+        "found --min-hours 0 G b.text a.text b.text --hour 9 --from F",
+        "Found { new: \"G\", texts: [\"b.text\", \"a.text\", \"b.text\"], min_hours: 0, hour: Some(9), from: Some(\"F\") }",
+    ),
+    (
+        "found --hour=4294967295 --from=F G a.text --min-hours=65535",
+        "Found { new: \"G\", texts: [\"a.text\"], min_hours: 65535, hour: Some(4294967295), from: Some(\"F\") }",
+    ),
     (
         "export F object 7",
         "Export { file: \"F\", ring: \"object\", version: \"7\", format: Text }",
@@ -91,7 +104,7 @@ static ASKED: [(&str, &str); 18] = [
 ];
 
 /// Lines whose argument is not of its form.
-static NOT_OF_ITS_FORM: [&str; 19] = [
+static NOT_OF_ITS_FORM: [&str; 25] = [
     // ports and counts
     "serve F 0 1",
     "serve F 65536 1",
@@ -110,13 +123,19 @@ static NOT_OF_ITS_FORM: [&str; 19] = [
     "import F object ops 5 rows.csv --hour 4294967296",
     "import F object ops 5 rows.csv --hour 1.5",
     "import F object ops 5 rows.csv --hour now",
+    "found G a.text --min-hours 65536",
+    "found G a.text --min-hours 024",
+    "found G a.text --min-hours 1.0",
+    "found G a.text --min-hours day",
+    "found G a.text --min-hours 1 --hour 4294967296",
+    "found G a.text --min-hours 1 --hour now",
     // formats
     "export F object 7 --format",
     "export F object 7 --format Swift",
     "export F object 7 --format json",
 ];
 
-static OTHER_WORDS: [&str; 35] = [
+static OTHER_WORDS: [&str; 48] = [
     "",
     "ran",
     "Run",
@@ -143,6 +162,18 @@ static OTHER_WORDS: [&str; 35] = [
     "loop F input 80",
     "renew F",
     "renew F G H",
+    "found",
+    "found G",
+    "found G a.text",
+    "found G --min-hours 1",
+    "found --min-hours 1",
+    "found G a.text --min-hours",
+    "found G a.text --min-hours 1 --min-hours 2",
+    "found G a.text --min-hours 1 --from",
+    "found G a.text --min-hours 1 --from F --from H",
+    "found G a.text --min-hours 1 --min-hour 1",
+    "version more",
+    "version --hour 1",
     "import F object ops 5",
     "run --file F --file G",
     "table F object --hour 1",
@@ -150,6 +181,7 @@ static OTHER_WORDS: [&str; 35] = [
     "help run",
     "--help",
     "import --help",
+    "found --help",
     "-h",
     "--version",
 ];

@@ -45,12 +45,15 @@ module _ (Holds : List ℕ → Type 0) (IsUnread : ℕ → ProgramFault → Type
   lost_table fault.NoMemory unread is = tt
   lost_table fault.ReadFailed unread is = unread
   lost_table fault.NoRing unread is = absurd is
+  lost_table fault.RingExists unread is = absurd is
+  lost_table fault.TooManyRings unread is = absurd is
   lost_table fault.NotAssigned unread is = absurd is
   lost_table fault.Unreadable unread is = absurd is
   lost_table fault.StoreFault unread is = absurd is
   lost_table fault.BadStore unread is = absurd is
   lost_table fault.NetFailed unread is = absurd is
   lost_table fault.BadPath unread is = absurd is
+  lost_table fault.BadText unread is = absurd is
   lost_table fault.NoVersion unread is = absurd is
   lost_table fault.ClockAhead unread is = absurd is
   lost_table fault.WriteFailed unread is = absurd is

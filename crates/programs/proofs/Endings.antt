@@ -180,3 +180,8 @@ shown_failed memory stores Begins Ends remaining contents reader writer later Ho
     absurd showing
 shown_failed memory stores Begins Ends remaining contents reader writer later Holds IsUnread before
     after Refuses IsUnmade (task.Renew file fresh) showing why (inr work) = absurd showing
+shown_failed memory stores Begins Ends remaining contents reader writer later Holds IsUnread before
+    after Refuses IsUnmade (task.Found fresh texts min_hours given from) showing why (inr work) =
+    absurd showing
+shown_failed memory stores Begins Ends remaining contents reader writer later Holds IsUnread before
+    after Refuses IsUnmade task.Version showing why (inr work) = absurd showing

@@ -1,5 +1,6 @@
 pub mod BadTables
 pub mod Endings
+pub mod Foundings
 pub mod Kept
 pub mod Renewals
 pub mod Runs

@@ -5,7 +5,7 @@ use Rattle.std.proofs.Math.Bridge.{le_prop}
 use mathlib.Core.HLevel.{is_prop→PathP}
 use Rattle.std.specs.Borrow.{Bor}
 use Rattle.std.proofs.lemmas.List.Elements.{All-cons, All-nil}
-use Rattle.std.specs.Prelude.{◌++◌, ◌||◌, ◌≤◌, All, Bool, false, is_some, nat_lt}
+use Rattle.std.specs.Prelude.{◌++◌, ◌||◌, ◌≤◌, All, Bool, false, is_some, max, nat_lt}
 use Rattle.http_api.proofs.Servings.{proper_requests}
 use Rattle.http_messages.specs.declared.audience.Audience.TheVariants.{Anyone}
 use Rattle.http_sockets.specs.Connections.{AnswersFirst, LoopFails, OneServed}
@@ -53,7 +53,8 @@ use Rattle.ring_reads.specs.declared.reads.Question.{Question}
 use Rattle.http_sockets.specs.Listening.{AcceptsNone, HasAcceptedNone}
 use Rattle.programs.specs.Begun.{AreServiceLimits, Closing, FailedToClose, IsBegun, IsClosed}
 use Rattle.programs.specs.Begun.{HasNotFailed, IsClosedWhole}
-use Rattle.programs.specs.Begun.{IsStoreFault, OpensNone, OpensOne, WasClosed, WasClosedAfter}
+use Rattle.programs.specs.Begun.{IsStoreFault, OpensNone, OpensOne, OpensTwo, WasClosed}
+use Rattle.programs.specs.Begun.{WasClosedAfter}
 use Rattle.programs.specs.Importing.{FailsTold, FailsToDeliver, FailsToImport, Imports, IsToldAs, TellsImport}
 use Rattle.programs.specs.Importing.{TellsNothing, WritesTold}
 use Rattle.programs.specs.Life.{FailsBefore, ComesOfFile, CrashEndsRun, GoesOnWithLife}
@@ -64,8 +65,11 @@ use Rattle.programs.specs.Calls.{port_calls, run_calls, serve_calls, service_cal
 use Rattle.programs.specs.Calls.{stopped_calls, stopped_loop_calls, told_calls, undelivered_calls}
 use Rattle.programs.specs.Calls.{unimported_calls, until_calls, untold_calls, work_calls}
 use Rattle.programs.specs.Performed.{EndsBy, EndsSo, FailsSo, FailsToDo, FailsToShowStore}
-use Rattle.programs.specs.Performed.{ImportsFile, ShowsStore}
+use Rattle.programs.specs.Performed.{ImportsFile, ShowsStore, texts_given}
+use Rattle.programs.specs.Founding.{AreNoRings, FailsToFound, found_fault}
 use Rattle.programs.specs.Renewing.{FailsToRead, FailsToRenew, IsRead}
+use Rattle.ring_founding.specs.Founding.{AreFounded, AreUnfounded}
+use Rattle.ring_founding.specs.declared.founding.FoundFault.{FoundFault}
 use Rattle.programs.specs.Running.{AnswersLines, FailsLines, StopsLines}
 use Rattle.programs.specs.Service.{ServesPrograms, StopsOnMachine, StopsService, WasAsked}
 use Rattle.programs.specs.Service.{tcp_contents}
@@ -552,6 +556,20 @@ module _ {K W : Type 0} (stores : Keeping K) (Begins : K → Type 0)
       renew_failed IsUnmade why (inl unread) = old_unread why unread.1 unread.0
       renew_failed IsUnmade why (inr unmade) = inr (closed_run (renewed_run _ unmade.1))
 
+      found_failed : (Is : FoundFault → Type 0) (Unfounded : FoundFault → State → ℕ → Type 0)
+          (IsUnmade : State → ℕ → Type 0) (why : ProgramFault)
+          → (FailsToRead stores Begins Ends Refuses why × OpensOne before after)
+          ⊎ (((cause : FoundFault) × Is cause
+          × IsRead stores Begins (IsClosedWhole stores Ends) (Unfounded cause)) × OpensOne before after)
+          ⊎ (IsStoreFault why × IsRead stores Begins (IsClosedWhole stores Ends) IsUnmade
+          × OpensTwo before after)
+          → OpensOnce why []
+      found_failed Is Unfounded IsUnmade why (inl unread) = old_unread why unread.1 unread.0
+      found_failed Is Unfounded IsUnmade why (inr (inl unfounded)) =
+          inr (closed_run (renewed_run _ unfounded.0.2))
+      found_failed Is Unfounded IsUnmade why (inr (inr unmade)) =
+          inr (closed_run (renewed_run _ unmade.1))
+
       module _ (Holds : List ℕ → List ℕ → Type 0) (IsUnread : List ℕ → ℕ → ProgramFault → Type 0) where
         -- the fault is one of the file that a task reads first, or its store was refused or run once
         abbrev ReadsFirst : Task → ProgramFault → Calls → Type 0
@@ -642,6 +660,10 @@ module _ {M K R W : Type 0} (memory : Keeping M) (stores : Keeping K)
         all.1
     done_once (task.Renew file fresh) all = renewed_run stores (Begins file.now) Ends none more contents
         writer later _ all.2
+    done_once (task.Found fresh texts min_hours given None) all = tt
+    done_once (task.Found fresh texts min_hours given (Some file)) all = renewed_run stores
+        (Begins file.now) Ends none more contents writer later _ all.2.founds
+    done_once task.Version all = tt
 
     -- So did an import that was refused, unless its table tells no rows.
     pub refused_once : (t : Task) (refused : EndsSo memory stores Begins Ends remaining contents reader
@@ -661,9 +683,27 @@ module _ {M K R W : Type 0} (memory : Keeping M) (stores : Keeping K)
     refused_once (task.Nodes file ring account container object names) all = absurd all
     refused_once (task.Export file ring version written) all = absurd all
     refused_once (task.Renew file fresh) all = absurd all
+    refused_once (task.Found fresh texts min_hours given from) all = absurd all
+    refused_once task.Version all = absurd all
 
   module _ (Refuses : List ℕ → ProgramFault → Type 0)
       (IsUnmade : List ℕ → State → ℕ → ProgramFault → Type 0) where
+    -- founding rings beside those of a store failed
+    found_first : (fresh file : Bor (List ℕ)) (names : List (List ℕ)) (min_hours : ℕ)
+        (given : Option ℕ) (why : ProgramFault)
+        → FailsToFound stores Begins Ends Holds Refuses (IsUnmade fresh.now) before after IsUnread names
+        min_hours given (Some file) why
+        → (AreNoRings Holds IsUnread names why × OpensNone before after)
+        ⊎ ((Refuses file.now why × IsStoreFault why) × OpensOne before after)
+        ⊎ IsOneRun stores (Begins file.now) (WasClosed Ends) []
+    found_first fresh file names min_hours given why (inl texts) = inl texts
+    found_first fresh file names min_hours given why (inr (terms, asks, snapshots, hold, beside)) = inr
+        (found_failed stores (Begins file.now) Ends none more contents writer later before after
+        (Refuses file.now) (λ cause. why ≡ found_fault cause)
+        (λ cause old hour. AreUnfounded terms old snapshots cause)
+        (λ old hour. (rings : State) × AreFounded terms old snapshots rings
+        × IsUnmade fresh.now rings (max hour terms.hour) why) why beside)
+
     -- the work of a task failed
     work_failed : (t : Task) (why : ProgramFault) (failed : FailsToDo memory stores Begins Ends
         remaining contents reader late_reader writer later Holds IsUnread before after Refuses IsUnmade t
@@ -700,6 +740,10 @@ module _ {M K R W : Type 0} (memory : Keeping M) (stores : Keeping K)
         (AsksShown (task.Export file ring version written)) why all.2 all.1)
     work_failed (task.Renew file fresh) why all = at_opening (renew_failed stores (Begins file.now) Ends
         none more contents writer later before after (Refuses file.now) (IsUnmade fresh.now) why all.2)
+    work_failed (task.Found fresh texts min_hours given None) why all = inr tt
+    work_failed (task.Found fresh texts min_hours given (Some file)) why all = at_file (found_first
+        fresh file (texts_given texts.items) min_hours given why all.2)
+    work_failed task.Version why all = inr tt
 
     -- Each program that failed made one run of its store too, or the fault came before.
     pub failed_once : (t : Task) (why : ProgramFault) (failed : FailsSo memory stores Begins Ends

@@ -1,5 +1,5 @@
 -- All programs over one store, one after another, come to one run.
-use Rattle.std.proofs.Common.{◌≡◌, ◌∙◌, ◌∷◌, [], ℕ, List, None, Some, ap, append-nil, inl, inr}
+use Rattle.std.proofs.Common.{◌≡◌, ◌<◌, ◌≤◌, ◌∙◌, ◌∷◌, [], ℕ, List, None, Some, ap, append-nil, inl, inr}
 use Rattle.std.proofs.Common.{append_assoc, subst, sym}
 use Rattle.std.proofs.lemmas.List.Elements.{All-cons, All-nil, recursion_from_All}
 use Rattle.std.specs.List.{AllByRecursion}
@@ -11,7 +11,8 @@ use Rattle.builder.proofs.Lives.{safe_life}
 use Rattle.builder.proofs.Nothing.{short_nothing, valid_nothing}
 use Rattle.builder.proofs.OneLife.{life_alike, life_repeats, one_life}
 use Rattle.builder.specs.Life.{BookCalls, BookContent, IsProperCall, Lives, nothing_held}
-use Rattle.builder.specs.Step.{Step}
+use Rattle.builder.specs.Safety.{AreValid, AreValidOnTheWay, IsSafeRun}
+use Rattle.builder.specs.Step.{State, Step}
 use Rattle.request_book.proofs.FirstCalls.{closed_called, none_fails}
 use Rattle.request_book.proofs.Runs.{run_snoc}
 use Rattle.request_book.proofs.Calls.{failed-new, failed-ok}
@@ -19,14 +20,19 @@ use Rattle.request_book.specs.Call.{Call, failed, finds_closed, meets_fault}
 use Rattle.request_book.specs.Called.{Called}
 use Rattle.request_book.specs.Run.{Run}
 use Rattle.ring_book.specs.Book.{Asked, Keeping}
-use Rattle.ring_words.specs.Limits.{most_numbers}
+use Rattle.ring_founding.proofs.Founded.{by_name_founded, few_founded, named_each, valid_each}
+use Rattle.ring_founding.specs.Founding.{AreFounded}
+use Rattle.ring_founding.specs.declared.founding.Terms.{Terms}
+use Rattle.ring_text.specs.Snapshot.{IsValidSnapshot, SnapshotRecord}
+use Rattle.ring_words.specs.Limits.{greatest_short, long_count, most_numbers}
 use Rattle.ring_words.specs.declared.command.Command.{Command}
 use Rattle.ring_words.specs.declared.command.Reply.{Reply}
 use Rattle.ring_words.specs.declared.request.Limits.{Limits}
 use Rattle.programs.proofs.Lives.{same_limits}
 use Rattle.programs.specs.Begun.{AreServiceLimits, Closing}
 use Rattle.programs.specs.Life.{EndsItself, WasCutOff, IsLeftIn, ProgramsAreOneRun, ProgramsLive}
-use Rattle.programs.specs.Life.{ProgramsStayValid}
+use Rattle.programs.specs.Founding.{HoldRings}
+use Rattle.programs.specs.Life.{FoundedStayValid, ProgramsStayValid, made_content}
 
 -- Keepers of stores are these, begin so, and end so with what closing them answers.
 module _ {K : Type 0} (g : Keeping K) (Begins : K → Type 0) (Ends : K → Closing → Type 0)
@@ -143,6 +149,28 @@ module _ {K : Type 0} (g : Keeping K) (Begins : K → Type 0) (Ends : K → Clos
   proper old new (calls ∷ later) (mid, inr cut, rest) =
       All-cons (All IsProperCall) calls later cut.proper (proper mid new later rest)
 
+-- the rings that texts of files tell are valid
+held_valid : (Holds : List ℕ → List ℕ → Type 0) (names : List (List ℕ))
+    (snapshots : List SnapshotRecord) → HoldRings Holds names snapshots
+    → All IsValidSnapshot snapshots
+held_valid Holds [] snapshots none = subst (All IsValidSnapshot) (sym none) (All-nil IsValidSnapshot)
+held_valid Holds (name ∷ names) snapshots all = subst (All IsValidSnapshot) (sym all.3)
+    (All-cons IsValidSnapshot all.1 all.2 all.5.valid (held_valid Holds names all.2 all.6))
+
+-- and founded beside valid ones they make valid ones
+valid_founding : (Holds : List ℕ → List ℕ → Type 0) (terms : Terms) (old rings : State)
+    (names : List (List ℕ)) (snapshots : List SnapshotRecord) → AreValid old
+    → terms.min_hours ≤ greatest_short → terms.hour < long_count → HoldRings Holds names snapshots
+    → AreFounded terms old snapshots rings → AreValid rings
+valid_founding Holds terms old rings names snapshots valid hours late hold founded =
+    let each : All IsValidSnapshot snapshots = held_valid Holds names snapshots hold in
+    record {
+      count = few_founded terms old snapshots rings founded valid.count;
+      by_name = by_name_founded terms old snapshots rings founded valid.by_name;
+      named = named_each terms old snapshots rings each founded valid.named;
+      each = valid_each terms old snapshots rings late hours each founded valid.each;
+    }
+
 module _ {K : Type 0} (g : Keeping K) (Begins : List ℕ → K → Type 0) (Ends : K → Closing → Type 0)
     (whole : (name : List ℕ) (keeper : K) → Begins name keeper
     → (g.fault_count keeper ≡ 0) × (g.limit keeper ≡ most_numbers)) where
@@ -165,3 +193,19 @@ module _ {K : Type 0} (g : Keeping K) (Begins : List ℕ → K → Type 0) (Ends
   valid_from_nothing = λ name limits new runs full live.
       (let life = one_life_of_programs name limits nothing_held new runs full live in
       (life.safe, life.safe.valid valid_nothing short_nothing))
+
+  -- From valid rings on they are valid too.
+  valid_from : (name : List ℕ) (limits : Limits) (old new : BookContent) (runs : List BookCalls)
+      → AreServiceLimits limits → AreValid old.state → old.hour < long_count
+      → ProgramsLive g (Begins name) Ends old runs new
+      → (safe : IsSafeRun limits old new) × AreValidOnTheWay safe.led
+  valid_from name limits old new runs full valid short live =
+      let life = one_life_of_programs name limits old new runs full live in
+      (life.safe, life.safe.valid valid short)
+
+  -- So they are from founded ones.
+  pub valid_from_founded : (Holds : List ℕ → List ℕ → Type 0) → FoundedStayValid g Begins Ends Holds
+  valid_from_founded Holds = λ terms old rings hour names snapshots name limits new runs valid hours
+      late short hold founded full live.
+      (valid_from name limits (made_content rings hour) new runs full
+      (valid_founding Holds terms old rings names snapshots valid hours late hold founded) short live)

@@ -10,7 +10,7 @@ use Rattle.command_line.specs.declared.task.Task.TheVariants as task
 use Rattle.ring_book.specs.Book.{Keeping}
 use Rattle.programs.specs.Begun.{Closing}
 use Rattle.programs.specs.Faults.{GetsText, GetsTexts}
-use Rattle.programs.specs.Inner.Tellings.{EndsTelling, FailsTelling, IsService}
+use Rattle.programs.specs.Inner.Tellings.{EndsTelling, FailsTelling, IsTelling}
 use Rattle.programs.specs.Performed.{FailsSo}
 use Rattle.programs.specs.Service.{NeverServes, ServesPrograms, fault_status}
 use Rattle.programs.specs.Service.{is_lasting, service_status}
@@ -31,6 +31,16 @@ texts_then contents old mid new [] text same gets =
     (new, subst (λ writer. GetsText contents writer new text) same gets, refl)
 texts_then contents old mid new (first ∷ texts) text all gets =
     (all.0, all.1, texts_then contents all.0 mid new texts text all.2 gets)
+
+-- one more text behind others, and then further ones
+pub texts_and : {E : Type 0} (contents : E → Option (List ℕ)) (old mid next new : CountedWriter E)
+    (texts : List (List ℕ)) (text : List ℕ) (later : List (List ℕ)) → GetsTexts contents old mid texts
+    → GetsText contents mid next text → GetsTexts contents next new later
+    → GetsTexts contents old new (texts ++ text ∷ later)
+texts_and contents old mid next new [] text later same gets rest =
+    (next, subst (λ writer. GetsText contents writer next text) same gets, rest)
+texts_and contents old mid next new (first ∷ texts) text later all gets rest =
+    (all.0, all.1, texts_and contents all.0 mid next new texts text later all.2 gets rest)
 
 -- what holds whatever a result is
 pub on_any : {A E : Type 0} (result : Result A E) (fact : Type 0) → fact → OnOk result fact
@@ -53,6 +63,8 @@ fault_statuses (task.Table file ring) why = inl refl
 fault_statuses (task.Nodes file ring account container object names) why = inl refl
 fault_statuses (task.Export file ring version written) why = inl refl
 fault_statuses (task.Renew file fresh) why = inl refl
+fault_statuses (task.Found fresh texts min_hours given from) why = inl refl
+fault_statuses task.Version why = inl refl
 
 -- what a status tells of two endings
 module _ (status : ℕ) (Done Fails : Type 0) where
@@ -137,8 +149,8 @@ module _ {M K R W E : Type 0} (memory : Keeping M) (stores : Keeping K)
     (Refuses : List ℕ → ProgramFault → Type 0)
     (IsUnmade : List ℕ → State → ℕ → ProgramFault → Type 0) (told : E → Option (List ℕ))
     (errors : CountedWriter E) where
-  -- a task that is no service failed, and told nothing
-  pub tells_nothing : (t : Task) → (IsService t → ⊥) → (why : ProgramFault)
+  -- a task that tells nothing on its way failed, and told nothing
+  pub tells_nothing : (t : Task) → (IsTelling t → ⊥) → (why : ProgramFault)
       → FailsSo memory stores Begins Ends remaining contents reader late_reader writer later Holds
       IsUnread before after Refuses IsUnmade t why
       → FailsTelling memory stores Begins Ends remaining contents reader late_reader writer later Holds
@@ -154,3 +166,5 @@ module _ {M K R W E : Type 0} (memory : Keeping M) (stores : Keeping K)
       (inr work, refl)
   tells_nothing (task.Export file ring version written) none why (inr work) = (inr work, refl)
   tells_nothing (task.Renew file fresh) none why (inr work) = (inr work, refl)
+  tells_nothing (task.Found fresh texts min_hours given from) none why (inr work) = absurd (none tt)
+  tells_nothing task.Version none why (inr work) = (inr work, refl)

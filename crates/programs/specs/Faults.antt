@@ -18,6 +18,8 @@ use Rattle.programs.specs.declared.faults.ProgramFault.TheVariants as fault
 -- the name of a fault
 abbrev pub program_fault_name : ProgramFault → List ℕ
 program_fault_name fault.NoRing = codes "NoRing"
+program_fault_name fault.RingExists = codes "RingExists"
+program_fault_name fault.TooManyRings = codes "TooManyRings"
 program_fault_name fault.NotAssigned = codes "NotAssigned"
 program_fault_name fault.Unreadable = codes "Unreadable"
 program_fault_name fault.NoMemory = codes "NoMemory"
@@ -27,6 +29,7 @@ program_fault_name fault.NoFile = codes "NoFile"
 program_fault_name fault.NetFailed = codes "NetFailed"
 program_fault_name fault.TooLong = codes "TooLong"
 program_fault_name fault.BadPath = codes "BadPath"
+program_fault_name fault.BadText = codes "BadText"
 program_fault_name fault.NoVersion = codes "NoVersion"
 program_fault_name fault.ClockAhead = codes "ClockAhead"
 program_fault_name fault.ReadFailed = codes "ReadFailed"
@@ -35,6 +38,8 @@ program_fault_name fault.WriteFailed = codes "WriteFailed"
 -- the number of a fault
 abbrev pub fault_number : ProgramFault → ℕ
 fault_number fault.NoRing = 1
+fault_number fault.RingExists = 2
+fault_number fault.TooManyRings = 3
 fault_number fault.NotAssigned = 10
 fault_number fault.Unreadable = 20
 fault_number fault.NoMemory = 23
@@ -44,6 +49,7 @@ fault_number fault.NoFile = 27
 fault_number fault.NetFailed = 28
 fault_number fault.TooLong = 29
 fault_number fault.BadPath = 30
+fault_number fault.BadText = 31
 fault_number fault.NoVersion = 32
 fault_number fault.ClockAhead = 33
 fault_number fault.ReadFailed = 50

@@ -8,6 +8,8 @@ pub mod Service
 pub mod Importing
 pub mod Showing
 pub mod Renewing
+pub mod Founding
+pub mod Version
 pub mod Performed
 pub mod Calls
 pub mod Life

@@ -1,14 +1,15 @@
 -- What a program makes of the store that it is over: one run of a book, from what it found there to
 -- what it left, also where it failed. So the runs of all programs over one store, one after another,
 -- are its life.
-use Rattle.std.specs.Prelude.{◌++◌, ◌≡◌, ◌⊎◌, ◌∷◌, ⊤, [], ℕ, All, IsSomeAnd, List, MatchOption, None}
+use Rattle.std.specs.Prelude.{◌++◌, ◌<◌, ◌≤◌, ◌≡◌, ◌⊎◌, ◌∷◌, ⊤, [], ℕ, All, IsSomeAnd, List}
+use Rattle.std.specs.Prelude.{MatchOption, None}
 use Rattle.std.specs.Prelude.{Option, Some, false, nat_lt, true}
-use Rattle.std.specs.Option.{option_to_list}
+use Rattle.std.specs.Option.{option_map, option_to_list}
 use Rattle.byte_streams.specs.declared.counted.CountedReader.{CountedReader}
 use Rattle.byte_streams.specs.declared.counted.CountedWriter.{CountedWriter}
 use Rattle.builder.specs.Life.{BookCalls, BookContent, IsOneLife, IsProperCall, KeepsReply, Lives}
 use Rattle.builder.specs.Life.{all_calls, nothing_held}
-use Rattle.builder.specs.Safety.{AreValidOnTheWay, IsSafeRun}
+use Rattle.builder.specs.Safety.{AreValid, AreValidOnTheWay, IsSafeRun}
 use Rattle.builder.specs.Step.{State, Step}
 use Rattle.builder.specs.declared.machine.RingMachine.{RingMachine}
 use Rattle.command_line.specs.declared.task.Task.{Task}
@@ -24,7 +25,10 @@ use Rattle.request_book.specs.Keeper.{CrashLeaves}
 use Rattle.request_book.specs.Made.{Makes}
 use Rattle.request_book.specs.Run.{AnswersAlike, RepeatsAreKept, Run}
 use Rattle.ring_book.specs.Book.{Asked, Keeping, steps_of}
-use Rattle.ring_words.specs.Limits.{most_numbers}
+use Rattle.ring_founding.specs.Founding.{AreFounded}
+use Rattle.ring_founding.specs.declared.founding.Terms.{Terms}
+use Rattle.ring_text.specs.Snapshot.{SnapshotRecord}
+use Rattle.ring_words.specs.Limits.{greatest_short, long_count, most_numbers}
 use Rattle.ring_words.specs.declared.command.Command.{Command}
 use Rattle.ring_words.specs.declared.command.Reply.{Reply}
 use Rattle.ring_words.specs.declared.request.Limits.{Limits}
@@ -32,7 +36,8 @@ use Rattle.programs.specs.Begun.{AreServiceLimits, Closing, IsBegun, IsClosed, I
 use Rattle.programs.specs.Begun.{OpensNone, OpensOne, WasClosed}
 use Rattle.programs.specs.Calls.{ended_calls, failed_calls}
 use Rattle.programs.specs.Importing.{FailsTold, WritesTold}
-use Rattle.programs.specs.Performed.{EndsSo, FailsSo}
+use Rattle.programs.specs.Founding.{AreNoRings, HoldRings}
+use Rattle.programs.specs.Performed.{EndsSo, FailsSo, texts_given}
 use Rattle.programs.specs.Showing.{HasBadWord, IsFormFault, IsPathless}
 use Rattle.programs.specs.Tables.{IsBadTable, IsFileFault, IsNoTable}
 use Rattle.programs.specs.declared.faults.ProgramFault.{ProgramFault}
@@ -53,6 +58,8 @@ store_of (task.Table file ring) = Some file.now
 store_of (task.Nodes file ring account container object names) = Some file.now
 store_of (task.Export file ring version written) = Some file.now
 store_of (task.Renew file fresh) = Some file.now
+store_of (task.Found fresh texts min_hours given from) = option_map (λ file. file.now) from
+store_of task.Version = None
 
 -- Keepers of stores are these. That of a store that is opened begins so, and one that is closed ends
 -- so.
@@ -97,8 +104,9 @@ module _ {W : Type 0} (contents : W → Option (List ℕ)) (writer later : Count
       × OpensNone before after
   TellsBadTable _ = ⊥
 
-  -- This fault came of the file that a task reads before it opens its store: an input wasn't read; or
-  -- a table wasn't read, or tells no rows, and the writer failed and took a beginning of why.
+  -- This fault came of a file that a task reads before it opens its store: an input wasn't read; a
+  -- table wasn't read, or tells no rows, and the writer failed and took a beginning of why; or a text
+  -- wasn't read, or is that of no ring.
   abbrev pub ComesOfFile : Task → ProgramFault → Type 0
   ComesOfFile (task.Loop file input given names) why = IsUnread input.now most_looped why
       × IsFileFault why
@@ -106,6 +114,8 @@ module _ {W : Type 0} (contents : W → Option (List ℕ)) (writer later : Count
       ⊎ ((why ≡ fault.WriteFailed) × ((cause : CsvFault)
       × IsBadTable (IsUnread csv.now) (Holds csv.now) cause
       × FailsTold contents writer later (told_csv cause)))
+  ComesOfFile (task.Found fresh texts min_hours given from) why = AreNoRings Holds IsUnread
+      (texts_given texts.items) why
   ComesOfFile _ why = ⊥
 
   -- This fault came before a task had opened its store: of its words, or of the file that it reads
@@ -266,3 +276,22 @@ module _ {K : Type 0} (g : Keeping K) (Begins : List ℕ → K → Type 0) (Ends
         (runs : List BookCalls) → AreServiceLimits limits
         → ProgramsLive g (Begins name) Ends nothing_held runs new
         → (safe : IsSafeRun limits nothing_held new) × AreValidOnTheWay safe.led
+
+-- what a store holds that was made of rings and an hour: them, and no request
+abbrev pub made_content : State → ℕ → BookContent
+made_content rings hour = record { state = rings; book = []; hour = hour }
+
+-- Rings that were founded of the texts of files, beside valid ones, are valid, and stay so: all
+-- programs over a store that was made of them are one safe run, and all rings on its way are valid.
+-- Keepers of stores are these, begin so, and end so with what closing them answers. A file of a name
+-- may hold such a text.
+abbrev pub FoundedStayValid : {K : Type 0} → Keeping K → (List ℕ → K → Type 0)
+    → (K → Closing → Type 0) → (List ℕ → List ℕ → Type 0) → Type 0
+FoundedStayValid g Begins Ends Holds = (terms : Terms) (old rings : State) (hour : ℕ)
+    (names : List (List ℕ)) (snapshots : List SnapshotRecord) (name : List ℕ) (limits : Limits)
+    (new : BookContent) (runs : List BookCalls)
+    → AreValid old → terms.min_hours ≤ greatest_short → terms.hour < long_count → hour < long_count
+    → HoldRings Holds names snapshots → AreFounded terms old snapshots rings
+    → AreServiceLimits limits
+    → ProgramsLive g (Begins name) Ends (made_content rings hour) runs new
+    → (safe : IsSafeRun limits (made_content rings hour) new) × AreValidOnTheWay safe.led

@@ -1,5 +1,5 @@
 -- What a program does that words ask for.
-use Rattle.std.specs.Prelude.{◌≡◌, ◌≢◌, ◌⊎◌, ◌++◌, ◌∷◌, ⊤, ℕ, List, [], Option, None, Some}
+use Rattle.std.specs.Prelude.{◌≡◌, ◌≢◌, ◌⊎◌, ◌++◌, ◌∷◌, ⊤, ℕ, List, [], Option, None, Some, map}
 use mathlib.Core.Logic.{inl, inr}
 use Rattle.std.specs.Borrow.{Bor}
 use Rattle.byte_streams.specs.declared.counted.CountedReader.{CountedReader}
@@ -16,6 +16,7 @@ use Rattle.programs.specs.Begun.{OpensTwo}
 use Rattle.builder.specs.Step.{State}
 use Rattle.programs.specs.Left.{Closes, FailsToMake, GivesNoText, GivesText, MakesStore}
 use Rattle.programs.specs.Left.{RefusesToOpen}
+use Rattle.programs.specs.Founding.{FailsToFound, Founds, founding_lines}
 use Rattle.programs.specs.Renewing.{FailsToRenew, Renews}
 use Rattle.programs.specs.Running.{AnswersLines, FailsLines, StopsLines}
 use Rattle.programs.specs.Service.{StopsOnMachine, fault_status, machine_lines}
@@ -23,6 +24,7 @@ use Rattle.programs.specs.Serving.{FailsToLoopInput, FailsToServePort, LoopsInpu
 use Rattle.programs.specs.Serving.{ServesPort}
 use Rattle.programs.specs.Showing.{AsksShown, FailsToShow, IsFormFault, HasBadWord}
 use Rattle.programs.specs.Showing.{IsPathless, ShowsRead}
+use Rattle.programs.specs.Version.{FailsToTellVersion, TellsVersion}
 use Rattle.programs.specs.declared.faults.ProgramFault.{ProgramFault}
 use Rattle.programs.specs.declared.faults.ProgramFault.TheVariants as fault
 use Rattle.programs.specs.declared.importing.ImportAsk.{ImportAsk}
@@ -74,6 +76,15 @@ abbrev pub OpensGiven : ℕ → ℕ → Option (Bor (List ℕ)) → Type 0
 OpensGiven before after None = OpensNone before after
 OpensGiven before after (Some file) = OpensOne before after
 
+-- A store was made, and the one that is given was opened, if one is.
+abbrev pub OpensFounded : ℕ → ℕ → Option (Bor (List ℕ)) → Type 0
+OpensFounded before after None = OpensOne before after
+OpensFounded before after (Some file) = OpensTwo before after
+
+-- texts that words have
+abbrev pub texts_given : List (Bor (List ℕ)) → List (List ℕ)
+texts_given texts = map (λ text. text.now) texts
+
 -- Keepers over memory and of stores are these. That of a store of a name begins so, and ends so with
 -- what closing it answers. The streams are these, before and after.
 module _ {M K R W : Type 0} (memory : Keeping M) (stores : Keeping K)
@@ -102,7 +113,8 @@ module _ {M K R W : Type 0} (memory : Keeping M) (stores : Keeping K)
     -- This is so where a store of a name was made of these rings and this hour.
     module _ (IsMade : List ℕ → State → ℕ → Type 0) where
       -- A task had no fault and ended so: what it asks for was done, or an import was refused. Only
-      -- `run` touches the reader. Of stores no other was opened, and none but by `renew` made.
+      -- `run` touches the reader. Of stores no other was opened, and none but by `renew` and
+      -- `found` made.
       abbrev pub EndsSo : Task → Ending → Type 0
       EndsSo (task.Run file) Done = Runs file × OpensGiven before after file
       EndsSo (task.Serve file port count given names) Done = (late_reader ≡ reader) × (later ≡ writer)
@@ -132,6 +144,13 @@ module _ {M K R W : Type 0} (memory : Keeping M) (stores : Keeping K)
       EndsSo (task.Renew file fresh) Done = (late_reader ≡ reader) × (later ≡ writer)
           × Renews stores (Begins file.now) (IsClosedWhole stores Ends) (IsMade fresh.now)
           × OpensTwo before after
+      EndsSo (task.Found fresh texts min_hours given from) Done = (late_reader ≡ reader)
+          × (later ≡ writer)
+          × Founds stores Begins Ends Holds (texts_given texts.items) min_hours given from
+          (IsMade fresh.now)
+          × OpensFounded before after from
+      EndsSo task.Version Done = (late_reader ≡ reader) × TellsVersion contents writer later
+          × OpensNone before after
       EndsSo _ _ = ⊥
 
     -- For such a fault a store of a name isn't opened, or isn't made of these rings and this hour.
@@ -162,6 +181,11 @@ module _ {M K R W : Type 0} (memory : Keeping M) (stores : Keeping K)
       FailsToDo (task.Renew file fresh) why = (late_reader ≡ reader) × (later ≡ writer)
           × FailsToRenew stores (Begins file.now) Ends (Refuses file.now) (IsUnmade fresh.now) before
           after why
+      FailsToDo (task.Found fresh texts min_hours given from) why = (late_reader ≡ reader)
+          × (later ≡ writer) × FailsToFound stores Begins Ends Holds Refuses (IsUnmade fresh.now)
+          before after IsUnread (texts_given texts.items) min_hours given from why
+      FailsToDo task.Version why = (late_reader ≡ reader)
+          × FailsToTellVersion contents writer later why × OpensNone before after
       FailsToDo (task.Nodes file ring account container object names) why = (late_reader ≡ reader)
           × FailsToShowStore stores (Begins file.now) Ends contents writer later (Refuses file.now)
           names.prefix.now names.suffix.now
@@ -180,11 +204,15 @@ module _ {M K R W : Type 0} (memory : Keeping M) (stores : Keeping K)
           × OpensNone before after)
           ⊎ FailsToDo t why
 
-      -- the lines that a task told before it told its fault: a service tells some, and no other task
+      -- the lines that a task told before it told its fault: a service tells some, and so does
+      -- founding, where a text is that of no ring
       abbrev pub work_lines : (t : Task) (why : ProgramFault) → FailsToDo t why → List (List ℕ)
       work_lines (task.Service file port hosts hour_ok names) why failed = machine_lines stores
           (Begins file.now) Ends (Refuses file.now) (task.Service file port hosts hour_ok names) why
           failed.2
+      work_lines (task.Found fresh texts min_hours given from) why failed = founding_lines stores
+          Begins Ends Holds Refuses (IsUnmade fresh.now) before after IsUnread (texts_given texts.items)
+          min_hours given from why failed.2
       work_lines _ why failed = []
 
       -- the same of a task whose words may be at fault
@@ -207,16 +235,17 @@ module _ {M K R W E : Type 0} (memory : Keeping M) (stores : Keeping K)
 
   module _ (Refuses : List ℕ → ProgramFault → Type 0)
       (IsUnmade : List ℕ → State → ℕ → ProgramFault → Type 0) where
-    -- A task had a fault that was told, behind what it told before, and ended with the status that
-    -- tells it; or it was an import that was refused, and then no fault was told.
+    -- A task had a fault that was told, behind what it told before and in front of texts that say what
+    -- it means, and ended with the status that tells it; or it was an import that was refused, and then
+    -- no fault was told.
     abbrev pub FailsAt : Task → ℕ → Type 0
     FailsAt t status = ((why : ProgramFault)
         × (failed : FailsSo memory stores Begins Ends remaining contents reader late_reader writer
         later Holds IsUnread before after Refuses IsUnmade t why)
         × (status ≡ fault_status t why)
-        × GetsTexts told errors late_errors (task_lines memory stores Begins Ends remaining contents
-        reader late_reader writer later Holds IsUnread before after Refuses IsUnmade t why failed
-        ++ fault_line why ∷ []))
+        × ((meaning : List (List ℕ)) × GetsTexts told errors late_errors (task_lines memory stores
+        Begins Ends remaining contents reader late_reader writer later Holds IsUnread before after
+        Refuses IsUnmade t why failed ++ fault_line why ∷ meaning)))
         ⊎ (EndsSo memory stores Begins Ends remaining contents reader late_reader writer later Holds
         IsUnread before after IsMade t Refused × (late_errors ≡ errors) × (status ≡ 1))
 

@@ -6,6 +6,7 @@ ghost use Rattle.programs.specs.declared.faults.ProgramFault.TheVariants.{NoMemo
 use byte_streams::{CountedWriter, StreamFault, write_text};
 use http_sockets::ServeFault;
 use request_book::KeepFault;
+use ring_founding::FoundFault;
 use ring_words::SpellingFault;
 use std::alloc::AllocError;
 use std::io::Write;
@@ -15,6 +16,10 @@ use std::io::Write;
 pub enum ProgramFault {
     /// There is no ring of the name.
     NoRing,
+    /// Two rings that are to be in one store have one name.
+    RingExists,
+    /// More rings are to be in a store than there may be.
+    TooManyRings,
     /// No seat of the ring is taken.
     NotAssigned,
     /// A name or a number among the words isn't of its form.
@@ -33,6 +38,8 @@ pub enum ProgramFault {
     TooLong,
     /// The names make no path.
     BadPath,
+    /// A file that is to hold the text of a ring holds none.
+    BadText,
     /// The ring has no text that is published under the version.
     NoVersion,
     /// The clock is more than 24 hours ahead of the greatest hour that the store keeps.
@@ -91,6 +98,20 @@ impl From<StreamFault> for ProgramFault {
     }
 }
 
+impl From<FoundFault> for ProgramFault {
+    ghost use Rattle.programs.specs.Founding.{found_fault};
+
+    ghost from_gives = { λ cause fault. fault ≡ found_fault cause };
+
+    fn from(fault: FoundFault) -> ProgramFault {
+        match fault {
+            FoundFault::RingExists => ProgramFault::RingExists,
+            FoundFault::TooManyRings => ProgramFault::TooManyRings,
+            FoundFault::NoMemory => ProgramFault::NoMemory,
+        }
+    }
+}
+
 impl From<ServeFault> for ProgramFault {
     ghost use Rattle.programs.specs.Faults.{serve_fault};
 
@@ -110,6 +131,8 @@ fn fault_line(fault: ProgramFault) -> &'static str
 {
     match fault {
         ProgramFault::NoRing => "ringd: NoRing 1\n",
+        ProgramFault::RingExists => "ringd: RingExists 2\n",
+        ProgramFault::TooManyRings => "ringd: TooManyRings 3\n",
         ProgramFault::NotAssigned => "ringd: NotAssigned 10\n",
         ProgramFault::Unreadable => "ringd: Unreadable 20\n",
         ProgramFault::NoMemory => "ringd: NoMemory 23\n",
@@ -119,6 +142,7 @@ fn fault_line(fault: ProgramFault) -> &'static str
         ProgramFault::NetFailed => "ringd: NetFailed 28\n",
         ProgramFault::TooLong => "ringd: TooLong 29\n",
         ProgramFault::BadPath => "ringd: BadPath 30\n",
+        ProgramFault::BadText => "ringd: BadText 31\n",
         ProgramFault::NoVersion => "ringd: NoVersion 32\n",
         ProgramFault::ClockAhead => "ringd: ClockAhead 33\n",
         ProgramFault::ReadFailed => "ringd: ReadFailed 50\n",
@@ -126,9 +150,16 @@ fn fault_line(fault: ProgramFault) -> &'static str
     }
 }
 
+/// Tells a text. Where it can't be written, the program goes on without it.
+pub(crate) fn tell_text<E: Write>(errors: &mut CountedWriter<E>, text: &str)
+    ensures { GetsText E.contents errors.old errors.new text.now }
+{
+    let _ = write_text(errors, text.as_bytes());
+}
+
 /// Tells a fault in one line. Where even that can't be written, the exit status alone tells it.
 pub(crate) fn tell_fault<E: Write>(errors: &mut CountedWriter<E>, fault: ProgramFault)
     ensures { GetsText E.contents errors.old errors.new (fault_line fault) }
 {
-    let _ = write_text(errors, fault_line(fault).as_bytes());
+    tell_text(errors, fault_line(fault));
 }

@@ -1,7 +1,8 @@
 //! What follows from the definitions alone.
 ghost use Rattle.programs.specs.Begun.{IsClosed, WasClosed};
 ghost use Rattle.programs.specs.Life.{CrashEndsRun, CrashLeavesCall, CrashLeavesHeld, DoneIsOneRun};
-ghost use Rattle.programs.specs.Life.{FailedIsOneRun, GoesOnWithLife, ProgramsAreOneRun};
+ghost use Rattle.programs.specs.Life.{FailedIsOneRun, FoundedStayValid, GoesOnWithLife};
+ghost use Rattle.programs.specs.Life.{ProgramsAreOneRun};
 ghost use Rattle.programs.specs.Life.{RefusedIsOneRun};
 ghost use Rattle.programs.specs.Life.{ProgramsStayValid};
 ghost use Rattle.programs.specs.Left.{Closes, FailsToMake, GivesNoText, GivesText, MakesStore};
@@ -68,4 +69,12 @@ pub fn a_crash_ends_a_run<K: Keeper<RingMachine>>()
 pub fn all_programs_are_one_run<S: Stores>()
     ensures one { ProgramsAreOneRun S.Kept.Keeper S.begins (Closes S.Stores) }
     ensures valid { ProgramsStayValid S.Kept.Keeper S.begins (Closes S.Stores) }
+{}
+
+/// Rings that are founded of texts are valid, and so are those of the store that they are founded
+/// beside, if they were before. All programs over a store that was made of them are one safe run:
+/// in each rebalance at most one replica of a partition leaves a remaining device, and none before
+/// its hours have passed, counted from the hour of the founding. The rings are valid all the way.
+pub fn founded_rings_stay_valid<S: Stores>()
+    ensures { FoundedStayValid S.Kept.Keeper S.begins (Closes S.Stores) (GivesText S.Stores) }
 {}

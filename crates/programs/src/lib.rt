@@ -11,16 +11,19 @@
 mod book;
 mod dropping;
 mod faults;
+mod founding;
 mod hours;
 mod importing;
 pub mod laws;
 mod lines;
+mod meanings;
 mod performing;
 mod renewing;
 mod service;
 mod serving;
 mod showing;
 mod stores;
+mod version;
 
 pub use faults::ProgramFault;
 pub use lines::MemoryKeeper;

@@ -5,7 +5,7 @@ ghost use Rattle.command_line.specs.Tasks.{AskForNothing};
 ghost use Rattle.programs.specs.Begun.{OpensNone, OpensOne};
 ghost use Rattle.programs.specs.Performed.{DoesAskedOver, EndsBy, FailsAskedOver, FailsToRun};
 ghost use Rattle.programs.specs.Inner.Tellings.{EndsAtOver, EndsOver, FailsOver, FailsTellingOver};
-ghost use Rattle.programs.specs.Inner.Tellings.{IsService};
+ghost use Rattle.programs.specs.Inner.Tellings.{IsTelling};
 ghost use Rattle.programs.specs.Performed.{ImportsFile, OpensGiven, Runs, ShowsStore};
 ghost use Rattle.programs.specs.Service.{fault_status};
 ghost use Rattle.programs.specs.Inner.Asked.{FailsToImportAsked, FailsToShowAsked};
@@ -15,14 +15,17 @@ ghost use Rattle.programs.specs.Left.{Closes, FailsToMake, GivesNoText, GivesTex
 ghost use Rattle.programs.specs.Left.{RefusesToOpen};
 
 use crate::faults::{ProgramFault, tell_fault};
+use crate::founding::{FoundAsk, found_store};
 use crate::hours::new_clock;
 use crate::importing::{ImportAsk, ask_import, import_table};
 use crate::lines::{MemoryKeeper, run_over_memory, run_over_store};
+use crate::meanings::tell_meaning;
 use crate::renewing::renew_store;
 use crate::service::{ServiceAsk, is_lasting, serve_programs};
 use crate::serving::{loop_file, serve_store};
 use crate::showing::{ask_nodes, ask_published, ask_tables, show};
 use crate::stores::Stores;
+use crate::version::tell_version;
 use builder::RingMachine;
 use byte_streams::{CountedReader, CountedWriter, write_text};
 use command_line::{ArgsFault, Task, task_of};
@@ -178,7 +181,7 @@ fn import<S: Stores, W: Write>(
     }
 }
 
-/// Does a task that is no service.
+/// Does a task that tells nothing on its way.
 fn perform_task<S: Stores, R: Read, W: Write>(
     rt: &HostRuntime,
     task: &Task<'_>,
@@ -186,7 +189,7 @@ fn perform_task<S: Stores, R: Read, W: Write>(
     writer: &mut CountedWriter<W>,
     stores: &mut S,
 ) -> Result<Ending, ProgramFault>
-    requires { IsService task.now → ⊥ }
+    requires { IsTelling task.now → ⊥ }
     ensures ended { IfOk result (EndsOver S.Stores S.Kept.Keeper
         ⟦<MemoryKeeper as Keeper<RingMachine>>⟧ stores.old stores.new R.remaining W.contents
         reader.old reader.new writer.old writer.new task.now) }
@@ -210,7 +213,11 @@ fn perform_task<S: Stores, R: Read, W: Write>(
             serve_store(rt, rt, *file, *port, *count, *hour, *names, stores)?;
             Ok(Ending::Done)
         }
-        Task::Service { .. } => unreachable!(),
+        Task::Service { .. } | Task::Found { .. } => unreachable!(),
+        Task::Version => {
+            tell_version(writer)?;
+            Ok(Ending::Done)
+        }
         Task::Loop {
             file,
             input,
@@ -242,7 +249,7 @@ fn perform_task<S: Stores, R: Read, W: Write>(
 }
 
 /// Does a task. A service is served until something ends it, and tells what it begins with, or why
-/// it doesn't.
+/// it doesn't. Founding tells where a text stops being that of a ring.
 fn carry_out<S: Stores, R: Read, W: Write, E: Write>(
     rt: &HostRuntime,
     task: &Task<'_>,
@@ -277,6 +284,24 @@ fn carry_out<S: Stores, R: Read, W: Write, E: Write>(
         let clock = new_clock(rt, None);
         return Err(serve_programs(rt, rt, &ask, clock, errors, stores));
     }
+    if let Task::Found {
+        new,
+        texts,
+        min_hours,
+        hour,
+        from,
+    } = task
+    {
+        let ask = FoundAsk {
+            new: *new,
+            texts: texts.as_slice(),
+            min_hours: *min_hours,
+            hour: *hour,
+            from: *from,
+        };
+        found_store(rt, &ask, errors, stores)?;
+        return Ok(Ending::Done);
+    }
     perform_task(rt, task, reader, writer, stores)
 }
 
@@ -308,6 +333,7 @@ fn finish<S: Stores, R: Read, W: Write, E: Write>(
         Ok(Ending::Refused) => FAILED,
         Err(fault) => {
             tell_fault(errors, fault);
+            tell_meaning(errors, task, fault);
             fault_status(task, fault)
         }
     }
@@ -318,9 +344,10 @@ fn finish<S: Stores, R: Read, W: Write, E: Write>(
 /// the words ask for nothing, or for help, and 3 where a service ended by a fault that another start
 /// wouldn't mend. The first word is the program's own name.
 ///
-/// A fault is told on `errors`, as one line with its name and its number. A service tells there in one
-/// line when it begins, and in one why it doesn't by this clock. Nothing else is written there with
-/// status 0, 1 or 3. With status 2 `clap` tells there what may be written.
+/// A fault is told on `errors`, as one line with its name and its number, and behind it in one what it
+/// means. A service tells there in one line when it begins, and in one why it doesn't by this clock;
+/// founding where a text stops being that of a ring. Nothing else is written there with status 0, 1
+/// or 3. With status 2 `clap` tells there what may be written.
 pub fn perform<S: Stores, R: Read, W: Write, E: Write>(
     rt: &HostRuntime,
     words: &[String],

@@ -66,7 +66,7 @@ fn found_in<K: Keeper<RingMachine>>(keeper: K) -> (Result<(Rings, Hour), Program
 }
 
 /// The rings and the greatest hour of a store, which is closed then.
-fn read_store<S: Stores>(
+pub(crate) fn read_store<S: Stores>(
     rt: &HostRuntime,
     file: &str,
     stores: &mut S,

@@ -2,7 +2,6 @@
 ghost use Rattle.std.specs.Prelude.{◌≡◌, IfErr, IfOk, string_bytes};
 ghost use Rattle.request_book.specs.Keeper.{HasCause, LeavesOnly};
 ghost use Rattle.programs.specs.Begun.{OpensOne};
-ghost use Rattle.programs.specs.Faults.{GetsText};
 ghost use Rattle.programs.specs.Inner.Until.{IsServedUntil};
 ghost use Rattle.programs.specs.Left.{Closes, RefusesToOpen};
 ghost use Rattle.programs.specs.Inner.Tellings.{BeginsTelling, EndsTelling, StopsTelling, TellsNoBegin};
@@ -12,10 +11,10 @@ ghost use Rattle.programs.specs.Service.{is_ahead, is_lasting, may_begin, place_
 
 use crate::book::open_book;
 use crate::dropping::{close_store, open_store};
-use crate::faults::ProgramFault;
+use crate::faults::{ProgramFault, tell_text};
 use crate::stores::Stores;
 use builder::RingMachine;
-use byte_streams::{CountedWriter, write_text};
+use byte_streams::CountedWriter;
 use http_api::Clock;
 use http_messages::Audience;
 use http_sockets::{Door, Ports, ServiceEnd, serve_on};
@@ -138,13 +137,6 @@ fn ahead_line(
     )
 }
 
-/// Tells a line. Where it can't be written, the service goes on without it.
-fn tell_line<E: Write>(errors: &mut CountedWriter<E>, line: &str)
-    ensures { GetsText E.contents errors.old errors.new line.now }
-{
-    let _ = write_text(errors, line.as_bytes());
-}
-
 /// Begins a service over a keeper: asks it for its figures and the clock for the hour, opens the port,
 /// and tells that.
 fn begin<P: Ports + Drop, K: Keeper<RingMachine>, C: Clock, E: Write>(
@@ -166,12 +158,12 @@ fn begin<P: Ports + Drop, K: Keeper<RingMachine>, C: Clock, E: Write>(
     let figures = figures_of(keeper)?;
     let hour = clock.hour();
     if !may_begin(ask, hour, &figures) {
-        tell_line(errors, &ahead_line(alloc, ask, hour, &figures)?);
+        tell_text(errors, &ahead_line(alloc, ask, hour, &figures)?);
         return Err(ProgramFault::ClockAhead);
     }
     let line = serving_line(alloc, ask, &figures)?;
     let door = ports.open(ask.port)?;
-    tell_line(errors, &line);
+    tell_text(errors, &line);
     Ok(door)
 }
 

@@ -2,9 +2,11 @@
 use Rattle.std.specs.Prelude.{List, ◌++◌, [], ◌∷◌, map, false}
 use Rattle.clap.specs.Simple.{App, Shape, on_top}
 use Rattle.clap.specs.Walk.{Rule}
-use Rattle.command_line.specs.Shapes.{flag, needed, optional, program, repeated}
+use Rattle.command_line.specs.Shapes.{flag, named, needed, optional, program, repeated}
+use Rattle.command_line.specs.Shapes.{several}
 use Rattle.command_line.specs.declared.commands.Argument.{Argument}
-use Rattle.command_line.specs.declared.commands.Argument.TheVariants.{Flag, Needed, Optional, Repeated}
+use Rattle.command_line.specs.declared.commands.Argument.TheVariants.{Flag, Named, Needed, Optional}
+use Rattle.command_line.specs.declared.commands.Argument.TheVariants.{Repeated, Several}
 use Rattle.command_line.specs.declared.commands.Program.{Program}
 
 -- The command has these arguments, behind those that it had.
@@ -14,7 +16,9 @@ with_rules app rules = on_top (λ shape. record shape { rules = shape.rules ++ r
 -- what a parse reads of an argument that is told so
 abbrev pub rule_told : Argument → Rule
 rule_told (Needed name) = needed name.now
+rule_told (Several name) = several name.now
 rule_told (Optional name) = optional name.now
+rule_told (Named name) = named name.now
 rule_told (Repeated name) = repeated name.now
 rule_told (Flag name) = flag name.now
 

@@ -36,3 +36,11 @@ IsPlace rows None = (file : Bor Text) (port : ℕ) → HasText rows (codes "FILE
 abbrev pub IsFormat : List Row → Option Format → Type 0
 IsFormat rows (Some written) = HasFormat rows written
 IsFormat rows None = (written : Format) → HasFormat rows written → ⊥
+
+-- These are the hours that a moved partition stays and the hour of founding, if that is given; None
+-- stands for arguments without them, or that are none.
+abbrev pub AreHours : List Row → Option (ℕ × Option ℕ) → Type 0
+AreHours rows (Some hours) = HasNumber rows (codes "min-hours") 0 greatest_short hours.0
+    × HasHour rows hours.1
+AreHours rows None = (min_hours : ℕ) (hour : Option ℕ)
+    → HasNumber rows (codes "min-hours") 0 greatest_short min_hours → HasHour rows hour → ⊥

@@ -66,10 +66,11 @@ module _ {K C : Type 0} (g : Keeping K) (tells : C → ℕ → C → Type 0) (Be
 
 -- ---- a task
 
--- The task asks for a service, which goes on until something ends it.
-abbrev pub IsService : Task → Type 0
-IsService (task.Service file port hosts hour_ok names) = ⊤
-IsService _ = ⊥
+-- The task tells lines on its way: it asks for a service, or for founding a store.
+abbrev pub IsTelling : Task → Type 0
+IsTelling (task.Service file port hosts hour_ok names) = ⊤
+IsTelling (task.Found fresh texts min_hours given from) = ⊤
+IsTelling _ = ⊥
 
 -- A task failed, and its lines were told on a stream.
 abbrev pub FailsTelling : {M K R W E : Type 0} (memory : Keeping M) (stores : Keeping K)

@@ -7,6 +7,12 @@ use Rattle.programs.proofs.faults.fault_line.Goals as goal
 pub returns-in-NoRing : goal.returns-in-NoRing
 returns-in-NoRing c = rw (c.in-NoRing.is, decimal_digit 1 (lit< tt)) refl
 
+pub returns-in-RingExists : goal.returns-in-RingExists
+returns-in-RingExists c = rw (c.in-RingExists.is, decimal_digit 2 (lit< tt)) refl
+
+pub returns-in-TooManyRings : goal.returns-in-TooManyRings
+returns-in-TooManyRings c = rw (c.in-TooManyRings.is, decimal_digit 3 (lit< tt)) refl
+
 pub returns-in-NotAssigned : goal.returns-in-NotAssigned
 returns-in-NotAssigned c = rw (c.in-NotAssigned.is, two_digits 1 0 (lit≤ tt) (lit< tt) (lit< tt)) refl
 
@@ -33,6 +39,9 @@ returns-in-TooLong c = rw (c.in-TooLong.is, two_digits 2 9 (lit≤ tt) (lit< tt)
 
 pub returns-in-BadPath : goal.returns-in-BadPath
 returns-in-BadPath c = rw (c.in-BadPath.is, two_digits 3 0 (lit≤ tt) (lit< tt) (lit< tt)) refl
+
+pub returns-in-BadText : goal.returns-in-BadText
+returns-in-BadText c = rw (c.in-BadText.is, two_digits 3 1 (lit≤ tt) (lit< tt) (lit< tt)) refl
 
 pub returns-in-NoVersion : goal.returns-in-NoVersion
 returns-in-NoVersion c = rw (c.in-NoVersion.is, two_digits 3 2 (lit≤ tt) (lit< tt) (lit< tt)) refl

@@ -1,7 +1,7 @@
 use Rattle.std.proofs.Common.{inr, refl, rules}
-use Rattle.std.proofs.lemmas.Result.{IfErr-weaker}
+use Rattle.std.proofs.lemmas.Result.{IfErr-weaker, err_from_is_err_and}
 use Rattle.programs.specs.Left.{Closes, FailsToMake, GivesNoText, GivesText, RefusesToOpen}
-use Rattle.programs.specs.Inner.Tellings.{IsService}
+use Rattle.programs.specs.Inner.Tellings.{IsTelling}
 use Rattle.programs.proofs.Telling.{on_any, tells_nothing}
 use Rattle.programs.proofs.performing.carry_out.Goals as goal
 
@@ -28,9 +28,19 @@ returns-in-Service-clause-failed g c = rw c.in-Service.is (
   c.serve_programs.ensures.stopped.1,
 )
 
+pub returns-in_err-found_store : goal.returns-in_err-found_store
+returns-in_err-found_store g c =
+    let p = err_from_is_err_and c.from_residual.result c.from_residual.ensures.1 in
+    let failed = rw c.as_slice-in-Found.ensures.value at c.in_err-found_store.ensures.failed in
+    rw (p.1, p.2, c.in-Found.is) (record {
+      ended = tt;
+      untold = tt;
+      failed = (inr (refl, refl, failed.0), failed.1);
+    })
+
 pub returns : goal.returns
 returns g c =
-    let none : IsService c.args.task.now → ⊥ = search rules in
+    let none : IsTelling c.args.task.now → ⊥ = search rules in
     record {
       ended = c.perform_task.ensures.ended;
       untold = on_any c.perform_task.result _ refl;

@@ -1,5 +1,5 @@
 use Rattle.std.proofs.Common.{◌≡◌, ◌⊎◌, inl, inr, subst, sym, ℕ}
-use Rattle.programs.proofs.Telling.{fault_statuses, texts_then}
+use Rattle.programs.proofs.Telling.{fault_statuses, texts_and}
 use Rattle.programs.proofs.performing.finish.Goals as goal
 
 pub returns-in-Err : goal.returns-in-Err
@@ -10,7 +10,11 @@ returns-in-Err g c = inr (
     c.in-Err.fault,
     c.in-Err.ensures.failed.0,
     c.fault_status.ensures,
-    texts_then g.E.Write.contents c.args.errors.now c.carry_out.new.errors c.tell_fault.new.errors _ _
-        c.in-Err.ensures.failed.1 c.tell_fault.ensures,
+    (
+      c.tell_meaning.ensures.0,
+      texts_and g.E.Write.contents c.args.errors.now c.carry_out.new.errors c.tell_fault.new.errors
+          c.tell_meaning.new.errors _ _ _ c.in-Err.ensures.failed.1 c.tell_fault.ensures
+          c.tell_meaning.ensures.1,
+    ),
   ),
 )

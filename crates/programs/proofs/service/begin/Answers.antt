@@ -20,9 +20,9 @@ returns-then-not-may_begin-clause-failed g c = (
     ),
   )),
   (
-    c.tell_line.new.errors,
-    subst (λ (text : List ℕ). GetsText g.E.Write.contents c.args.errors.now c.tell_line.new.errors
-        text) (c.deref.ensures ∙ c.in_ok-ahead_line.ensures) c.tell_line.ensures,
+    c.tell_text.new.errors,
+    subst (λ (text : List ℕ). GetsText g.E.Write.contents c.args.errors.now c.tell_text.new.errors
+        text) (c.deref.ensures ∙ c.in_ok-ahead_line.ensures) c.tell_text.ensures,
     refl,
   ),
 )
@@ -60,6 +60,6 @@ returns-clause-begun g c = (
     told = c.hour-hour.ensures;
     judged = sym c.may_begin.ensures ∙ c.if-not-may_begin.false;
   },
-  subst (λ (text : List ℕ). GetsText g.E.Write.contents c.args.errors.now c.tell_line-2.new.errors
-      text) (c.deref-2.ensures ∙ c.in_ok-line.ensures) c.tell_line-2.ensures,
+  subst (λ (text : List ℕ). GetsText g.E.Write.contents c.args.errors.now c.tell_text-2.new.errors
+      text) (c.deref-2.ensures ∙ c.in_ok-line.ensures) c.tell_text-2.ensures,
 )
