@@ -25,7 +25,7 @@ from pathlib import Path
 
 TOP = Path(__file__).resolve().parent.parent
 sys.path.append(str(TOP / "checks"))
-from common import program  # noqa: E402
+from common import FAULT, program  # noqa: E402
 
 LASTING = int(sys.argv[sys.argv.index("--lasting") + 1]) if "--lasting" in sys.argv else 1
 LOST = '503 {"fault":"NoMemory","rule":23}'
@@ -64,6 +64,13 @@ def answers(output):
     return found
 
 
+def fault_of(run):
+    """The name and the number of the fault that a run told, if it told one and nothing else but what that means. Want of memory for the words
+    of the command line has no second line."""
+    told = FAULT.fullmatch(run.stderr)
+    return told and told[1].decode().removeprefix("ringd: ").strip()
+
+
 def judged(run, want):
     """What became of a run in memory with a refused allocation."""
     got = answers(run.stdout)
@@ -72,7 +79,7 @@ def judged(run, want):
         return "one answer lost, its repeat right" if differing else "no difference"
     if LASTING > 1 and run.returncode == 0 and len(got) == len(want) and set(differing) == {LOST}:
         return "several answers lost"
-    if run.returncode == 1 and not got and run.stderr == b"ringd: NoMemory 23\n":
+    if run.returncode == 1 and not got and fault_of(run) == "NoMemory 23":
         return "NoMemory before the first line"
     return "WRONG"
 
@@ -92,8 +99,8 @@ def judged_over_store(run, is_right, want):
     differing = [one for one, other in zip(got, want) if one != other]
     if not is_right:
         return "WRONG after it"
-    if run.returncode == 1 and run.stderr in (b"ringd: NoMemory 23\n", b"ringd: StoreFault 24\n") and len(got) in (0, len(want)):
-        return f"told as {run.stderr.decode().split()[1]}, " + ("at the end" if got else "before the first line")
+    if run.returncode == 1 and fault_of(run) in ("NoMemory 23", "StoreFault 24") and len(got) in (0, len(want)):
+        return f"told as {fault_of(run).split()[0]}, " + ("at the end" if got else "before the first line")
     if run.returncode or len(got) != len(want):
         return "WRONG"
     if differing in ([], [LOST]):

@@ -15,11 +15,11 @@ import sys
 import tempfile
 from pathlib import Path
 
-from refused_allocations import REFUSING, TOP
+from refused_allocations import REFUSING, TOP, fault_of
 from common import program  # noqa: E402
 
 LOST = ('{"fault":"NoMemory","rule":23}', '{"fault":"StoreFault","rule":24}', '{"fault":"Closed","rule":25}')
-TOLD = (b"ringd: NoMemory 23\n", b"ringd: StoreFault 24\n")
+TOLD = ("NoMemory 23", "StoreFault 24")
 TABLE = (TOP / "examples" / "disks.csv").read_text()
 
 
@@ -67,8 +67,8 @@ def judged(run, later, want):
     if later != want:
         return "WRONG after it"
     got = answers(run.stdout)
-    if not got and run.returncode == 1 and run.stderr in TOLD:
-        return f"told as {run.stderr.decode().split()[1]}, before the first answer"
+    if not got and run.returncode == 1 and fault_of(run) in TOLD:
+        return f"told as {fault_of(run).split()[0]}, before the first answer"
     strange = [one for one, other in zip(got, want) if one != other and not (one[0] == "503" and one[1] in LOST)]
     if strange or len(got) != len(want):
         return "WRONG"

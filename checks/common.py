@@ -91,10 +91,27 @@ def scratch():
     return tempfile.TemporaryDirectory(prefix="ringd-check-")
 
 
-def run(*words, given=b"", seconds=60, **more):
+# The line that tells a fault, and the one behind it, which says what the fault means.
+FAULT = re.compile(rb"^(ringd: [A-Za-z]+ [0-9]+\n)(ringd: [^\n]+\n)?", re.M)
+UNTOLD = b"and no line says what that means\n"
+
+
+def without_meanings(errors):
+    """Standard error as it was told, without the line behind a fault's that says what the fault means. A fault that has none behind it gets
+    a line that no check wants. What these lines say, checks/programs.py shows."""
+    return FAULT.sub(lambda found: found[1] + (b"" if found[2] else UNTOLD), errors)
+
+
+def run_whole(*words, given=b"", seconds=60, **more):
     """Runs the program to its end: its status, standard output and standard error."""
     done = subprocess.run([*program(), *map(str, words)], input=given, capture_output=True, timeout=seconds, **more)
     return done.returncode, done.stdout, done.stderr
+
+
+def run(*words, **more):
+    """The same, but for what faults mean."""
+    status, told, errors = run_whole(*words, **more)
+    return status, told, without_meanings(errors)
 
 
 def has(name):
@@ -103,7 +120,7 @@ def has(name):
 
 
 def fault(name, number):
-    """What a program does that ends with this fault and has written nothing."""
+    """What a program does that ends with this fault and has written nothing, but for what the fault means."""
     return 1, b"", f"ringd: {name} {number}\n".encode()
 
 

@@ -56,7 +56,7 @@ class Daemon:
     def ended(self):
         """The same once it has ended by itself."""
         told, errors = self.process.communicate(timeout=30)
-        return self.process.returncode, told, errors.decode()
+        return self.process.returncode, told, common.without_meanings(errors).decode()
 
 
 def serving(daemon, numbers, rings):

@@ -20,7 +20,7 @@ import sys
 from concurrent.futures import ProcessPoolExecutor
 from pathlib import Path
 
-from common import MANY, Checks, fault, has, lines, run, rows_of, scratch
+from common import MANY, Checks, fault, has, lines, run, rows_of, scratch, without_meanings
 from kills import SENT, state
 from losses import read_memory
 from store import is_cut_off, is_named
@@ -94,7 +94,7 @@ def run_failing(words, room, sent, place=None):
                     set_register(process, NUMBER_AT[MACHINE], -1)
                 seen.append(f"{name} {os.path.basename(file)}")
     status = os.WEXITSTATUS(status) if os.WIFEXITED(status) else -os.WTERMSIG(status)
-    return (status, Path(answers).read_bytes(), Path(errors).read_bytes()), seen
+    return (status, Path(answers).read_bytes(), without_meanings(Path(errors).read_bytes())), seen
 
 
 def after_failure(task):

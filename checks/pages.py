@@ -125,7 +125,7 @@ def check_page(checks, page):
     sessions = [commands(at, held) for kind, at, held in found if kind == "console"]
     if not sessions:
         return
-    missing = [word for word in ("serve", "service", "renew") if f"$ ringd {word} " in page.read_text() and not has(word)]
+    missing = [word for word in ("serve", "service", "renew", "found", "version") if re.search(rf"(?m)^\$ ringd {word}\b", page.read_text()) and not has(word)]
     if missing:
         return checks.skip(str(name), f"the program has no {' and no '.join(missing)}")
     if "$ sqlite3 " in page.read_text() and not shutil.which("sqlite3"):

@@ -248,7 +248,8 @@ def broken_streams(checks):
 
 # Words that ask for nothing: a call for help, a program that there isn't, an argument that is missing, too many or not of its form.
 ASK_FOR_NOTHING = ["", "--help", "run --help", "help run", "walk", "serve FILE 0 1", "serve FILE 8642 65536", "serve FILE 8642", "loop FILE",
-                   "run more", "run --files FILE", "export FILE object 1 --format csv", "table FILE object --hour 1"]
+                   "run more", "run --files FILE", "export FILE object 1 --format csv", "table FILE object --hour 1", "found FILE TEXT",
+                   "found FILE --min-hours 1", "found FILE TEXT --min-hours 65536", "found FILE TEXT --min-hours 1 --hour x", "version more"]
 
 
 def other_words(checks):
@@ -291,7 +292,7 @@ def read_that_fails_midway(checks):
         rest, errors = asked.communicate(timeout=60)
     os.close(ours)
     checks.same("what came before is answered", (answers, rest), (b"".join(FIRST_ANSWERS.splitlines(True)[:3]), b""))
-    checks.same("and the fault is told", (asked.returncode, errors), fault("ReadFailed", 50)[::2])
+    checks.same("and the fault is told", (asked.returncode, common.without_meanings(errors)), fault("ReadFailed", 50)[::2])
 
 
 def ended(*words, given=None, **streams):
@@ -299,7 +300,7 @@ def ended(*words, given=None, **streams):
     if given is not None:
         streams["input"] = given
     done = subprocess.run([*common.program(), *words], stderr=subprocess.PIPE, timeout=60, **streams)
-    return done.returncode, done.stderr
+    return done.returncode, common.without_meanings(done.stderr)
 
 
 def no_places(checks):

@@ -3,7 +3,9 @@
 
 Rings of ringd, with numbers that are gone and a device that is marked, are exported as ring files of Swift. Swift's `Ring`
 loads them, and the nodes of 10,000 random paths in each are compared with those of ringd. A builder file of Swift is turned
-into requests by tools/from_swift.py, and the devices of both sides are compared. It takes some thirty seconds.
+into requests by tools/from_swift.py, and the devices of both sides are compared. Twelve builders of Swift's, which have seats,
+come in by `ringd found`: nothing may move by it, and the next rebalance moves one replica of a partition at most. It takes
+about a minute.
 
 It needs Debian's python3-swift beside the program; where that is missing all of it is skipped, with status 0.
 """
@@ -245,11 +247,89 @@ def no_conversion(checks):
         checks.same("a name that is none", convert(f"{room}/0.builder", "Object", "moved")[:2], (1, b""))
 
 
+def cluster(count, regions, zones):
+    """Devices of a cluster, two on each server."""
+    made = []
+    for place in range(count):
+        server = place // 2
+        address = f"10.{server % regions}.{server}.1"
+        made.append({"region": 1 + server % regions, "zone": server % zones, "ip": address, "port": 6200, "device": f"sd{place}",
+                     "weight": float(WEIGHTS[place % len(WEIGHTS)]) * 10, "meta": "", "replication_ip": address, "replication_port": 6200})
+    return made
+
+
+def builders():
+    """Twelve builders: one to three regions, gaps in the numbers, devices that are drained and marked, powers 4 to 12."""
+    for place in range(12):
+        replicas = 1 + place % 5
+        yield {
+            "power": (4, 5, 6, 7, 8, 9, 10, 11, 12, 4, 8, 12)[place], "replicas": replicas, "hours": (1, 24, 0)[place % 3],
+            "devices": cluster(replicas + 6 + 2 * place, 1 + place % 3, 1 + place % 4), "is_rebalanced": True,
+            "removed": [1, replicas + 3] if place % 2 else [], "drained": [2] if place % 3 == 1 else [],
+            "marked": [0] if place % 4 == 2 else [], "overload": 0.1 if place % 4 == 3 else 0,
+        }
+
+
+def published(room, file, name, version):
+    """A version as Swift loads it: the devices of each partition by replica."""
+    status, raw, errors = run("export", file, name, version, "--format", "swift")
+    if status:
+        raise ValueError(errors)
+    packed = f"{room}/{name}-{version}.ring.gz"
+    Path(packed).write_bytes(gzip.compress(raw, mtime=0))
+    return side("seats", room, file=packed)
+
+
+def told(file, hour, *messages):
+    """The replies to messages at an hour."""
+    status, answers, errors = run("run", "--file", file, given=lines(*((hour, text) for text in messages)))
+    if status:
+        raise ValueError(errors)
+    return [json.loads(answer[4:]) for answer in answers.decode().splitlines()]
+
+
+def one_founding(checks, room, place, asked):
+    """One builder comes over as it stands, and goes on."""
+    name, ring, file, text = f"builder {place}", f"ring{place}", f"{room}/{place}.db", f"{room}/{place}.text"
+    side("builder", room, file=f"{room}/{place}.builder", ring=f"{room}/{place}.ring.gz", **asked)
+    before = side("seats", room, file=f"{room}/{place}.ring.gz")
+    status, made, errors = convert(f"{room}/{place}.builder", ring, "--text")
+    options = re.search(r"ringd found \S+ \S+ (.*)", errors)
+    if not checks.show(f"{name}: its text, and how to found it", status == 0 and options, (status, errors)):
+        return
+    Path(text).write_bytes(made)
+    words = options[1].split()
+    checks.same(f"{name}: it is founded", run("found", file, text, *words), (0, b"", b""))
+    hour = int(words[words.index("--hour") + 1])
+    [reply] = told(file, hour, message(1, "publish", ring=ring))
+    checks.show(f"{name}: no seat moved, in Swift's own eyes", published(room, file, ring, reply["version"]) == before)
+    checks.show(f"{name}: what was published is the text that came in", run("export", file, ring, reply["version"])[1] == made)
+    row = [1, 0, "10.9.9.9", 6200, "new", "100.00"]
+    later = hour + asked["hours"]
+    early, added, moved, kept = told(file, later - 1, message(2, "rebalance", ring=ring, seed=1)) + told(
+        file, later, message(3, "import", ring=ring, rows=[row]), message(4, "rebalance", ring=ring, seed=2),
+        message(5, "publish", ring=ring))
+    leaving = asked["marked"]
+    checks.show(f"{name}: within its hours nothing moves but from marked devices",
+                asked["hours"] == 0 or early["changed"] == 0 or bool(asked["marked"]), early)
+    after = published(room, file, ring, kept["version"])
+    gone = [sum(one not in new for one in old if one[0] not in leaving) for old, new in zip(before, after)]
+    checks.show(f"{name}: then one replica of a partition moves at most, and some do",
+                added["done"] == "import" and moved["changed"] > 0 and max(gone) <= 1, (moved, max(gone)))
+
+
+def foundings(checks):
+    """Rings of Swift's come in with their seats."""
+    with scratch() as room:
+        for place, asked in enumerate(builders()):
+            one_founding(checks, room, place, asked)
+
+
 def main():
     if not has_swift():
         print("skipped swift.py: Swift's own code is not there. apt-get install python3-swift; it is used by /usr/bin/python3")
         return 0
-    return Checks("swift.py", 300).run(rings, refusals, conversion, no_conversion)
+    return Checks("swift.py", 300).run(rings, refusals, conversion, no_conversion, foundings)
 
 
 if __name__ == "__main__":

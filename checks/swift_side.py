@@ -1,7 +1,7 @@
 #!/usr/bin/python3
 """What checks/swift.py asks Swift's own code: checks/swift_side.py WHAT, in a folder of its own
 
-WHAT is `ring`, `builder` or `list`. What is asked comes as JSON on standard input, and so does the answer on standard output.
+WHAT is `ring`, `seats`, `builder` or `list`. What is asked comes as JSON on standard input, and so does the answer on standard output.
 It runs under Debian's Python, /usr/bin/python3, where python3-swift is installed, and uses no code of ringd.
 """
 import contextlib
@@ -47,8 +47,16 @@ def ring(asked):
     }
 
 
+def seats(asked):
+    """For each partition the devices of its replicas in a compressed ring file, each by its number and its words."""
+    utils.HASH_PATH_SUFFIX = b"no path is asked for"
+    loaded = Ring(asked["file"])
+    words = [device and [device["id"], device["ip"], device["port"], device["device"]] for device in loaded.devs]
+    return [[words[node["id"]] for node in loaded.get_part_nodes(partition)] for partition in range(loaded.partition_count)]
+
+
 def builder(asked):
-    """Makes a builder file by Swift's own builder."""
+    """Makes a builder file by Swift's own builder, and beside it a ring file where one is asked for."""
     made = RingBuilder(asked["power"], asked["replicas"], asked["hours"])
     for device in asked["devices"]:
         made.add_dev(dict(device))
@@ -59,10 +67,16 @@ def builder(asked):
     if asked["removed"]:
         made.pretend_min_part_hours_passed()
         made.rebalance(seed=2)
+    for id in asked.get("drained", []):
+        made.set_dev_weight(id, 0.0)
+        made.pretend_min_part_hours_passed()
+        made.rebalance(seed=3)
     for id in asked["marked"]:
         made.remove_dev(id)
     made.set_overload(asked["overload"])
     made.save(asked["file"])
+    if "ring" in asked:
+        made.get_ring().save(asked["ring"])
     return None
 
 
@@ -75,6 +89,6 @@ def listed(asked):
 
 
 if __name__ == "__main__":
-    what = {"ring": ring, "builder": builder, "list": listed}[sys.argv[1]]
+    what = {"ring": ring, "seats": seats, "builder": builder, "list": listed}[sys.argv[1]]
     answer = what(json.load(sys.stdin))
     json.dump(answer, sys.stdout)

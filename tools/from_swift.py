@@ -1,12 +1,18 @@
 #!/usr/bin/python3
-"""From a builder file of Swift to requests of ringd: tools/from_swift.py BUILDER RING CALLER [--hour N]
+"""From a builder file of Swift to a ring of ringd:
 
-Prints two lines for `ringd run` that make the ring of BUILDER, as `object.builder`, under the name RING: number 1 of CALLER
-creates it, with its power, replicas and hours, and number 2 imports its devices. CALLER must not have used these numbers.
-The hour of the lines is that of the clock, or N.
+    tools/from_swift.py BUILDER RING --text              the ring as it stands, for `ringd found`: nothing moves
+    tools/from_swift.py BUILDER RING CALLER [--hour N]   its devices alone, as requests for `ringd run`: all is placed anew
 
-Standard error tells what is left out. What ringd cannot keep, as replicas that are not whole, is told there too; then nothing
-is printed, and the exit status is 1.
+With --text it prints the text of the ring of BUILDER, as `object.builder`, under the name RING: its devices with their numbers,
+those that are about to be removed as `removed`, and each seat where it is. Standard error tells the hour of its last moves and
+the line of `ringd found` that takes the text.
+
+Without it, it prints two lines for `ringd run`: number 1 of CALLER creates the ring, with its power, replicas and hours, and
+number 2 imports its devices. CALLER must not have used these numbers. The hour of the lines is that of the clock, or N.
+
+Standard error tells what is left out. What ringd cannot keep, as replicas that are not whole, is told there too, with what may
+be done; then nothing is printed, and the exit status is 1.
 
 It reads BUILDER by Swift's own code, which unpickles it: read no file that you do not trust. It needs Debian's python3-swift
 and its Python, /usr/bin/python3. BUILDER is not changed.
@@ -61,7 +67,8 @@ def address_of(value, what):
     """An IPv4 address."""
     numbers = str(value).split(".")
     is_one = len(numbers) == 4 and all(re.fullmatch(r"0|[1-9][0-9]{0,2}", number) and int(number) < 256 for number in numbers)
-    need(is_one, f"the address of {what} is {value!r}; ringd takes IPv4 addresses, as 10.0.0.1")
+    need(is_one, f"the address of {what} is {value!r}; ringd takes IPv4 addresses, as 10.0.0.1: "
+                 "swift-ring-builder BUILDER set_info gives it another")
     return value
 
 
@@ -95,28 +102,37 @@ def rows_of(devices):
         need(place not in places, f"{what} has the address, port and name of {places.get(place)}")
         places[place] = what
         rows.append(row)
-    need(len(rows) <= 256, f"there are {len(rows)} devices; ringd takes 256 in a ring")
+    need(len(rows) <= 256, f"there are {len(rows)} devices; ringd takes 256 in a ring. One device a server, or a second storage policy "
+                           "with a ring of its own, keeps below that")
     return rows
 
 
-def left_out(builder, kept, going):
-    """What of a builder goes into no line."""
+def unseated(builder):
+    """What of a builder's seats goes into no line."""
     if builder._replica2part2dev is not None:
-        yield "which device has which partition: the first rebalance places everything anew"
+        yield "which device has which partition: the first rebalance places everything anew (--text takes the seats too)"
         yield "when partitions were moved: nothing is locked at first"
+
+
+def left_out(builder, devices):
+    """What ringd has no place for, of a builder and of these devices of its."""
     if builder.overload:
         yield f"the overload of {builder.overload:g}: ringd has none, and each device wants its share by weight"
     if builder.dispersion is not None and builder.ever_rebalanced:
         yield f"the dispersion of {builder.dispersion:g}: ringd reckons its own"
-    for device in going:
-        yield f"device {device['id']}, which is marked to be removed"
-    for device in kept:
+    for device in devices:
         if device.get("meta"):
             yield f"the meta of device {device['id']}: {device['meta']!r}"
         own = (device["ip"], device["port"])
         other = (device.get("replication_ip") or own[0], device.get("replication_port") or own[1])
         if other != own:
             yield f"the replication address of device {device['id']}, {other[0]}:{other[1]}: a ring file of ringd has its own address there"
+
+
+def unnumbered(kept, going):
+    """Which devices, and which of their numbers, go into no line."""
+    for device in going:
+        yield f"device {device['id']}, which is marked to be removed"
     for number, device in enumerate(kept):
         if device["id"] != number:
             yield f"the number of device {device['id']}, which is {number} here"
@@ -135,41 +151,114 @@ def read(path):
         raise Refused(f"{path} is not read as a builder file: {error}") from None
 
 
-def lines_of(builder, ring, caller, hour):
-    """The lines, and what is left out of them."""
+def devices_of(builder):
+    """The devices of a builder by rising number, and the numbers of those that are about to be removed."""
     growing = builder.next_part_power
     need(not growing, f"its power is being raised to {growing}: swift-ring-builder BUILDER finish_increase_partition_power")
-    gone = {device["id"] for device in builder._remove_devs}
     present = sorted((device for device in builder.devs if device is not None), key=lambda device: device["id"])
-    kept = [device for device in present if device["id"] not in gone]
-    going = [device for device in present if device["id"] in gone]
-    shared = {"caller": label(caller, "CALLER"), "ring": label(ring, "RING")}
-    create = {
-        "power": within(builder.part_power, 1, 14, "the part power"),
+    return present, {device["id"] for device in builder._remove_devs}
+
+
+def size_of(builder):
+    """The power, the replicas and the hours of a builder."""
+    power = builder.part_power
+    need(power <= 14, f"the part power is {power}; ringd takes 1 to 14. A ring's power is never lowered: only a new ring helps")
+    return {
+        "power": within(power, 1, 14, "the part power"),
         "replicas": replicas_of(builder.replicas),
         "min_hours": within(builder.min_part_hours, 0, 65535, "min_part_hours"),
     }
-    messages = [{**shared, "number": 1, "do": "create", **create}, {**shared, "number": 2, "do": "import", "rows": rows_of(kept)}]
+
+
+def lines_of(builder, ring, caller, hour):
+    """The lines, and what is left out of them."""
+    present, gone = devices_of(builder)
+    kept = [device for device in present if device["id"] not in gone]
+    going = [device for device in present if device["id"] in gone]
+    shared = {"caller": label(caller, "CALLER"), "ring": label(ring, "RING")}
+    messages = [{**shared, "number": 1, "do": "create", **size_of(builder)}, {**shared, "number": 2, "do": "import", "rows": rows_of(kept)}]
     lines = [f"{hour} {json.dumps(message, separators=(',', ':'))}" for message in messages]
     need(len(lines[1]) <= 65536, "the import is longer than 65536 bytes")
-    return lines, list(left_out(builder, kept, going))
+    return lines, [*unseated(builder), *left_out(builder, kept), *unnumbered(kept, going)]
 
 
-def main():
-    words = argparse.ArgumentParser(description="Prints the lines for `ringd run` that make the ring of a builder file of Swift.")
-    for name in ("BUILDER", "RING", "CALLER"):
-        words.add_argument(name)
-    words.add_argument("--hour", type=int, default=int(time.time()) // 3600, metavar="N", help="the hour of the lines")
-    given = words.parse_args()
-    try:
-        hour = within(given.hour, 0, MOST_HOUR, "the hour")
-        lines, without = lines_of(read(given.BUILDER), given.RING, given.CALLER, hour)
-    except Refused as why:
-        print(f"from_swift: {why}", file=sys.stderr)
-        return 1
+def seats_of(builder, replicas, known):
+    """For each partition the numbers of its devices, by replica."""
+    again = "swift-ring-builder BUILDER rebalance, until it has nothing to move, gives each replica a device of its own"
+    table = builder._replica2part2dev
+    need(table is not None and len(table) == replicas, f"no seat is given yet: {again}")
+    seats = []
+    for partition in range(builder.parts):
+        row = [table[replica][partition] if partition < len(table[replica]) else None for replica in range(replicas)]
+        for replica, device in enumerate(row):
+            need(device in known, f"replica {replica} of partition {partition} is on no device: {again}")
+        need(len(set(row)) == replicas, f"two replicas of partition {partition} are on one device, {max(row, key=row.count)}: {again}. "
+                                        "With fewer devices than replicas no builder can do that")
+        seats.append(row)
+    return seats
+
+
+def moved_at(builder):
+    """The latest hour at which partitions can have been moved last. Each has an age in hours, up to 255, at the time of the
+    builder's epoch. Swift raises that by whole hours alone, so a move may be up to an hour younger than its age says."""
+    ages = builder._last_part_moves
+    hour = builder._last_part_moves_epoch // 3600 - (min(ages) if ages else 0)
+    return min(hour + 1, int(time.time()) // 3600)
+
+
+def text_of(builder, ring):
+    """The lines of the ring's text, what is left out of it, and what `ringd found` is to be told besides."""
+    present, gone = devices_of(builder)
+    size, rows = size_of(builder), rows_of(present)
+    version = within(builder.version, 0, 4294967295, "the version")
+    seats = seats_of(builder, size["replicas"], {device["id"] for device in present})
+    lines = ["swift-ring-text 1", f"ring {label(ring, 'RING')}", f"version {version}", f"power {size['power']}"]
+    lines += [f"replicas {size['replicas']}", f"devices {len(rows)}"]
+    for device, (region, zone, address, port, name, weight) in zip(present, rows):
+        number = within(device["id"], 0, 65535, "the number of a device")
+        state = "removed" if number in gone else "present"
+        lines.append(f"{number} {region} {zone} {address} {port} {weight} {state} {name}")
+    lines += ["seats", *(" ".join(map(str, row)) for row in seats), "end"]
+    hour = within(moved_at(builder), 0, MOST_HOUR, "the hour of the last moves")
+    return lines, list(left_out(builder, present)), f"--min-hours {size['min_hours']} --hour {hour}", hour
+
+
+def print_text(builder, ring):
+    """Prints the ring's text, and tells how it comes in."""
+    lines, without, options, hour = text_of(builder, ring)
+    for what in without:
+        print(f"from_swift: left out: {what}", file=sys.stderr)
+    print(f"from_swift: the last moves were at hour {hour} at the latest, {time.strftime('%Y-%m-%d %H:00 UTC', time.gmtime(hour * 3600))}", file=sys.stderr)
+    print(f"from_swift: ringd found rings.db {ring}.text {options}", file=sys.stderr)
+    print("\n".join(lines))
+
+
+def print_lines(builder, ring, caller, hour):
+    """Prints the lines that make the ring of its devices."""
+    lines, without = lines_of(builder, ring, caller, hour)
     for what in without:
         print(f"from_swift: left out: {what}", file=sys.stderr)
     print("\n".join(lines))
+
+
+def main():
+    words = argparse.ArgumentParser(description="Prints the ring of a builder file of Swift, for `ringd found` or for `ringd run`.")
+    for name in ("BUILDER", "RING"):
+        words.add_argument(name)
+    words.add_argument("CALLER", nargs="?", help="who sends the lines; none with --text")
+    words.add_argument("--text", action="store_true", help="the ring as it stands, for `ringd found`")
+    words.add_argument("--hour", type=int, default=int(time.time()) // 3600, metavar="N", help="the hour of the lines")
+    given = words.parse_args()
+    if given.text == bool(given.CALLER):
+        words.error("--text takes no CALLER" if given.text else "CALLER or --text is missing")
+    try:
+        if given.text:
+            print_text(read(given.BUILDER), given.RING)
+        else:
+            print_lines(read(given.BUILDER), given.RING, given.CALLER, within(given.hour, 0, MOST_HOUR, "the hour"))
+    except Refused as why:
+        print(f"from_swift: {why}", file=sys.stderr)
+        return 1
     return 0
 
 

@@ -17,12 +17,13 @@ sys.path.append(str(TOP / "checks"))
 from common import program  # noqa: E402
 
 DOCS = TOP / "docs"
-# Where each crate stands from left to right, in halves of a box, so that no line goes behind the box of another crate.
+# Where each crate stands from left to right, in halves of a box, so that no box is on another and no line goes
+# behind the box of another crate.
 SLOTS = {name: int(slot) for name, slot in (word.split(":") for word in """
-    ring_room:0 ring_deal:0 path_lookup:0 ring_place:1 ring_share:2 ring_model:4 byte_streams:4 ring_text:6 swift_ring:5 ring_reads:5
+    ring_room:0 ring_deal:0 path_lookup:0 ring_place:2 ring_share:2 ring_model:4 byte_streams:8 ring_text:6 swift_ring:5 ring_reads:5
     ring_words:6 csv_import:6 request_book:8 ring_messages:10 builder:10 ring_book:10
-    store_tables:12 builder_store:12 store_model:13 store_rows:13 http_messages:17 http_routes:17 http_stream:18 http_api:18
-    timed_streams:19 http_sockets:19 line_stream:20 line_api:20 command_line:22 programs:22 file_stores:22 ringd:22
+    store_tables:12 builder_store:12 store_model:13 store_rows:13 http_messages:17 http_routes:17 http_stream:21 http_api:18
+    timed_streams:19 http_sockets:19 line_stream:16 line_api:20 command_line:21 ring_founding:22 programs:22 file_stores:22 ringd:22
     """.split())}
 COLOURS = ("#4e79a7", "#f28e2b", "#59a14f", "#e15759", "#b07aa1", "#76b7b2", "#9c755f", "#edc948", "#bab0ac")
 FONT = 'font-family="DejaVu Sans, Verdana, sans-serif"'
@@ -119,6 +120,9 @@ def layers():
             sys.exit(f"SLOTS: the line from {name} to {other} goes behind {', '.join(hidden)}")
     kinds = list(dict.fromkeys(heading for heading, _ in there.values()))
     for name, (x, y) in places.items():
+        covered = [other for other, place in places.items() if other != name and place[1] == y and abs(place[0] - x) < 112]
+        if covered:
+            sys.exit(f"SLOTS: {name} is on {', '.join(covered)}")
         drawn.box(x, y, 112, 28, "white", COLOURS[kinds.index(there[name][0])], 1.5)
         drawn.text(x + 56, y + 19, name, 12, anchor="middle")
     y = 42 + 56 * (top + 1)
