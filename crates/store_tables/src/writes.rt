@@ -69,8 +69,9 @@ pub(crate) trait Replaces {
     /// The contents with this row, in place of one with its key.
     ghost with_row: { Contents → Self → Contents };
 
-    /// Writes it over the row with its key, and tells how many rows that were: 1, or 0 where there
-    /// is none, and then nothing changed.
+    /// Writes it over the row with its key, and tells how many rows that were: 1, or 0, and then
+    /// nothing changed. No clause says that a 0 means that there is none: where one is there, the
+    /// next statement writes over it.
     fn set<S: Alter>(&self, tx: &mut Transaction<'_, S>) -> Result<usize, Error>
         requires { SeesStore (state S.Store tx.old.conn.now) }
         ensures same_reference { tx.new.conn.ghost_name ≡ tx.old.conn.ghost_name }
