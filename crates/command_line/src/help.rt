@@ -144,8 +144,8 @@ OpenStack Swift. The ring comes in under the name in its text, with its version,
 seat where it is. Its next device gets the number behind the greatest, and nothing of it is published yet.
 
 Each partition counts as moved at the hour of the machine's clock, or at the one that --hour gives, so a rebalance moves
-none of them before --min-hours hours have passed, but the seats of marked devices, which go at once. --from FILE also takes the rings, the published texts and the hour of
-FILE, which stays as it was.
+none of them before --min-hours hours have passed, but for the seats of marked devices, which go at once. --from FILE
+also takes the rings, the published texts and the hour of FILE, which stays as it was.
 
 NEW must not be there. Nothing is made where a text is that of no ring (BadText 31, with the line where it stops on standard
 error), is longer than 1048576 bytes (TooLong 29) or is not there (NoFile 27), where two rings have one name (RingExists 2),
