@@ -1,6 +1,6 @@
 -- What founding a store comes to.
 use Rattle.std.proofs.Common.{◌≡◌, ◌<◌, ◌+◌, ◌++◌, ◌∙◌, ◌∷◌, ◌⊎◌, [], Err, List, Ok, Option, Result}
-use Rattle.std.proofs.Common.{ap, arith, drop, get_or, inl, inr, length, map, max, refl, subst, sym, take, ℕ}
+use Rattle.std.proofs.Common.{ap, arith, drop, get_or, inl, inr, length, max, refl, subst, sym, take, ℕ}
 use native.Mathlib.Numerals.{unary_clauses}
 use Rattle.std.specs.Borrow.{Bor}
 use Rattle.std.specs.Prelude.{IfErr}
@@ -17,7 +17,6 @@ use Rattle.programs.proofs.Renewals.{renews}
 use Rattle.programs.specs.Begun.{Closing, IsClosedWhole, IsStoreFault, OpensNone, OpensOne, OpensTwo}
 use Rattle.programs.specs.Founding.{HoldRings, found_fault}
 use Rattle.programs.specs.Inner.Founding.{FailsOverFound, FailsTellingNoRing, FailsTellingNoRings}
-use Rattle.programs.specs.Inner.Founding.{FoundsOver}
 use Rattle.programs.specs.Performed.{texts_given}
 use Rattle.programs.specs.Renewing.{IsRead}
 use Rattle.programs.specs.declared.faults.ProgramFault.{ProgramFault}

@@ -1,6 +1,6 @@
 -- What the program `found` does.
-use Rattle.std.specs.Prelude.{◌≡◌, ◌⊎◌, ◌≤◌, ◌++◌, ◌∷◌, [], ⊤, ℕ, List, None, Option, Some, codes}
-use Rattle.std.specs.Prelude.{decimal, map, max}
+use Rattle.std.specs.Prelude.{◌≡◌, ◌⊎◌, ◌++◌, ◌∷◌, [], ℕ, List, None, Option, Some, codes}
+use Rattle.std.specs.Prelude.{decimal, max}
 use mathlib.Core.Logic.{inl, inr}
 use Rattle.std.specs.Borrow.{Bor}
 use Rattle.builder.specs.Step.{State}

@@ -10,6 +10,7 @@ pub mod Showing
 pub mod Renewing
 pub mod Founding
 pub mod Version
+pub mod Meanings
 pub mod Performed
 pub mod Calls
 pub mod Life

@@ -1,5 +1,5 @@
 -- What a program does that words ask for.
-use Rattle.std.specs.Prelude.{◌≡◌, ◌≢◌, ◌⊎◌, ◌++◌, ◌∷◌, ⊤, ℕ, List, [], Option, None, Some, map}
+use Rattle.std.specs.Prelude.{◌≡◌, ◌≢◌, ◌⊎◌, ◌++◌, ◌∷◌, ℕ, List, [], Option, None, Some, map}
 use mathlib.Core.Logic.{inl, inr}
 use Rattle.std.specs.Borrow.{Bor}
 use Rattle.byte_streams.specs.declared.counted.CountedReader.{CountedReader}
@@ -9,6 +9,7 @@ use Rattle.command_line.specs.Tasks.{AskFor}
 use Rattle.command_line.specs.declared.task.Task.{Task}
 use Rattle.command_line.specs.declared.task.Task.TheVariants as task
 use Rattle.programs.specs.Faults.{GetsText, GetsTexts, fault_line, stream_fault}
+use Rattle.programs.specs.Meanings.{meaning_texts}
 use Rattle.programs.specs.Importing.{AnswersImport, AsksImport, FailsToImport}
 use Rattle.programs.specs.Begun.{Closing, IsAny, IsClosed, IsClosedWhole, IsNew, OpensNone}
 use Rattle.programs.specs.Begun.{OpensOne}
@@ -235,17 +236,17 @@ module _ {M K R W E : Type 0} (memory : Keeping M) (stores : Keeping K)
 
   module _ (Refuses : List ℕ → ProgramFault → Type 0)
       (IsUnmade : List ℕ → State → ℕ → ProgramFault → Type 0) where
-    -- A task had a fault that was told, behind what it told before and in front of texts that say what
-    -- it means, and ended with the status that tells it; or it was an import that was refused, and then
-    -- no fault was told.
+    -- A task had a fault that was told in one line, behind what it told before and in front of the
+    -- line that says what it means, and ended with the status that tells it; or it was an import that
+    -- was refused, and then no fault was told.
     abbrev pub FailsAt : Task → ℕ → Type 0
     FailsAt t status = ((why : ProgramFault)
         × (failed : FailsSo memory stores Begins Ends remaining contents reader late_reader writer
         later Holds IsUnread before after Refuses IsUnmade t why)
         × (status ≡ fault_status t why)
-        × ((meaning : List (List ℕ)) × GetsTexts told errors late_errors (task_lines memory stores
-        Begins Ends remaining contents reader late_reader writer later Holds IsUnread before after
-        Refuses IsUnmade t why failed ++ fault_line why ∷ meaning)))
+        × GetsTexts told errors late_errors (task_lines memory stores Begins Ends remaining contents
+        reader late_reader writer later Holds IsUnread before after Refuses IsUnmade t why failed
+        ++ fault_line why ∷ meaning_texts t why))
         ⊎ (EndsSo memory stores Begins Ends remaining contents reader late_reader writer later Holds
         IsUnread before after IsMade t Refused × (late_errors ≡ errors) × (status ≡ 1))
 

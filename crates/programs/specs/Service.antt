@@ -2,7 +2,6 @@
 use Rattle.std.specs.Prelude.{◌≡◌, ◌⊎◌, ◌+◌, ◌++◌, ◌∷◌, ◌&&◌, ◌||◌, [], Bool, List, None, Option}
 use Rattle.std.specs.Prelude.{codes, decimal, false, length, nat_lt, not, true, ℕ}
 use mathlib.Core.Logic.{inl, inr}
-use Rattle.byte_streams.specs.declared.counted.CountedWriter.{CountedWriter}
 use Rattle.std.specs.declared.net.tcp.TcpStream.{TcpStream}
 use Rattle.ring_words.specs.Limits.{most_numbers}
 use Rattle.builder.specs.Life.{BookContent}
@@ -22,7 +21,7 @@ use Rattle.request_book.specs.declared.keeper.KeepFault.{KeepFault}
 use Rattle.ring_book.specs.Book.{Keeping}
 use Rattle.programs.specs.Begun.{AreServiceLimits, Closing, HasFailedBy, HasNotFailed, IsStoreFault}
 use Rattle.programs.specs.Begun.{WasClosed}
-use Rattle.programs.specs.Faults.{GetsText, GetsTexts, keep_fault}
+use Rattle.programs.specs.Faults.{keep_fault}
 use Rattle.programs.specs.Serving.{IsSet, MachineClock, accepts_tcp, shuts_tcp, tcp_remaining}
 use Rattle.programs.specs.declared.faults.ProgramFault.{ProgramFault}
 use Rattle.programs.specs.declared.faults.ProgramFault.TheVariants as fault

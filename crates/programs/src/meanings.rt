@@ -1,66 +1,67 @@
 //! What faults mean to the one who reads them, and what to look at.
-//!
-//! The texts are statics: the prover would read a constant of some thousand letters wherever it is
-//! named, and no contract speaks of them. `checks/programs.py` compares each with what comes.
-ghost use Rattle.std.specs.Prelude.{List, ℕ};
+ghost use Rattle.std.specs.Prelude.{◌≡◌, option_map};
 ghost use Rattle.programs.specs.Faults.{GetsTexts};
+ghost use Rattle.programs.specs.Meanings.{fault_meaning, file_told, input_named, meaning_parts};
+ghost use Rattle.programs.specs.Meanings.{meaning_texts, named_of_two, store_named};
 
 use crate::faults::{ProgramFault, tell_text};
 use byte_streams::CountedWriter;
 use command_line::Task;
 use std::io::Write;
 
-static NO_RING: &str =
+const NO_RING: &str =
     "it has no ring of this name: look at the spelling of both, since a FILE that is missing is made, without rings\n";
 
-static RING_EXISTS: &str =
+const RING_EXISTS: &str =
     "two rings have one name: give one of them another, in the second line of its text\n";
 
-static TOO_MANY_RINGS: &str =
+const TOO_MANY_RINGS: &str =
     "a file holds 16 rings at most: found some of them in a file of their own\n";
 
-static NOT_ASSIGNED: &str =
+const NOT_ASSIGNED: &str =
     "the ring was never rebalanced, so no device holds any of it: rebalance it first\n";
 
-static UNREADABLE: &str =
+const UNREADABLE: &str =
     "a name or a number is not of its form: names of rings and callers are 1 to 32 of a to z, 0 to 9 and -, a letter first; numbers are 0 to 4294967295, without leading zeros\n";
 
-static NO_MEMORY: &str =
+const NO_MEMORY: &str =
     "there was not enough memory: look at the limits of the unit or the shell, and try again\n";
 
-static STORE_FAULT: &str =
+const STORE_FAULT: &str =
     "another program has it, or it can't be opened, read or written: look who has it (fuser), at its folder and its rights, and whether the disk is full; a NEW must not be there yet\n";
 
-static BAD_STORE: &str =
+const BAD_STORE: &str =
     "it is no store of ringd, one of a later version, or damaged: look at its name and at 'ringd version' before you put a backup in its place\n";
 
-static NO_FILE: &str = "it can't be opened: look at its name and its rights\n";
+const NO_FILE: &str = "it can't be opened: look at its name and its rights\n";
 
-static NET_FAILED: &str =
+const NET_FAILED: &str =
     "the port can't be had: look who has it (ss -ltnp); where it was served already, no more connections can be had: start again\n";
 
-static TOO_LONG: &str =
+const TOO_LONG: &str =
     "it is too long: a CSV table may have 65536 bytes, an INPUT 32768, and the text of a ring 1048576\n";
 
-static BAD_PATH: &str =
+const BAD_PATH: &str =
     "this is no path: an account and a container are 1 to 256 bytes without a slash, and an object is 1 to 1024 bytes and in a container\n";
 
-static BAD_TEXT: &str =
+const BAD_TEXT: &str =
     "a TEXT is that of no ring: the line before the fault says which, and in which line it stops being one\n";
 
-static NO_VERSION: &str =
+const NO_VERSION: &str =
     "the ring was not published under this version: the reply to publish names it\n";
 
-static CLOCK_AHEAD: &str =
+const CLOCK_AHEAD: &str =
     "look at this machine's clock; where it is right, start once with --hour-ok\n";
 
-static READ_FAILED: &str = "it could not be read to its end: look at the file or the pipe\n";
+const READ_FAILED: &str = "it could not be read to its end: look at the file or the pipe\n";
 
-static WRITE_FAILED: &str =
+const WRITE_FAILED: &str =
     "the output could not be written: its reader is gone, or the disk is full; what was decided stays decided\n";
 
 /// What a fault means and what to look at.
-fn meaning_of(fault: ProgramFault) -> &'static str {
+fn meaning_of(fault: ProgramFault) -> &'static str
+    ensures { result.now ≡ fault_meaning fault }
+{
     match fault {
         ProgramFault::NoRing => NO_RING,
         ProgramFault::RingExists => RING_EXISTS,
@@ -84,16 +85,20 @@ fn meaning_of(fault: ProgramFault) -> &'static str {
 
 /// The file of a new store and, if there is one, that of an old one, as the words name them. Only an
 /// old one is bad.
-fn of_two<'a>(new: &'a str, old: Option<&'a str>, fault: ProgramFault) -> &'a str {
-    match old {
-        None => new,
-        Some(file) if fault == ProgramFault::BadStore => file,
-        Some(_) => "FILE or NEW",
+fn of_two<'a>(new: &'a str, old: Option<&'a str>, fault: ProgramFault) -> &'a str
+    ensures { result.now ≡ named_of_two new.now (option_map (λ file. file.now) old.entry) fault }
+{
+    match (old, fault) {
+        (None, _) => new,
+        (Some(file), ProgramFault::BadStore) => file,
+        (Some(_), _) => "FILE or NEW",
     }
 }
 
 /// The file of a task's store, as its words name it.
-fn store_named<'a>(task: &Task<'a>, fault: ProgramFault) -> &'a str {
+fn store_named<'a>(task: &Task<'a>, fault: ProgramFault) -> &'a str
+    ensures { result.now ≡ store_named task.now fault }
+{
     match task {
         Task::Serve { file, .. }
         | Task::Service { file, .. }
@@ -102,7 +107,8 @@ fn store_named<'a>(task: &Task<'a>, fault: ProgramFault) -> &'a str {
         | Task::Table { file, .. }
         | Task::Nodes { file, .. }
         | Task::Export { file, .. } => *file,
-        Task::Run { file } => file.unwrap_or("memory"),
+        Task::Run { file: Some(file) } => *file,
+        Task::Run { file: None } => "memory",
         Task::Renew { file, new } => of_two(*new, Some(*file), fault),
         Task::Found { new, from, .. } => of_two(*new, *from, fault),
         Task::Version => "",
@@ -110,18 +116,24 @@ fn store_named<'a>(task: &Task<'a>, fault: ProgramFault) -> &'a str {
 }
 
 /// The file that a task reads besides, as its words name it: of several texts any may be meant.
-fn input_named<'a>(task: &Task<'a>) -> &'a str {
+fn input_named<'a>(task: &Task<'a>) -> &'a str
+    ensures { result.now ≡ input_named task.now }
+{
     match task {
         Task::Loop { input, .. } => *input,
         Task::Import { csv, .. } => *csv,
-        Task::Found { texts, .. } if texts.len() == 1 => texts[0],
-        Task::Found { .. } => "TEXT",
+        Task::Found { texts, .. } => match texts.as_slice() {
+            [text] => *text,
+            _ => "TEXT",
+        },
         _ => "standard input",
     }
 }
 
 /// The file of which a fault tells, if it tells of one.
-fn file_told<'a>(task: &Task<'a>, fault: ProgramFault) -> Option<&'a str> {
+fn file_told<'a>(task: &Task<'a>, fault: ProgramFault) -> Option<&'a str>
+    ensures { option_map (λ file. file.now) result ≡ file_told task.now fault }
+{
     match fault {
         ProgramFault::NoRing
         | ProgramFault::NotAssigned
@@ -135,18 +147,32 @@ fn file_told<'a>(task: &Task<'a>, fault: ProgramFault) -> Option<&'a str> {
     }
 }
 
+/// Tells a line of a file, if of one, and of what a fault means.
+fn tell_line<E: Write>(errors: &mut CountedWriter<E>, file: Option<&str>, meaning: &str)
+    ensures { GetsTexts E.contents errors.old errors.new (meaning_parts (option_map
+        (λ file. file.now) file.entry) meaning.now) }
+{
+    match file {
+        Some(file) => {
+            tell_text(errors, "ringd: ");
+            tell_text(errors, file);
+            tell_text(errors, ": ");
+            tell_text(errors, meaning);
+        }
+        None => {
+            tell_text(errors, "ringd: ");
+            tell_text(errors, meaning);
+        }
+    }
+}
+
 /// Tells in one line of which file a fault tells, if of one, and what it means.
 pub(crate) fn tell_meaning<E: Write>(
     errors: &mut CountedWriter<E>,
     task: &Task<'_>,
     fault: ProgramFault,
 )
-    ensures { (texts : List (List ℕ)) × GetsTexts E.contents errors.old errors.new texts }
+    ensures { GetsTexts E.contents errors.old errors.new (meaning_texts task.now fault) }
 {
-    let file = file_told(task, fault).unwrap_or("");
-    let between = if file.is_empty() { "" } else { ": " };
-    tell_text(errors, "ringd: ");
-    tell_text(errors, file);
-    tell_text(errors, between);
-    tell_text(errors, meaning_of(fault));
+    tell_line(errors, file_told(task, fault), meaning_of(fault));
 }

@@ -1,6 +1,6 @@
-use Rattle.std.proofs.Common.{◌∙◌, ap, refl}
+use Rattle.std.proofs.Common.{◌∙◌, ap}
 use Rattle.std.proofs.lemmas.Result.{IfErr-weaker}
-use Rattle.programs.specs.Left.{Closes, FailsToMake, RefusesToOpen}
+use Rattle.programs.specs.Left.{Closes, FailsToMake}
 use Rattle.programs.proofs.Foundings.{fails_over_nothing, fails_over_read}
 use Rattle.programs.proofs.founding.found_beside.Goals.{in-Some+in_ok-found-in-Some, in-None}
 use Rattle.programs.proofs.founding.found_beside.Goals as goal

@@ -1,20 +1,7 @@
-use Rattle.std.proofs.Common.{◌∷◌, [], refl}
+-- What a fault means, told of the file of which it tells.
 use Rattle.programs.proofs.meanings.tell_meaning.Goals as goal
 
 pub returns : goal.returns
-returns g c = (
-  _ ∷ _ ∷ _ ∷ _ ∷ [],
-  (
-    c.tell_text.new.errors,
-    c.tell_text.ensures,
-    (
-      c.tell_text-2.new.errors,
-      c.tell_text-2.ensures,
-      (
-        c.tell_text-3.new.errors,
-        c.tell_text-3.ensures,
-        (c.tell_text-4.new.errors, c.tell_text-4.ensures, refl),
-      ),
-    ),
-  ),
-)
+returns g c =
+    let told = rw c.file_told.ensures at c.tell_line.ensures in
+    rw c.meaning_of.ensures at told

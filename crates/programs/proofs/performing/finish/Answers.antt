@@ -10,11 +10,8 @@ returns-in-Err g c = inr (
     c.in-Err.fault,
     c.in-Err.ensures.failed.0,
     c.fault_status.ensures,
-    (
-      c.tell_meaning.ensures.0,
-      texts_and g.E.Write.contents c.args.errors.now c.carry_out.new.errors c.tell_fault.new.errors
-          c.tell_meaning.new.errors _ _ _ c.in-Err.ensures.failed.1 c.tell_fault.ensures
-          c.tell_meaning.ensures.1,
-    ),
+    texts_and g.E.Write.contents c.args.errors.now c.carry_out.new.errors c.tell_fault.new.errors
+        c.tell_meaning.new.errors _ _ _ c.in-Err.ensures.failed.1 c.tell_fault.ensures
+        c.tell_meaning.ensures,
   ),
 )
