@@ -1,6 +1,7 @@
 pub mod BadTables
 pub mod Endings
 pub mod Foundings
+pub mod Exported
 pub mod Kept
 pub mod Renewals
 pub mod Runs

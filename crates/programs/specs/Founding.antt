@@ -1,18 +1,21 @@
 -- What the program `found` does.
-use Rattle.std.specs.Prelude.{◌≡◌, ◌⊎◌, ◌++◌, ◌∷◌, [], ℕ, List, None, Option, Some, codes}
-use Rattle.std.specs.Prelude.{decimal, max}
+use Rattle.std.specs.Prelude.{◌≡◌, ◌⊎◌, ◌++◌, ◌∷◌, [], ℕ, IsTrue, List, None, Option, Some, codes}
+use Rattle.std.specs.Prelude.{decimal, max, true}
 use mathlib.Core.Logic.{inl, inr}
 use Rattle.std.specs.Borrow.{Bor}
 use Rattle.builder.specs.Step.{State}
 use Rattle.ring_book.specs.Book.{Keeping}
-use Rattle.ring_founding.specs.Founding.{AreFounded, AreUnfounded}
+use Rattle.ring_founding.specs.Founding.{AreFounded, AreUnfounded, IsFounded}
 use Rattle.ring_founding.specs.declared.founding.FoundFault.{FoundFault}
 use Rattle.ring_founding.specs.declared.founding.FoundFault.TheVariants as found
 use Rattle.ring_founding.specs.declared.founding.Terms.{Terms}
+use Rattle.ring_model.specs.Ring.{RingRecord, is_assigned}
+use Rattle.ring_model.specs.Valid.{IsValid}
 use Rattle.ring_reads.specs.Reads.{SpellsNoRing}
-use Rattle.ring_text.specs.Snapshot.{SnapshotRecord}
-use Rattle.ring_text.specs.Spelling.{Spells}
+use Rattle.ring_text.specs.Snapshot.{SnapshotRecord, snapshot_of}
+use Rattle.ring_text.specs.Spelling.{Spells, spelling}
 use Rattle.ring_text.specs.Stops.{IsStop}
+use Rattle.ring_words.specs.Texts.{is_label}
 use Rattle.programs.specs.Begun.{Closing, IsClosedWhole, IsStoreFault, OpensNone, OpensOne, OpensTwo}
 use Rattle.programs.specs.Renewing.{FailsToRead, IsRead}
 use Rattle.programs.specs.Serving.{TellsHour}
@@ -163,3 +166,16 @@ module _ {K : Type 0} (g : Keeping K) (Begins : List ℕ → K → Type 0)
     founding_lines IsUnread names min_hours given from why (inl (texts, none)) =
         no_ring_lines Holds IsUnread texts.name why texts.failed
     founding_lines IsUnread names min_hours given from why (inr stores) = []
+
+-- ---- what was exported
+
+-- A text is the one that was published of a ring under a name, and tells a snapshot, of which a ring
+-- is founded: it has the version, the power and the replicas of the first, the same devices, and each
+-- of them on the same seats, under the same name.
+abbrev pub ExportedComesIn : Type 0
+ExportedComesIn = (name text : List ℕ) (old ring : RingRecord) (terms : Terms)
+    (snapshot : SnapshotRecord)
+    → IsValid old → is_assigned old ≡ true → IsTrue (is_label name)
+    → text ≡ spelling (snapshot_of name old) → Spells text snapshot → IsFounded terms snapshot ring
+    → (snapshot.name ≡ name) × (ring.version ≡ old.version) × (ring.power ≡ old.power)
+    × (ring.replicas ≡ old.replicas) × (ring.devices ≡ old.devices) × (ring.seats ≡ old.seats)

@@ -1,5 +1,6 @@
 //! What follows from the definitions alone.
 ghost use Rattle.programs.specs.Begun.{IsClosed, WasClosed};
+ghost use Rattle.programs.specs.Founding.{ExportedComesIn};
 ghost use Rattle.programs.specs.Life.{CrashEndsRun, CrashLeavesCall, CrashLeavesHeld, DoneIsOneRun};
 ghost use Rattle.programs.specs.Life.{FailedIsOneRun, FoundedStayValid, GoesOnWithLife};
 ghost use Rattle.programs.specs.Life.{ProgramsAreOneRun};
@@ -77,4 +78,10 @@ pub fn all_programs_are_one_run<S: Stores>()
 /// its hours have passed, counted from the hour of the founding. The rings are valid all the way.
 pub fn founded_rings_stay_valid<S: Stores>()
     ensures { FoundedStayValid S.Kept.Keeper S.begins (Closes S.Stores) (GivesText S.Stores) }
+{}
+
+/// The text that is published of a ring, which `export` writes, is founded as the ring that it was
+/// then: under its name, with its version, its devices, and each of them on its seats.
+pub fn an_exported_ring_comes_in()
+    ensures { ExportedComesIn }
 {}
