@@ -9,6 +9,7 @@ import re
 import socket
 import subprocess
 import sys
+import time
 from pathlib import Path
 
 import common
@@ -90,7 +91,7 @@ def as_it_stands(checks):
         checks.same("as the text that came in", run("export", room.new, "tiny", "2"), (0, TINY_TEXT, b""))
         room.removed()
         checks.same("at the clock's hour, where none is given", run("found", room.new, f"{folder}/tiny", "--min-hours", "0"), (0, b"", b""))
-        checks.show("which is that of this machine", rows_of(room.new)["meta"][0][2] > 490000, rows_of(room.new)["meta"])
+        checks.show("which is that of this machine", 0 <= time.time() // 3600 - rows_of(room.new)["meta"][0][2] <= 1, rows_of(room.new)["meta"])
 
 
 def rests(checks):
@@ -159,6 +160,9 @@ def refusals(checks):
         checks.same("one name twice", room.found("tiny again"), fault("RingExists", 2))
         names = [f"t{n}" for n in range(17)]
         checks.same("17 rings", room.found(" ".join(names)), fault("TooManyRings", 3))
+        full = f"{folder}/full.db"
+        run("found", full, *(f"{folder}/{name}" for name in names[:16]), "--min-hours", 1, "--hour", 1)
+        checks.same("a 17th ring beside 16 of a file", room.found("t16", "--from", full), fault("TooManyRings", 3))
         checks.same("the first text decides", room.found("none bad"), fault("NoFile", 27))
         checks.same("no new file was made", room.made(), [])
         checks.same("16 rings", room.found(" ".join(names[:16])), (0, b"", b""))

@@ -16,6 +16,7 @@ import random
 import re
 import subprocess
 import sys
+import time
 from pathlib import Path
 
 import common
@@ -219,32 +220,56 @@ def conversion(checks):
         checks.same("swift-ring-builder and ringd list the same devices", ours, theirs)
 
 
-def no_conversion(checks):
-    """Builders that ringd cannot keep are refused whole."""
-    good = {"power": 3, "replicas": 2, "hours": 1, "devices": swift_devices(2), "is_rebalanced": False, "removed": [], "marked": [],
-            "overload": 0}
+def unfit():
+    """Builders that ringd cannot keep: what is changed of a good one, what is told of it, and whether that counts with --text alone."""
     first, second = swift_devices(2)
-    bad = {
-        "replicas that are not whole": {"replicas": 2.5},
-        "six replicas": {"replicas": 6},
-        "a power of 15": {"power": 15},
-        "a weight of three decimals": {"devices": [{**first, "weight": 1.125}, second]},
-        "a weight over 1000000": {"devices": [{**first, "weight": 1000000.01}, second]},
-        "an address of IPv6": {"devices": [{**first, "ip": "fe80::1"}, second]},
-        "two devices at one place": {"devices": [first, {**second, **{key: first[key] for key in ("ip", "port", "device")}}]},
-        "a zone of over 16 bits": {"devices": [{**first, "zone": 65536}, second]},
-    }
+    yield "replicas that are not whole", {"replicas": 2.5, "devices": cluster(8, 1, 1)}, "set_replicas", False
+    yield "six replicas", {"replicas": 6, "devices": cluster(8, 1, 1)}, "set_replicas", False
+    yield "a power of 15", {"power": 15, "is_rebalanced": False}, "only a new ring helps", False
+    yield "a weight of three decimals", {"devices": [{**first, "weight": 1.125}, second]}, "set_weight", False
+    yield "a weight over 1000000", {"devices": [{**first, "weight": 1000000.01}, second]}, "0.00 to 1000000.00", False
+    yield "an address of IPv6", {"devices": [{**first, "ip": "fe80::1"}, second]}, "set_info", False
+    yield "a name as an address", {"devices": [{**first, "ip": "node1.example.org"}, second]}, "set_info", False
+    same = {key: first[key] for key in ("ip", "port", "device", "replication_ip", "replication_port")}
+    yield "two devices at one place", {"devices": [first, {**second, **same}]}, "set_info", False
+    yield "a zone of over 16 bits", {"devices": [{**first, "zone": 65536}, second]}, "0 to 65535", False
+    yield "257 devices", {"devices": cluster(257, 1, 1)}, "a ring of its own", False
+    yield "seats that were never given", {"is_rebalanced": False}, "rebalance", True
+    yield "two replicas of a partition on one device", {"is_doubled": True}, "rebalance", True
+    yield "a replication address of its own", {"devices": [{**first, "replication_ip": "10.1.0.1"}, second]}, "set_info d0 R10.0.0.1:6200", True
+
+
+def no_conversion(checks):
+    """Builders that ringd cannot keep are refused whole, in one line that says what may be done."""
+    good = {"power": 3, "replicas": 2, "hours": 1, "devices": swift_devices(2), "is_rebalanced": True, "removed": [], "marked": [],
+            "overload": 0}
     with scratch() as room:
-        for place, (what, change) in enumerate({"nothing bad": {}, **bad}.items()):
-            builder = f"{room}/{place}.builder"
-            side("builder", room, file=builder, **{**good, **change})
-            status, made, told = convert(builder, "object", "moved")
-            if change:
-                checks.show(f"{what}: refused, by {told.strip()}", status == 1 and not made and told.count("\n") == 1, (status, made, told))
-            else:
-                checks.show(f"{what}: taken", status == 0 and made.count(b"\n") == 2, (status, made, told))
+        side("builder", room, file=f"{room}/good.builder", **good)
+        for words, count in (("moved",), 2), (("--text",), 18):
+            status, made, told = convert(f"{room}/good.builder", "object", *words)
+            checks.show(f"nothing bad: taken, by {words[0]}", status == 0 and made.count(b"\n") == count, (status, made, told))
+        for what, change, way, is_of_text in unfit():
+            side("builder", room, file=f"{room}/bad.builder", **{**good, **change})
+            for words in [["--text"]] if is_of_text else [["--text"], ["moved"]]:
+                status, made, told = convert(f"{room}/bad.builder", "object", *words)
+                checks.show(f"{what}: refused, by {told.strip()}", status == 1 and not made and told.count("\n") == 1 and way in told,
+                            (status, made, told))
         checks.same("a file that is none", convert(f"{room}/none", "object", "moved")[:2], (1, b""))
-        checks.same("a name that is none", convert(f"{room}/0.builder", "Object", "moved")[:2], (1, b""))
+        checks.same("a name that is none", convert(f"{room}/good.builder", "Object", "--text")[:2], (1, b""))
+        checks.same("an hour with --text", convert(f"{room}/good.builder", "object", "--text", "--hour", "7")[:2], (2, b""))
+
+
+def unknown_hours(checks):
+    """A builder that does not tell when its seats moved: none counts as free before its hours have passed from now on."""
+    asked = {"power": 3, "replicas": 2, "hours": 24, "devices": swift_devices(2), "is_rebalanced": True, "removed": [], "marked": [],
+             "overload": 0}
+    with scratch() as room:
+        side("builder", room, file=f"{room}/a.builder", is_pretended=True, **asked)
+        begun = int(time.time()) // 3600
+        status, made, told = convert(f"{room}/a.builder", "object", "--text")
+        hour = re.search(r"--min-hours 24 --hour (\d+)$", told.strip())
+        checks.show("hours that were pretended to have passed: the hour of now is told, and why",
+                    status == 0 and made and hour and begun <= int(hour[1]) <= begun + 1 and "does not tell" in told, (status, told))
 
 
 def cluster(count, regions, zones):
@@ -305,15 +330,15 @@ def one_founding(checks, room, place, asked):
     checks.show(f"{name}: no seat moved, in Swift's own eyes", published(room, file, ring, reply["version"]) == before)
     checks.show(f"{name}: what was published is the text that came in", run("export", file, ring, reply["version"])[1] == made)
     row = [1, 0, "10.9.9.9", 6200, "new", "100.00"]
-    later = hour + asked["hours"]
-    early, added, moved, kept = told(file, later - 1, message(2, "rebalance", ring=ring, seed=1)) + told(
-        file, later, message(3, "import", ring=ring, rows=[row]), message(4, "rebalance", ring=ring, seed=2),
-        message(5, "publish", ring=ring))
-    leaving = asked["marked"]
-    checks.show(f"{name}: within its hours nothing moves but from marked devices",
-                asked["hours"] == 0 or early["changed"] == 0 or bool(asked["marked"]), early)
+    later, leaving = hour + asked["hours"], asked["marked"]
+    early, kept = told(file, later - 1, message(2, "rebalance", ring=ring, seed=1), message(3, "publish", ring=ring))
+    rested = published(room, file, ring, kept["version"])
+    strayed = [old for old, new in zip(before, rested) if any(one != other and one[0] not in leaving for one, other in zip(old, new))]
+    checks.show(f"{name}: within its hours nothing moves but from marked devices", asked["hours"] == 0 or not strayed, (early, strayed[:2]))
+    added, moved, kept = told(file, later, message(4, "import", ring=ring, rows=[row]), message(5, "rebalance", ring=ring, seed=2),
+                              message(6, "publish", ring=ring))
     after = published(room, file, ring, kept["version"])
-    gone = [sum(one not in new for one in old if one[0] not in leaving) for old, new in zip(before, after)]
+    gone = [sum(one != other and one[0] not in leaving for one, other in zip(old, new)) for old, new in zip(rested, after)]
     checks.show(f"{name}: then one replica of a partition moves at most, and some do",
                 added["done"] == "import" and moved["changed"] > 0 and max(gone) <= 1, (moved, max(gone)))
 
@@ -329,7 +354,7 @@ def main():
     if not has_swift():
         print("skipped swift.py: Swift's own code is not there. apt-get install python3-swift; it is used by /usr/bin/python3")
         return 0
-    return Checks("swift.py", 300).run(rings, refusals, conversion, no_conversion, foundings)
+    return Checks("swift.py", 300).run(rings, refusals, conversion, no_conversion, unknown_hours, foundings)
 
 
 if __name__ == "__main__":

@@ -48,10 +48,10 @@ def ring(asked):
 
 
 def seats(asked):
-    """For each partition the devices of its replicas in a compressed ring file, each by its number and its words."""
+    """For each partition the devices of its replicas in a compressed ring file, each with all that is compared of it."""
     utils.HASH_PATH_SUFFIX = b"no path is asked for"
     loaded = Ring(asked["file"])
-    words = [device and [device["id"], device["ip"], device["port"], device["device"]] for device in loaded.devs]
+    words = [device and told(device) for device in loaded.devs]
     return [[words[node["id"]] for node in loaded.get_part_nodes(partition)] for partition in range(loaded.partition_count)]
 
 
@@ -73,6 +73,10 @@ def builder(asked):
         made.rebalance(seed=3)
     for id in asked["marked"]:
         made.remove_dev(id)
+    if asked.get("is_doubled"):
+        made._replica2part2dev[0][0] = made._replica2part2dev[1][0]
+    if asked.get("is_pretended"):
+        made.pretend_min_part_hours_passed()
     made.set_overload(asked["overload"])
     made.save(asked["file"])
     if "ring" in asked:

@@ -59,7 +59,8 @@ def weight_of(value, what):
         raise Refused(f"the weight of {what} is {value!r}, which is no number") from None
     need(weight.is_finite() and 0 <= weight <= 1000000, f"the weight of {what} is {value}; ringd takes 0.00 to 1000000.00")
     rounded = weight.quantize(decimal.Decimal("0.01"))
-    need(rounded == weight, f"the weight of {what} is {value}; ringd takes two decimals at most")
+    need(rounded == weight, f"the weight of {what} is {value}; ringd takes two decimals at most: swift-ring-builder BUILDER set_weight "
+                            f"gives it {rounded}, and moves nothing before a rebalance")
     return str(abs(rounded))
 
 
@@ -68,20 +69,24 @@ def address_of(value, what):
     numbers = str(value).split(".")
     is_one = len(numbers) == 4 and all(re.fullmatch(r"0|[1-9][0-9]{0,2}", number) and int(number) < 256 for number in numbers)
     need(is_one, f"the address of {what} is {value!r}; ringd takes IPv4 addresses, as 10.0.0.1: "
-                 "swift-ring-builder BUILDER set_info gives it another")
+                 "swift-ring-builder BUILDER set_info gives it another of the same server (then write_ring, and distribute the ring file). "
+                 "A cluster that has IPv6 alone can't come over")
     return value
 
 
 def replicas_of(value):
     """A whole number of replicas."""
-    need(float(value).is_integer(), f"there are {float(value):g} replicas, which is not whole: swift-ring-builder BUILDER set_replicas N")
-    return within(int(value), 1, 5, "the number of replicas")
+    way = "swift-ring-builder BUILDER set_replicas N, and then rebalance until it has nothing to move; that moves data"
+    need(float(value).is_integer(), f"there are {float(value):g} replicas, which is not whole: {way}")
+    need(1 <= value <= 5, f"there are {float(value):g} replicas; ringd takes 1 to 5: {way}")
+    return int(value)
 
 
 def row_of(device, what):
     """The row of an import for one of Swift's devices."""
     name = str(device["device"])
-    need(re.fullmatch(r"[A-Za-z0-9_-]{1,32}", name), f"the name of {what} is {name!r}; ringd takes 1 to 32 letters, digits, _ and -")
+    need(re.fullmatch(r"[A-Za-z0-9_-]{1,32}", name), f"the name of {what} is {name!r}; ringd takes 1 to 32 letters, digits, _ and -: "
+                                                      "swift-ring-builder BUILDER set_info gives it another, once its disk is mounted there")
     return [
         within(device.get("region", 1), 0, 65535, f"the region of {what}"),
         within(device["zone"], 0, 65535, f"the zone of {what}"),
@@ -99,7 +104,8 @@ def rows_of(devices):
         what = f"device {device['id']}"
         row = row_of(device, what)
         place = tuple(row[2:5])
-        need(place not in places, f"{what} has the address, port and name of {places.get(place)}")
+        need(place not in places, f"{what} has the address, port and name of {places.get(place)}: swift-ring-builder BUILDER set_info gives "
+                                    "it its own")
         places[place] = what
         rows.append(row)
     need(len(rows) <= 256, f"there are {len(rows)} devices; ringd takes 256 in a ring. One device a server, or a second storage policy "
@@ -123,10 +129,24 @@ def left_out(builder, devices):
     for device in devices:
         if device.get("meta"):
             yield f"the meta of device {device['id']}: {device['meta']!r}"
-        own = (device["ip"], device["port"])
-        other = (device.get("replication_ip") or own[0], device.get("replication_port") or own[1])
-        if other != own:
+        other = replication_of(device)
+        if other != (device["ip"], device["port"]):
             yield f"the replication address of device {device['id']}, {other[0]}:{other[1]}: a ring file of ringd has its own address there"
+
+
+def replication_of(device):
+    """Where a device is for replicators."""
+    return device.get("replication_ip") or device["ip"], device.get("replication_port") or device["port"]
+
+
+def need_one_address(devices):
+    """Refuses devices that replicators reach elsewhere: a ring file of ringd would lead them to the address of the proxies."""
+    for device in devices:
+        own, other = (device["ip"], device["port"]), replication_of(device)
+        need(other == own, f"device {device['id']} has a replication address of its own, {other[0]}:{other[1]}. A ring file of ringd has "
+                           f"{own[0]}:{own[1]} there, and replicators that listen at the other alone find no device of theirs. Have them "
+                           f"listen at the first, and swift-ring-builder BUILDER set_info d{device['id']} R{own[0]}:{own[1]}, write_ring, and "
+                           "distribute the ring file; or stay with Swift's builder")
 
 
 def unnumbered(kept, going):
@@ -154,7 +174,9 @@ def read(path):
 def devices_of(builder):
     """The devices of a builder by rising number, and the numbers of those that are about to be removed."""
     growing = builder.next_part_power
-    need(not growing, f"its power is being raised to {growing}: swift-ring-builder BUILDER finish_increase_partition_power")
+    need(not growing, f"its power is being raised to {growing}: end that first, by swift-ring-builder BUILDER increase_partition_power "
+                      "or, to take it back, cancel_increase_partition_power, each before finish_increase_partition_power, with "
+                      "swift-object-relinker between, as Swift's pages say")
     present = sorted((device for device in builder.devs if device is not None), key=lambda device: device["id"])
     return present, {device["id"] for device in builder._remove_devs}
 
@@ -186,7 +208,8 @@ def seats_of(builder, replicas, known):
     """For each partition the numbers of its devices, by replica."""
     again = "swift-ring-builder BUILDER rebalance, until it has nothing to move, gives each replica a device of its own"
     table = builder._replica2part2dev
-    need(table is not None and len(table) == replicas, f"no seat is given yet: {again}")
+    need(table is not None, f"no seat is given yet: {again}")
+    need(len(table) == replicas, f"there are {replicas} replicas, and seats for {len(table)}: {again}")
     seats = []
     for partition in range(builder.parts):
         row = [table[replica][partition] if partition < len(table[replica]) else None for replica in range(replicas)]
@@ -199,10 +222,13 @@ def seats_of(builder, replicas, known):
 
 
 def moved_at(builder):
-    """The latest hour at which partitions can have been moved last. Each has an age in hours, up to 255, at the time of the
-    builder's epoch. Swift raises that by whole hours alone, so a move may be up to an hour younger than its age says."""
-    ages = builder._last_part_moves
-    hour = builder._last_part_moves_epoch // 3600 - (min(ages) if ages else 0)
+    """The latest hour at which partitions can have been moved last, or None where the builder does not tell: its hours were
+    pretended to have passed, or it was made of a ring file. Each has an age in hours, up to 255, at the time of the builder's
+    epoch. Swift raises that where a whole hour has passed alone, so a move may be up to an hour younger than its age says."""
+    ages, epoch = builder._last_part_moves, builder._last_part_moves_epoch
+    if not epoch:
+        return None
+    hour = int(epoch) // 3600 - (min(ages) if ages else 0)
     return min(hour + 1, int(time.time()) // 3600)
 
 
@@ -210,6 +236,7 @@ def text_of(builder, ring):
     """The lines of the ring's text, what is left out of it, and what `ringd found` is to be told besides."""
     present, gone = devices_of(builder)
     size, rows = size_of(builder), rows_of(present)
+    need_one_address(present)
     version = within(builder.version, 0, 4294967295, "the version")
     seats = seats_of(builder, size["replicas"], {device["id"] for device in present})
     lines = ["swift-ring-text 1", f"ring {label(ring, 'RING')}", f"version {version}", f"power {size['power']}"]
@@ -219,17 +246,22 @@ def text_of(builder, ring):
         state = "removed" if number in gone else "present"
         lines.append(f"{number} {region} {zone} {address} {port} {weight} {state} {name}")
     lines += ["seats", *(" ".join(map(str, row)) for row in seats), "end"]
-    hour = within(moved_at(builder), 0, MOST_HOUR, "the hour of the last moves")
-    return lines, list(left_out(builder, present)), f"--min-hours {size['min_hours']} --hour {hour}", hour
+    return lines, list(left_out(builder, present)), size["min_hours"], moved_at(builder)
 
 
 def print_text(builder, ring):
     """Prints the ring's text, and tells how it comes in."""
-    lines, without, options, hour = text_of(builder, ring)
+    lines, without, min_hours, moved = text_of(builder, ring)
     for what in without:
         print(f"from_swift: left out: {what}", file=sys.stderr)
-    print(f"from_swift: the last moves were at hour {hour} at the latest, {time.strftime('%Y-%m-%d %H:00 UTC', time.gmtime(hour * 3600))}", file=sys.stderr)
-    print(f"from_swift: ringd found rings.db {ring}.text {options}", file=sys.stderr)
+    hour = int(time.time()) // 3600 if moved is None else within(moved, 0, MOST_HOUR, "the hour of the last moves")
+    when = f"hour {hour}" + time.strftime(", %Y-%m-%d %H:00 UTC", time.gmtime(hour * 3600))
+    if moved is None:
+        print(f"from_swift: the builder does not tell when its last moves were (its hours were pretended to have passed, or it was made "
+              f"of a ring file): the hour of now stands for it, {when}. Give an earlier one if you know it", file=sys.stderr)
+    else:
+        print(f"from_swift: the last moves were at {when}, at the latest", file=sys.stderr)
+    print(f"from_swift: ringd found rings.db {ring}.text --min-hours {min_hours} --hour {hour}", file=sys.stderr)
     print("\n".join(lines))
 
 
@@ -247,15 +279,18 @@ def main():
         words.add_argument(name)
     words.add_argument("CALLER", nargs="?", help="who sends the lines; none with --text")
     words.add_argument("--text", action="store_true", help="the ring as it stands, for `ringd found`")
-    words.add_argument("--hour", type=int, default=int(time.time()) // 3600, metavar="N", help="the hour of the lines")
+    words.add_argument("--hour", type=int, metavar="N", help="the hour of the lines; with --text the builder tells it")
     given = words.parse_args()
     if given.text == bool(given.CALLER):
         words.error("--text takes no CALLER" if given.text else "CALLER or --text is missing")
+    if given.text and given.hour is not None:
+        words.error("--text takes no --hour: give it to ringd found")
     try:
         if given.text:
             print_text(read(given.BUILDER), given.RING)
         else:
-            print_lines(read(given.BUILDER), given.RING, given.CALLER, within(given.hour, 0, MOST_HOUR, "the hour"))
+            hour = int(time.time()) // 3600 if given.hour is None else within(given.hour, 0, MOST_HOUR, "the hour")
+            print_lines(read(given.BUILDER), given.RING, given.CALLER, hour)
     except Refused as why:
         print(f"from_swift: {why}", file=sys.stderr)
         return 1
