@@ -66,7 +66,7 @@ use Rattle.programs.specs.Calls.{stopped_calls, stopped_loop_calls, told_calls, 
 use Rattle.programs.specs.Calls.{unimported_calls, until_calls, untold_calls, work_calls}
 use Rattle.programs.specs.Performed.{EndsBy, EndsSo, FailsSo, FailsToDo, FailsToShowStore}
 use Rattle.programs.specs.Performed.{ImportsFile, ShowsStore, texts_given}
-use Rattle.programs.specs.Founding.{AreNoRings, FailsToFound, found_fault}
+use Rattle.programs.specs.Founding.{AreNoRings, FailsToFound, IsMissing, found_fault}
 use Rattle.programs.specs.Renewing.{FailsToRead, FailsToRenew, IsRead}
 use Rattle.ring_founding.specs.Founding.{AreFounded, AreUnfounded}
 use Rattle.ring_founding.specs.declared.founding.FoundFault.{FoundFault}
@@ -693,11 +693,14 @@ module _ {M K R W : Type 0} (memory : Keeping M) (stores : Keeping K)
         (given : Option ℕ) (why : ProgramFault)
         → FailsToFound stores Begins Ends Holds Refuses (IsUnmade fresh.now) before after IsUnread names
         min_hours given (Some file) why
-        → (AreNoRings Holds IsUnread names why × OpensNone before after)
+        → ((AreNoRings Holds IsUnread names why ⊎ IsMissing IsUnread (Some file) why)
+        × OpensNone before after)
         ⊎ ((Refuses file.now why × IsStoreFault why) × OpensOne before after)
         ⊎ IsOneRun stores (Begins file.now) (WasClosed Ends) []
-    found_first fresh file names min_hours given why (inl texts) = inl texts
-    found_first fresh file names min_hours given why (inr (terms, asks, snapshots, hold, beside)) = inr
+    found_first fresh file names min_hours given why (inl (texts, none)) = inl (inl texts, none)
+    found_first fresh file names min_hours given why (inr (inl (missing, none))) =
+        inl (inr missing, none)
+    found_first fresh file names min_hours given why (inr (inr (terms, asks, snapshots, hold, beside))) = inr
         (found_failed stores (Begins file.now) Ends none more contents writer later before after
         (Refuses file.now) (λ cause. why ≡ found_fault cause)
         (λ cause old hour. AreUnfounded terms old snapshots cause)

@@ -1,5 +1,5 @@
 -- What the program `found` does.
-use Rattle.std.specs.Prelude.{◌≡◌, ◌⊎◌, ◌++◌, ◌∷◌, [], ℕ, IsTrue, List, None, Option, Some, codes}
+use Rattle.std.specs.Prelude.{◌≡◌, ◌≢◌, ◌⊎◌, ◌++◌, ◌∷◌, [], ⊤, ℕ, IsTrue, List, None, Option, Some, codes}
 use Rattle.std.specs.Prelude.{decimal, max, true}
 use mathlib.Core.Logic.{inl, inr}
 use Rattle.std.specs.Borrow.{Bor}
@@ -86,6 +86,20 @@ module _ (Holds : List ℕ → List ℕ → Type 0) where
       pub hold : HoldRings before snapshots
       pub failed : IsNoRing name why
 
+-- For such a fault the file of a name gives no text of at most so many bytes.
+module _ (IsUnread : List ℕ → ℕ → ProgramFault → Type 0) where
+  -- A store is given, and there is no file of its name.
+  abbrev pub IsMissing : Option (Bor (List ℕ)) → ProgramFault → Type 0
+  IsMissing None why = ⊥
+  IsMissing (Some file) why = (why ≡ fault.NoFile) × IsUnread file.now 0 fault.NoFile
+
+  -- A store that is given has a file of its name: that gives a text, or none for another fault than
+  -- that it is not there.
+  abbrev pub IsThere : (List ℕ → List ℕ → Type 0) → Option (Bor (List ℕ)) → Type 0
+  IsThere Holds None = ⊤
+  IsThere Holds (Some file) = ((text : List ℕ) × Holds file.now text)
+      ⊎ ((why : ProgramFault) × (why ≢ fault.NoFile) × IsUnread file.now 0 why)
+
 -- ---- the rings
 
 -- The words ask for these terms, by the hour that is given or that of the machine.
@@ -149,12 +163,14 @@ module _ {K : Type 0} (g : Keeping K) (Begins : List ℕ → K → Type 0)
   -- and after.
   module _ (Refuses : List ℕ → ProgramFault → Type 0) (IsUnmade : State → ℕ → ProgramFault → Type 0)
       (before after : ℕ) where
-    -- This fault came of founding the rings of these files: of a file, and no store was opened or made;
-    -- or all files hold the texts of rings, and it came of the stores.
+    -- This fault came of founding the rings of these files: of a file, or of a store that is given and
+    -- isn't there, and no store was opened or made; or all files hold the texts of rings, and it came of
+    -- the stores.
     abbrev pub FailsToFound : (List ℕ → ℕ → ProgramFault → Type 0) → List (List ℕ) → ℕ → Option ℕ
         → Option (Bor (List ℕ)) → ProgramFault → Type 0
     FailsToFound IsUnread names min_hours given from why =
         (AreNoRings Holds IsUnread names why × OpensNone before after)
+        ⊎ (IsMissing IsUnread from why × OpensNone before after)
         ⊎ ((terms : Terms) × AsksTerms min_hours given terms × (snapshots : List SnapshotRecord)
         × HoldRings Holds names snapshots
         × FailsBeside g Begins Ends Refuses IsUnmade before after terms snapshots from why)
@@ -165,7 +181,8 @@ module _ {K : Type 0} (g : Keeping K) (Begins : List ℕ → K → Type 0)
         (why : ProgramFault) → FailsToFound IsUnread names min_hours given from why → List (List ℕ)
     founding_lines IsUnread names min_hours given from why (inl (texts, none)) =
         no_ring_lines Holds IsUnread texts.name why texts.failed
-    founding_lines IsUnread names min_hours given from why (inr stores) = []
+    founding_lines IsUnread names min_hours given from why (inr (inl missing)) = []
+    founding_lines IsUnread names min_hours given from why (inr (inr stores)) = []
 
 -- ---- what was exported
 

@@ -36,7 +36,7 @@ use Rattle.programs.specs.Begun.{AreServiceLimits, Closing, IsBegun, IsClosed, I
 use Rattle.programs.specs.Begun.{OpensNone, OpensOne, WasClosed}
 use Rattle.programs.specs.Calls.{ended_calls, failed_calls}
 use Rattle.programs.specs.Importing.{FailsTold, WritesTold}
-use Rattle.programs.specs.Founding.{AreNoRings, HoldRings}
+use Rattle.programs.specs.Founding.{AreNoRings, HoldRings, IsMissing}
 use Rattle.programs.specs.Performed.{EndsSo, FailsSo, texts_given}
 use Rattle.programs.specs.Showing.{HasBadWord, IsFormFault, IsPathless}
 use Rattle.programs.specs.Tables.{IsBadTable, IsFileFault, IsNoTable}
@@ -105,8 +105,8 @@ module _ {W : Type 0} (contents : W → Option (List ℕ)) (writer later : Count
   TellsBadTable _ = ⊥
 
   -- This fault came of a file that a task reads before it opens its store: an input wasn't read; a
-  -- table wasn't read, or tells no rows, and the writer failed and took a beginning of why; or a text
-  -- wasn't read, or is that of no ring.
+  -- table wasn't read, or tells no rows, and the writer failed and took a beginning of why; a text wasn't
+  -- read, or is that of no ring; or the store beside which rings are founded isn't there.
   abbrev pub ComesOfFile : Task → ProgramFault → Type 0
   ComesOfFile (task.Loop file input given names) why = IsUnread input.now most_looped why
       × IsFileFault why
@@ -115,7 +115,7 @@ module _ {W : Type 0} (contents : W → Option (List ℕ)) (writer later : Count
       × IsBadTable (IsUnread csv.now) (Holds csv.now) cause
       × FailsTold contents writer later (told_csv cause)))
   ComesOfFile (task.Found fresh texts min_hours given from) why = AreNoRings Holds IsUnread
-      (texts_given texts.items) why
+      (texts_given texts.items) why ⊎ IsMissing IsUnread from why
   ComesOfFile _ why = ⊥
 
   -- This fault came before a task had opened its store: of its words, or of the file that it reads

@@ -50,16 +50,22 @@ store_named (task.Found fresh texts min_hours given from) why =
 store_named task.Version why = []
 
 -- one file of these names, or which of them is not told
-abbrev pub text_named : List (Bor (List ℕ)) → List ℕ
-text_named (text ∷ []) = text.now
-text_named _ = codes "TEXT"
+abbrev pub one_text : List (Bor (List ℕ)) → List ℕ
+one_text (text ∷ []) = text.now
+one_text _ = codes "TEXT"
+
+-- Which file of a founding a fault tells of: what is not there may be the store that is given, too.
+abbrev pub text_named : List (Bor (List ℕ)) → Option (List ℕ) → ProgramFault → List ℕ
+text_named texts (Some file) fault.NoFile = codes "TEXT or FILE"
+text_named texts from why = one_text texts
 
 -- the file that a task reads beside its store, as its words name it
-abbrev pub input_named : Task → List ℕ
-input_named (task.Loop file input given names) = input.now
-input_named (task.Import file ring caller number csv given) = csv.now
-input_named (task.Found fresh texts min_hours given from) = text_named texts.items
-input_named _ = codes "standard input"
+abbrev pub input_named : Task → ProgramFault → List ℕ
+input_named (task.Loop file input given names) why = input.now
+input_named (task.Import file ring caller number csv given) why = csv.now
+input_named (task.Found fresh texts min_hours given from) why =
+    text_named texts.items (option_map (λ file. file.now) from) why
+input_named _ why = codes "standard input"
 
 -- the file of which a fault tells, if it tells of one
 abbrev pub file_told : Task → ProgramFault → Option (List ℕ)
@@ -68,9 +74,9 @@ file_told t fault.NotAssigned = Some (store_named t fault.NotAssigned)
 file_told t fault.NoVersion = Some (store_named t fault.NoVersion)
 file_told t fault.StoreFault = Some (store_named t fault.StoreFault)
 file_told t fault.BadStore = Some (store_named t fault.BadStore)
-file_told t fault.NoFile = Some (input_named t)
-file_told t fault.TooLong = Some (input_named t)
-file_told t fault.ReadFailed = Some (input_named t)
+file_told t fault.NoFile = Some (input_named t fault.NoFile)
+file_told t fault.TooLong = Some (input_named t fault.TooLong)
+file_told t fault.ReadFailed = Some (input_named t fault.ReadFailed)
 file_told t _ = None
 
 -- a line in parts: the program, a file, if there is one, and a meaning

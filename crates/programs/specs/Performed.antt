@@ -17,7 +17,7 @@ use Rattle.programs.specs.Begun.{OpensTwo}
 use Rattle.builder.specs.Step.{State}
 use Rattle.programs.specs.Left.{Closes, FailsToMake, GivesNoText, GivesText, MakesStore}
 use Rattle.programs.specs.Left.{RefusesToOpen}
-use Rattle.programs.specs.Founding.{FailsToFound, Founds, founding_lines}
+use Rattle.programs.specs.Founding.{FailsToFound, Founds, IsThere, founding_lines}
 use Rattle.programs.specs.Renewing.{FailsToRenew, Renews}
 use Rattle.programs.specs.Running.{AnswersLines, FailsLines, StopsLines}
 use Rattle.programs.specs.Service.{StopsOnMachine, fault_status, machine_lines}
@@ -149,7 +149,7 @@ module _ {M K R W : Type 0} (memory : Keeping M) (stores : Keeping K)
           × (later ≡ writer)
           × Founds stores Begins Ends Holds (texts_given texts.items) min_hours given from
           (IsMade fresh.now)
-          × OpensFounded before after from
+          × OpensFounded before after from × IsThere IsUnread Holds from
       EndsSo task.Version Done = (late_reader ≡ reader) × TellsVersion contents writer later
           × OpensNone before after
       EndsSo _ _ = ⊥

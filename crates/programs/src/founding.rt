@@ -7,7 +7,8 @@ ghost use Rattle.programs.specs.Inner.Founding.{FailsTellingNoRings, FailsTellin
 ghost use Rattle.programs.specs.Left.{Closes, FailsToMake, GivesNoText, GivesText, MakesStore};
 ghost use Rattle.programs.specs.Left.{RefusesToOpen};
 ghost use Rattle.programs.specs.Performed.{OpensFounded, texts_given};
-ghost use Rattle.programs.specs.Founding.{FailsBeside, Founds, FoundsBeside};
+ghost use Rattle.programs.specs.Founding.{FailsBeside, Founds, FoundsBeside, IsMissing};
+ghost use Rattle.programs.specs.Founding.{IsThere};
 ghost use Rattle.ring_text.specs.Stops.{IsStop};
 
 use crate::dropping::{make_store, read_text};
@@ -146,6 +147,20 @@ fn found_beside<S: Stores>(
     make_founded(rt, ask.new, terms, found, snapshots, stores)
 }
 
+/// Tells where there is no file of a store that is given.
+fn need_file<S: Stores>(rt: &HostRuntime, file: Option<&str>) -> Result<(), ProgramFault>
+    ensures there { OnOk result (IsThere (GivesNoText S.Stores) (GivesText S.Stores) file.entry) }
+    ensures missing { IfErr result (IsMissing (GivesNoText S.Stores) file.entry) }
+{
+    let Some(file) = file else {
+        return Ok(());
+    };
+    match read_text::<S>(rt, file, 0) {
+        Err(ProgramFault::NoFile) => Err(ProgramFault::NoFile),
+        Ok(_) | Err(_) => Ok(()),
+    }
+}
+
 /// Founds a store: reads the texts of its rings, and makes it of them as they stand. Where a text is
 /// that of no ring, the line where it stops is told on `errors`.
 pub(crate) fn found_store<S: Stores, E: Write>(
@@ -157,7 +172,8 @@ pub(crate) fn found_store<S: Stores, E: Write>(
     ensures founded { OnOk result (Founds S.Kept.Keeper S.begins (Closes S.Stores)
         (GivesText S.Stores) (texts_given ask.now.texts.now) ask.now.min_hours ask.now.hour
         ask.now.from (MakesStore S.Stores ask.now.new.now)
-        × OpensFounded (S.openings stores.old) (S.openings stores.new) ask.now.from) }
+        × OpensFounded (S.openings stores.old) (S.openings stores.new) ask.now.from
+        × IsThere (GivesNoText S.Stores) (GivesText S.Stores) ask.now.from) }
     ensures untold { OnOk result (errors.new ≡ errors.old) }
     ensures failed { IfErr result (FailsTellingToFound S.Kept.Keeper S.begins (Closes S.Stores)
         (GivesText S.Stores) (RefusesToOpen S.Stores) (FailsToMake S.Stores ask.now.new.now)
@@ -169,5 +185,6 @@ pub(crate) fn found_store<S: Stores, E: Write>(
         hour: hour_of(rt, ask.hour),
     };
     let snapshots = read_snapshots::<S, E>(rt, ask.texts, errors)?;
+    need_file::<S>(rt, ask.from)?;
     found_beside(rt, ask, terms, &snapshots, stores)
 }

@@ -3,6 +3,7 @@ ghost use Rattle.std.specs.Prelude.{◌≡◌, option_map};
 ghost use Rattle.programs.specs.Faults.{GetsTexts};
 ghost use Rattle.programs.specs.Meanings.{fault_meaning, file_told, input_named, meaning_parts};
 ghost use Rattle.programs.specs.Meanings.{meaning_texts, named_of_two, store_named};
+ghost use Rattle.programs.specs.Meanings.{text_named};
 
 use crate::faults::{ProgramFault, tell_text};
 use byte_streams::CountedWriter;
@@ -115,17 +116,28 @@ fn store_named<'a>(task: &Task<'a>, fault: ProgramFault) -> &'a str
     }
 }
 
-/// The file that a task reads besides, as its words name it: of several texts any may be meant.
-fn input_named<'a>(task: &Task<'a>) -> &'a str
-    ensures { result.now ≡ input_named task.now }
+/// The file of a text that a founding reads: of several any may be meant. What is not there may be
+/// the store that is given, too.
+fn text_named<'a>(texts: &[&'a str], from: Option<&'a str>, fault: ProgramFault) -> &'a str
+    ensures { result.now ≡ text_named texts.now (option_map (λ file. file.now) from.entry) fault }
+{
+    match (from, fault) {
+        (Some(_), ProgramFault::NoFile) => "TEXT or FILE",
+        _ => match texts {
+            [text] => *text,
+            _ => "TEXT",
+        },
+    }
+}
+
+/// The file that a task reads besides, as its words name it.
+fn input_named<'a>(task: &Task<'a>, fault: ProgramFault) -> &'a str
+    ensures { result.now ≡ input_named task.now fault }
 {
     match task {
         Task::Loop { input, .. } => *input,
         Task::Import { csv, .. } => *csv,
-        Task::Found { texts, .. } => match texts.as_slice() {
-            [text] => *text,
-            _ => "TEXT",
-        },
+        Task::Found { texts, from, .. } => text_named(texts.as_slice(), *from, fault),
         _ => "standard input",
     }
 }
@@ -141,7 +153,7 @@ fn file_told<'a>(task: &Task<'a>, fault: ProgramFault) -> Option<&'a str>
         | ProgramFault::StoreFault
         | ProgramFault::BadStore => Some(store_named(task, fault)),
         ProgramFault::NoFile | ProgramFault::TooLong | ProgramFault::ReadFailed => {
-            Some(input_named(task))
+            Some(input_named(task, fault))
         }
         _ => None,
     }
