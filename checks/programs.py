@@ -125,7 +125,9 @@ def beside(checks):
             room.removed()
         checks.same("a name that both have", room.found("tiny", "--from", file), fault("RingExists", 2))
         checks.same("a file that is no store", room.found("other", "--from", f"{folder}/tiny"), fault("BadStore", 26))
-        checks.same("a file that is in a missing folder", room.found("other", "--from", f"{folder}/away/rings.db"), fault("StoreFault", 24))
+        checks.same("a file that is in a missing folder", room.found("other", "--from", f"{folder}/away/rings.db"), fault("NoFile", 27))
+        checks.same("a file that is not there", room.found("other", "--from", f"{folder}/none.db"), fault("NoFile", 27))
+        checks.same("is not made", files_of(f"{folder}/none.db"), {"": None, "-wal": None})
         checks.same("no new file was made", room.made(), [])
 
 
@@ -199,6 +201,7 @@ def faults(room):
     yield "BadStore 26", ["renew", bad, f"{room}/new.db"], bad, {}
     yield "NoFile 27", ["found", f"{room}/new.db", away, *terms], away, {}
     yield "NoFile 27", ["found", f"{room}/new.db", text, away, *terms], "TEXT", {}
+    yield "NoFile 27", ["found", f"{room}/new.db", text, *terms, "--from", away], "TEXT or FILE", {}
     yield "TooLong 29", ["loop", file, f"{room}/long"], f"{room}/long", {}
     yield "BadPath 30", ["nodes", file, "tiny", "a/b"], None, {}
     yield "BadText 31", ["found", f"{room}/new.db", bad, *terms], None, {}
