@@ -9,13 +9,17 @@ partition, and a row is a list of the numbers of devices, one for each replica. 
   that have no share;
 - how many partitions have more replicas in one region, or in one zone, than they need to have with so many regions or
   zones: these are "not apart". And how many have all of them in one region, in one zone, on one server;
-- how many of either the weights force on any builder that gives each device its share, rounded down or up, and heaps no
-  more replicas of a partition in a tier than need be;
+- how many of either the weights force on any builder that gives each device its share, rounded down or up, and heaps
+  no more replicas of a partition in a tier than need be; and the least greatest distance of any whole seats;
+- what the wants force of these on a ring in which each device has what it wants, and how great a distance the law of a
+  rebalance forces on a ring at rest, which is one of which no seat has a reason to leave;
 - how many partitions lost two replicas from remaining devices in one rebalance, and how many lost one while locked.
 
-Run alone it compares what it says is forced with all placings of some small rings, which takes a second.
+Run alone it compares what it says is forced with all placings of some small rings, which takes a few seconds.
 """
+import bisect
 import functools
+import heapq
 import itertools
 import math
 from collections import Counter
@@ -68,14 +72,16 @@ def shares(devices, replicas, partitions):
 
 
 def wanted(devices, replicas, partitions):
-    """The shares in whole seats, as ringd rounds them.
+    """The seats that each open device wants, by its number. It may want more than one seat of each partition.
 
-    They are rounded down, and the seats left over go to the greatest remainders, of equals to the lower number.
+    That is what it weighs of all open devices, rounded down, and the seats left over go to the greatest remainders, of
+    equals to the lower number.
     """
-    parts = shares(devices, replicas, partitions)
-    whole = {id: math.floor(share) for id, share in parts.items()}
-    left = round(sum(parts.values())) - sum(whole.values())
-    for id in sorted(parts, key=lambda id: (whole[id] - parts[id], id))[:left]:
+    left, seats = open_devices(devices), replicas * partitions
+    weight = sum(device.weight for device in left)
+    whole = {device.id: seats * device.weight // weight for device in left}
+    rests = {device.id: seats * device.weight % weight for device in left}
+    for id in sorted(rests, key=lambda id: (-rests[id], id))[:seats - sum(whole.values())]:
         whole[id] += 1
     return whole
 
@@ -170,21 +176,33 @@ def forced(devices, bounds, replicas, partitions, kind, most):
     return least_beyond(partitions, replicas, list(tiers.values()), most)
 
 
+def bounds_by_wants(devices, replicas, partitions):
+    """The fewest and the most seats of each open device, by its number, where each has what it wants.
+
+    A device that wants more than one seat of each partition is taken to have one of each. What it cannot have stands on
+    the others, above what they want. None of these has room then, and where no device outside a partition has room, the
+    law leaves open on which of them a seat stands. So any of them may have all of it.
+
+    A ring at rest has just what is wanted where no two wants are more than one apart, and no device without a share has
+    seats. Where wants are further apart, it may have a device below its want: see `may_rest`.
+    """
+    whole = wanted(devices, replicas, partitions)
+    spare = sum(max(0, seats - partitions) for seats in whole.values())
+    return {id: (min(seats, partitions), min(seats + spare, partitions)) for id, seats in whole.items()}
+
+
 @functools.lru_cache(maxsize=None)
 def all_forced(devices, replicas, partitions):
-    """What the weights force: of partitions not apart, in percent, and of those all in one tier.
-
-    `by_rounding` is what those not apart rise to where shares are rounded as ringd does it, which looks at no tiers.
-    """
-    parts, whole = shares(devices, replicas, partitions), wanted(devices, replicas, partitions)
+    """What the weights and what the wants force: of partitions not apart, in percent, of those all in one tier, and of
+    the greatest distance, in percent of the share."""
+    parts, ring = shares(devices, replicas, partitions), (replicas, partitions)
     by_weight = {id: (math.floor(share), math.ceil(share)) for id, share in parts.items()}
-    by_rounding = {id: (seats, seats) for id, seats in whole.items()}
-    told = {}
-    for kind in KINDS:
-        most, ring = most_apart(devices, replicas, kind), (replicas, partitions, kind)
-        told[f"forced_{kind}"] = 100 * forced(devices, by_weight, *ring, most) / partitions
-        told[f"by_rounding_{kind}"] = 100 * forced(devices, by_rounding, *ring, most) / partitions
-        told[f"forced_in_one_{kind}"] = forced(devices, by_weight, *ring, replicas - 1)
+    told = {"forced_distance": any_distance(devices, *ring), "by_wants_distance": rest_distance(devices, *ring)}
+    for name, bounds in (("forced", by_weight), ("by_wants", bounds_by_wants(devices, *ring))):
+        for kind in KINDS:
+            most = most_apart(devices, replicas, kind)
+            told[f"{name}_{kind}"] = 100 * forced(devices, bounds, *ring, kind, most) / partitions
+            told[f"{name}_in_one_{kind}"] = forced(devices, bounds, *ring, kind, replicas - 1)
     return told
 
 
@@ -223,6 +241,137 @@ def standing(devices, rows):
     told["distance"], told["stranded"] = greatest_distance(devices, rows), stranded(devices, rows)
     told["twice"] = sum(len(set(row)) < len(row) for row in rows)
     return told
+
+
+# ---- distances that are forced
+
+
+def least_distance(parts, bounds, fewest, most):
+    """The least that the greatest distance can be, as a part of the share.
+
+    Each device has whole seats within its bounds, and all have from `fewest` to `most` seats together. Each begins as
+    near to its share as it may be, and those that it costs least take or give what that is off.
+    """
+
+    def distance(id, seats):
+        return abs(seats - parts[id]) / parts[id]
+
+    has = {id: min(max(round(parts[id]), low), high) for id, (low, high) in bounds.items()}
+    off = min(max(sum(has.values()), fewest), most) - sum(has.values())
+    step = 1 if off > 0 else -1
+    offers = [(distance(id, seats + step), id) for id, seats in has.items()]
+    heapq.heapify(offers)
+    while off:
+        _, id = heapq.heappop(offers)
+        if bounds[id][0] <= has[id] + step <= bounds[id][1]:
+            has[id], off = has[id] + step, off - step
+            heapq.heappush(offers, (distance(id, has[id] + step), id))
+    return max(distance(id, seats) for id, seats in has.items())
+
+
+def any_distance(devices, replicas, partitions):
+    """The least greatest distance of any whole seats, in percent of the share."""
+    parts, seats = shares(devices, replicas, partitions), replicas * partitions
+    return 100 * float(least_distance(parts, dict.fromkeys(parts, (0, partitions)), seats, seats))
+
+
+def may_rest(whole, parts, replicas, far, has_closed):
+    """Whether a ring at rest may have each device within `far` of its share, a part of it. `whole` is what each wants.
+
+    Where this says no there is none. At rest no seat has a reason to leave. So a device with more than it wants shares
+    each of its partitions with each device that has less, and a device without a share does so too. Hence:
+
+    - fewer devices than replicas have less, if any;
+    - each of these has at least as many seats as any that has more;
+    - of its partitions each has, besides those that have less, no more than the other replicas on such as have more.
+    """
+    low = {id: math.ceil(share * (1 - far)) for id, share in parts.items()}
+    high = {id: math.floor(share * (1 + far)) for id, share in parts.items()}
+    if any(low[id] > high[id] for id in parts):
+        return False
+    more, less = [id for id in parts if low[id] > whole[id]], [id for id in parts if high[id] < whole[id]]
+    if not more and not less:
+        return True
+    top = max((low[id] for id in more), default=0)
+    spans = {id: (max(low[id], top), min(high[id], whole[id] - 1)) for id in parts if id not in more}
+    spans = {id: span for id, span in spans.items() if span[0] <= span[1]}
+    others = [id for id in spans if id not in less]
+
+    def may_be_less(count):
+        """Whether so many devices may have less than they want."""
+        free = count - len(less)
+        if free > len(others):
+            return False
+        highs = sorted((spans[id][1] for id in others), reverse=True)[:free] + [spans[id][1] for id in less]
+        lacks = sorted((whole[id] - spans[id][0] for id in others), reverse=True)[:free]
+        lack = sum(lacks) + sum(whole[id] - spans[id][0] for id in less)
+        takes = more or has_closed or any(whole[id] < min(high[id], min(highs)) for id in parts)
+        room = (replicas - count) * min(highs)
+        return takes and sum(low[id] for id in more) <= room and sum(low[id] - whole[id] for id in more) <= lack
+
+    return all(id in spans for id in less) and any(map(may_be_less, range(max(1, len(less)), replicas)))
+
+
+def rest_distance(devices, replicas, partitions):
+    """A bound from below: the greatest distance of any ring at rest, in percent of the share.
+
+    Where no device wants more than it can have, nearly always each has what it wants. Where one does, the others may
+    have any number of seats above what they want, and a device without a share any number: the law forces no more than
+    whole seats do.
+    """
+    parts, whole = shares(devices, replicas, partitions), wanted(devices, replicas, partitions)
+    seats, closed = replicas * partitions, len(devices) - len(whole)
+    if max(whole.values()) > partitions:
+        bounds = dict.fromkeys(parts, (0, partitions))
+        return 100 * float(least_distance(parts, bounds, seats - closed * partitions, seats))
+    greatest = max(abs(whole[id] - share) / share for id, share in parts.items())
+    spans = {(share, math.floor(share * (1 - greatest)), math.ceil(share * (1 + greatest))) for share in parts.values()}
+    tried = {abs(seats - share) / share for share, low, high in spans for seats in range(low, high + 1)}
+    tried = sorted(far for far in tried if far <= greatest)
+    least = bisect.bisect_left(tried, True, key=lambda far: may_rest(whole, parts, replicas, far, closed > 0))
+    return 100 * float(tried[least])
+
+
+def distance_from_even(steps, replicas, partitions):
+    """The same of the last of some steps, where the ring before them, of the first of `steps`, is as even as can be.
+
+    There each device has its share, rounded down or up, and no partition more replicas in a tier than need be. It is
+    more than at rest where some device wants more than it can have in each step, and has a seat of each partition. Then
+    nobody else has room before, no device is removed, and either of two things holds:
+
+    - No want rises above what its device has. Then no seat has a reason to leave, and nothing moves.
+    - The wants rise of devices that come, on one server, and all partitions stand apart in one region. For no seat is
+      such a device less crowded. So seats leave for what their devices have too much, those of the new ones do not, and
+      these get no more than they want.
+    """
+    last = [device for device in steps[-1] if not device.is_removed]
+    at_rest = rest_distance(last, replicas, partitions)
+    wants = [wanted(devices, replicas, partitions) for devices in steps]
+    heavy = {id for id, seats in wants[0].items() if seats > partitions}
+    if not heavy or any(device.is_removed for devices in steps for device in devices):
+        return at_rest
+    if any(whole.get(id, 0) <= partitions for whole in wants for id in heavy):
+        return at_rest
+    before, seats = shares(steps[0], replicas, partitions), replicas * partitions
+    has, rising = {id: math.floor(share) for id, share in before.items()}, set()
+    for count, whole in enumerate(wants):
+        rising |= {id for id in whole.keys() - heavy if whole[id] > has.get(id, 0)}
+        if count:
+            has.update((id, min(has.get(id, 0), whole[id])) for id in whole.keys() - heavy)
+    parts = shares(last, replicas, partitions)
+    closed = [before.get(device.id, 0) for device in last if device.id not in parts]
+    if not rising:
+        bounds = {id: (math.floor(before.get(id, 0)), math.ceil(before.get(id, 0))) for id in parts}
+        fewest, most = seats - sum(map(math.ceil, closed)), seats - sum(map(math.floor, closed))
+        return 100 * float(least_distance(parts, bounds, fewest, most))
+    servers = {KINDS["server"](device) for device in last if device.id in rising}
+    one_region = len({device.region for device in last}) == 1 and most_apart(steps[0], replicas, "zone") == 1
+    is_apart = one_region and not all_forced(tuple(steps[0]), replicas, partitions)["forced_zone"]
+    if closed or not is_apart or len(servers) > 1 or rising & before.keys():
+        return at_rest
+    tops = {id: max(whole.get(id, 0) for whole in wants) for id in rising}
+    bounds = {id: (0, tops.get(id, partitions)) for id in parts}
+    return max(at_rest, 100 * float(least_distance(parts, bounds, seats, seats)))
 
 
 # ---- what a rebalance did
@@ -320,6 +469,186 @@ def try_forced():
                for replicas, tiers, partitions in rings for most in range(1, replicas + 1))
 
 
+def all_rings(devices, replicas, partitions):
+    """All rings of some devices, each as its partitions in order: which is which makes no difference here."""
+    rows = itertools.combinations(sorted(device.id for device in devices), replicas)
+    return itertools.combinations_with_replacement(rows, partitions)
+
+
+def in_order(rows):
+    """A ring as `all_rings` has it."""
+    return tuple(sorted(tuple(sorted(row)) for row in rows))
+
+
+class Law:
+    """What the law of a rebalance says of rings of some devices, all unlocked, word for word and as slowly."""
+
+    def __init__(self, devices, replicas, partitions):
+        self.places = {device.id: tuple(key(device) for key in KINDS.values()) for device in devices}
+        self.wants = wanted(devices, replicas, partitions)
+        self.present = {device.id for device in devices if not device.is_removed}
+
+    def crowd(self, row, replica, id):
+        """How many other seats of the partition are in the device's region, in its zone and on its server."""
+        others = [self.places[other] for place, other in enumerate(row) if place != replica]
+        return tuple(sum(other[kind] == place for other in others) for kind, place in enumerate(self.places[id]))
+
+    def want(self, id):
+        return self.wants.get(id, 0)
+
+    def roomy(self, rows):
+        """The devices with room."""
+        has = seats_by_device(rows)
+        return {id for id, seats in self.wants.items() if has[id] < seats}
+
+    def is_crowded(self, row, replica, roomy):
+        """Whether a device outside with room is less crowded for a seat than its own."""
+        own = self.crowd(row, replica, row[replica])
+        return any(self.crowd(row, replica, id) < own for id in roomy - set(row))
+
+    def is_at_rest(self, rows):
+        """Whether no seat has a reason to leave."""
+        has, roomy = seats_by_device(rows), self.roomy(rows)
+        return not any(self.is_crowded(row, replica, roomy) or roomy - set(row) and has[id] > self.want(id)
+                       for row in rows for replica, id in enumerate(row))
+
+    def gatherings(self, rows):
+        """The seats, as partition and replica, that a rebalance may gather, and what the devices keep."""
+        has, roomy, choices = seats_by_device(rows), self.roomy(rows), []
+        for row in rows:
+            lost = [replica for replica, id in enumerate(row) if id not in self.present]
+            may = [[replica] for replica in range(len(row)) if roomy - set(row)]
+            choices.append([lost] if lost else [[], *may])
+        for chosen in itertools.product(*choices):
+            kept = has - Counter(row[replica] for row, those in zip(rows, chosen) for replica in those)
+
+            def fits(row, those):
+                """Whether what is gathered of a partition has a reason, or else what is left has none."""
+                if any(row[replica] not in self.present for replica in those):
+                    return True
+                if those:
+                    return self.is_crowded(row, those[0], roomy) or kept[row[those[0]]] >= self.want(row[those[0]])
+                is_over = roomy - set(row) and any(kept[id] > self.want(id) for id in row)
+                return not is_over and not any(self.is_crowded(row, replica, roomy) for replica in range(len(row)))
+
+            if all(map(fits, rows, chosen)):
+                yield [(place, replica) for place, those in enumerate(chosen) for replica in those], kept
+
+    def placings(self, rows, gathered, kept):
+        """The rings in which the gathered seats are on open devices or their own, no two of a partition on one.
+
+        Those of remaining devices that leave go only where something is wanted, which saves most of the work.
+        """
+
+        def ways(place, replica):
+            own = {rows[place][replica]} & self.present
+            return own | {id for id, seats in self.wants.items() if not own or kept[id] < seats} - {*rows[place]}
+
+        for ids in itertools.product(*(ways(*seat) for seat in gathered)):
+            new = [list(row) for row in rows]
+            for (place, replica), id in zip(gathered, ids):
+                new[place][replica] = id
+            if all(len(set(row)) == len(row) for row in new):
+                yield new
+
+    def is_placed(self, rows, gathered, kept, new):
+        """Whether the gathered seats are settled, within room and moved with gain."""
+        has, roomy, takes = seats_by_device(new), self.roomy(new), Counter()
+        for place, replica in gathered:
+            row, old, id = new[place], rows[place][replica], new[place][replica]
+            left = old in self.present and old != id
+            takes[id] += bool(left or roomy - set(row))
+            gains = not left or has[old] >= self.want(old)
+            if self.is_crowded(row, replica, roomy):
+                return False
+            if not gains and not self.crowd(row, replica, id) < self.crowd(row, replica, old):
+                return False
+        return all(seats <= max(0, self.want(id) - kept[id]) for id, seats in takes.items())
+
+    def rebalanced(self, rows):
+        """All rings that a ring may become."""
+        return {in_order(new) for gathered, kept in self.gatherings(rows) for new in self.placings(rows, gathered, kept)
+                if self.is_placed(rows, gathered, kept, new)}
+
+    def ends(self, rings):
+        """The rings at rest that some rings may become, by any number of rebalances."""
+        seen, waiting = set(), set(rings)
+        while waiting:
+            ring = waiting.pop()
+            seen.add(ring)
+            waiting |= self.rebalanced(ring) - seen
+        remain = (ring for ring in seen if self.present.issuperset(itertools.chain(*ring)))
+        return set(filter(self.is_at_rest, remain))
+
+
+def small(*zones):
+    """Devices of weights by server, zone by zone in one region: 0 is drained."""
+    found = []
+    for number, servers in enumerate(zones, 1):
+        found += [(number, server, weight) for server, weights in enumerate(servers) for weight in weights]
+    return [Device(id, 1, zone, f"{zone}.{server}", weight) for id, (zone, server, weight) in enumerate(found)]
+
+
+def try_ring(devices, replicas, partitions):
+    """What is forced, and the least of all rings, as pairs: of whole seats, of those wanted, and of rings at rest."""
+    law, size = Law(devices, replicas, partitions), (replicas, partitions)
+    bounds, rings = bounds_by_wants(devices, *size), list(all_rings(devices, *size))
+
+    def is_wanted(rows):
+        has = seats_by_device(rows)
+        return all(low <= has[id] <= high for id, (low, high) in bounds.items())
+
+    at_rest = list(filter(law.is_at_rest, rings))
+    open_only = [rows for rows in rings if not stranded(devices, rows)]
+    pairs = [(rest_distance(devices, *size), min(greatest_distance(devices, rows) for rows in at_rest)),
+             (any_distance(devices, *size), min(greatest_distance(devices, rows) for rows in open_only))]
+    for kind in KINDS:
+        most = most_apart(devices, replicas, kind)
+        least = min(count_beyond(devices, rows, kind, most) for rows in open_only if is_wanted(rows))
+        pairs.append((forced(devices, bounds, *size, kind, most), least))
+    wants = sorted(law.wants.values())
+    if wants[-1] <= min(partitions, wants[0] + 1) and len(wants) == len(devices):
+        assert all(map(is_wanted, at_rest)), devices
+    if partitions == 3:
+        assert all((rows in law.rebalanced(rows)) == law.is_at_rest(rows) for rows in rings), devices
+    return pairs
+
+
+def try_rings():
+    """What the wants force, compared with all rings of some devices: how many figures are exact, and of how many."""
+    exact, count, even = 0, 0, ([[1], [1]], [[1], [1]])
+    for devices, *size in (
+        (small(*even), 2, 3), (small(*even), 3, 5), (small([[2], [1]], [[1, 1]]), 2, 5), (small([[4]], [[6, 1]]), 2, 6),
+        (small([[1, 1]], [[1], [1]], [[1]]), 3, 4), (small([[4]], [[2], [1]], [[1]]), 2, 5),
+        (small([[9]], [[2, 1], [1]]), 2, 4), (small([[1, 1], [0]], [[1], [1]]), 2, 4),
+        (small([[9]], [[1], [0]], [[1], [1]]), 3, 3), (small([[3, 3]], [[2], [1, 1]]), 3, 3),
+        (small([[5], [5]], [[1], [1], [1]]), 2, 5),
+    ):
+        pairs = try_ring(devices, *size)
+        assert all(said <= least + 1e-9 for said, least in pairs), (devices, size, pairs)
+        exact, count = exact + sum(said > least - 1e-9 for said, least in pairs), count + len(pairs)
+    return exact, count
+
+
+def try_events():
+    """What is said of rings after events, compared with all that lawful rebalances can make of even rings."""
+    exact, count = 0, 0
+    come, goes = small([[16]], [[2], [2, 2]]), small([[8]], [[1], [1], [1]])
+    slowly = [[*come[:3], come[3]._replace(weight=weight)] for weight in (1, 2)]
+    drained, removed = ([*goes[:3], goes[3]._replace(**values)] for values in ({"weight": 0}, {"is_removed": True}))
+    for partitions, *steps in ((6, come[:3], come), (6, come[:3], *slowly), (4, goes, drained), (4, goes, removed)):
+        parts, size = shares(steps[0], 2, partitions), (2, partitions)
+        rings = {rows for rows in all_rings(steps[0], *size) if Law(steps[0], *size).is_at_rest(rows)
+                 and all(math.floor(parts[id]) <= seats_by_device(rows)[id] <= math.ceil(parts[id]) for id in parts)}
+        for devices in steps[1:]:
+            rings = Law(devices, *size).ends(rings)
+        last = [device for device in steps[-1] if not device.is_removed]
+        said, least = distance_from_even(steps, *size), min(greatest_distance(last, rows) for rows in rings)
+        assert said <= least + 1e-9, (steps, said, least)
+        exact, count = exact + (said > least - 1e-9), count + 1
+    return exact, count
+
+
 def try_figures():
     """The other figures, of a ring that can be counted by hand."""
     places = ((1, 1, "a"), (1, 1, "a"), (1, 2, "b"), (2, 1, "c"))
@@ -341,7 +670,8 @@ def try_figures():
     assert (dispersion(devices, before), dispersion(devices, after)) == (50, 25)
     heavy = [devices[0]._replace(weight=10000), *devices[1:]]
     assert shares(heavy, 3, 4) == {0: 4, 1: Fraction(8, 3), 2: Fraction(8, 3), 3: Fraction(8, 3)}
-    assert wanted(heavy, 3, 4) == {0: 4, 1: 3, 2: 3, 3: 2}
+    assert wanted(heavy, 3, 4) == {0: 12, 1: 0, 2: 0, 3: 0}
+    assert bounds_by_wants(heavy, 3, 4) == {0: (4, 4), 1: (0, 4), 2: (0, 4), 3: (0, 4)}
     assert round(greatest_distance(heavy, before), 2) == 25
     assert (stranded(heavy, before), stranded(removed, before)) == (0, 3)
 
@@ -349,3 +679,5 @@ def try_figures():
 if __name__ == "__main__":
     try_figures()
     print(f"the judge agrees with all placings for {try_forced()} counts of seats")
+    for what, found in (("rings", try_rings()), ("rings after events", try_events())):
+        print(f"what the wants force on {what} is never above the least, and is the least in {found[0]} of {found[1]}")

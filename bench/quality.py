@@ -1,15 +1,16 @@
 #!/usr/bin/env python3
-"""Judges where seats go: bench/quality.py [--small | --write | --picture] [--jobs N] [--saved] [--json FILE]
+"""Judges where seats go: bench/quality.py [--small | --write | --picture | --forced] [--jobs N] [--saved] [--json FILE]
 
 Over the clusters and events of bench/clusters.py rings are rebalanced by `ringd serve`, and beside it by Swift's own
 builder where Debian's python3-swift is installed. Both start each event from their own first assignment, and rebalance
 each step until nothing changes. One judge looks at the seats of both (bench/judge.py). Two tables tell what it found,
-of first assignments and of events, as "ringd / Swift", with what the weights force behind it in brackets. Then it is
-told which goals are met, and where those that are not are missed most.
+of first assignments and of events, as "ringd / Swift", with what the weights and what the wants force behind it in
+brackets. Then it is told which goals are met, and where those that are not are missed most.
 
 --small takes the clusters of power 8 and less and one seed. --write puts the tables into docs/placement.md. --jobs N
 runs N clusters at a time. --saved takes a rebalance of Swift only where its command would save it. --json FILE writes
-every figure. --picture prints the figures of docs/placement.svg as JSON, and does nothing else.
+every figure. --picture prints the figures of docs/placement.svg as JSON, and does nothing else. --forced prints what is
+forced in each cluster and by each event, and needs no program for it.
 """
 import argparse
 import collections
@@ -243,8 +244,14 @@ def records_of(builder, cluster, events, seed, ran):
     standing = judge.standing(cluster.devices, first[0])
     told = [{**common, "event": None, **standing, "dispersion": judge.dispersion(cluster.devices, first[0])}]
     for event, rounds in zip(events, found):
-        told.append({**common, "event": event.name, **judge_event(first[-1], event, rounds)})
+        from_even = distance_from_even(cluster, event)
+        told.append({**common, "event": event.name, **judge_event(first[-1], event, rounds), "from_even": from_even})
     return told
+
+
+def distance_from_even(cluster, event):
+    """The greatest distance that the law forces after an event on a ring that was as good as can be."""
+    return judge.distance_from_even([cluster.devices, *event.steps], cluster.replicas, 2**cluster.power)
 
 
 PORTS = None
@@ -320,18 +327,21 @@ def both(records, name, digits=2):
     return " / ".join("-" if value is None else f"{value:.{digits}f}" for value in means)
 
 
-def beside_forced(records, name, forced, digits=2):
-    """A figure of both builders, and what the weights force, which is the same for both."""
-    return f"{both(records, name, digits)} ({mean(records, forced):.{digits}f})"
+# The columns that both tables have: what they tell, its figure, what it is after "forced" and "by_wants", and digits.
+PLACED = (("not apart: regions", "not_apart_region", "region", 2), ("not apart: zones", "not_apart_zone", "zone", 2),
+          ("all in one zone", "in_one_zone", "in_one_zone", 1), ("greatest distance", "distance", "distance", 2))
+NAMES = [what for what, *_ in PLACED]
+
+
+def what_is_forced(records, name, digits):
+    """What the weights force, and what the wants."""
+    return f"{mean(records, f'forced_{name}'):.{digits}f}; {mean(records, f'by_wants_{name}'):.{digits}f}"
 
 
 def placed(records):
-    """The columns that both tables have."""
-    return [beside_forced(records, f"not_apart_{kind}", f"forced_{kind}") for kind in ("region", "zone")] + [
-        beside_forced(records, "in_one_zone", "forced_in_one_zone", 1), both(records, "distance")]
-
-
-PLACED = ["not apart: regions", "not apart: zones", "all in one zone", "greatest distance"]
+    """A figure of both builders in each of these columns, and what is forced, which is the same for both."""
+    return [f"{both(records, name, digits)} ({what_is_forced(records, forced, digits)})"
+            for _, name, forced, digits in PLACED]
 
 
 def table(columns, rows):
@@ -348,16 +358,40 @@ def first_table(records, clusters):
         rows.append([cluster.name, size, *placed(found), both(found, "dispersion")])
     found = [record for record in records if record["event"] is None]
     rows.append(["**mean**", "", *placed(found), both(found, "dispersion")])
-    return table(["cluster", "partitions, replicas, devices", *PLACED, "dispersion"], rows)
+    return table(["cluster", "partitions, replicas, devices", *NAMES, "dispersion"], rows)
+
+
+def by_event(records):
+    """The records of each kind of event, by its name, and those of all."""
+    found = [record for record in records if record["event"] is not None]
+    names = list(dict.fromkeys(record["event"] for record in found))
+    return [(name, [record for record in found if record["event"] == name]) for name in names] + [("**mean**", found)]
 
 
 def event_table(records):
     """Events, a row for each kind of them."""
-    found = [record for record in records if record["event"] is not None]
-    names = list(dict.fromkeys(record["event"] for record in found))
-    parts = [(name, [record for record in found if record["event"] == name]) for name in names] + [("**mean**", found)]
-    rows = [[name, both(part, moves, 3), both(part, rounds), *placed(part)] for name, part in parts]
-    return table(["event", "moved, of the least", "rounds", *PLACED], rows)
+    rows = [[name, both(part, moves, 3), both(part, rounds), *placed(part)] for name, part in by_event(records)]
+    return table(["event", "moved, of the least", "rounds", *NAMES], rows)
+
+
+def tell_forced():
+    """Prints what the weights and what the wants force, in each cluster and by each event, and in the mean."""
+    records = []
+    for cluster in CLUSTERS:
+        for event in [None, *events_of(cluster)]:
+            devices = event.steps[-1] if event else cluster.devices
+            left = tuple(device for device in devices if not device.is_removed)
+            found = judge.all_forced(left, cluster.replicas, 2**cluster.power)
+            from_even = distance_from_even(cluster, event) if event else found["by_wants_distance"]
+            records.append({"cluster": cluster.name, "event": event and event.name, **found, "from_even": from_even})
+    firsts = [record for record in records if record["event"] is None]
+    parts = [(f"{record['cluster']}, {record['event'] or 'first assignment'}", [record]) for record in records]
+    parts += [("**mean of first assignments**", firsts)]
+    parts += [(f"**mean: {name.strip('*')}**" if name[0] != "*" else "**mean of events**", part)
+              for name, part in by_event(records)]
+    rows = [[what, *(what_is_forced(part, forced, digits) for _, _, forced, digits in PLACED),
+             f"{mean(part, 'from_even'):.2f}"] for what, part in parts]
+    print(table(["weights; wants", *NAMES, "the last, from an even ring"], rows))
 
 
 # ---- the goals
@@ -388,7 +422,43 @@ def beside_swift(records):
             swift = value(theirs[record["cluster"], record["event"], record["seed"]])
             return None if swift is None or value(record) is None else value(record) - swift
 
-        yield f"{what}: {ours:.3f}, no more than Swift's {other:.3f}", ours <= other, worst(sides["ringd"], more)
+        line = f"{what}: {ours:.3f}, no more than Swift's {other:.3f}"
+        if name == "distance":
+            at_rest, even = mean(records, "by_wants_distance"), mean(records, "from_even")
+            line += f" (forced at rest: {told_forced(at_rest, other, 'no lawful builder', 3)}; after even first "
+            line += f"assignments: {told_forced(even, other, 'no lawful builder that makes these', 3)})"
+        yield line, ours <= other, worst(sides["ringd"], more)
+
+
+def told_forced(forced, most, who, digits):
+    """What is forced, and who cannot meet a goal that allows less."""
+    return f"{forced:.{digits}f}" + (f", so {who} meets this" if forced > most else "")
+
+
+def beside_wants(forced, most, digits=2):
+    """The same of what the wants force."""
+    return f"forced by the wants: {told_forced(forced, most, 'no ring that has them', digits)}"
+
+
+def first_goals(first, kind):
+    """How far first assignments are beyond what is forced, in the mean and in the worst ring.
+
+    In the mean is the goal. What the wants force in the worst ring is where they force most beyond the weights.
+    """
+
+    def beyond(base, of=f"not_apart_{kind}"):
+        return lambda record: record[of] - record[f"{base}_{kind}"]
+
+    wants = beyond("forced", f"by_wants_{kind}")
+    for base in ("forced", "by_wants"):
+        for where, of_all in (("in the mean", lambda figure: mean(first, figure)),
+                              ("in the worst ring", lambda figure: max(map(figure, first)))):
+            found = of_all(beyond(base))
+            what = f"first assignments, not apart: {kind}s: {found:.2f} % beyond what the "
+            what += f"{'weights' if base == 'forced' else 'wants'} force, {where}, at most {MOST_BEYOND_FORCED}"
+            if base == "forced":
+                what += f" ({beside_wants(of_all(wants), MOST_BEYOND_FORCED)})"
+            yield what, found <= MOST_BEYOND_FORCED, worst(first, beyond(base))
 
 
 def of_its_own(records):
@@ -399,16 +469,12 @@ def of_its_own(records):
     ratio = mean(events, moves)
     yield f"moves: {ratio:.3f} times the least, at most {MOST_MOVES}", ratio <= MOST_MOVES, worst(events, moves)
     for kind in ("region", "zone"):
-        def beyond(record, kind=kind):
-            return record[f"not_apart_{kind}"] - record[f"forced_{kind}"]
-        most = max(map(beyond, first))
-        rounding = max(record[f"by_rounding_{kind}"] - record[f"forced_{kind}"] for record in first)
-        what = f"first assignments, not apart: {kind}s: {most:.2f} % beyond what is forced"
-        what += f", at most {MOST_BEYOND_FORCED} (rounding alone forces {rounding:.2f})"
-        yield what, most <= MOST_BEYOND_FORCED, worst(first, beyond)
+        yield from first_goals(first, kind)
+    for kind in ("region", "zone"):
+        count, wants = (sum(all_beyond(record, kind, of) for record in ours) for of in ("in_one", "by_wants_in_one"))
+        what = f"partitions all in one {kind} beyond what the weights force: {count} ({beside_wants(wants, 0, 0)})"
+        yield what, count == 0, worst(ours, lambda record, kind=kind: all_beyond(record, kind))
     for what, records, figure in (
-        ("partitions all in one region beyond what is forced", ours, lambda record: all_beyond(record, "region")),
-        ("partitions all in one zone beyond what is forced", ours, lambda record: all_beyond(record, "zone")),
         ("partitions that lost two from remaining devices in one rebalance", events, lambda record: record["lost_two"]),
         ("partitions moved before their hours passed", first, lambda record: record["moved_early"]),
         ("partitions twice on one device", ours, lambda record: record["twice"]),
@@ -420,9 +486,9 @@ def of_its_own(records):
         yield f"{what}: {count}", count == 0, worst(records, figure)
 
 
-def all_beyond(record, kind):
-    """How many partitions are all in one tier that need not be."""
-    return max(0, record[f"in_one_{kind}"] - record[f"forced_in_one_{kind}"])
+def all_beyond(record, kind, of="in_one"):
+    """How many partitions are all in one tier that the weights do not force."""
+    return max(0, record[f"{of}_{kind}"] - record[f"forced_in_one_{kind}"])
 
 
 def goals(records):
@@ -484,7 +550,7 @@ def read_words():
     """What the command line asks for."""
     reader = argparse.ArgumentParser(usage=__doc__.splitlines()[0].partition(": ")[2])
     kinds = reader.add_mutually_exclusive_group()
-    for name in ("--small", "--write", "--picture"):
+    for name in ("--small", "--write", "--picture", "--forced"):
         kinds.add_argument(name, action="store_true")
     reader.add_argument("--jobs", type=int, default=1)
     reader.add_argument("--saved", action="store_true")
@@ -495,6 +561,8 @@ def read_words():
 def main():
     """Does what the command line asks for."""
     words = read_words()
+    if words.forced:
+        return tell_forced()
     need_program()
     if words.picture:
         print(json.dumps(picture()))
