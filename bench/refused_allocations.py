@@ -54,10 +54,10 @@ __attribute__((destructor)) static void tell(void) {
 
 
 def answers(output):
-    """The answers in order; a table is one of them."""
+    """The answers in order; a table is one of them, and so is what is told as JSON."""
     found = []
     for line in output.decode().splitlines():
-        if line[:3].isdigit() and line[3:5] == " {" or line.startswith("   id "):
+        if line[:3].isdigit() and line[3:5] == " {" or line.startswith(("   id ", '{"')):
             found.append(line)
         else:
             found[-1] += "\n" + line

@@ -190,6 +190,43 @@ end
 """
 
 
+def whole_device(place, seats):
+    """What a whole ring tells of the device that `add` makes, which has the seats that it wants."""
+    return {"address": f"10.0.0.{place + 1}", "has": seats, "id": place, "name": f"d{place}", "port": 6200, "region": 1, "state": "open",
+            "wanted": seats, "weight": "100.00", "zone": 1}
+
+
+# What both rings are told as, whole, at the hour 0 of their requests. Those of FIRST moved every partition in this hour.
+FIRST_RING = compact({
+    "balance": 0, "devices": [whole_device(0, 2), whole_device(1, 2)], "dispersion": 0, "hour": 0, "locked": 4, "min_hours": 24,
+    "next_id": 2, "power": 2, "published": [], "replicas": 1, "rests": 24, "ring": "object", "seats": 4, "version": 3}).encode()
+TINY_RING = compact({
+    "balance": 0, "devices": [whole_device(0, 2)], "dispersion": 0, "hour": 0, "locked": 0, "min_hours": 0,
+    "next_id": 1, "power": 1, "published": [2], "replicas": 1, "rests": 0, "ring": "tiny", "seats": 2, "version": 2}).encode()
+
+
+def machine_hours():
+    """The hour of the machine, and the one before, which may have been told a moment ago."""
+    hour = int(time.time()) // 3600
+    return hour, hour - 1
+
+
+def is_shown_now(told, ring):
+    """Whether a program told this whole ring at the hour of the machine, at which no partition of it is locked."""
+    free = [{**json.loads(ring), "hour": hour, "locked": 0, "rests": 0} for hour in machine_hours()]
+    return told in [(0, compact(ring).encode() + b"\n", b"") for ring in free]
+
+
+def listed(**versions):
+    """What is told of which rings there are, from their versions, without a line feed."""
+    return compact({"rings": [{"ring": name, "version": versions[name]} for name in sorted(versions)]}).encode()
+
+
+def status(hour, kept, rings):
+    """What is told of how much is kept, without a line feed."""
+    return compact({"hour": hour, "kept": kept, "limit": 100000, "rings": rings}).encode()
+
+
 def tiny_nodes(partition):
     """The nodes of a path of this partition in the ring `tiny`, without a line feed."""
     device = {"address": "10.0.0.1", "device": "d0", "id": 0, "port": 6200, "region": 1, "zone": 1}

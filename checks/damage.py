@@ -3,8 +3,8 @@
 
 A store that was closed is damaged in one of some thirty ways: cut off, overwritten, torn, with rows that are gone, changed
 or too many, with texts that are none, with other tables, or with a log that is damaged, of another store or missing. Then
-the program opens it. Rows that are no store are told as BadStore 26. A file that is cut off or overwritten is refused too, as
-26 or, where the damage keeps it from being read, as StoreFault 24. A damaged log shows an older state of the store, or none.
+the program opens it. Whatever was read and is no store is told as BadStore 26: a file that is cut off or overwritten, rows,
+texts and tables. A damaged log shows an older state of the store, or none, or is refused so.
 Whatever it is, the program ends by itself with a status, and answers nothing of a store that it refuses.
 """
 import os
@@ -15,7 +15,7 @@ import sys
 
 from common import FIRST, MANY, Checks, fault, lines, run, scratch
 
-BAD_STORE, STORE_FAULT = fault("BadStore", 26), fault("StoreFault", 24)
+BAD_STORE = fault("BadStore", 26)
 PAGE = 4096
 
 
@@ -126,7 +126,7 @@ def told_of(store):
     return run("run", "--file", store.file, given=lines(*FIRST), seconds=30)
 
 
-def damaged(checks, kinds, damage, faults):
+def damaged(checks, kinds, damage):
     told = {}
     with scratch() as room, scratch() as here:
         good = f"{room}/rings.db"
@@ -135,23 +135,23 @@ def damaged(checks, kinds, damage, faults):
             store = Store(good, here)
             damage(store, how)
             told[what] = told_of(store)
-            is_refused = told[what] in faults
+            is_refused = told[what] == BAD_STORE
             checks.show(f"{what}: {told[what][2].decode().strip()}", is_refused, told[what])
 
 
 def files(checks):
     """Files that are cut off, overwritten or torn."""
-    damaged(checks, FILES, lambda store, how: how(store), (BAD_STORE, STORE_FAULT))
+    damaged(checks, FILES, lambda store, how: how(store))
 
 
 def rows(checks):
     """Rows that are gone, changed or too many, and other tables."""
-    damaged(checks, ROWS, lambda store, how: store.sql(*how), (BAD_STORE,))
+    damaged(checks, ROWS, lambda store, how: store.sql(*how))
 
 
 def texts(checks):
     """Texts that are no UTF-8."""
-    damaged(checks, TEXTS, lambda store, how: store.sql(*how), (BAD_STORE, STORE_FAULT))
+    damaged(checks, TEXTS, lambda store, how: store.sql(*how))
 
 
 def left_open(file, count):
@@ -194,7 +194,7 @@ def logs(checks):
             how(store.log)
             status, told, errors = run("run", "--file", store.file, given=lines(*MANY))
             is_older = status == 0 and told == want
-            found[what] = "opened" if is_older else "refused" if (status, told, errors) in (BAD_STORE, STORE_FAULT) else (status, told, errors)
+            found[what] = "opened" if is_older else "refused" if (status, told, errors) == BAD_STORE else (status, told, errors)
             checks.show(f"a log {what}: {found[what]}", found[what] in ("opened", "refused"), found[what])
         checks.same("a log as it was left is opened", found["as it was left"], "opened")
 

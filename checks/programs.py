@@ -24,6 +24,7 @@ MEANINGS = {
     "NoRing 1": "it has no ring of this name: look at the spelling of both, since a FILE that is missing is made, without rings",
     "RingExists 2": "two rings have one name: give one of them another, in the second line of its text",
     "TooManyRings 3": "a file holds 16 rings at most: found some of them in a file of their own",
+    "TooFewDevices 9": "fewer of the ring's devices take seats than a partition has replicas: add devices, or give some a weight above 0",
     "NotAssigned 10": "the ring was never rebalanced, so no device holds any of it: rebalance it first",
     "Unreadable 20": FORMS,
     "StoreFault 24": NEW_FAULT,
@@ -187,11 +188,16 @@ def faults(room):
     file, bad, text, away = f"{room}/rings.db", f"{room}/bad", f"{room}/tiny", f"{room}/away/rings.db"
     terms = ["--min-hours", 1]
     yield "NoRing 1", ["table", file, "none"], file, {}
+    yield "NoRing 1", ["show", file, "none"], file, {}
     yield "RingExists 2", ["found", f"{room}/new.db", text, text, *terms], None, {}
     yield "TooManyRings 3", ["found", f"{room}/new.db", *(f"{room}/t{n}" for n in range(17)), *terms], None, {}
+    yield "TooFewDevices 9", ["preview", file, "empty", "--seed", 1], file, {}
     yield "NotAssigned 10", ["nodes", file, "empty", "a"], file, {}
     yield "Unreadable 20", ["export", file, "tiny", "02"], None, {}
     yield "StoreFault 24", ["table", away, "tiny"], away, {}
+    yield "StoreFault 24", ["show", away, "tiny"], away, {}
+    yield "StoreFault 24", ["show", away], away, {}
+    yield "BadStore 26", ["show", bad, "--status"], bad, {}
     yield "StoreFault 24", ["renew", file, file], "FILE or NEW", {}
     yield "BadStore 26", ["table", bad, "tiny"], bad, {}
     yield "NoFile 27", ["import", file, "tiny", "ops", 9, away], away, {}

@@ -22,9 +22,9 @@ from concurrent.futures import ThreadPoolExecutor
 from pathlib import Path
 
 import common
-from common import FIRST, FIRST_BALANCE, FIRST_DEVICES, FIRST_REPLIES, TINY, TINY_TEXT
+from common import FIRST, FIRST_BALANCE, FIRST_DEVICES, FIRST_REPLIES, FIRST_RING, MANY, TINY, TINY_RING, TINY_TEXT
 from common import has  # noqa: E402
-from common import Checks, add, compact, fault, free_port, is_listening, lines, message, run, scratch, wait_until
+from common import Checks, add, compact, fault, free_port, is_listening, lines, message, rows_of, run, scratch, wait_until
 
 HEAD = "Host: a\r\n"
 CREATE = '{"caller":"ops","do":"create","min_hours":24,"number":1,"power":2,"replicas":1,"ring":"object"}'
@@ -135,6 +135,10 @@ def routes(checks):
             for what, given, want in [
                 ("the device table", request("GET", "/v1/rings/object/devices"), answer(200, "OK", FIRST_DEVICES, "text/plain")),
                 ("the balance table", request("GET", "/v1/rings/object/balance"), answer(200, "OK", FIRST_BALANCE, "text/plain")),
+                ("which rings there are", request("GET", "/v1/rings"), answer(200, "OK", common.listed(object=3, tiny=2))),
+                ("how much is kept", request("GET", "/v1/status?x"), answer(200, "OK", common.status(0, 8, 2))),
+                ("a whole ring", request("GET", "/v1/rings/object"), answer(200, "OK", FIRST_RING)),
+                ("one whose partitions are free", request("GET", "/v1/rings/tiny?x"), answer(200, "OK", TINY_RING)),
                 ("the nodes of a path", request("GET", "/v1/rings/tiny/nodes?account=a"), answer(200, "OK", common.tiny_nodes(partition))),
                 ("a published text", request("GET", "/v1/rings/tiny/text/2"), answer(200, "OK", TINY_TEXT, "text/plain")),
                 ("a repeat", request("POST", "/v1/requests", CREATE), answer(200, "OK", FIRST_REPLIES[0])),
@@ -142,14 +146,26 @@ def routes(checks):
                  ruled(409, "Conflict", "fault", "NumberReused", 21)),
                 ("a refusal", request("POST", "/v1/requests", message(40, "create", power=1, replicas=1, min_hours=0)),
                  ruled(422, "Unprocessable Entity", "refused", "RingExists", 2)),
+                ("a refusal is kept, and a repeat and a number that is used are not", request("GET", "/v1/status"),
+                 answer(200, "OK", common.status(0, 9, 2))),
                 ("no message", request("POST", "/v1/requests", "{}"), ruled(400, "Bad Request", "fault", "Unreadable", 20)),
                 ("no ring of this name", request("GET", "/v1/rings/none/devices"), ruled(422, "Unprocessable Entity", "refused", "NoRing", 1)),
+                ("no whole ring of this name", request("GET", "/v1/rings/none"), ruled(422, "Unprocessable Entity", "refused", "NoRing", 1)),
+                ("a whole ring under what is no name", request("GET", "/v1/rings/Tiny"), ruled(400, "Bad Request", "fault", "Unreadable", 20)),
                 ("no such version", request("GET", "/v1/rings/tiny/text/1"), ruled(422, "Unprocessable Entity", "refused", "NoVersion", 32)),
                 ("a version of another spelling", request("GET", "/v1/rings/tiny/text/02"), ruled(400, "Bad Request", "fault", "Unreadable", 20)),
                 ("a path that is none", request("GET", "/v1/rings/none/nodes?account=a&object=o"), ruled(400, "Bad Request", "refused", "BadPath", 30)),
                 ("an account with a slash", request("GET", "/v1/rings/tiny/nodes?account=a%2Fb"), ruled(400, "Bad Request", "refused", "BadPath", 30)),
                 ("two accounts", request("GET", "/v1/rings/tiny/nodes?account=a&account=a"), ruled(400, "Bad Request", "refused", "BadPath", 30)),
                 ("no route", request("GET", "/v2"), answer(404, "Not Found", '{"fault":"NoRoute","status":404}')),
+                ("a slash behind the rings", request("GET", "/v1/rings/"), NO_ROUTE),
+                ("a slash behind the status", request("GET", "/v1/status/"), NO_ROUTE),
+                ("the rings by POST", request("POST", "/v1/rings", ""),
+                 answer(405, "Method Not Allowed", '{"fault":"WrongMethod","status":405}', more="Allow: GET\r\n")),
+                ("a slash behind a ring's name", request("GET", "/v1/rings/tiny/"), NO_ROUTE),
+                ("the word of a whole ring", request("GET", "/v1/rings/tiny/ring"), NO_ROUTE),
+                ("a whole ring by POST", request("POST", "/v1/rings/tiny", ""),
+                 answer(405, "Method Not Allowed", '{"fault":"WrongMethod","status":405}', more="Allow: GET\r\n")),
                 ("a percent sign in a route", request("GET", "/v1/rings/%74iny/devices"), ruled(400, "Bad Request", "fault", "Unreadable", 20)),
                 ("a route by the other method", request("GET", "/v1/requests"),
                  answer(405, "Method Not Allowed", '{"fault":"WrongMethod","status":405}', more="Allow: POST\r\n")),
@@ -169,6 +185,164 @@ def routes(checks):
             checks.same("two requests in one write", server.raw(two), want)
             closing = request("GET", "/v1/rings/tiny/text/2", fields=HEAD + LAST)
             checks.same("nothing is answered behind the last one", server.raw(closing + two), answer(200, "OK", TINY_TEXT, "text/plain", LAST))
+
+
+# What is asked of the ring of MANY: a device leaves it in hour 13, one is marked and one drained in hour 14.
+LATER = [
+    (13, message(17, "remove", id=2)),
+    (13, message(18, "rebalance", seed=6)),
+    (14, message(19, "remove", id=3)),
+    (14, message(20, "set_weight", id=4, weight="0.00")),
+]
+
+
+def percent(hundredths):
+    """Hundredths of a percent, as tables tell them."""
+    return f"{hundredths // 100}.{hundredths % 100:02d}"
+
+
+def figures_of(rows, clock):
+    """What the rows of a closed file say of its only ring at an hour of the clock, under the keys of a whole ring."""
+    hour, (name, power, replicas, min_hours, next_id, version) = max(rows["meta"][0][2], clock), rows["ring"][0]
+    left = [moved + min_hours - hour for _, _, _, moved in rows["part"] if 0 <= moved and hour < moved + min_hours]
+    seats = sum(len(devices) for _, _, devices, _ in rows["part"]) // 2
+    return {"hour": hour, "locked": len(left), "min_hours": min_hours, "next_id": next_id, "power": power,
+            "published": [row[1] for row in rows["published"]], "replicas": replicas, "rests": max(left, default=0),
+            "ring": name, "seats": seats, "version": version}
+
+
+def as_the_tables(checks, ring, devices, balance):
+    """Whether a ring that was read back is what the rows of both of its tables tell."""
+    keys = ("id", "region", "zone", "address", "port", "weight", "state", "name")
+    checks.same("its devices are those of the device table", [[str(device[key]) for key in keys] for device in ring["devices"]], devices)
+    keys = ("id", "weight", "wanted", "has")
+    told = [[str(device[key]) for key in keys] for device in ring["devices"]]
+    checks.same("they want and have what the balance table says", told, [row[:4] for row in balance[:-1]])
+    last = f"balance {percent(ring['balance'])} dispersion {percent(ring['dispersion'])} version {ring['version']}"
+    checks.same("and its figures are those of the last line", last.split(), balance[-1])
+    states = {device["state"] for device in ring["devices"]}
+    checks.same("one is marked, one drained, and others are open", states, {"removed", "drained", "open"})
+
+
+def whole_ring(checks):
+    """A whole ring as JSON, read back, against its tables and the rows of the file."""
+    with scratch() as room:
+        file = f"{room}/rings.db"
+        run("run", "--file", file, given=lines(*MANY, *LATER))
+        with Server(file, hour=9) as server:
+            status, told = server.ask("GET", "/v1/rings/object")
+            ring = json.loads(told)
+            checks.same("it is compact, and its keys stand in order", (status, told), (200, compact(ring).encode()))
+            tables = [server.ask("GET", f"/v1/rings/object/{table}")[1].decode().splitlines()[1:] for table in ("devices", "balance")]
+            as_the_tables(checks, ring, *([row.split() for row in table] for table in tables))
+            texts = [server.ask("GET", f"/v1/rings/object/text/{version}")[0] for version in ring["published"]]
+            checks.same("both versions that it names can be read", texts, [200, 200])
+        rows = rows_of(file)
+        want = figures_of(rows, 9)
+        checks.same("the other numbers are those of the rows", {key: ring[key] for key in want}, want)
+        checks.show("the clock is behind, so the hour is the last request's, and some partitions are locked for an hour more",
+                    ring["hour"] == 14 and 0 < ring["locked"] and ring["rests"] == 1, told)
+        checks.same("a line tells these bytes and a line feed", run("run", "--file", file, given=lines("? ring object")), (0, told + b"\n", b""))
+        with Server(file, hour=99) as server:
+            later = server.ask("GET", "/v1/rings/object")[1]
+        checks.same("once the clock is ahead it is the clock's, and no partition is locked", later, compact({**ring, **figures_of(rows, 99)}).encode())
+        shown = run("show", file, "object")
+        here = [(0, compact({**ring, **figures_of(rows, hour)}).encode() + b"\n", b"") for hour in common.machine_hours()]
+        checks.show("show tells the hour of the machine", shown in here, shown)
+
+
+def seats_of(ring):
+    """Of a ring that was read, how many seats each of its devices has."""
+    return {device["id"]: device["has"] for device in ring["devices"]}
+
+
+def preview(checks):
+    """What a rebalance would do, read back, against what the rebalance then replies and leaves."""
+    with scratch() as room:
+        file = f"{room}/rings.db"
+        run("run", "--file", file, given=lines(*MANY, *LATER))
+        target = "/v1/rings/object/preview?seed=7&hour=15"
+        with Server(file, hour=15) as server:
+            status, told = server.ask("GET", target)
+            seen = json.loads(told)
+            checks.same("it is compact, and its keys stand in order", (status, told), (200, compact(seen).encode()))
+            before = seats_of(json.loads(server.ask("GET", "/v1/rings/object")[1]))
+            checks.same("each device has what the ring tells", {device["id"]: device["has"] for device in seen["devices"]}, before)
+            sums = [device["has"] - device["gives"] + device["takes"] - device["then"] for device in seen["devices"]]
+            checks.same("what it gives and takes makes what it has then", sums, [0] * len(sums))
+            moved = [sum(device[key] for device in seen["devices"]) for key in ("gives", "takes")]
+            checks.same("as many seats are given and taken as change", moved, [seen["changed"]] * 2)
+            checks.show("in no more partitions than seats", 0 < seen["partitions"] <= seen["changed"], told)
+            checks.same("asked again it tells the same", server.ask("GET", target), (status, told))
+            checks.same("without an hour it is the clock's", server.ask("GET", "/v1/rings/object/preview?seed=7"), (status, told))
+            reply = json.loads(server.ask("POST", "/v1/requests", message(30, "rebalance", seed=7))[1])
+            keys = ("balance", "changed", "dispersion", "version")
+            checks.same("the rebalance replies what it told", [reply[key] for key in keys], [seen[key] for key in keys])
+            after = seats_of(json.loads(server.ask("GET", "/v1/rings/object")[1]))
+            checks.same("and each device has what it told", {device["id"]: device["then"] for device in seen["devices"] if device["then"]},
+                        {number: has for number, has in after.items() if has})
+            none = [server.ask("GET", f"/v1/rings/object/preview{query}")[0] for query in ("", "?seed=x", "?seed=1&hour=-1", "?seed=1&seed=1")]
+            checks.same("other queries are unreadable", none, [400] * 4)
+        ahead = common.machine_hours()[0] + 9
+        line = run("run", "--file", file, given=lines(f"? preview object 8 {ahead}"))
+        checks.show("a line is answered by one", line[0] == 0 and line[1].startswith(b'{"balance":') and line[1].count(b"\n") == 1, line)
+        checks.same("and the program prints it", run("preview", file, "object", "--seed", 8, "--hour", ahead), line)
+
+
+def text_seats(text):
+    """Of the text of a ring, the power and the seats by partition."""
+    words = [line.split() for line in text.decode().splitlines()]
+    at, end = words.index(["seats"]), words.index(["end"])
+    return int(next(line[1] for line in words if line[0] == "power")), [list(map(int, row)) for row in words[at + 1:end]]
+
+
+def moves(checks):
+    """What moved between published versions, against their texts: the power was raised between these."""
+    with scratch() as room:
+        file = f"{room}/rings.db"
+        run("run", "--file", file, given=lines(*MANY, *LATER))
+        with Server(file, hour=99) as server:
+            first, last = json.loads(server.ask("GET", "/v1/rings/object")[1])["published"]
+            (low, old), (high, new) = (text_seats(server.ask("GET", f"/v1/rings/object/text/{version}")[1]) for version in (first, last))
+            checks.show("the power was raised between", high == low + 1, (low, high))
+            seats = [(place, replica, old[place >> high - low][replica], device) for place, row in enumerate(new) for replica, device in enumerate(row)]
+            moved = [seat for seat in seats if seat[2] != seat[3]]
+            devices = [{"gives": sum(seat[2] == number for seat in moved), "id": number, "takes": sum(seat[3] == number for seat in moved)}
+                       for number in sorted({number for seat in moved for number in seat[2:]})]
+            want = compact({"changed": len(moved), "devices": devices, "from": first, "partitions": len({seat[0] for seat in moved}),
+                            "ring": "object", "to": last}).encode()
+            checks.same("what moved is what the texts say", server.ask("GET", f"/v1/rings/object/moves?from={first}&to={last}"), (200, want))
+        checks.same("the program prints these bytes", run("moves", file, "object", first, last), (0, want + b"\n", b""))
+        checks.same("and so does a line", run("run", "--file", file, given=lines(f"? moves object {first} {last}")), (0, want + b"\n", b""))
+        each = "".join(f"{place} {replica} {was} {now}\n" for place, replica, was, now in moved).encode()
+        checks.same("each seat is a line", run("moves", file, "object", first, last, "--each"), (0, each, b""))
+        checks.same("of one version nothing moved", run("moves", file, "object", last, last, "--each"), (0, b"", b""))
+
+
+def rings_and_status(checks):
+    """Which rings there are and how much is kept, against each ring's tables and the rows of the file."""
+    with scratch() as room:
+        file = f"{room}/rings.db"
+        two = [(hour, text.replace('"ops"', '"two"')) for hour, text in TINY]
+        run("run", "--file", file, given=lines(*MANY, *LATER, *two))
+        with Server(file, hour=99) as server:
+            listed, status = server.ask("GET", "/v1/rings"), server.ask("GET", "/v1/status")
+            rings, figures = json.loads(listed[1]), json.loads(status[1])
+            told = [(200, compact(rings).encode()), (200, compact(figures).encode())]
+            checks.same("they are compact, and their keys stand in order", [listed, status], told)
+            names = [ring["ring"] for ring in rings["rings"]]
+            found = [server.ask("GET", f"/v1/rings/{name}/devices")[0] for name in names]
+            checks.same("each ring has a table of devices", (names, found), (["object", "tiny"], [200, 200]))
+            last = [server.ask("GET", f"/v1/rings/{name}/balance")[1].decode().split()[-1] for name in names]
+            checks.same("and its version is that of its table", [str(ring["version"]) for ring in rings["rings"]], last)
+        rows = rows_of(file)
+        checks.same("the rings are those of the rows", [tuple(ring.values()) for ring in rings["rings"]], [(row[0], row[5]) for row in rows["ring"]])
+        want = {"hour": rows["meta"][0][2], "kept": len(rows["request"]), "limit": 100000, "rings": len(rows["ring"])}
+        checks.same("and so are the figures, whatever the clock", figures, want)
+        checks.same("show prints these bytes and a line feed", run("show", file), (0, listed[1] + b"\n", b""))
+        checks.same("with --status too", run("show", file, "--status"), (0, status[1] + b"\n", b""))
+        both = listed[1] + b"\n" + status[1] + b"\n"
+        checks.same("and so do lines", run("run", "--file", file, given=lines("? rings", "? status")), (0, both, b""))
 
 
 def refusals(checks):
@@ -743,7 +917,7 @@ def main():
         print("0 passed, 0 failed")
         return 0
     return checks.run(
-        words, routes, refusals, heads, queries, at_full_size, by_curl, by_http_client, stopped_and_started, address, broken_off,
+        words, routes, whole_ring, preview, moves, rings_and_status, refusals, heads, queries, at_full_size, by_curl, by_http_client, stopped_and_started, address, broken_off,
         thousand_connections, random_requests, slow_ones)
 
 

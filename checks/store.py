@@ -18,7 +18,7 @@ import tty
 from pathlib import Path
 
 import common
-from common import FIRST, FIRST_ANSWERS, FIRST_BALANCE, FIRST_DEVICES, FIRST_REPLIES, MANY, NOBODY, TINY, TINY_TEXT
+from common import FIRST, FIRST_ANSWERS, FIRST_BALANCE, FIRST_DEVICES, FIRST_REPLIES, FIRST_RING, MANY, NOBODY, TINY, TINY_RING, TINY_TEXT
 from common import has  # noqa: E402
 from common import Checks, add, fault, files_of, lines, message, run, rows_of, scratch
 from tables import OLDER, OLDER_REPLIES, TABLES, canonical, make_older
@@ -62,12 +62,29 @@ def first_run(checks):
         reused = b'409 {"fault":"NumberReused","rule":21}\n'
         checks.same("the number with another command in a third run", other, (0, reused, b""))
         checks.same("table", run("table", file, "object"), (0, FIRST_DEVICES + FIRST_BALANCE, b""))
-        asked = run("run", "--file", file, given=lines("? balance object", "? devices object"))
-        checks.same("questions over the file", asked, (0, FIRST_BALANCE + FIRST_DEVICES, b""))
+        shown = run("show", file, "object")
+        checks.show("show of a ring, at the hour of the machine", common.is_shown_now(shown, FIRST_RING), shown)
+        listed, status = common.listed(object=3) + b"\n", common.status(0, 4, 1) + b"\n"
+        checks.same("show of no ring's name tells which there are", run("show", file), (0, listed, b""))
+        checks.same("show with --status: the repeat is not kept again", run("show", file, "--status"), (0, status, b""))
+        for more in (["object", "--status"], ["--status", "object"], ["object", "other"], ["--status", "--status"]):
+            code, told, errors = run("show", file, *more)
+            checks.show(f"show FILE {' '.join(more)} ends with status 2", code == 2 and not told and errors, (code, told, errors))
+        asked = run("run", "--file", file, given=lines("? balance object", "? rings", "? devices object", "? status", "? ring object"))
+        checks.same("questions over the file", asked, (0, FIRST_BALANCE + listed + FIRST_DEVICES + status + FIRST_RING + b"\n", b""))
+        rows = rows_of(file)
+        kept = common.status(rows["meta"][0][2], len(rows["request"]), len(rows["ring"])) + b"\n"
+        checks.same("the status is that of the rows", (status, listed), (kept, common.listed(**{row[0]: row[5] for row in rows["ring"]}) + b"\n"))
         checks.same("table of a ring that is not there", run("table", file, "other"), fault("NoRing", 1))
         checks.same("table of no ring's name", run("table", file, "Other"), fault("Unreadable", 20))
+        checks.same("show of a ring that is not there", run("show", file, "other"), fault("NoRing", 1))
+        checks.same("show of what is no name", run("show", file, "Other"), fault("Unreadable", 20))
         run("run", "--file", file, given=lines((0, message(9, "create", ring="empty", power=1, replicas=1, min_hours=0))))
         checks.same("nodes of a ring without seats", run("nodes", file, "empty", "a"), fault("NotAssigned", 10))
+        checks.same("preview of a ring without devices", run("preview", file, "empty", "--seed", 1), fault("TooFewDevices", 9))
+        checks.same("preview of a ring that is not there", run("preview", file, "other", "--seed", 1), fault("NoRing", 1))
+        checks.same("moves of a version that is not published", run("moves", file, "object", "3", "3"), fault("NoVersion", 32))
+        checks.same("moves of no version", run("moves", file, "object", "3", "03", "--each"), fault("Unreadable", 20))
         checks.same("nodes of no path", run("nodes", file, "object", "a", "--object", "o"), fault("BadPath", 30))
         checks.same("export of a version that is not published", run("export", file, "object", "3"), fault("NoVersion", 32))
         checks.same("export of no version", run("export", file, "object", "03"), fault("Unreadable", 20))
@@ -80,6 +97,8 @@ def one_device(checks):
         made = run("run", "--file", file, given=lines(*TINY))
         checks.show("a ring of one device is made, assigned and published", made[0] == 0 and made[1].count(b"200 ") == 4, made)
         checks.same("export", run("export", file, "tiny", "2"), (0, TINY_TEXT, b""))
+        shown = run("show", file, "tiny")
+        checks.show("show", common.is_shown_now(shown, TINY_RING), shown)
         for words, hashed in [
             (["a"], b"/a"),
             (["a", "--container", "c"], b"/a/c"),
@@ -143,6 +162,7 @@ def renewal(checks):
         kept = {name: rows for name, rows in before.items() if name != "request"}
         checks.same("the new one has its rings, its texts and its hour", {name: after[name] for name in kept}, kept)
         checks.same("and no request", after["request"], [])
+        checks.same("its status has no number and the old one's hour", run("show", new, "--status"), (0, common.status(30, 0, 1) + b"\n", b""))
         checks.same("the published text", run("export", new, "object", "4"), run("export", file, "object", "4"))
         status, told, _ = run("run", "--file", new, given=lines((0, message(1, "set_hours", min_hours=3))))
         checks.same("number 1 is new there", (status, told), (0, b'200 {"done":"set_hours","version":5}\n'))
@@ -183,7 +203,7 @@ def two_programs(checks):
             holder.stdin.flush()
             checks.same("the first is answered", holder.stdout.readline(), b'200 {"done":"create","version":0}\n')
             held = files_of(file)
-            for task in (["run", "--file", file], ["table", file, "object"], ["nodes", file, "object", "a"],
+            for task in (["run", "--file", file], ["table", file, "object"], ["show", file, "object"], ["nodes", file, "object", "a"],
                          ["export", file, "object", "1"], *([["serve", file, str(common.free_port()), "1"]] if has("serve") else [])):
                 told = run(*task, given=lines(*FIRST))
                 checks.same(f"a second one, {task[0]}, is refused", told, fault("StoreFault", 24))
@@ -217,6 +237,7 @@ def full_file(checks):
         done = '200 {"done":"set_hours","version":4}\n'
         want = f"{done}{full}200 {FIRST_REPLIES[3]}\n422 {reply}\n{done}"
         checks.same("the last number, one too many, and repeats", told, (0, want.encode(), b""))
+        checks.same("the status of a full file", run("show", file, "--status"), (0, common.status(0, MOST_NUMBERS, 1) + b"\n", b""))
         if not has("renew"):
             return checks.skip("renew of a full file", "the program has none")
         checks.same("renew", run("renew", file, new), (0, b"", b""))
@@ -248,8 +269,9 @@ def broken_streams(checks):
 
 # Words that ask for nothing: a call for help, a program that there isn't, an argument that is missing, too many or not of its form.
 ASK_FOR_NOTHING = ["", "--help", "run --help", "help run", "walk", "serve FILE 0 1", "serve FILE 8642 65536", "serve FILE 8642", "loop FILE",
-                   "run more", "run --files FILE", "export FILE object 1 --format csv", "table FILE object --hour 1", "found FILE TEXT",
-                   "found FILE --min-hours 1", "found FILE TEXT --min-hours 65536", "found FILE TEXT --min-hours 1 --hour x", "version more"]
+                   "run more", "run --files FILE", "export FILE object 1 --format csv", "table FILE object --hour 1", "show", "show --status",
+                   "show FILE object --status", "show FILE --status=yes", "preview FILE object", "preview FILE object --seed x", "moves FILE object 1", "moves FILE object 1 2 --each=yes", "found FILE TEXT", "found FILE --min-hours 1",
+                   "found FILE TEXT --min-hours 65536", "found FILE TEXT --min-hours 1 --hour x", "version more"]
 
 
 def other_words(checks):
@@ -266,12 +288,14 @@ def other_words(checks):
 # form, a table that is missing; an input that is missing, a folder, which can be opened and not read, and the program itself, which is
 # longer than an input may be.
 AWAY = "/no/folder/f"
-TOLD_BEFORE = [(["table", AWAY, "a b"], "Unreadable", 20), (["nodes", AWAY, "a b", "a/b"], "Unreadable", 20), (["nodes", AWAY, "", "a"], "Unreadable", 20),
+TOLD_BEFORE = [(["table", AWAY, "a b"], "Unreadable", 20), (["show", AWAY, "a b"], "Unreadable", 20),
+               (["nodes", AWAY, "a b", "a/b"], "Unreadable", 20), (["nodes", AWAY, "", "a"], "Unreadable", 20),
                (["export", AWAY, "r", "01"], "Unreadable", 20), (["nodes", AWAY, "r", "a/b"], "BadPath", 30),
                (["nodes", AWAY, "r", "a", "--object", "o"], "BadPath", 30), (["import", AWAY, "r", "ops", "1", "/no/folder/c"], "NoFile", 27),
                (["loop", AWAY, "/no/folder/i"], "NoFile", 27), (["loop", AWAY, "/"], "ReadFailed", 50),
                (["loop", AWAY, "/proc/self/exe"], "TooLong", 29)]
-NO_FOLDER = [["run", "--file", AWAY], ["table", AWAY, "r"], ["serve", AWAY, "8642", "1"], ["loop", AWAY, "/dev/null"]]
+NO_FOLDER = [["run", "--file", AWAY], ["table", AWAY, "r"], ["show", AWAY, "r"], ["show", AWAY], ["show", AWAY, "--status"],
+             ["serve", AWAY, "8642", "1"], ["loop", AWAY, "/dev/null"]]
 
 
 def order_of_faults(checks):

@@ -1,22 +1,18 @@
 -- Rows that are put into a ring one after another, up to the first that is refused.
-use Rattle.std.proofs.Common.{◌≡◌, ℕ, ◌+◌, ◌<◌, ◌≤◌, Bool, true, false, cond, List, [], ◌∷◌, ◌++◌}
-use Rattle.std.proofs.Common.{length, take, drop, get_or, Option, Some, None, refl, sym, ap, ◌∙◌}
+use Rattle.std.proofs.Common.{◌≡◌, ℕ, ◌+◌, ◌<◌, ◌≤◌, Bool, true, false, List, [], ◌∷◌}
+use Rattle.std.proofs.Common.{length, take, drop, Option, None, refl, sym, ap, ◌∙◌}
 use Rattle.std.proofs.Common.{arith}
 use Rattle.std.specs.Prelude.{find}
 use Rattle.std.specs.List.{list_any}
-use Rattle.std.specs.Option.{option_map}
 use Rattle.std.proofs.lemmas.Bool.{leb-false, or_parts}
-use Rattle.std.proofs.lemmas.List.{drop_all, drop_more, take_all, take_more}
-use Rattle.std.proofs.lemmas.List.Sums.{fold-append}
-use Rattle.ring_model.specs.Import.{after_row, after_rows}
-use Rattle.ring_model.specs.Ring.{RingRecord, added}
+use Rattle.ring_model.specs.Import.{after_rows}
+use Rattle.ring_model.specs.Ring.{RingRecord}
 use Rattle.ring_words.specs.Rows.{has_place}
 use Rattle.ring_words.specs.declared.device.Device.{Device}
 use Rattle.ring_words.specs.declared.device.Row.{Row}
-use Rattle.ring_words.specs.declared.command.Refusal.TheVariants.{RowRefused}
 use Rattle.ring_words.specs.declared.command.RowCause.{RowCause}
 use Rattle.ring_words.specs.declared.request.Limits.{Limits}
-use Rattle.builder.specs.Step.{Cause, RowTrouble, first_trouble, of_more, of_row, of_rows}
+use Rattle.builder.specs.Step.{Cause, RowTrouble, first_trouble, of_more, of_rows}
 use Rattle.builder.specs.Step.{row_refusal, troubles_at}
 
 abbrev pub stood : List Cause → Option Cause

@@ -17,7 +17,7 @@ use Rattle.sqlite.proofs.Callers.{IsPlain, command_of, reads_as}
 use Rattle.store_tables.specs.Failing.{HasFailed, tells_failure}
 use Rattle.store_tables.proofs.Failing.{not_run}
 use Rattle.builder_store.specs.declared.fault.OpenFault.{OpenFault}
-use Rattle.builder_store.specs.declared.fault.OpenFault.TheVariants.{Store}
+use Rattle.builder_store.specs.Opening.{TellsFault}
 
 blank_command : (schema : Schema) → command_of (understood schema []) ≡ Nothing
 unfolding understood everything
@@ -94,6 +94,6 @@ module _ (old new : State) where
       unasked e untold.1 (subst (λ a. IfErr a (FailsToQuery [] [] old new)) untold.0 failed)
 
   -- it was not run for the disk only where that failed
-  pub silence_fails : (e : Error) (fault : OpenFault) → fault ≡ Store
-      → (fault ≡ Store → IsTrue (tells_failure e)) → IsNotRun old new [] [] e → HasFailed old new
+  pub silence_fails : (e : Error) (fault : OpenFault) → TellsFault fault
+      → (TellsFault fault → IsTrue (tells_failure e)) → IsNotRun old new [] [] e → HasFailed old new
   silence_fails e fault is told none = not_run old new e [] [] none (told is)

@@ -7,7 +7,7 @@ use Rattle.std.specs.Ordering.{int_cmp}
 use Rattle.sqlite_trees.specs.Tree.{Trees}
 use Rattle.store_model.specs.declared.change.RowChange.{RowChange}
 use Rattle.store_model.specs.declared.change.RowChange.TheVariants.{DropDevice, PutRing}
-use Rattle.store_model.specs.declared.change.RowChange.TheVariants.{AddDevice, PutPart}
+use Rattle.store_model.specs.declared.change.RowChange.TheVariants.{AddDevice, PutPart, AddPart}
 use Rattle.store_model.specs.declared.change.RowChange.TheVariants.{PutPublished}
 use Rattle.store_model.specs.declared.rows.MetaRow.{MetaRow}
 use Rattle.store_model.specs.declared.rows.RequestRow.{RequestRow}
@@ -36,6 +36,8 @@ meta_stays (PutRing row ∷ changes) c = meta_stays changes (with_ring_row c (ri
 meta_stays (AddDevice row ∷ changes) c = meta_stays changes (with_device_row c (device_of row).0
     (device_of row).1)
 meta_stays (PutPart row ∷ changes) c = meta_stays changes (with_part c (part_of row).0
+    (part_of row).1)
+meta_stays (AddPart row ∷ changes) c = meta_stays changes (with_part c (part_of row).0
     (part_of row).1)
 meta_stays (PutPublished row ∷ changes) c = meta_stays changes (with_published_row c
     (published_of row).0 (published_of row).1)

@@ -9,7 +9,7 @@ use Rattle.store_model.specs.Contents.{Contents}
 use Rattle.store_model.specs.Entries.{Meta}
 use Rattle.store_model.specs.declared.change.RowChange.{RowChange}
 use Rattle.store_model.specs.declared.change.RowChange.TheVariants.{AddDevice, DropDevice}
-use Rattle.store_model.specs.declared.change.RowChange.TheVariants.{PutPart, PutPublished}
+use Rattle.store_model.specs.declared.change.RowChange.TheVariants.{PutPart, AddPart, PutPublished}
 use Rattle.store_model.specs.declared.change.RowChange.TheVariants.{PutRing}
 use Rattle.store_rows.specs.Differences.{IsChange}
 use Rattle.store_rows.specs.Judging.{meta_now}
@@ -29,6 +29,7 @@ meta_stays c m (DropDevice key ∷ rest) = meta_stays (with_change c (DropDevice
 meta_stays c m (PutRing row ∷ rest) = meta_stays (with_change c (PutRing row)) m rest
 meta_stays c m (AddDevice row ∷ rest) = meta_stays (with_change c (AddDevice row)) m rest
 meta_stays c m (PutPart row ∷ rest) = meta_stays (with_change c (PutPart row)) m rest
+meta_stays c m (AddPart row ∷ rest) = meta_stays (with_change c (AddPart row)) m rest
 meta_stays c m (PutPublished row ∷ rest) = meta_stays (with_change c (PutPublished row)) m rest
 
 -- the contents without the rows of schema 1

@@ -17,8 +17,8 @@ use Rattle.sqlite.specs.declared.file.Leftover.{Leftover}
 use Rattle.builder_store.specs.Faults.{file_fault}
 use Rattle.builder_store.specs.Left.{AreUnopened, HoldsNoDatabase, IfConnected, IfUnconnected}
 use Rattle.builder_store.specs.Left.{IsConnected, IsMadeOfConnection, IsOfConnection}
-use Rattle.builder_store.specs.Making.{IsJudgement}
-use Rattle.builder_store.specs.Opening.{IsBadStore}
+use Rattle.builder_store.specs.Making.{IsFailure, IsJudgement}
+use Rattle.builder_store.specs.Opening.{IsBadStore, TellsOpenFault}
 use Rattle.builder_store.specs.declared.fault.FileFault.{FileFault}
 use Rattle.builder_store.specs.declared.fault.FileFault.TheVariants as file
 use Rattle.builder_store.specs.declared.fault.MakeFault.{MakeFault}
@@ -45,6 +45,7 @@ unopened_apart file.CannotOpen is of = of
 unopened_apart file.NoMemory is of = of
 unopened_apart file.Store is of = is
 unopened_apart file.NoDatabase is of = is
+unopened_apart file.Damaged is of = is
 unopened_apart (file.Opening why) is of = is
 
 -- and one that judges what is there speaks of one
@@ -55,6 +56,22 @@ bad_of_connection file.CannotOpen is = is
 bad_of_connection file.NoMemory is = is
 bad_of_connection file.Store is = is
 bad_of_connection file.NoDatabase is = is
+bad_of_connection file.Damaged is = is
+
+-- and so does one that tells of the disk under it
+pub fault_of_connection : (fault : FileFault) → TellsOpenFault fault → IsOfConnection fault
+fault_of_connection (file.Opening why) is = tt
+fault_of_connection file.Busy is = is
+fault_of_connection file.CannotOpen is = is
+fault_of_connection file.NoMemory is = is
+fault_of_connection file.Store is = is
+fault_of_connection file.NoDatabase is = is
+fault_of_connection file.Damaged is = is
+
+pub failure_of_connection : (fault : MakeFault) → IsFailure fault → IsMadeOfConnection fault
+failure_of_connection making.PathTaken is = is
+failure_of_connection making.Taken is = tt
+failure_of_connection (making.Opening why) is = fault_of_connection why is
 
 pub judged_of_connection : (fault : MakeFault) → IsJudgement fault → IsMadeOfConnection fault
 judged_of_connection making.PathTaken is = is
@@ -69,7 +86,7 @@ apart error why is told = sym (ap file_fault is) ∙ told
 stored_apart : (kind : StoreError) → file_fault (store_error kind) ≡ file.NoDatabase → ⊥
 stored_apart stored.OutOfMemory told = let h : file.NoMemory ≡ file.NoDatabase = told in cc
 stored_apart stored.Io told = let h : file.Store ≡ file.NoDatabase = told in cc
-stored_apart stored.Corrupt told = let h : file.Store ≡ file.NoDatabase = told in cc
+stored_apart stored.Corrupt told = let h : file.Damaged ≡ file.NoDatabase = told in cc
 stored_apart stored.Full told = let h : file.Store ≡ file.NoDatabase = told in cc
 stored_apart stored.Broken told = let h : file.Store ≡ file.NoDatabase = told in cc
 stored_apart stored.Unstorable told = let h : file.Store ≡ file.NoDatabase = told in cc

@@ -1,5 +1,6 @@
 -- Why a connection is not made over a store that another connection had.
-use Rattle.std.proofs.Common.{◌≡◌, ◌<◌, ◌≤◌, ◌⊎◌, ℕ, Err, IfErr, IsTrue, Ok, Result, ap, arith, false, inl, inr}
+use Rattle.std.proofs.Common.{◌≡◌, ◌<◌, ◌≤◌, ◌⊎◌, ℕ, Err, IfErr, IsTrue, Ok, Result, ap, arith, false}
+use Rattle.std.proofs.Common.{inl, inr, subst, sym, ◌∙◌}
 use Rattle.sqlite_disk.specs.Disk.{MoreFaults}
 use Rattle.sqlite_trees.specs.Tree.{Trees}
 use Rattle.sqlite_trees.specs.declared.error.StoreError.{StoreError}
@@ -12,23 +13,28 @@ use Rattle.sqlite.specs.Steps.{FailsToOpen}
 use Rattle.sqlite.specs.declared.error.Error.{Error}
 use Rattle.store_tables.specs.Failing.{HasFailed, HasFailedSince}
 use Rattle.builder_store.specs.Inner.Faults.{opening_fault}
+use Rattle.builder_store.specs.Opening.{TellsFault}
 use Rattle.builder_store.specs.declared.fault.OpenFault.{OpenFault}
-use Rattle.builder_store.specs.declared.fault.OpenFault.TheVariants.{NoMemory, Store}
+use Rattle.builder_store.specs.declared.fault.OpenFault.TheVariants.{NoMemory}
 
 -- memory was wanted, or its disk has failed or refused since
 abbrev pub WantsOrFails : State → ℕ → Error → Type 0
 WantsOrFails old faults error = (opening_fault error ≡ NoMemory)
-    ⊎ ((opening_fault error ≡ Store) × HasFailedSince old faults)
+    ⊎ (TellsFault (opening_fault error) × HasFailedSince old faults)
+
+tells : (error why : Error) → error ≡ why → TellsFault (opening_fault why)
+    → TellsFault (opening_fault error)
+tells error why is told = subst (λ e. TellsFault (opening_fault e)) (sym is) told
 
 named : (old : State) (between after : ℕ) (error : Error) (kind : StoreError)
     → old.faults ≤ between → error ≡ store_error kind → Excuses (MoreFaults between after) ⊥ kind
     → WantsOrFails old after error
 named old between after error stored.OutOfMemory more is cause = inl (ap opening_fault is)
-named old between after error stored.Io more is cause = inr (ap opening_fault is, inl (omega arith))
+named old between after error stored.Io more is cause = inr (tells error _ is tt, inl (omega arith))
 named old between after error stored.Corrupt more is cause = inr
-    (ap opening_fault is, inl (omega arith))
+    (tells error _ is tt, inl (omega arith))
 named old between after error stored.Full more is cause = inr
-    (ap opening_fault is, inl (omega arith))
+    (tells error _ is tt, inl (omega arith))
 named old between after error stored.Broken more is cause = absurd cause
 named old between after error stored.Unstorable more is cause = absurd cause
 
@@ -60,8 +66,8 @@ met_some old faults (inr shut) = inr shut
 
 -- an opening that ends before there is a connection is told so only then
 pub met_before : (old : State) (faults : ℕ) (error : Error) (fault : OpenFault)
-    → fault ≡ opening_fault error → WantsOrFails old faults error → fault ≡ Store
+    → fault ≡ opening_fault error → WantsOrFails old faults error → TellsFault fault
     → (0 < faults) ⊎ (old.is_open ≡ false)
 met_before old faults error fault is (inl memory) told = absurd
-    (let a = is in let b = memory in let d = told in cc)
+    (subst TellsFault (is ∙ memory) told)
 met_before old faults error fault is (inr failed) told = met_some old faults failed.1

@@ -1,12 +1,10 @@
 -- What a store is made with.
-use Rattle.std.specs.Prelude.{◌≡◌, ℕ, []}
+use Rattle.std.specs.Prelude.{ℕ, []}
 use Rattle.store_rows.specs.RingRows.{NamedRings}
 use Rattle.store_rows.specs.Stands.{RingContent}
-use Rattle.builder_store.specs.Opening.{IsBadStore}
-use Rattle.builder_store.specs.declared.fault.FileFault.TheVariants as file
+use Rattle.builder_store.specs.Opening.{IsBadStore, TellsOpenFault}
 use Rattle.builder_store.specs.declared.fault.MakeFault.{MakeFault}
 use Rattle.builder_store.specs.declared.fault.MakeFault.TheVariants.{Opening, PathTaken, Taken}
-use Rattle.builder_store.specs.declared.fault.OpenFault.TheVariants.{Store}
 
 -- These rings, no request, and this as the hour from which the book goes on.
 abbrev pub rings_alone : NamedRings → ℕ → RingContent
@@ -18,6 +16,8 @@ IsJudgement PathTaken = ⊥
 IsJudgement Taken = ⊥
 IsJudgement (Opening why) = IsBadStore why
 
--- The fault tells that a store over which a connection was made has failed.
+-- The fault tells of the disk under a store over which a connection was made.
 abbrev pub IsFailure : MakeFault → Type 0
-IsFailure why = why ≡ Opening (file.Opening Store)
+IsFailure PathTaken = ⊥
+IsFailure Taken = ⊥
+IsFailure (Opening why) = TellsOpenFault why

@@ -1,5 +1,5 @@
 -- What an opening finds in the tables, and what it makes of them.
-use Rattle.std.specs.Prelude.{◌≡◌, ◌≤◌, ◌⊎◌, ℕ, []}
+use Rattle.std.specs.Prelude.{◌≡◌, ◌≤◌, ◌⊎◌, ℕ, [], ⊤}
 use Rattle.std.specs.FinMap.{empty}
 use Rattle.sqlite_trees.specs.Tree.{Trees}
 use Rattle.sqlite_wal.specs.Recovery.{Image}
@@ -11,7 +11,9 @@ use Rattle.store_tables.specs.Store.{begun_contents}
 use Rattle.store_tables.specs.Tables.{schema_of_first, table_count}
 use Rattle.builder_store.specs.declared.fault.FileFault.{FileFault}
 use Rattle.builder_store.specs.declared.fault.FileFault.TheVariants as file
-use Rattle.builder_store.specs.declared.fault.OpenFault.TheVariants.{BadRows, BadTables}
+use Rattle.builder_store.specs.declared.fault.OpenFault.{OpenFault}
+use Rattle.builder_store.specs.declared.fault.OpenFault.TheVariants.{BadRows, BadTables, Damaged}
+use Rattle.builder_store.specs.declared.fault.OpenFault.TheVariants.{Store}
 use Rattle.store_rows.specs.Stands.{IsHoldable, RingContent, contents_for, first_contents_for}
 
 -- Tables without a row.
@@ -61,6 +63,18 @@ pub record IsOpenedFrom (image : Image) (content : RingContent) : Type 0 where
   pub holds : (db : Trees) → HoldsDatabase image db → trees ≡ db
   pub reads : AreFoundIn image trees
   pub opens : IsOpenedAs trees content
+
+-- The fault tells of the disk: that it failed or refused, or gave back what is no page of a
+-- database. The store counts both.
+abbrev pub TellsFault : OpenFault → Type 0
+TellsFault Store = ⊤
+TellsFault Damaged = ⊤
+TellsFault _ = ⊥
+
+-- The fault tells this of the disk under a connection that was made over files.
+abbrev pub TellsOpenFault : FileFault → Type 0
+TellsOpenFault (file.Opening why) = TellsFault why
+TellsOpenFault _ = ⊥
 
 -- The fault tells that what files hold stands for nothing.
 abbrev pub IsBadStore : FileFault → Type 0

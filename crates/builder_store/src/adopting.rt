@@ -8,7 +8,7 @@ ghost use Rattle.store_tables.specs.Failing.{HasFailedSince, tells_failure};
 ghost use Rattle.builder_store.specs.Inner.Faults.{opening_fault};
 ghost use Rattle.builder_store.specs.Inner.Opened.{IsFresh};
 ghost use Rattle.builder_store.specs.declared.fault.OpenFault.TheVariants.{BadRows, BadTables, NoMemory};
-ghost use Rattle.builder_store.specs.declared.fault.OpenFault.TheVariants.{Store as Failed};
+ghost use Rattle.builder_store.specs.Opening.{TellsFault};
 
 use crate::fault::OpenFault;
 use sqlite::{Alter, Connection, Error, ErrorCode};
@@ -63,7 +63,7 @@ pub(crate) fn take_over<S: Alter + Drop>(
     ensures left { IfErr result (λ e. (db : Trees) → S.Store.recovers e.1 db →
         (state S.Store conn).may_leave db) }
     ensures cause { IfErr result (λ e. IsClean (S.Store.view e.1)
-        → (opening_fault e.0 ≡ NoMemory) ⊎ ((opening_fault e.0 ≡ Failed)
+        → (opening_fault e.0 ≡ NoMemory) ⊎ (TellsFault (opening_fault e.0)
         × HasFailedSince (state S.Store conn) (S.Store.faults e.1))) }
 {
     let store = conn.into_store();
@@ -76,16 +76,14 @@ pub(crate) fn take_over<S: Alter + Drop>(
 /// Why an error of a connection ends an opening.
 pub(crate) fn fault_of(error: &Error) -> OpenFault
     ensures which { result ≡ opening_fault error.now }
-    ensures failed { result ≡ Failed → IsTrue (tells_failure error.now) }
+    ensures failed { TellsFault result → IsTrue (tells_failure error.now) }
     ensures unjudged { (result ≢ BadRows) × (result ≢ BadTables) }
 {
     match error {
         Error::SqliteFailure(ErrorCode::OutOfMemory) => OpenFault::NoMemory,
+        Error::SqliteFailure(ErrorCode::DatabaseCorrupt) => OpenFault::Damaged,
         Error::SqliteFailure(
-            ErrorCode::SystemIoFailure
-            | ErrorCode::DatabaseCorrupt
-            | ErrorCode::DiskFull
-            | ErrorCode::Closed,
+            ErrorCode::SystemIoFailure | ErrorCode::DiskFull | ErrorCode::Closed,
         ) => OpenFault::Store,
         _ => OpenFault::Refused,
     }

@@ -7,7 +7,9 @@ pub enum OpenFault {
     NoMemory,
     /// The disk failed or refused, or the connection was shut.
     Store,
-    /// A statement was refused, or an answer was no row of a store.
+    /// The disk gave back what is no page of a database: the files are damaged.
+    Damaged,
+    /// What was read is no store: an answer was no row of one, or a statement was refused.
     Refused,
     /// The rows stand for no rings and requests. No row was changed.
     BadRows,
@@ -25,9 +27,11 @@ pub enum FileFault {
     CannotOpen,
     /// They hold no database.
     NoDatabase,
+    /// They are damaged: what was read is no page of a database.
+    Damaged,
     /// A growth of memory was refused before they were open.
     NoMemory,
-    /// Their disk failed or refused before they were open, or they are damaged.
+    /// Their disk failed or refused before they were open.
     Store,
     /// They were opened, and what they hold isn't opened for this cause.
     Opening(OpenFault),

@@ -71,8 +71,8 @@ impl<S: Alter + Drop> SqlKeeper<S> {
     ghost use Rattle.std.specs.Prelude.{ℕ};
     ghost use Rattle.store_rows.specs.Stands.{RingContent};
     ghost use Rattle.builder_store.specs.Opening.{AreDeclared, IsMadeOf, IsOpenedAs, KeepsRows};
+    ghost use Rattle.builder_store.specs.Opening.{TellsFault};
     ghost use Rattle.builder_store.specs.declared.fault.OpenFault.TheVariants.{BadRows, BadTables};
-    ghost use Rattle.builder_store.specs.declared.fault.OpenFault.TheVariants.{Store as Failed};
 
     /// Opens what the connection's last commit holds, and keeps at most `limits.numbers` requests.
     /// What the connection hasn't committed is rolled back.
@@ -103,9 +103,9 @@ impl<S: Alter + Drop> SqlKeeper<S> {
             → IsOpenedAs (state S.Store conn).committed.trees content → ⊥) }
         ensures missing { IfErr result (λ e. e.0 ≡ BadTables → IsCleanLeft S.Store e.1
             → (made : ℕ) → AreDeclared made (state S.Store conn).committed.trees → ⊥) }
-        // The store is told to have failed only where its disk has failed or refused, or where it
-        // was shut before.
-        ensures failed { IfErr result (λ e. e.0 ≡ Failed → IsCleanLeft S.Store e.1
+        // The store is told to have failed or to be damaged only where its disk has failed or
+        // refused or given back what is no page, or where it was shut before.
+        ensures failed { IfErr result (λ e. TellsFault e.0 → IsCleanLeft S.Store e.1
             → HasMetFaults S.Store e.1 ⊎ ((state S.Store conn).is_open ≡ false)) }
         // A crash after a refusal leaves what it could leave before, or what an opening makes of
         // it.
@@ -232,8 +232,8 @@ impl<S: Alter + Drop> SqlKeeper<S> {
             → AreDeclared 0 (state S.Store conn).committed.trees) }
         ensures taken { IfErr result (λ e. e.0 ≡ Taken → IsCleanLeft S.Store e.1
             → AreDeclared 0 (state S.Store conn).committed.trees → ⊥) }
-        // The store is told to have failed only where its disk has failed or refused, or where it
-        // was shut before.
+        // The store is told to have failed or to be damaged only where its disk has failed or
+        // refused or given back what is no page, or where it was shut before.
         ensures failed { IfErr result (λ e. IsFailure e.0 → IsCleanLeft S.Store e.1
             → HasMetFaults S.Store e.1 ⊎ ((state S.Store conn).is_open ≡ false)) }
         // What is there is judged by nobody, so it is told as bad by nobody.
@@ -321,8 +321,12 @@ impl<S: Alter> Keeper<RingMachine> for SqlKeeper<S> {
         Ok(self.count >= self.limit as usize)
     }
 
-    fn count(&mut self) -> Result<usize, KeepFault> {
-        Ok(self.count)
+    fn count(&self) -> usize {
+        self.count
+    }
+
+    fn most(&self) -> u32 {
+        self.limit
     }
 
     fn hour(&mut self) -> Result<Hour, KeepFault> {

@@ -14,12 +14,11 @@ ghost use Rattle.builder_store.specs.Left.{IsUnconnected, IsUnmadeOver, IsUntouc
 ghost use Rattle.builder_store.specs.Making.{IsFailure, IsJudgement, rings_alone};
 ghost use Rattle.builder_store.specs.Opening.{HoldsNoStore, HoldsNoTable, HoldsTables, IsBadStore};
 ghost use Rattle.builder_store.specs.Opening.{IsLeftOf, IsMadeOf, IsOpenedFrom, KeepsRows, Stands};
-ghost use Rattle.builder_store.specs.Opening.{nothing};
+ghost use Rattle.builder_store.specs.Opening.{TellsFault, TellsOpenFault, nothing};
 ghost use Rattle.builder_store.specs.Inner.Begins.{IsMadeOver};
 ghost use Rattle.builder_store.specs.declared.fault.FileFault.TheVariants.{Opening};
 ghost use Rattle.builder_store.specs.declared.fault.MakeFault.TheVariants.{Taken};
 ghost use Rattle.builder_store.specs.declared.fault.OpenFault.TheVariants.{BadRows, BadTables};
-ghost use Rattle.builder_store.specs.declared.fault.OpenFault.TheVariants.{Store as Failed};
 ghost use Rattle.builder_store.specs.declared.over.FilesLeft.TheVariants.{Files};
 
 use crate::fault::{FileFault, MakeFault, OpenFault};
@@ -43,7 +42,7 @@ pub fn open_memory(alloc: Global, limits: Limits) -> Result<SqlKeeper<MemStore>,
     // There is no table yet, and that stands for no rings and no request.
     ensures good { IfErr result (λ fault. (fault ≢ BadRows) × (fault ≢ BadTables)) }
     // Memory has no disk that fails.
-    ensures unfailed { IfErr result (λ fault. fault ≢ Failed) }
+    ensures unfailed { IfErr result (λ fault. TellsFault fault → ⊥) }
 {
     nothing_is_holdable();
     let Ok(conn) = Connection::open_in_memory(alloc) else {
@@ -64,6 +63,7 @@ fn file_fault(error: &Error) -> FileFault
         Error::SqliteFailure(ErrorCode::DatabaseBusy) => FileFault::Busy,
         Error::SqliteFailure(ErrorCode::CannotOpen) => FileFault::CannotOpen,
         Error::SqliteFailure(ErrorCode::NotADatabase) => FileFault::NoDatabase,
+        Error::SqliteFailure(ErrorCode::DatabaseCorrupt) => FileFault::Damaged,
         Error::SqliteFailure(ErrorCode::OutOfMemory) => FileFault::NoMemory,
         _ => FileFault::Store,
     }
@@ -145,8 +145,9 @@ pub fn open_from<S: Start>(
         e.0)) }
     ensures bad { IfErr result (λ e. IsBadStore e.0 → IsConnectedAnd e.1 (λ conn.
         HasCleanDisk (file_state conn) → HoldsNoStore (image_at S.Start))) }
-    // The store is told to have failed only where its disk failed or refused.
-    ensures failed { IfErr result (λ e. e.0 ≡ Opening Failed → IsConnectedAnd e.1 (λ conn.
+    // The store is told to have failed or to be damaged only where its disk failed or refused, or
+    // gave back what is no page.
+    ensures failed { IfErr result (λ e. TellsOpenFault e.0 → IsConnectedAnd e.1 (λ conn.
         HasCleanDisk (file_state conn) → 0 < (file_state conn).faults)) }
     // A crash after a refusal leaves what the files recovered to, or what an opening makes of it;
     // where the rows are refused, no row of it is another.
@@ -234,7 +235,8 @@ pub fn make_at<S: Start>(
         e.0)) }
     ensures taken { IfErr result (λ e. e.0 ≡ Taken → IsConnectedAnd e.1 (λ conn.
         HasCleanDisk (file_state conn) → HoldsTables (image_at S.Start))) }
-    // The store is told to have failed only where its disk failed or refused.
+    // The store is told to have failed or to be damaged only where its disk failed or refused, or
+    // gave back what is no page.
     ensures failed { IfErr result (λ e. IsFailure e.0 → IsConnectedAnd e.1 (λ conn.
         HasCleanDisk (file_state conn) → 0 < (file_state conn).faults)) }
     // A crash after a refusal leaves what the files recovered to, or what was to be made; where

@@ -2,7 +2,7 @@
 use builder::decide;
 use path_lookup::{HashNames, Path};
 use ring_model::Rings;
-use ring_reads::{Format, Hidden, Question, Read, show};
+use ring_reads::{Format, Held, Hidden, Question, Read, show};
 use ring_words::{
     Act, Address, Command, Deed, DeviceName, Done, Hour, Limits, NewRing, NewWeight, Port, Power,
     Refusal, Replicas, Reply, RingName, Row, Rows, Weight,
@@ -144,7 +144,14 @@ fn shown(alloc: Global, rings: &Rings, read: Read) -> Result<usize, Fail> {
         prefix: b"",
         suffix: b"salt",
     };
-    match show(alloc, 14, names, rings, &Question { ring, read }) {
+    let held = Held {
+        rings,
+        hour: 14,
+        clock: 0,
+        kept: 0,
+        limit: 0,
+    };
+    match show(alloc, names, &held, &Question::Ring(ring, read)) {
         Ok(bytes) => Ok(bytes.len()),
         Err(Hidden::NoMemory) => Err(Fail::from("no memory")),
         Err(_) => Ok(0),

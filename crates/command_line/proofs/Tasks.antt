@@ -1,6 +1,6 @@
 -- The task that words ask for, from what `clap` says of them.
-use Rattle.std.proofs.Common.{◌≡◌, List, [], true, Option, Some, None, refl, sym, ap}
-use Rattle.ring_words.specs.Limits.{greatest_short}
+use Rattle.std.proofs.Common.{◌≡◌, Bool, List, [], true, Option, Some, None, refl, sym, ap}
+use Rattle.ring_words.specs.Limits.{greatest_long, greatest_short}
 use Rattle.std.proofs.Common.{subst, ◌∙◌, ⊎_elim, codes, ℕ, ◌∷◌, slice_index, arith, length, Bor}
 use Rattle.std.specs.Option.{option_map}
 use Rattle.std.proofs.lemmas.Option.{none-some, same_Some}
@@ -9,20 +9,22 @@ use Rattle.clap.specs.Kinds.{HasKind, IsAmong, Kinds}
 use Rattle.clap.specs.Matches.{subcommand_name_of}
 use Rattle.clap.specs.Simple.{App, HasMatchesOf, subcommand_of, subcommand_rows_of}
 use Rattle.clap.specs.Values.{kind_of}
-use Rattle.clap.specs.Walk.{Row, Text}
+use Rattle.clap.specs.Walk.{Row, Text, first_of}
 use Rattle.clap.specs.declared.error.Error.{Error}
 use Rattle.clap.specs.declared.error.kind.ErrorKind.TheVariants.{OutOfMemory}
 use Rattle.clap.specs.declared.parser.matches.ArgMatches.{ArgMatches}
 use Rattle.command_line.specs.Shapes.{programs}
-use Rattle.command_line.specs.Tasks.{AskFor, AskForNothing, HasArguments, HasHour, HasNumber, HasText}
-use Rattle.command_line.specs.Tasks.{IfBad, program_of}
+use Rattle.command_line.specs.Tasks.{AskFor, AskForNothing, HasArguments, HasHour, HasNumber}
+use Rattle.command_line.specs.Tasks.{HasShown, HasText, IfBad, is_flagged, program_of, shown_program}
 use Rattle.command_line.specs.Inner.Reading.{IsTask}
 use Rattle.command_line.specs.declared.task.ArgsFault.{ArgsFault}
 use Rattle.command_line.specs.declared.task.ArgsFault.TheVariants.{Bad, NoMemory}
+use Rattle.command_line.specs.declared.task.Shown.{Shown}
+use Rattle.command_line.specs.declared.task.Shown.TheVariants as shown
 use Rattle.command_line.specs.declared.task.Task.{Task}
 use Rattle.command_line.specs.declared.task.Task.TheVariants.{Run, Serve, Service, Loop, Import}
-use Rattle.command_line.specs.declared.task.Task.TheVariants.{Table, Nodes, Export, Renew, Found}
-use Rattle.command_line.specs.declared.task.Task.TheVariants.{Version}
+use Rattle.command_line.specs.declared.task.Task.TheVariants.{Table, Show, Nodes, Export, Renew}
+use Rattle.command_line.specs.declared.task.Task.TheVariants.{Found, Version}
 
 -- words that were read have nothing wrong
 pub right : (app : App) (words : List Text) → app ≡ programs →
@@ -100,6 +102,61 @@ other_word : (first second : ℕ) (one two : List ℕ) → first ∷ one ≡ sec
     (first ≡ second → ⊥) → ⊥
 other_word first second one two same differ = differ (ap (λ (t : List ℕ). slice_index t 0) same)
 
+-- where both a ring and the status are named, nothing is shown
+pub shows_nothing : (rows : List Row) (ring : Option (Bor Text)) (name : Bor Text) (flagged : Bool)
+    → option_map (λ (t : Bor Text). t.now) ring ≡ first_of (codes "RING") rows → ring ≡ Some name
+    → flagged ≡ is_flagged rows (codes "status") → flagged ≡ true → (what : Shown)
+    → shown_program what ≡ codes "show" → HasShown rows what → ⊥
+shows_nothing rows ring name flagged text named status set what by_show has = by what by_show has
+  where
+    given : Some name.now ≡ first_of (codes "RING") rows
+    given = subst (λ (o : Option (Bor Text)). option_map (λ (t : Bor Text). t.now) o
+        ≡ first_of (codes "RING") rows) named text
+
+    missing : first_of (codes "RING") rows ≡ None → ⊥
+    missing none = absurd (none-some name.now (sym (given ∙ none)))
+
+    by : (what : Shown) → shown_program what ≡ codes "show" → HasShown rows what → ⊥
+    by shown.Rings by_show has = missing has.0
+    by shown.Status by_show has = missing has.0
+    by (shown.Ring other) by_show has = cc (set, status, has.1)
+    by (shown.Preview other seed hour) by_show has =
+        other_word 112 115 _ _ by_show (λ e. omega (arith, e))
+    by (shown.Moves other from to each) by_show has =
+        other_word 109 115 _ _ by_show (λ e. omega (arith, e))
+
+-- without a seed no preview is to be shown
+pub no_seed : (rows : List Row) → ((n : ℕ) → HasNumber rows (codes "seed") 0 greatest_long n → ⊥) →
+    (what : Shown) → shown_program what ≡ codes "preview" → HasShown rows what → ⊥
+no_seed rows none shown.Rings is has = omega (arith, ap length is)
+no_seed rows none shown.Status is has = omega (arith, ap length is)
+no_seed rows none (shown.Ring name) is has = omega (arith, ap length is)
+no_seed rows none (shown.Preview ring seed hour) is has = none seed has.1
+no_seed rows none (shown.Moves ring from to each) is has =
+    other_word 109 112 _ _ is (λ e. omega (arith, e))
+
+-- what is shown is shown by none of these programs
+not_serve : (what : Shown) → shown_program what ≡ codes "serve" → ⊥
+not_serve shown.Rings is = omega (arith, ap length is)
+not_serve shown.Status is = omega (arith, ap length is)
+not_serve (shown.Ring name) is = omega (arith, ap length is)
+not_serve (shown.Preview ring seed hour) is = other_word 112 115 _ _ is (λ e. omega (arith, e))
+not_serve (shown.Moves ring from to each) is = other_word 109 115 _ _ is (λ e. omega (arith, e))
+
+not_service : (what : Shown) → shown_program what ≡ codes "service" → ⊥
+not_service shown.Rings is = omega (arith, ap length is)
+not_service shown.Status is = omega (arith, ap length is)
+not_service (shown.Ring name) is = omega (arith, ap length is)
+not_service (shown.Preview ring seed hour) is = other_word 112 115 _ _ is (λ e. omega (arith, e))
+not_service (shown.Moves ring from to each) is = other_word 109 115 _ _ is (λ e. omega (arith, e))
+
+not_found : (what : Shown) → shown_program what ≡ codes "found" → ⊥
+not_found shown.Rings is = other_word 115 102 _ _ is (λ e. omega (arith, e))
+not_found shown.Status is = other_word 115 102 _ _ is (λ e. omega (arith, e))
+not_found (shown.Ring name) is = other_word 115 102 _ _ is (λ e. omega (arith, e))
+not_found (shown.Preview ring seed hour) is = other_word 112 102 _ _ is (λ e. omega (arith, e))
+not_found (shown.Moves ring from to each) is = other_word 109 102 _ _ is (λ e. omega (arith, e))
+
 -- where a service has no port or no count, no task is one
 pub no_service : (rows : List Row) →
     ((port count : ℕ) → HasNumber rows (codes "PORT") 1 greatest_short port →
@@ -114,6 +171,7 @@ no_service rows none (Loop file input hour names) is_named has =
     other_word 108 115 _ _ is_named (λ e. omega (arith, e))
 no_service rows none (Import file ring caller number csv hour) is_named has =
     other_word 105 115 _ _ is_named (λ e. omega (arith, e))
+no_service rows none (Show file what) is_named has = not_serve what is_named
 no_service rows none (Table file ring) is_named has =
     other_word 116 115 _ _ is_named (λ e. omega (arith, e))
 no_service rows none (Nodes file ring account container object names) is_named has =
@@ -140,6 +198,7 @@ no_service_on rows none (Loop file input hour names) is_named has =
     other_word 108 115 _ _ is_named (λ e. omega (arith, e))
 no_service_on rows none (Import file ring caller number csv hour) is_named has =
     other_word 105 115 _ _ is_named (λ e. omega (arith, e))
+no_service_on rows none (Show file what) is_named has = not_service what is_named
 no_service_on rows none (Table file ring) is_named has =
     other_word 116 115 _ _ is_named (λ e. omega (arith, e))
 no_service_on rows none (Nodes file ring account container object names) is_named has =
@@ -170,6 +229,7 @@ no_found rows none (Loop file input hour names) is_named has =
     other_word 108 102 _ _ is_named (λ e. omega (arith, e))
 no_found rows none (Import file ring caller number csv hour) is_named has =
     other_word 105 102 _ _ is_named (λ e. omega (arith, e))
+no_found rows none (Show file what) is_named has = not_found what is_named
 no_found rows none (Table file ring) is_named has =
     other_word 116 102 _ _ is_named (λ e. omega (arith, e))
 no_found rows none (Nodes file ring account container object names) is_named has =
@@ -180,3 +240,87 @@ no_found rows none (Renew file fresh) is_named has =
     other_word 114 102 _ _ is_named (λ e. omega (arith, e))
 no_found rows none Version is_named has =
     other_word 118 102 _ _ is_named (λ e. omega (arith, e))
+
+-- where nothing is to be shown, no task shows something
+pub no_show : (rows : List Row) →
+    ((what : Shown) → shown_program what ≡ codes "show" → HasShown rows what → ⊥) →
+    IsTask (codes "show") rows None
+no_show rows none (Show file what) is_named has = none what is_named has.1
+no_show rows none (Serve file port count hour names) is_named has =
+    absurd (omega (arith, ap length is_named))
+no_show rows none (Service file port hosts hour_ok names) is_named has =
+    absurd (omega (arith, ap length is_named))
+no_show rows none (Run file) is_named has =
+    other_word 114 115 _ _ is_named (λ e. omega (arith, e))
+no_show rows none (Loop file input hour names) is_named has =
+    other_word 108 115 _ _ is_named (λ e. omega (arith, e))
+no_show rows none (Import file ring caller number csv hour) is_named has =
+    other_word 105 115 _ _ is_named (λ e. omega (arith, e))
+no_show rows none (Table file ring) is_named has =
+    other_word 116 115 _ _ is_named (λ e. omega (arith, e))
+no_show rows none (Nodes file ring account container object names) is_named has =
+    other_word 110 115 _ _ is_named (λ e. omega (arith, e))
+no_show rows none (Export file ring version written) is_named has =
+    other_word 101 115 _ _ is_named (λ e. omega (arith, e))
+no_show rows none (Renew file fresh) is_named has =
+    other_word 114 115 _ _ is_named (λ e. omega (arith, e))
+no_show rows none (Found fresh texts min_hours hour from) is_named has =
+    other_word 102 115 _ _ is_named (λ e. omega (arith, e))
+no_show rows none Version is_named has =
+    other_word 118 115 _ _ is_named (λ e. omega (arith, e))
+
+-- the same of a preview
+pub no_preview : (rows : List Row) →
+    ((what : Shown) → shown_program what ≡ codes "preview" → HasShown rows what → ⊥) →
+    IsTask (codes "preview") rows None
+no_preview rows none (Show file what) is_named has = none what is_named has.1
+no_preview rows none (Run file) is_named has =
+    other_word 114 112 _ _ is_named (λ e. omega (arith, e))
+no_preview rows none (Serve file port count hour names) is_named has =
+    other_word 115 112 _ _ is_named (λ e. omega (arith, e))
+no_preview rows none (Service file port hosts hour_ok names) is_named has =
+    other_word 115 112 _ _ is_named (λ e. omega (arith, e))
+no_preview rows none (Loop file input hour names) is_named has =
+    other_word 108 112 _ _ is_named (λ e. omega (arith, e))
+no_preview rows none (Import file ring caller number csv hour) is_named has =
+    other_word 105 112 _ _ is_named (λ e. omega (arith, e))
+no_preview rows none (Table file ring) is_named has =
+    other_word 116 112 _ _ is_named (λ e. omega (arith, e))
+no_preview rows none (Nodes file ring account container object names) is_named has =
+    other_word 110 112 _ _ is_named (λ e. omega (arith, e))
+no_preview rows none (Export file ring version written) is_named has =
+    other_word 101 112 _ _ is_named (λ e. omega (arith, e))
+no_preview rows none (Renew file fresh) is_named has =
+    other_word 114 112 _ _ is_named (λ e. omega (arith, e))
+no_preview rows none (Found fresh texts min_hours hour from) is_named has =
+    other_word 102 112 _ _ is_named (λ e. omega (arith, e))
+no_preview rows none Version is_named has =
+    other_word 118 112 _ _ is_named (λ e. omega (arith, e))
+
+-- and of what moved
+pub no_moves : (rows : List Row) →
+    ((what : Shown) → shown_program what ≡ codes "moves" → HasShown rows what → ⊥) →
+    IsTask (codes "moves") rows None
+no_moves rows none (Show file what) is_named has = none what is_named has.1
+no_moves rows none (Run file) is_named has =
+    other_word 114 109 _ _ is_named (λ e. omega (arith, e))
+no_moves rows none (Serve file port count hour names) is_named has =
+    other_word 115 109 _ _ is_named (λ e. omega (arith, e))
+no_moves rows none (Service file port hosts hour_ok names) is_named has =
+    other_word 115 109 _ _ is_named (λ e. omega (arith, e))
+no_moves rows none (Loop file input hour names) is_named has =
+    other_word 108 109 _ _ is_named (λ e. omega (arith, e))
+no_moves rows none (Import file ring caller number csv hour) is_named has =
+    other_word 105 109 _ _ is_named (λ e. omega (arith, e))
+no_moves rows none (Table file ring) is_named has =
+    other_word 116 109 _ _ is_named (λ e. omega (arith, e))
+no_moves rows none (Nodes file ring account container object names) is_named has =
+    other_word 110 109 _ _ is_named (λ e. omega (arith, e))
+no_moves rows none (Export file ring version written) is_named has =
+    other_word 101 109 _ _ is_named (λ e. omega (arith, e))
+no_moves rows none (Renew file fresh) is_named has =
+    other_word 114 109 _ _ is_named (λ e. omega (arith, e))
+no_moves rows none (Found fresh texts min_hours hour from) is_named has =
+    other_word 102 109 _ _ is_named (λ e. omega (arith, e))
+no_moves rows none Version is_named has =
+    other_word 118 109 _ _ is_named (λ e. omega (arith, e))

@@ -12,6 +12,10 @@ needed name = record (new_rule name) { required = true }
 abbrev pub several : Text → Rule
 several name = record (needed name) { action = Some Append }
 
+-- An argument without a name of its own, which may be there, behind those that have to be.
+abbrev pub possible : Text → Rule
+possible name = new_rule name
+
 -- An argument that may be there, as `--name TEXT`.
 abbrev pub optional : Text → Rule
 optional name = record (new_rule name) { long = Some name }
@@ -67,9 +71,26 @@ import_rows = program (codes "import")
     (needed (codes "FILE") ∷ needed (codes "RING") ∷ needed (codes "CALLER") ∷
     needed (codes "NUMBER") ∷ needed (codes "CSV") ∷ optional (codes "hour") ∷ [])
 
--- Shows a ring.
+-- Shows a ring's tables.
 abbrev pub table_shape : Shape
 table_shape = program (codes "table") (needed (codes "FILE") ∷ needed (codes "RING") ∷ [])
+
+-- Shows the rings, a ring or the status as JSON.
+abbrev pub show_shape : Shape
+show_shape = program (codes "show")
+    (needed (codes "FILE") ∷ possible (codes "RING") ∷ flag (codes "status") ∷ [])
+
+-- Shows what a rebalance would do.
+abbrev pub preview_shape : Shape
+preview_shape = program (codes "preview")
+    (needed (codes "FILE") ∷ needed (codes "RING") ∷ named (codes "seed") ∷
+    optional (codes "hour") ∷ [])
+
+-- Shows what moved between two published versions.
+abbrev pub moves_shape : Shape
+moves_shape = program (codes "moves")
+    (needed (codes "FILE") ∷ needed (codes "RING") ∷ needed (codes "FROM") ∷ needed (codes "TO") ∷
+    flag (codes "each") ∷ [])
 
 -- Shows the devices of a path.
 abbrev pub nodes : Shape
@@ -101,6 +122,6 @@ version = program (codes "version") []
 abbrev pub programs : App
 programs = record {
   top = record (new_shape (codes "ringd")) { is_leaf = false; subcommand_required = true };
-  subs = run ∷ serve ∷ service ∷ looping ∷ import_rows ∷ table_shape ∷ nodes ∷ export ∷ renew ∷ found
-      ∷ version ∷ [];
+  subs = run ∷ serve ∷ service ∷ looping ∷ import_rows ∷ table_shape ∷ show_shape ∷ preview_shape
+      ∷ moves_shape ∷ nodes ∷ export ∷ renew ∷ found ∷ version ∷ [];
 }

@@ -1,6 +1,6 @@
 -- What the words of the command line ask for.
-use Rattle.std.specs.Prelude.{◌≡◌, ⊤, ℕ, Bool, List, [], Option, Some, None, MatchOption, codes, map}
-use Rattle.std.specs.Prelude.{option_map}
+use Rattle.std.specs.Prelude.{◌≡◌, ⊤, ℕ, Bool, true, false, List, [], Option, Some, None, MatchOption}
+use Rattle.std.specs.Prelude.{codes, map, option_map}
 use Rattle.ring_words.specs.Limits.{greatest_long, greatest_short}
 use Rattle.std.specs.Prelude.{unwrap_or}
 use Rattle.std.specs.Borrow.{Bor}
@@ -15,10 +15,12 @@ use Rattle.command_line.specs.declared.task.ArgsFault.TheVariants.{Bad, NoMemory
 use Rattle.ring_reads.specs.declared.reads.Format.{Format}
 use Rattle.ring_reads.specs.declared.reads.Format.TheVariants as format
 use Rattle.path_lookup.specs.declared.hash.HashNames.{HashNames}
+use Rattle.command_line.specs.declared.task.Shown.{Shown}
+use Rattle.command_line.specs.declared.task.Shown.TheVariants as shown
 use Rattle.command_line.specs.declared.task.Task.{Task}
 use Rattle.command_line.specs.declared.task.Task.TheVariants.{Run, Serve, Service, Loop, Import}
-use Rattle.command_line.specs.declared.task.Task.TheVariants.{Table, Nodes, Export, Renew, Found}
-use Rattle.command_line.specs.declared.task.Task.TheVariants.{Version}
+use Rattle.command_line.specs.declared.task.Task.TheVariants.{Table, Show, Nodes, Export, Renew}
+use Rattle.command_line.specs.declared.task.Task.TheVariants.{Found, Version}
 
 -- ---- one argument
 
@@ -63,6 +65,30 @@ abbrev pub HasFormat : List Row → Format → Type 0
 HasFormat rows written =
     unwrap_or (first_of (codes "format") rows) (codes "text") ≡ format_word written
 
+-- What is to be shown is named so: a ring by its name alone, the status by `--status` alone, the
+-- rings by neither, a preview by the ring's name, a seed and perhaps an hour, and what moved by the
+-- ring's name and two versions, each seat by `--each`.
+abbrev pub HasShown : List Row → Shown → Type 0
+HasShown rows shown.Rings = (first_of (codes "RING") rows ≡ None)
+    × (is_flagged rows (codes "status") ≡ false)
+HasShown rows shown.Status = (first_of (codes "RING") rows ≡ None)
+    × (is_flagged rows (codes "status") ≡ true)
+HasShown rows (shown.Ring name) = HasText rows (codes "RING") name
+    × (is_flagged rows (codes "status") ≡ false)
+HasShown rows (shown.Preview ring seed hour) = HasText rows (codes "RING") ring
+    × HasNumber rows (codes "seed") 0 greatest_long seed × HasHour rows hour
+HasShown rows (shown.Moves ring from to each) = HasText rows (codes "RING") ring
+    × HasText rows (codes "FROM") from × HasText rows (codes "TO") to
+    × (each ≡ is_flagged rows (codes "each"))
+
+-- the name of the program that shows it
+abbrev pub shown_program : Shown → Text
+shown_program shown.Rings = codes "show"
+shown_program shown.Status = codes "show"
+shown_program (shown.Ring name) = codes "show"
+shown_program (shown.Preview ring seed hour) = codes "preview"
+shown_program (shown.Moves ring from to each) = codes "moves"
+
 -- ---- the task
 
 -- the name of a task's program
@@ -73,6 +99,7 @@ program_of (Service file port hosts hour_ok names) = codes "service"
 program_of (Loop file input hour names) = codes "loop"
 program_of (Import file ring caller number csv hour) = codes "import"
 program_of (Table file ring) = codes "table"
+program_of (Show file what) = shown_program what
 program_of (Nodes file ring account container object names) = codes "nodes"
 program_of (Export file ring version written) = codes "export"
 program_of (Renew file fresh) = codes "renew"
@@ -99,6 +126,7 @@ HasArguments rows (Import file ring caller number csv hour) =
     × HasText rows (codes "CSV") csv × HasHour rows hour
 HasArguments rows (Table file ring) =
     HasText rows (codes "FILE") file × HasText rows (codes "RING") ring
+HasArguments rows (Show file what) = HasText rows (codes "FILE") file × HasShown rows what
 HasArguments rows (Nodes file ring account container object names) =
     HasText rows (codes "FILE") file × HasText rows (codes "RING") ring
     × HasText rows (codes "ACCOUNT") account × MayHaveText rows (codes "container") container

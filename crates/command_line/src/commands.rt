@@ -6,7 +6,7 @@ ghost use Rattle.clap.specs.declared.builder.command.Command.TheViews.{out-Comma
 ghost use Rattle.command_line.specs.Shapes.{programs};
 ghost use Rattle.command_line.specs.Inner.Adding.{rule_told, shape_told, with_rules, with_shapes};
 
-use self::Argument::{Flag, Named, Needed, Optional, Repeated, Several};
+use self::Argument::{Flag, Named, Needed, Optional, Possible, Repeated, Several};
 use crate::help::{ABOUT, told_of};
 use clap::{Arg, ArgAction, Command};
 use std::alloc::{AllocError, Global};
@@ -19,6 +19,8 @@ enum Argument<'a> {
     /// It has to be there, behind all others that stand in their places, and may be there several
     /// times.
     Several(&'a str),
+    /// It may be there, in its place, behind all others that stand in theirs.
+    Possible(&'a str),
     /// It may be there, as `--name TEXT`.
     Optional(&'a str),
     /// It has to be there, as `--name TEXT`.
@@ -34,7 +36,7 @@ enum Argument<'a> {
 struct Program<'a> {
     name: &'a str,
     about: &'a str,
-    /// Those that have to be there stand in the order of their places.
+    /// Those that stand in their places stand in the order of these.
     arguments: &'a [Argument<'a>],
 }
 
@@ -97,6 +99,32 @@ const PROGRAMS: &[Program<'static>] = &[
         arguments: &[Needed("FILE"), Needed("RING")],
     },
     Program {
+        name: "show",
+        about: "Shows which rings there are, a whole ring, or how much is kept, as JSON",
+        arguments: &[Needed("FILE"), Possible("RING"), Flag("status")],
+    },
+    Program {
+        name: "preview",
+        about: "Shows what a rebalance of a ring would do, as JSON",
+        arguments: &[
+            Needed("FILE"),
+            Needed("RING"),
+            Named("seed"),
+            Optional("hour"),
+        ],
+    },
+    Program {
+        name: "moves",
+        about: "Shows what moved between two published versions of a ring",
+        arguments: &[
+            Needed("FILE"),
+            Needed("RING"),
+            Needed("FROM"),
+            Needed("TO"),
+            Flag("each"),
+        ],
+    },
+    Program {
         name: "nodes",
         about: "Shows the devices that hold a path",
         arguments: &[
@@ -152,6 +180,7 @@ fn arg_of<'a>(alloc: Global, argument: &Argument<'a>) -> Arg<'a>
         Several(name) => Arg::new(alloc, name)
             .required(true)
             .action(ArgAction::Append),
+        Possible(name) => Arg::new(alloc, name),
         Optional(name) => Arg::new(alloc, name).long(name),
         Named(name) => Arg::new(alloc, name).long(name).required(true),
         Repeated(name) => Arg::new(alloc, name).long(name).action(ArgAction::Append),

@@ -40,13 +40,22 @@ Each is answered by a status, a space and a JSON object, before the next line is
 sends the line again: it is answered as before, and nothing is done twice. Another request takes another number. The hour
 is a whole number of hours since 1970.
 
-Two questions change nothing, and need no number. Each is answered by a table, or by a status and why there is none:
+Seven questions change nothing, and need no number. Each is answered by what is asked for, or by a status and why there
+is none:
 
+  ? rings                              which rings there are, and their versions, as a JSON object in one line
+  ? status                             the greatest hour that was used, how many numbers are kept and how many may be, and
+                                       how many rings there are, as a JSON object in one line
   ? devices object                     where each device of the ring stands, what it weighs, and its state
   ? balance object                     how many seats each device wants and has, and how far that is from its share,
                                        in percent
+  ? ring object                        all of that, how long partitions stay locked, and what is published, as a JSON
+                                       object in one line
+  ? preview object 1 480002            what a rebalance of the ring with seed 1 at this hour would do, as a JSON object in
+                                       one line, which 'ringd preview --help' tells
+  ? moves object 2 5                   what moved between two published versions of the ring, as a JSON object in one line
 
-After the three requests above, the second is answered by
+After the three requests above, '? balance object' is answered by
 
    id     weight wanted    has balance
     0      50.00     48      0  100.00
@@ -65,11 +74,17 @@ Only this machine reaches it: TLS, and who may ask, are for a proxy in front of 
 
   POST /v1/requests                               the body is a request, as in a line of 'run' but without the hour
   POST /v1/import/RING?caller=C&number=N          the body is a CSV table of devices, imported as this request
+  GET  /v1/status                                 how much is kept, as JSON
+  GET  /v1/rings                                  which rings there are, as JSON
+  GET  /v1/rings/RING                             the whole ring, as JSON
   GET  /v1/rings/RING/devices                     where each device stands, what it weighs, and its state
   GET  /v1/rings/RING/balance                     how many seats each device wants and has
   GET  /v1/rings/RING/nodes?account=A&container=C&object=O
                                                   the devices that hold a path; container and object may be left out
   GET  /v1/rings/RING/text/VERSION                the ring as it was published under this version
+  GET  /v1/rings/RING/moves?from=V&to=W           what moved between two published versions, as JSON
+  GET  /v1/rings/RING/preview?seed=S&hour=H       what a rebalance with this seed would do at this hour, as JSON; where it is
+                                                  left out, or has passed, what it would do now
 
 For instance:
 
@@ -116,6 +131,47 @@ and prints the answers. So it shows what a service over this FILE would answer.
 
 The options are those of 'serve'.";
 
+/// What `ringd show --help` tells.
+static SHOW: &str =
+    "Shows which rings there are in FILE, or the ring RING in it, or with --status how much is kept in it, as a JSON object in
+one line, on standard output.
+
+Of the rings it has, by name, the name and the version of each. The status has the greatest hour that was used in FILE, how
+many numbers are kept, how many may be (limit), and how many rings there are. RING and --status are not given together.
+
+A ring has its power, replicas, min_hours, version and next_id; how many seats are taken; balance and dispersion, in
+hundredths of a percent; the hour, which is the clock's or the greatest that was used in FILE, if that is greater; how many
+partitions are locked at that hour, and for how many hours from then some partition is (rests); under which versions the
+ring is published; and its devices: where each stands, what it weighs, its state, and how many seats it wants and has.";
+
+/// What `ringd preview --help` tells.
+static PREVIEW: &str =
+    "Shows what a rebalance of the ring RING in FILE would do, as a JSON object in one line, on standard output. FILE stays as
+it was.
+
+  ringd preview rings.db object --seed 1 --hour 480002
+
+A request that says rebalance with this seed, decided at this hour while the ring is as it is, does just that. So it has the
+balance, the dispersion, the version and the changed seats that the reply will have; in how many partitions seats change; how
+many partitions are locked at the hour, so that none of their seats leaves a device that remains; and for each device how many
+seats it has, how many of them it gives, how many others it takes, how many it has then, and how many it wants. Where such a
+request is refused, for there is no such ring (NoRing 1) or too few of its devices are open (TooFewDevices 9), this is told in
+place of it.
+
+The hour is a whole number of hours since 1970, as that of a request. Where none is given, or one that has passed, it is that of
+the machine's clock, or the greatest that was used in FILE, if that is greater. A later hour may find fewer partitions locked,
+and other seats move.";
+
+/// What `ringd moves --help` tells.
+static MOVES: &str =
+    "Shows what moved between the versions FROM and TO under which the ring RING was published in FILE, as a JSON object in one
+line, on standard output: how many seats are on another device (changed), in how many partitions, and for each device that
+gives or takes seats, how many.
+
+With --each it is a line for each such seat: its partition, its replica, and the numbers of the device that it was on and of
+the one that it is on, or - where one of the two has no such seat. Where the power was raised between, partitions and seats
+are those of the greater: both halves of a partition count that was on another device.";
+
 /// What `ringd export --help` tells.
 static EXPORT: &str = "Writes the ring RING as it was published under VERSION, on standard output.
 
@@ -158,6 +214,9 @@ pub(crate) fn told_of(program: &str) -> Option<&'static str> {
         "serve" => Some(SERVE),
         "service" => Some(SERVICE),
         "loop" => Some(LOOP),
+        "show" => Some(SHOW),
+        "preview" => Some(PREVIEW),
+        "moves" => Some(MOVES),
         "export" => Some(EXPORT),
         "renew" => Some(RENEW),
         "found" => Some(FOUND),
@@ -171,9 +230,11 @@ pub(crate) static FORMS: &str = "error: an argument is not of its form
   PORT              a whole number from 1 to 65535
   COUNT             a whole number from 0 to 65535
   --hour <hour>     a whole number from 0 to 4294967295, the hours since 1970
+  --seed <seed>     a whole number from 0 to 4294967295
   --min-hours <min-hours>
                     a whole number from 0 to 65535
   --format <format> text or swift
+  --status          not beside a RING
 
 Numbers are written in digits, without leading zeros. For more information, try '--help'.
 ";

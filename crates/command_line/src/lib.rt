@@ -10,4 +10,4 @@ mod reading;
 mod task;
 
 pub use reading::task_of;
-pub use task::{ArgsFault, Task};
+pub use task::{ArgsFault, Shown, Task};

@@ -1,6 +1,6 @@
 //! The task that the words ask for.
 ghost use Rattle.std.specs.Prelude.{◌≡◌, ◌≢◌, IfErr, IfOk, codes, map, option_map, string_bytes};
-ghost use Rattle.ring_words.specs.Limits.{greatest_short};
+ghost use Rattle.ring_words.specs.Limits.{greatest_long, greatest_short};
 ghost use Rattle.clap.specs.Matches.{found_of};
 ghost use Rattle.clap.specs.Values.{kind_of};
 ghost use Rattle.clap.specs.Walk.{first_of, rows_of};
@@ -8,11 +8,11 @@ ghost use Rattle.clap.specs.declared.error.kind.ErrorKind.{ErrorKind};
 ghost use Rattle.command_line.specs.Tasks.{AskFor, AskForNothing, HasTexts, HaveNames, IfBad};
 ghost use Rattle.command_line.specs.Tasks.{is_flagged};
 ghost use Rattle.command_line.specs.Inner.Reading.{AreHours, IsFormat, IsHourWord, IsNumberWord};
-ghost use Rattle.command_line.specs.Inner.Reading.{IsPlace, IsTask};
+ghost use Rattle.command_line.specs.Inner.Reading.{IsPlace, IsTask, IsToShow};
 
 use crate::commands::command;
 use crate::help::{ABOUT, FORMS};
-use crate::task::{ArgsFault, Task};
+use crate::task::{ArgsFault, Shown, Task};
 use clap::error::ErrorKind;
 use clap::{ArgMatches, Error};
 use path_lookup::HashNames;
@@ -166,6 +166,85 @@ fn table<'a>(matches: &ArgMatches<'a>) -> Option<Task<'a>>
     })
 }
 
+/// What is to be shown, `None` where both a ring and the status are named.
+#[tactic(auto, using(crate::proofs::Tasks::shows_nothing))]
+fn shown_of<'a>(matches: &ArgMatches<'a>) -> Option<Shown<'a>>
+    ensures { IsToShow (codes "show") (rows_of (found_of matches.now)) result }
+{
+    let ring = text_of(matches, "RING");
+    if is_flagged(matches, "status") {
+        match ring {
+            None => Some(Shown::Status),
+            Some(_) => None,
+        }
+    } else {
+        match ring {
+            None => Some(Shown::Rings),
+            Some(name) => Some(Shown::Ring(name)),
+        }
+    }
+}
+
+fn show<'a>(matches: &ArgMatches<'a>) -> Option<Task<'a>>
+    ensures { IsTask (codes "show") (rows_of (found_of matches.now)) result }
+{
+    Some(Task::Show {
+        file: text_of(matches, "FILE")?,
+        what: shown_of(matches)?,
+    })
+}
+
+/// The seed of a rebalance, `None` where it is no number from 0 to 4294967295.
+fn seed_of(matches: &ArgMatches<'_>) -> Option<u32>
+    ensures { IsNumberWord (rows_of (found_of matches.now)) (codes "seed") 0 greatest_long result }
+{
+    match read_number(text_of(matches, "seed")?, u32::MAX) {
+        Ok(seed) => Some(seed),
+        Err(_) => None,
+    }
+}
+
+/// The preview that is to be shown, `None` where the seed or the hour is no number.
+fn preview_of<'a>(matches: &ArgMatches<'a>) -> Option<Shown<'a>>
+    ensures { IsToShow (codes "preview") (rows_of (found_of matches.now)) result }
+{
+    Some(Shown::Preview {
+        ring: text_of(matches, "RING")?,
+        seed: seed_of(matches)?,
+        hour: hour_of(matches)?,
+    })
+}
+
+fn preview<'a>(matches: &ArgMatches<'a>) -> Option<Task<'a>>
+    ensures { IsTask (codes "preview") (rows_of (found_of matches.now)) result }
+{
+    Some(Task::Show {
+        file: text_of(matches, "FILE")?,
+        what: preview_of(matches)?,
+    })
+}
+
+/// The moves that are to be shown.
+fn moves_of<'a>(matches: &ArgMatches<'a>) -> Option<Shown<'a>>
+    ensures { IsToShow (codes "moves") (rows_of (found_of matches.now)) result }
+{
+    Some(Shown::Moves {
+        ring: text_of(matches, "RING")?,
+        from: text_of(matches, "FROM")?,
+        to: text_of(matches, "TO")?,
+        each: is_flagged(matches, "each"),
+    })
+}
+
+fn moves<'a>(matches: &ArgMatches<'a>) -> Option<Task<'a>>
+    ensures { IsTask (codes "moves") (rows_of (found_of matches.now)) result }
+{
+    Some(Task::Show {
+        file: text_of(matches, "FILE")?,
+        what: moves_of(matches)?,
+    })
+}
+
 fn export<'a>(matches: &ArgMatches<'a>) -> Option<Task<'a>>
     ensures { IsTask (codes "export") (rows_of (found_of matches.now)) result }
 {
@@ -278,6 +357,9 @@ fn task_alone<'a>(name: &str, matches: &ArgMatches<'a>) -> Option<Task<'a>>
         "loop" => looping(matches),
         "import" => import_rows(matches),
         "table" => table(matches),
+        "show" => show(matches),
+        "preview" => preview(matches),
+        "moves" => moves(matches),
         "nodes" => nodes(matches),
         "export" => export(matches),
         "renew" => renew(matches),

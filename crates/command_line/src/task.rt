@@ -7,6 +7,32 @@ use ring_reads::Format;
 use ring_words::{Hour, Port};
 use std::alloc::AllocError;
 
+/// What is shown, mostly as JSON.
+#[derive(Clone, Copy, Debug)]
+pub enum Shown<'a> {
+    /// Which rings there are.
+    Rings,
+    /// How much is kept.
+    Status,
+    /// The whole ring of this name, which stands as it was written.
+    Ring(&'a str),
+    /// What a rebalance of the ring of this name would do, at this hour or the greatest that the
+    /// file keeps.
+    Preview {
+        ring: &'a str,
+        seed: u32,
+        hour: Option<Hour>,
+    },
+    /// What moved between two published versions of the ring of this name, each version as it was
+    /// written; each seat in a line, if that is asked for, and else as JSON.
+    Moves {
+        ring: &'a str,
+        from: &'a str,
+        to: &'a str,
+        each: bool,
+    },
+}
+
 /// What the words ask for. A text stands as it was written.
 #[derive(Debug, Drop)]
 pub enum Task<'a> {
@@ -54,6 +80,11 @@ pub enum Task<'a> {
     Table {
         file: &'a str,
         ring: &'a str,
+    },
+    /// To show the rings, the status, a whole ring, what a rebalance would do or what moved.
+    Show {
+        file: &'a str,
+        what: Shown<'a>,
     },
     /// To show which devices hold a path.
     Nodes {

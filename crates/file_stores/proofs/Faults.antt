@@ -12,10 +12,12 @@ pub store_fault : (cause : FileFault) → IsStoreFault (open_fault cause)
 store_fault file.Busy = tt
 store_fault file.CannotOpen = tt
 store_fault file.NoDatabase = tt
+store_fault file.Damaged = tt
 store_fault file.NoMemory = tt
 store_fault file.Store = tt
 store_fault (file.Opening opening.NoMemory) = tt
 store_fault (file.Opening opening.Store) = tt
+store_fault (file.Opening opening.Damaged) = tt
 store_fault (file.Opening opening.Refused) = tt
 store_fault (file.Opening opening.BadRows) = tt
 store_fault (file.Opening opening.BadTables) = tt

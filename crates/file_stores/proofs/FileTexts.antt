@@ -39,6 +39,7 @@ module _ {R : Type 0} (remaining : R → Option (List ℕ)) (reader later : Whol
     file_fault fault.RingExists is = absurd is
     file_fault fault.TooManyRings is = absurd is
     file_fault fault.BadText is = absurd is
+    file_fault fault.TooFewDevices is = absurd is
     file_fault fault.NotAssigned is = absurd is
     file_fault fault.Unreadable is = absurd is
     file_fault fault.StoreFault is = absurd is
@@ -136,6 +137,7 @@ module _ {F : Type 0} (opens : List ℕ → F → Type 0) (remaining : F → Opt
     is_unread fault.RingExists is_so = absurd is_so
     is_unread fault.TooManyRings is_so = absurd is_so
     is_unread fault.BadText is_so = absurd is_so
+    is_unread fault.TooFewDevices is_so = absurd is_so
     is_unread fault.NotAssigned is_so = absurd is_so
     is_unread fault.Unreadable is_so = absurd is_so
     is_unread fault.StoreFault is_so = absurd is_so

@@ -12,7 +12,7 @@ use Rattle.builder_store.specs.Left.{IsConnectedAnd, IsMadeOfConnection, IsOfCon
 use Rattle.builder_store.specs.Left.{IsUnconnected, IsUnmadeOver, IsUntouched}
 use Rattle.builder_store.specs.Making.{IsFailure, IsJudgement}
 use Rattle.builder_store.specs.Opening.{HoldsNoStore, HoldsTables, IsBadStore, IsLeftOf, IsMadeOf}
-use Rattle.builder_store.specs.Opening.{KeepsRows, Stands}
+use Rattle.builder_store.specs.Opening.{KeepsRows, Stands, TellsOpenFault}
 use Rattle.builder_store.specs.declared.fault.FileFault.{FileFault}
 use Rattle.builder_store.specs.declared.fault.FileFault.TheVariants as file
 use Rattle.builder_store.specs.declared.fault.MakeFault.{MakeFault}
@@ -23,16 +23,19 @@ use Rattle.store_rows.specs.Stands.{RingContent}
 use Rattle.programs.specs.declared.faults.ProgramFault.{ProgramFault}
 use Rattle.programs.specs.declared.faults.ProgramFault.TheVariants as fault
 
--- what is told where the store in a file isn't opened
+-- What is told where the store in a file isn't opened: a fault of the store where the system refused
+-- or failed, and a bad store where what was read is none.
 abbrev pub open_fault : FileFault → ProgramFault
 open_fault file.Busy = fault.StoreFault
 open_fault file.CannotOpen = fault.StoreFault
 open_fault file.NoDatabase = fault.BadStore
+open_fault file.Damaged = fault.BadStore
 open_fault file.NoMemory = fault.NoMemory
 open_fault file.Store = fault.StoreFault
 open_fault (file.Opening opening.NoMemory) = fault.NoMemory
 open_fault (file.Opening opening.Store) = fault.StoreFault
-open_fault (file.Opening opening.Refused) = fault.StoreFault
+open_fault (file.Opening opening.Damaged) = fault.BadStore
+open_fault (file.Opening opening.Refused) = fault.BadStore
 open_fault (file.Opening opening.BadRows) = fault.BadStore
 open_fault (file.Opening opening.BadTables) = fault.BadStore
 
@@ -58,9 +61,9 @@ ConnectionMetFaults left = IsConnectedAnd left (λ conn. HasCleanDisk (file_stat
 -- Nothing is left only where the files were not opened, and a connection exactly where one was made.
 -- Where none was made, that has a cause, and they are told to be no database only where they hold
 -- none; and they are told to hold bad tables or rows only where they hold no store, and the store to
--- have failed only where their disk failed or refused. A crash leaves what they recovered to or what
--- an opening makes of it, and where the rows are bad, the same rows. So it is if their disk returned
--- what was written.
+-- have failed or to be damaged only where their disk met a fault. A crash leaves what they recovered
+-- to or what an opening makes of it, and where the rows are bad, the same rows. So it is if their disk
+-- returned what was written.
 pub record IsNotOpened {D : Type 0} {disk : disks.Ghosts D} (image : Image) (why : ProgramFault)
     (cause : FileFault) (left : Option (FilesLeft D disk)) : Type 0 where
   pub told : why ≡ open_fault cause
@@ -69,7 +72,7 @@ pub record IsNotOpened {D : Type 0} {disk : disks.Ghosts D} (image : Image) (why
   pub unconnected : IfUnconnected left (IsUnconnected image cause)
   pub bad : IsBadStore cause → IsConnectedAnd left (λ conn.
       HasCleanDisk (file_state conn) → HoldsNoStore image)
-  pub failed : cause ≡ file.Opening opening.Store → ConnectionMetFaults left
+  pub failed : TellsOpenFault cause → ConnectionMetFaults left
   pub rows : cause ≡ file.Opening opening.BadRows
       → IsConnectedAnd left (LeavesOr image KeepsRows)
   pub crash : IfConnected left (LeavesOr image IsMadeOf)
@@ -78,8 +81,8 @@ pub record IsNotOpened {D : Type 0} {disk : disks.Ghosts D} (image : Image) (why
 -- this is left. Nothing is left only where nothing was opened, and a connection exactly where one was
 -- made. Where none was made, that has a cause; tables are told to be there only where there are any,
 -- and then a crash leaves what the files recovered to; and else it leaves that, or the store, which is
--- told to have failed only where its disk failed or refused. What is there is never told as bad. So it
--- is if their disk returned what was written.
+-- told to have failed or to be damaged only where its disk met a fault. What is there is never told as
+-- bad. So it is if their disk returned what was written.
 pub record IsNotMade {D : Type 0} {disk : disks.Ghosts D} (image : Image) (content : RingContent)
     (why : ProgramFault) (cause : MakeFault) (left : Option (FilesLeft D disk)) : Type 0 where
   pub told : why ≡ make_fault cause

@@ -39,10 +39,12 @@ pub(crate) fn open_fault(fault: FileFault) -> ProgramFault
 {
     match fault {
         FileFault::Busy | FileFault::CannotOpen | FileFault::Store => ProgramFault::StoreFault,
-        FileFault::NoDatabase => ProgramFault::BadStore,
+        FileFault::NoDatabase | FileFault::Damaged => ProgramFault::BadStore,
         FileFault::NoMemory | FileFault::Opening(OpenFault::NoMemory) => ProgramFault::NoMemory,
-        FileFault::Opening(OpenFault::Store | OpenFault::Refused) => ProgramFault::StoreFault,
-        FileFault::Opening(OpenFault::BadRows | OpenFault::BadTables) => ProgramFault::BadStore,
+        FileFault::Opening(OpenFault::Store) => ProgramFault::StoreFault,
+        FileFault::Opening(
+            OpenFault::Damaged | OpenFault::Refused | OpenFault::BadRows | OpenFault::BadTables,
+        ) => ProgramFault::BadStore,
     }
 }
 

@@ -44,7 +44,7 @@ module _ {K C : Type 0} (kept : Keeping K)
 
   abbrev Gets : Front → Item → Asked → List ℕ → Front → Type 0
   Gets before item asks answer after =
-      GetsHttp tells prefix suffix (Found kept before.1 after.1) before.0 item
+      GetsHttp tells prefix suffix (λ hour. Found kept hour before.1 after.1) before.0 item
       asks answer after.0
 
   abbrev IsTurn : Front → Item → Asked → List ℕ → Front → Type 0

@@ -8,12 +8,12 @@ use Rattle.http_messages.specs.Requests.{Ask}
 use Rattle.http_routes.specs.Targets.{TargetAsks}
 use Rattle.http_routes.specs.declared.target.TargetAsk.TheVariants as target
 use Rattle.ring_book.specs.Book.{Asked, Found, Keeping, Made, RingBook}
-use Rattle.ring_reads.specs.declared.reads.Read.{Read}
+use Rattle.ring_reads.specs.declared.reads.Question.{Question}
 use Rattle.request_book.specs.declared.book.Fault.{Fault}
 use Rattle.request_book.specs.Call.{Deliver, Load}
 use Rattle.ring_messages.specs.declared.told.Told.{Told}
 use Rattle.ring_words.specs.declared.request.Key.{Key}
-use Rattle.http_api.specs.Http.{IsReadAnswer, told_answer}
+use Rattle.http_api.specs.Http.{IsReadAnswer, MayTell, told_answer}
 use Rattle.http_api.specs.Inner.Telling.{IsImportTold, IsMessageTold}
 use Rattle.http_api.specs.Inner.Answering.{HttpAnswers, HttpLoses}
 
@@ -105,24 +105,25 @@ module _ {K C : Type 0} (kept : Keeping K)
     (tells : C → ℕ → C → Type 0) (prefix suffix : List ℕ) (ask : Ask) (clock : C)
     (old new : RingBook kept) where
   -- what a read shows or is told is an answer
-  pub read_answered : (ring : List ℕ) (what : Read) →
-      TargetAsks ask.target ask.method (target.Read ring what) →
+  pub read_answered : (question : Question) →
+      TargetAsks ask.target ask.method (target.Read question) →
       (answer : Result (Unit {0}) Fault) → Made kept old new
       (Some (Load answer)) →
       (result : Result (Vec ℕ Global) AllocError) →
-      IfOk result (λ text. IsReadAnswer (Found kept old new) ask.is_last
-      prefix suffix (record { ring = ring; read = what }) answer text.items) →
+      IfOk result (λ text. (hour : ℕ) × MayTell tells clock hour
+      × IsReadAnswer (Found kept hour old new) ask.is_last
+      prefix suffix question answer text.items) →
       MatchResult result
       (λ text. HttpAnswers kept tells prefix suffix (clock, old) ask
       text.items (clock, new))
       (λ _. HttpLoses kept tells prefix suffix (clock, old) ask (clock, new))
-  read_answered ring what asks answer made (Ok text) is = (
+  read_answered question asks answer made (Ok text) is = (
     Some (Load answer),
-    (record { ring = ring; read = what }, asks, is, refl),
+    (question, asks, is, refl),
     made,
   )
-  read_answered ring what asks answer made (Err refused) is = (
+  read_answered question asks answer made (Err refused) is = (
     Some (Load answer),
-    ((record { ring = ring; read = what }, asks), refl),
+    ((question, asks), refl),
     made,
   )

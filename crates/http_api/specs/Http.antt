@@ -1,5 +1,5 @@
 -- What requests are answered over HTTP.
-use Rattle.std.specs.Prelude.{◌≡◌, ◌≢◌, ◌⊎◌, ℕ, List, Bool, Some, None, Result}
+use Rattle.std.specs.Prelude.{◌≡◌, ◌≢◌, ◌⊎◌, ℕ, List, Bool, if◌then◌else◌, Some, None, Result}
 use Rattle.http_messages.specs.Answers.{http_answer, no_memory_answer, refusal_answer}
 use Rattle.http_messages.specs.Answers.{route_fault_answer}
 use Rattle.http_messages.specs.declared.answer.BodyKind.{BodyKind}
@@ -13,7 +13,6 @@ use Rattle.http_stream.specs.Streams.{Item, Calls, Refuses}
 use Rattle.builder.specs.Life.{IsProperDelivery}
 use Rattle.builder.specs.Message.{IsMessage}
 use Rattle.builder.specs.Replies.{answer_text, answer_status}
-use Rattle.builder.specs.Step.{State}
 use Rattle.csv_import.specs.Rows.{AreRows, IsWrong, records_of}
 use Rattle.csv_import.specs.declared.fault.CsvFault.{CsvFault}
 use Rattle.csv_import.specs.declared.fault.CsvFault.TheVariants as csv
@@ -21,8 +20,8 @@ use Rattle.ring_book.specs.Book.{Asked}
 use Rattle.ring_book.specs.Reads.{ReadShows, ReadTells}
 use Rattle.ring_book.specs.Told.{told_of}
 use Rattle.ring_reads.specs.declared.reads.Question.{Question}
-use Rattle.ring_reads.specs.declared.reads.Read.{Read}
-use Rattle.ring_reads.specs.declared.reads.Read.TheVariants as read
+use Rattle.ring_reads.specs.Holding.{Holding}
+use Rattle.ring_reads.specs.Reads.{is_json}
 use Rattle.request_book.specs.Call.{Deliver, Load}
 use Rattle.request_book.specs.declared.book.Fault.{Fault}
 use Rattle.ring_messages.specs.declared.told.Told.{Told}
@@ -60,20 +59,17 @@ told_csv csv.NoMemory = told.NoMemory
 
 -- READS
 
--- what kind of text a read shows
-abbrev pub shown_kind : Read → BodyKind
-shown_kind (read.Plain plain) = kind.Text
-shown_kind read.Tables = kind.Text
-shown_kind (read.Nodes path) = kind.Json
-shown_kind (read.Published version format) = kind.Text
+-- what kind of text is shown of a question
+abbrev pub shown_kind : Question → BodyKind
+shown_kind asked = if is_json asked then kind.Json else kind.Text
 
 -- What a read is answered where this is the answer of the call that makes the rings ready to be
--- read: what the rings that are found show, or why they show nothing or none can be read.
-abbrev pub IsReadAnswer : (State → ℕ → Type 0) → Bool → List ℕ → List ℕ → Question →
+-- read: what is shown of what is found, or why nothing is shown or can be read.
+abbrev pub IsReadAnswer : (Holding → Type 0) → Bool → List ℕ → List ℕ → Question →
     Result (Unit {0}) Fault → List ℕ → Type 0
 IsReadAnswer Finds is_last prefix suffix question answer text =
     ((bytes : List ℕ) × ReadShows Finds prefix suffix question answer bytes
-    × (text ≡ shown_answer is_last (shown_kind question.read) bytes))
+    × (text ≡ shown_answer is_last (shown_kind question) bytes))
     ⊎ ((t : Told) × ReadTells Finds question answer t × (text ≡ told_answer is_last t))
 
 -- DELIVERIES
@@ -115,19 +111,23 @@ IsUncalled ask text =
 
 -- ANSWERS TO REQUESTS
 
+-- a clock may tell this hour now
+abbrev pub MayTell : {C : Type 0} → (C → ℕ → C → Type 0) → C → ℕ → Type 0
+MayTell {C} tells clock hour = (later : C) × tells clock hour later
+
 module _ {C : Type 0} (tells : C → ℕ → C → Type 0) (prefix suffix : List ℕ) where
   -- A request gets this text where this is the call that it leads to, if any: a delivery's answer,
-  -- at the hour that the clock tells; what a read is told of the rings that are found; or why it
-  -- leads to no call.
-  abbrev pub IsHttpAnswer : (State → ℕ → Type 0) → C → Ask → Asked → List ℕ → C → Type 0
+  -- at the hour that the clock tells; what a read is told of what is found at an hour that the clock
+  -- may tell now; or why it leads to no call.
+  abbrev pub IsHttpAnswer : (ℕ → Holding → Type 0) → C → Ask → Asked → List ℕ → C → Type 0
   IsHttpAnswer Finds old ask None text new = IsUncalled ask text × (new ≡ old)
   IsHttpAnswer Finds old ask (Some (Deliver delivery answer)) text new =
       AsksDelivered ask delivery × tells old delivery.hour new ×
       (text ≡ told_answer ask.is_last (told_of answer))
   IsHttpAnswer Finds old ask (Some (Load answer)) text new =
-      (question : Question) × TargetAsks ask.target ask.method
-      (target.Read question.ring question.read)
-      × IsReadAnswer Finds ask.is_last prefix suffix question answer text × (new ≡ old)
+      (question : Question) × TargetAsks ask.target ask.method (target.Read question)
+      × ((hour : ℕ) × MayTell tells old hour
+      × IsReadAnswer (Finds hour) ask.is_last prefix suffix question answer text) × (new ≡ old)
 
   -- A request whose answer found no memory: it led to no call, or to that of its delivery or its
   -- read.
@@ -136,13 +136,13 @@ module _ {C : Type 0} (tells : C → ℕ → C → Type 0) (prefix suffix : List
   IsHttpLost old ask (Some (Deliver delivery answer)) new = AsksDelivered ask delivery ×
       tells old delivery.hour new
   IsHttpLost old ask (Some (Load answer)) new =
-      ((question : Question) × TargetAsks ask.target ask.method
-      (target.Read question.ring question.read)) × (new ≡ old)
+      ((question : Question) × TargetAsks ask.target ask.method (target.Read question))
+      × (new ≡ old)
 
   -- What an item of a stream is given where this is the call that it leads to, if any: a request
   -- its answer, or what stands for an answer that found no memory; a request that is refused by its
   -- head its refusal, and no call.
-  abbrev pub GetsHttp : (State → ℕ → Type 0) → C → Item → Asked → List ℕ → C → Type 0
+  abbrev pub GetsHttp : (ℕ → Holding → Type 0) → C → Item → Asked → List ℕ → C → Type 0
   GetsHttp Finds old (Calls ask) asked text new =
       IsHttpAnswer Finds old ask asked text new
       ⊎ (IsHttpLost old ask asked new × (text ≡ no_memory_answer ask.is_last))

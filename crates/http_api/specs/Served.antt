@@ -12,11 +12,11 @@ module _ {K C : Type 0} (kept : Keeping K)
   HttpFront = C × RingBook kept
 
   -- The requests get these texts, and the calls that they lead to are one run: of each request by
-  -- what it asks for, from the rings that the requests before it left.
+  -- what it asks for, from what the requests before it left.
   abbrev pub ServesHttp : HttpFront → List Item → List (List ℕ) → HttpFront → Type 0
   ServesHttp old items texts new =
       Serves steps_of kept.content kept.sound kept.limit kept.fault_count (λ front. front.1)
       (λ before item asked text after.
-      GetsHttp tells prefix suffix (Found kept before.1 after.1) before.0 item
+      GetsHttp tells prefix suffix (λ hour. Found kept hour before.1 after.1) before.0 item
       asked text after.0)
       old items texts new

@@ -12,6 +12,10 @@ pub trait Clock {
     /// The hour. One is taken for each request that is delivered.
     fn hour(&mut self) -> Hour
         ensures { tells self.old result self.new };
+
+    /// The hour that it would tell now. None is taken: reads look at it so.
+    fn now(&self) -> Hour
+        ensures { (later : Self) × tells self.now result later };
 }
 
 /// A clock that tells known hours, one after another, and then the last of them. Contracts see the
@@ -55,5 +59,9 @@ impl Clock for KnownClock {
             self.told += 1;
         }
         hour
+    }
+
+    fn now(&self) -> Hour {
+        self.hours[self.told]
     }
 }

@@ -24,7 +24,6 @@ use http_stream::{Service, serve_requests};
 use path_lookup::HashNames;
 use request_book::{Book, Keeper};
 use ring_book::deliver;
-use ring_reads::Question;
 use ring_words::{Act, Command, Key, RingName, Rows};
 use std::alloc::{AllocError, Global};
 use std::io::{Read, Write};
@@ -138,10 +137,7 @@ impl<'s, 'n, K: Keeper<RingMachine>, C: Clock> Service for RingService<'s, 'n, K
                 let told = answer_import(alloc, clock, book, ring, key, body)?;
                 told_answer(alloc, &told, is_last)
             }
-            Ok(TargetAsk::Read(ring, read)) => {
-                let question = Question { ring, read };
-                answer_read(alloc, way, book, &question)
-            }
+            Ok(TargetAsk::Read(question)) => answer_read(alloc, way, &*clock, book, &question),
             Err(fault) => answer_fault(alloc, fault, is_last),
         }
     }
@@ -152,14 +148,16 @@ impl<'s, 'n, K: Keeper<RingMachine>, C: Clock> Service for RingService<'s, 'n, K
 /// last, and nothing of it is done.
 ///
 /// `POST /v1/requests` delivers the message in the body; `POST /v1/import/RING?caller=C&number=N`
-/// the rows of the CSV table in the body, as one numbered import. `GET /v1/rings/RING/` with
-/// `devices`, `balance`, `nodes?account=A` (perhaps with `&container=C&object=O`) or `text/VERSION`
-/// reads a ring. Paths are hashed between the names of the site.
+/// the rows of the CSV table in the body, as one numbered import. `GET /v1/rings` reads which rings
+/// there are, `GET /v1/status` how much is kept, `GET /v1/rings/RING` a whole ring, and with
+/// `/devices`, `/balance`, `/nodes?account=A` (perhaps with `&container=C&object=O`),
+/// `/text/VERSION`, `/preview?seed=S` (perhaps with `&hour=H`) or `/moves?from=V&to=W` behind it
+/// something of it. Paths are hashed between the names of the site.
 ///
 /// The deliveries are one run of the book, each at the hour that the clock tells then: each number
 /// is decided once, in the order of the requests, and every repeat gets its kept reply. A read is
-/// answered from the rings that the requests before it left, and changes nothing. What came is
-/// answered and flushed before the reader is asked for more.
+/// answered from what the requests before it left, and changes nothing. What came is answered and
+/// flushed before the reader is asked for more.
 ///
 /// After ReadFailed the answers so far were written and flushed, and after WriteFailed a beginning
 /// of them was written; what was decided stays decided. NoMemory comes before the first read, and

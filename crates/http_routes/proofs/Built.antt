@@ -6,10 +6,10 @@ use Rattle.matchit.specs.Route.{parse_route}
 use Rattle.matchit.specs.Router.{RouteOf}
 use Rattle.matchit.specs.Rows.{RowsOf}
 use Rattle.http_routes.specs.Inner.Table.{IsAdded, IsNewRoute, all_routes, import_row, requests_row}
-use Rattle.http_routes.specs.Inner.Table.{ring_row, text_row}
+use Rattle.http_routes.specs.Inner.Table.{ring_row, rings_row, text_row, whole_row, word_row}
 use Rattle.http_routes.specs.declared.table.TableRow.{TableRow}
 use Rattle.http_routes.specs.declared.table.TableRow.TheVariants.{Requests, Import, Nodes, Text}
-use Rattle.http_routes.specs.declared.table.TableRow.TheVariants.{Word}
+use Rattle.http_routes.specs.declared.table.TableRow.TheVariants.{Ring, Rings, Status, Word}
 
 abbrev Rows : Type 0
 Rows = RowsOf (RouteOf TableRow)
@@ -65,16 +65,54 @@ pub after-four : (rows : Rows) → rows ≡ import_row ∷ requests_row ∷ node
 unfolding matchit_on_literals
 after-four rows is = rw is refl
 
-five : (old rows : Rows) → old ≡ import_row ∷ requests_row ∷ nodes_row ∷ text_row ∷ []
+pub five : (old rows : Rows) → old ≡ import_row ∷ requests_row ∷ nodes_row ∷ text_row ∷ []
     → IsAdded (parse_route (codes "/v1/rings/{ring}/{word}")) Word old rows
-    → rows ≡ all_routes
+    → rows ≡ import_row ∷ requests_row ∷ nodes_row ∷ text_row ∷ word_row ∷ []
 unfolding matchit_on_literals
 five old rows is added = rw (added, is) refl
 
+pub after-five : (rows : Rows)
+    → rows ≡ import_row ∷ requests_row ∷ nodes_row ∷ text_row ∷ word_row ∷ []
+    → IsNewRoute (parse_route (codes "/v1/rings/{ring}")) rows
+unfolding matchit_on_literals
+after-five rows is = rw is refl
+
+pub six : (old rows : Rows) → old ≡ import_row ∷ requests_row ∷ nodes_row ∷ text_row ∷ word_row ∷ []
+    → IsAdded (parse_route (codes "/v1/rings/{ring}")) Ring old rows
+    → rows ≡ import_row ∷ requests_row ∷ nodes_row ∷ text_row ∷ word_row ∷ whole_row ∷ []
+unfolding matchit_on_literals
+six old rows is added = rw (added, is) refl
+
+pub after-six : (rows : Rows)
+    → rows ≡ import_row ∷ requests_row ∷ nodes_row ∷ text_row ∷ word_row ∷ whole_row ∷ []
+    → IsNewRoute (parse_route (codes "/v1/rings")) rows
+unfolding matchit_on_literals
+after-six rows is = rw is refl
+
+pub seven : (old rows : Rows)
+    → old ≡ import_row ∷ requests_row ∷ nodes_row ∷ text_row ∷ word_row ∷ whole_row ∷ []
+    → IsAdded (parse_route (codes "/v1/rings")) Rings old rows
+    → rows ≡ import_row ∷ requests_row ∷ nodes_row ∷ text_row ∷ word_row ∷ whole_row ∷ rings_row ∷ []
+unfolding matchit_on_literals
+seven old rows is added = rw (added, is) refl
+
+pub after-seven : (rows : Rows)
+    → rows ≡ import_row ∷ requests_row ∷ nodes_row ∷ text_row ∷ word_row ∷ whole_row ∷ rings_row ∷ []
+    → IsNewRoute (parse_route (codes "/v1/status")) rows
+unfolding matchit_on_literals
+after-seven rows is = rw is refl
+
+eight : (old rows : Rows)
+    → old ≡ import_row ∷ requests_row ∷ nodes_row ∷ text_row ∷ word_row ∷ whole_row ∷ rings_row ∷ []
+    → IsAdded (parse_route (codes "/v1/status")) Status old rows
+    → rows ≡ all_routes
+unfolding matchit_on_literals
+eight old rows is added = rw (added, is) refl
+
 -- the last route may find no memory
 pub all-added : {A E : Type 0} (result : Result A E) (old rows : Rows)
-    → old ≡ import_row ∷ requests_row ∷ nodes_row ∷ text_row ∷ []
-    → IfOk result (λ _. IsAdded (parse_route (codes "/v1/rings/{ring}/{word}")) Word old rows)
+    → old ≡ import_row ∷ requests_row ∷ nodes_row ∷ text_row ∷ word_row ∷ whole_row ∷ rings_row ∷ []
+    → IfOk result (λ _. IsAdded (parse_route (codes "/v1/status")) Status old rows)
     → IfOk result (λ _. rows ≡ all_routes)
-all-added (Ok done) old rows is added = five old rows is added
+all-added (Ok done) old rows is added = eight old rows is added
 all-added (Err why) old rows is added = tt

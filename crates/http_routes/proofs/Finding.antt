@@ -4,6 +4,9 @@ use Rattle.std.proofs.Common.{◌∷◌, ◌++◌}
 use Rattle.std.proofs.Common.{length, drop, take, Option, Some, None, Bool, true, false, cond, refl}
 use Rattle.std.proofs.Common.{sym, ap, ◌∙◌}
 use Rattle.std.proofs.Common.{arith, ◌==◌, ltb, ◌&&◌, subst}
+use Rattle.std.specs.Cmp.Lexicographic.{pointwise}
+use Rattle.std.specs.Prelude.{nat_eq}
+use Rattle.std.proofs.lemmas.Bool.{and_right}
 use Rattle.std.proofs.lemmas.Bool.Decides.{nat_tests}
 use Rattle.std.proofs.lemmas.List.{take-append-drop, take_all, length-take-le, length-append}
 use Rattle.std.proofs.lemmas.List.{drop_at}
@@ -99,6 +102,24 @@ slash-cut piece some =
     let cut : drop (length piece) (piece ++ 47 ∷ [])
     ≡ 47 ∷ [] = drop_at piece (47 ∷ []) (length piece) refl in
     rw (long, more, less, cut) refl
+
+-- the last byte of a segment without a slash is none
+last-other : (b : ℕ) (piece : List ℕ) → IsFree (b ∷ piece)
+    → pointwise nat_eq (47 ∷ []) (drop (length (b ∷ piece) - 1) (b ∷ piece)) ≡ false
+last-other b [] free =
+    let e : (47 == b) ≡ false = other-number 47 b (λ same. free.0 (sym same)) in
+    rw e refl
+last-other b (c ∷ piece) free =
+    let on : length (b ∷ c ∷ piece) - 1 ≡ suc (length (c ∷ piece) - 1) = omega arith in
+    ap (λ (n : ℕ). pointwise nat_eq (47 ∷ []) (drop n (b ∷ c ∷ piece))) on
+    ∙ last-other c piece free.1
+
+free-uncut : (piece : List ℕ) → IsFree piece → cuts piece (47 ∷ []) ≡ false
+free-uncut [] free = refl
+free-uncut (b ∷ piece) free = and_right _ _ (last-other b piece free)
+
+no-segment : ◌≡◌ {A = List ℕ} [] (47 ∷ []) → ⊥
+no-segment e = cc
 
 module _ {K : Type 0} where
   -- a row with this key has a pattern that the path follows
@@ -324,19 +345,19 @@ module _ {K : Type 0} where
   seek-past [] rest rs = refl
   seek-past (b ∷ piece) rest rs = seek-past piece rest rs
 
-  -- a parameter that takes these bytes comes to what the rows behind it find
-  pub piece-first : (rs : RowsOf K) (b : ℕ) (piece rest : List ℕ) (key : K) → b ≢ 256
-      → param_step rs (b ∷ (piece ++ rest)) ≡ (length (b ∷ piece), rs)
-      → seek 0 rs rest ≡ Some key → seek 0 (behind rs) (b ∷ (piece ++ rest)) ≡ Some key
+  -- a parameter that takes these bytes comes to what the rows find that go on behind it
+  pub piece-first : (rs kept : RowsOf K) (b : ℕ) (piece rest : List ℕ) (key : K) → b ≢ 256
+      → param_step rs (b ∷ (piece ++ rest)) ≡ (length (b ∷ piece), kept)
+      → seek 0 kept rest ≡ Some key → seek 0 (behind rs) (b ∷ (piece ++ rest)) ≡ Some key
   unfolding seek
-  piece-first rs b piece rest key other takes e =
+  piece-first rs kept b piece rest key other takes e =
       rw (
         no-step b rs other,
         step-behind rs,
         seek-none 0 (piece ++ rest),
         takes,
         one_less (length piece),
-        seek-past piece rest rs,
+        seek-past piece rest kept,
         e,
       ) refl
 
@@ -345,21 +366,43 @@ module _ {K : Type 0} where
   HasSlashes [] = Unit {0}
   HasSlashes ((t, k) ∷ rest) = (segment t ≡ 47 ∷ []) × HasSlashes rest
 
-  keep-slashes : (rs : RowsOf K) → HasSlashes rs → with_suffix (47 ∷ []) rs ≡ rs
-  keep-slashes [] h = refl
-  keep-slashes ((t, k) ∷ rest) h = rw h.0
-      (ap (λ (r : RowsOf K). (t, k) ∷ r) (keep-slashes rest h.1))
+  -- rows, and behind them one that ends
+  abbrev pub ending : RowsOf K → K → RowsOf K
+  ending rs k = rs ++ ([], k) ∷ []
 
-  longest-slash : (seg : List ℕ) (rs : RowsOf K) → HasSlashes rs → longest_from seg (47 ∷ []) rs
-      ≡ 47 ∷ []
-  longest-slash seg [] h = refl
-  longest-slash seg ((t, k) ∷ rest) h = rw h.0 (longest-slash seg rest h.1)
+  keep-slashes : (rs : RowsOf K) (end : K) → HasSlashes rs
+      → with_suffix (47 ∷ []) (ending rs end) ≡ rs
+  keep-slashes [] end h = refl
+  keep-slashes ((t, k) ∷ rest) end h = rw h.0
+      (ap (λ (r : RowsOf K). (t, k) ∷ r) (keep-slashes rest end h.1))
 
-  longest-whole : (t : List ℕ) (k : K) (more : RowsOf K) (piece : List ℕ) → 0 < length piece
-      → HasSlashes ((t, k) ∷ more)
-      → longest_suffix (piece ++ 47 ∷ []) ((t, k) ∷ more) ≡ 47 ∷ []
-  longest-whole t k more piece some slashes =
-      rw (slashes.0, slash-cut piece some) (longest-slash (piece ++ 47 ∷ []) more slashes.1)
+  -- a row that goes on with a slash adds nothing to a slash, and a slash to nothing
+  slash-on : (seg t : List ℕ) (k : K) (more : RowsOf K) → segment t ≡ 47 ∷ []
+      → longest_from seg (47 ∷ []) ((t, k) ∷ more) ≡ longest_from seg (47 ∷ []) more
+  slash-on seg t k more h = rw h refl
+
+  slash-in : (seg t : List ℕ) (k : K) (more : RowsOf K) → segment t ≡ 47 ∷ []
+      → cuts seg (47 ∷ []) ≡ true
+      → longest_from seg [] ((t, k) ∷ more) ≡ longest_from seg (47 ∷ []) more
+  slash-in seg t k more h cut = rw (h, cut) refl
+
+  slash-out : (seg t : List ℕ) (k : K) (more : RowsOf K) → segment t ≡ 47 ∷ []
+      → cuts seg (47 ∷ []) ≡ false
+      → longest_from seg [] ((t, k) ∷ more) ≡ longest_from seg [] more
+  slash-out seg t k more h uncut = rw (h, uncut) refl
+
+  longest-slash : (seg : List ℕ) (rs : RowsOf K) (end : K) → HasSlashes rs
+      → longest_from seg (47 ∷ []) (ending rs end) ≡ 47 ∷ []
+  longest-slash seg [] end h = refl
+  longest-slash seg ((t, k) ∷ rest) end h =
+      slash-on seg t k (ending rest end) h.0 ∙ longest-slash seg rest end h.1
+
+  longest-whole : (t : List ℕ) (k : K) (more : RowsOf K) (end : K) (piece : List ℕ)
+      → 0 < length piece → HasSlashes ((t, k) ∷ more)
+      → longest_suffix (piece ++ 47 ∷ []) (ending ((t, k) ∷ more) end) ≡ 47 ∷ []
+  longest-whole t k more end piece some slashes =
+      slash-in (piece ++ 47 ∷ []) t k (ending more end) slashes.0 (slash-cut piece some)
+      ∙ longest-slash (piece ++ 47 ∷ []) more end slashes.1
 
   suffix-step : (rs : RowsOf K) (path s : List ℕ) → longest_suffix (segment path) rs ≡ s
       → 0 < length s
@@ -369,33 +412,77 @@ module _ {K : Type 0} where
       let more : ltb 0 (length s) ≡ true = grind (arith, nat_tests) in
       rw (is, more) refl
 
-  -- where rows go on with a slash, a parameter takes all of its segment
-  slash-step : (t : List ℕ) (k : K) (more : RowsOf K) (piece rest : List ℕ) → IsPiece piece
-      → HasSlashes ((t, k) ∷ more)
-      → param_step ((t, k) ∷ more) (piece ++ 47 ∷ rest) ≡ (length piece, (t, k) ∷ more)
-  slash-step t k more piece rest is slashes =
-      let whole : longest_suffix (segment (piece ++ 47 ∷ rest)) ((t, k) ∷ more) ≡ 47 ∷ [] =
-      ap (λ (seg : List ℕ). longest_suffix seg ((t, k) ∷ more)) (free-segment piece rest is.1)
-      ∙ longest-whole t k more piece is.0 slashes in
+  -- where rows go on with a slash, and one ends, a parameter takes all of its segment, and the rows
+  -- with the slash go on
+  slash-step : (t : List ℕ) (k : K) (more : RowsOf K) (end : K) (piece rest : List ℕ)
+      → IsPiece piece → HasSlashes ((t, k) ∷ more)
+      → param_step (ending ((t, k) ∷ more) end) (piece ++ 47 ∷ rest)
+      ≡ (length piece, (t, k) ∷ more)
+  slash-step t k more end piece rest is slashes =
+      let whole : longest_suffix (segment (piece ++ 47 ∷ rest)) (ending ((t, k) ∷ more) end)
+      ≡ 47 ∷ [] =
+      ap (λ (seg : List ℕ). longest_suffix seg (ending ((t, k) ∷ more) end))
+      (free-segment piece rest is.1)
+      ∙ longest-whole t k more end piece is.0 slashes in
       let long : length (segment (piece ++ 47 ∷ rest)) ≡ length piece + 1 =
       ap (λ (seg : List ℕ). length seg) (free-segment piece rest is.1)
       ∙ length-append piece (47 ∷ []) in
       let less : length (segment (piece ++ 47 ∷ rest)) - 1 ≡ length piece = omega (arith, long) in
-      suffix-step ((t, k) ∷ more) (piece ++ 47 ∷ rest) (47 ∷ []) whole (omega arith)
-      ∙ pair _ _ less (keep-slashes ((t, k) ∷ more) slashes)
+      suffix-step (ending ((t, k) ∷ more) end) (piece ++ 47 ∷ rest) (47 ∷ []) whole (omega arith)
+      ∙ pair _ _ less (keep-slashes ((t, k) ∷ more) end slashes)
     where
       pair : (x y : ℕ × RowsOf K) → x.0 ≡ y.0 → x.1 ≡ y.1 → x ≡ y
       pair x y e f = λ i. (e i, f i)
 
-  pub between-first : (t : List ℕ) (k : K) (more : RowsOf K) (piece rest : List ℕ) (key : K)
-      → IsPiece piece
-      → IsText piece
-      → HasSlashes ((t, k) ∷ more) → seek 0 ((t, k) ∷ more) (47 ∷ rest) ≡ Some key
-      → seek 0 (behind ((t, k) ∷ more)) (piece ++ 47 ∷ rest) ≡ Some key
-  between-first t k more [] rest key is bytes slashes e = absurd (omega (arith, is.0))
-  between-first t k more (b ∷ piece) rest key is bytes slashes e =
-      piece-first ((t, k) ∷ more) b piece (47 ∷ rest) key (λ e. omega (arith, bytes.0, e))
-      (slash-step t k more (b ∷ piece) rest is slashes) e
+  pub between-first : (t : List ℕ) (k : K) (more : RowsOf K) (end : K) (piece rest : List ℕ)
+      (key : K) → IsPiece piece → IsText piece → HasSlashes ((t, k) ∷ more)
+      → seek 0 ((t, k) ∷ more) (47 ∷ rest) ≡ Some key
+      → seek 0 (behind (ending ((t, k) ∷ more) end)) (piece ++ 47 ∷ rest) ≡ Some key
+  between-first t k more end [] rest key is bytes slashes e = absurd (omega (arith, is.0))
+  between-first t k more end (b ∷ piece) rest key is bytes slashes e =
+      piece-first (ending ((t, k) ∷ more) end) ((t, k) ∷ more) b piece (47 ∷ rest) key
+      (λ e. omega (arith, bytes.0, e)) (slash-step t k more end (b ∷ piece) rest is slashes) e
+
+  -- where no byte is a slash, the row that ends is found
+  longest-none : (seg : List ℕ) (rs : RowsOf K) (end : K) → cuts seg (47 ∷ []) ≡ false
+      → HasSlashes rs → longest_from seg [] (ending rs end) ≡ []
+  longest-none seg [] end uncut h = refl
+  longest-none seg ((t, k) ∷ rest) end uncut h =
+      slash-out seg t k (ending rest end) h.0 uncut ∙ longest-none seg rest end uncut h.1
+
+  whole-step : (rs : RowsOf K) (end : K) (piece : List ℕ) → IsFree piece → HasSlashes rs
+      → param_step (ending rs end) piece ≡ (length piece, ending rs end)
+  unfolding param_step
+  whole-step rs end piece free slashes =
+      let none : longest_suffix (segment piece) (ending rs end) ≡ [] =
+      ap (λ (seg : List ℕ). longest_suffix seg (ending rs end)) (free-whole piece free)
+      ∙ longest-none piece rs end (free-uncut piece free) slashes in
+      rw (none, free-has piece free) refl
+
+  own-end : (rs : RowsOf K) (end : K) → HasSlashes rs → own (ending rs end) ≡ Some end
+  own-end [] end h = refl
+  own-end (([], k) ∷ rest) end h = absurd (no-segment h.0)
+  own-end ((x ∷ t, k) ∷ rest) end h = own-end rest end h.1
+
+  seek-own : (rs : RowsOf K) (key : K) (piece : List ℕ) → own rs ≡ Some key
+      → seek (length piece) rs piece ≡ Some key
+  unfolding seek
+  seek-own rs key [] e = e
+  seek-own rs key (b ∷ piece) e = seek-own rs key piece e
+
+  pub end-first : (rs : RowsOf K) (end : K) (piece : List ℕ) → IsPiece piece → IsText piece
+      → HasSlashes rs → seek 0 (behind (ending rs end)) piece ≡ Some end
+  unfolding seek
+  end-first rs end [] is bytes slashes = absurd (omega (arith, is.0))
+  end-first rs end (b ∷ piece) is bytes slashes =
+      rw (
+        no-step b (ending rs end) (λ e. omega (arith, bytes.0, e)),
+        step-behind (ending rs end),
+        seek-none 0 piece,
+        whole-step rs end (b ∷ piece) is.1 slashes,
+        one_less (length piece),
+        seek-own (ending rs end) end piece (own-end rs end slashes),
+      ) refl
 
   last-step : (k : K) (piece : List ℕ) → IsFree piece
       → param_step (([], k) ∷ []) piece ≡ (length piece, ([], k) ∷ [])

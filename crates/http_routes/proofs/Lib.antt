@@ -5,3 +5,4 @@ pub mod Routed
 pub mod Built
 pub mod Pairs
 pub mod Told
+pub mod Words

@@ -1,5 +1,5 @@
 -- The routes of the table are those of the paths.
-use Rattle.std.proofs.Common.{◌≡◌, inl, inr, ℕ, ◌+◌, List, [], ◌∷◌, ◌++◌, length, refl, sym, ap}
+use Rattle.std.proofs.Common.{◌≡◌, ◌≢◌, ◌⊎◌, inl, inr, ℕ, ◌+◌, List, [], ◌∷◌, ◌++◌, length, refl, sym, ap}
 use Rattle.std.proofs.Common.{◌∙◌, arith, subst}
 use Rattle.std.proofs.Common.{append_assoc, codes, Option, Some, None, true, drop}
 use Rattle.std.proofs.lemmas.List.{append-nil, drop_at, length-append}
@@ -14,20 +14,21 @@ use Rattle.matchit.specs.Router.{RouteOf}
 use Rattle.matchit.specs.Rows.{RowsOf}
 use Rattle.matchit.specs.Seek.{first}
 use Rattle.http_routes.proofs.Finding.{Follows, IsFound, IsFree, IsPiece, between-first}
-use Rattle.http_routes.proofs.Finding.{bytes-first, last-first, seek-found}
+use Rattle.http_routes.proofs.Finding.{bytes-first, end-first, last-first, seek-found, steps}
 use Rattle.http_routes.proofs.Parts.{part-before, part-last}
 use Rattle.http_routes.proofs.Texts.{is_plain, begins-with, piece-of, plain-text, plain-utf8}
 use Rattle.http_routes.proofs.Texts.{segment-of, takes-piece, text-before}
 use Rattle.http_routes.proofs.Texts.{text-behind, utf8-behind, utf8-cut}
 use Rattle.http_routes.specs.Inner.Table.{HasRow, RowLeadsTo, all_routes, import_row, requests_row}
-use Rattle.http_routes.specs.Inner.Table.{ring_row, text_row, word_row}
-use Rattle.http_routes.specs.Routes.{HasRoute, IsPathSegment}
+use Rattle.http_routes.specs.Inner.Table.{ring_row, rings_row, status_row, text_row, whole_row}
+use Rattle.http_routes.specs.Inner.Table.{word_row}
+use Rattle.http_routes.specs.Routes.{HasRoute, IsPathSegment, plain_tail, ring_path}
 use Rattle.http_routes.specs.declared.routes.Endpoint.{Endpoint}
-use Rattle.ring_reads.specs.declared.plain.Plain.TheVariants.{Devices, Balance}
+use Rattle.ring_reads.specs.declared.plain.Plain.TheVariants as plain
 use Rattle.http_routes.specs.declared.routes.Endpoint.TheVariants as endpoint
 use Rattle.http_routes.specs.declared.table.TableRow.{TableRow}
 use Rattle.http_routes.specs.declared.table.TableRow.TheVariants.{Requests, Import, Nodes, Text}
-use Rattle.http_routes.specs.declared.table.TableRow.TheVariants.{Word}
+use Rattle.http_routes.specs.declared.table.TableRow.TheVariants.{Ring, Rings, Status, Word}
 use Rattle.ring_reads.specs.Reads.{plain_word}
 use Rattle.ring_reads.specs.declared.plain.Plain.{Plain}
 
@@ -87,6 +88,22 @@ on-requests path f =
     record {
       texts = tt;
       has = (front.1 ∙ ap (λ (l : List ℕ). codes "/v1/requests" ++ l) front.2, refl, refl);
+    }
+
+on-rings : (path : List ℕ) → Follows rings_row.0 path → IsRouted path rings_row.1
+on-rings path f =
+    let front = begins-with (codes "/v1/rings") [] path (plain-text (codes "/v1/rings") refl) f in
+    record {
+      texts = tt;
+      has = (front.1 ∙ ap (λ (l : List ℕ). codes "/v1/rings" ++ l) front.2, refl, refl);
+    }
+
+on-status : (path : List ℕ) → Follows status_row.0 path → IsRouted path status_row.1
+on-status path f =
+    let front = begins-with (codes "/v1/status") [] path (plain-text (codes "/v1/status") refl) f in
+    record {
+      texts = tt;
+      has = (front.1 ∙ ap (λ (l : List ℕ). codes "/v1/status" ++ l) front.2, refl, refl);
     }
 
 -- the path of a ring
@@ -262,6 +279,38 @@ on-word path text utf8 f =
           (refl, segment-of ring is utf8, refl);
     }
 
+whole_parts : (ring : List ℕ) → parts (codes "/v1/rings/" ++ ring) whole_row.1
+    ≡ (codes "ring", ring) ∷ []
+whole_parts ring = part-last whole_row.0 whole_row.1.text (codes "/v1/rings/" ++ ring) (11, 15)
+    0 0
+    (codes "/v1/rings/") ring (plain-text (codes "/v1/rings/") refl) (omega arith) (omega arith)
+    refl refl
+
+on-whole : (path : List ℕ) → IsText path → IsUtf8 path → Follows whole_row.0 path
+    → IsRouted path whole_row.1
+on-whole path text utf8 f =
+    let front = begins-with (codes "/v1/rings/") (256 ∷ []) path
+    (plain-text (codes "/v1/rings/") refl) f in
+    let whole : IsText (codes "/v1/rings/" ++ front.0) = subst IsText front.1 text in
+    let piece = takes-piece [] front.0 (text-behind (codes "/v1/rings/") front.0 whole) front.2 in
+    let is : path ≡ codes "/v1/rings/" ++ piece.0 =
+    front.1 ∙ ap (λ (l : List ℕ). codes "/v1/rings/" ++ l) (piece.2
+    ∙ ap (λ (l : List ℕ). piece.0 ++ l) piece.4 ∙ append-nil piece.0) in
+    let ringed : IsUtf8 piece.0 = utf8-behind (codes "/v1/rings/") piece.0 (subst IsUtf8 is utf8)
+    (plain-utf8 (codes "/v1/rings/") refl) in
+    subst (λ (p : List ℕ). IsRouted p whole_row.1) (sym is) (made piece.0 piece.3 ringed)
+  where
+    made : (ring : List ℕ) → IsPiece ring → IsUtf8 ring
+        → IsRouted (codes "/v1/rings/" ++ ring) whole_row.1
+    made ring is utf8 = record {
+      texts = subst AllText (sym (whole_parts ring)) (plain-utf8 (codes "ring") refl, utf8, tt);
+      has = subst (λ (pairs : List (List ℕ × List ℕ)). HasRow (codes "/v1/rings/" ++ ring) Ring
+          (part_named (codes "ring") pairs) (part_named (codes "version") pairs)
+          (part_named (codes "word") pairs))
+          (sym (whole_parts ring))
+          (refl, segment-of ring is utf8, refl);
+    }
+
 by_row : (path : List ℕ) (row found : Row) → row ≡ found → IsRouted path row → IsRouted path found
 by_row path row found is r = subst (IsRouted path) is r
 
@@ -278,7 +327,21 @@ found-routed path row text utf8 found = by (seek-found 0 all_routes path row fou
         (λ ring is. (refl, is, refl)) f.1)
     by (inr (inr (inr (inl f)))) = by_row path _ row f.0 (on-text path text utf8 f.1)
     by (inr (inr (inr (inr (inl f))))) = by_row path _ row f.0 (on-word path text utf8 f.1)
-    by (inr (inr (inr (inr (inr f))))) = absurd f
+    by (inr (inr (inr (inr (inr (inl f)))))) = by_row path _ row f.0 (on-whole path text utf8 f.1)
+    by (inr (inr (inr (inr (inr (inr (inl f))))))) = by_row path _ row f.0 (on-rings path f.1)
+    by (inr (inr (inr (inr (inr (inr (inr (inl f)))))))) = by_row path _ row f.0 (on-status path f.1)
+    by (inr (inr (inr (inr (inr (inr (inr (inr f)))))))) = absurd f
+
+-- a plain read shows the whole ring, or doesn't
+is_whole : (asked : Plain) → (asked ≡ plain.Ring) ⊎ (asked ≢ plain.Ring)
+is_whole plain.Devices = inr (λ e. cc)
+is_whole plain.Balance = inr (λ e. cc)
+is_whole plain.Ring = inl refl
+
+tail_is : (asked : Plain) → asked ≢ plain.Ring → plain_tail asked ≡ 47 ∷ plain_word asked
+tail_is plain.Devices other = refl
+tail_is plain.Balance other = refl
+tail_is plain.Ring other = absurd (other refl)
 
 -- a path with this row has the route to the endpoint that the row leads to
 pub leads-to : (path : List ℕ) (row : TableRow) (at : Endpoint) (ring version word : List ℕ) →
@@ -287,8 +350,29 @@ leads-to path Requests endpoint.Requests ring version word leads h = h
 leads-to path Import endpoint.Import ring version word leads h = h
 leads-to path Nodes endpoint.Nodes ring version word leads h = h
 leads-to path Text endpoint.Text ring version word leads h = h
-leads-to path Word (endpoint.Word plain) ring version word leads h =
-    (h.0 ∙ ap (λ (w : List ℕ). (codes "/v1/rings/" ++ ring) ++ 47 ∷ w) leads, h.1, h.2)
+leads-to path Rings endpoint.Rings ring version word leads h = h
+leads-to path Status endpoint.Status ring version word leads h = h
+leads-to path Ring (endpoint.Word asked) ring version word leads h = (
+  h.0 ∙ sym (append-nil (ring_path ring)) ∙ ap (λ p. ring_path ring ++ plain_tail p) (sym leads),
+  h.1,
+  h.2,
+)
+leads-to path Word (endpoint.Word asked) ring version word leads h = (
+  h.0 ∙ ap (λ (w : List ℕ). ring_path ring ++ 47 ∷ w) leads.1
+      ∙ ap (λ (t : List ℕ). ring_path ring ++ t) (sym (tail_is asked leads.0)),
+  h.1,
+  h.2,
+)
+leads-to path Word endpoint.Preview ring version word leads h = (
+  h.0 ∙ ap (λ (w : List ℕ). ring_path ring ++ 47 ∷ w) leads,
+  h.1,
+  h.2,
+)
+leads-to path Word endpoint.Moves ring version word leads h = (
+  h.0 ∙ ap (λ (w : List ℕ). ring_path ring ++ 47 ∷ w) leads,
+  h.1,
+  h.2,
+)
 leads-to path _ _ ring version word leads h = absurd leads
 
 abbrev pub HasNone : List ℕ → Type 0
@@ -300,10 +384,12 @@ abbrev IsThere : List ℕ → Endpoint → Type 0
 IsThere path at = (row : Row) × (first all_routes path ≡ Some row)
     × RowLeadsTo row.value (part_named (codes "word") (parts path row)) at
 
--- the rows of a ring, behind its name
+-- the rows of a ring that go on behind its name
+abbrev further_rows : RowsOf Row
+further_rows = (codes "/text/" ++ 256 ∷ [], text_row.1) ∷ (47 ∷ 256 ∷ [], word_row.1) ∷ []
+
 abbrev ring_rows : RowsOf Row
-ring_rows = (codes "/nodes", (ring_row (codes "/nodes") Nodes).1) ∷
-    (codes "/text/" ++ 256 ∷ [], text_row.1) ∷ (47 ∷ 256 ∷ [], word_row.1) ∷ []
+ring_rows = (codes "/nodes", (ring_row (codes "/nodes") Nodes).1) ∷ further_rows
 
 found_in_ring : (path ring rest : List ℕ) (row : Row) → IsText path → path
     ≡ (codes "/v1/rings/" ++ ring) ++ 47 ∷ rest
@@ -316,18 +402,42 @@ found_in_ring path ring rest row text is named found =
     (text-behind (codes "/v1/rings/") (ring ++ 47 ∷ rest) (subst IsText whole text)) in
     ap (λ (l : List ℕ). first all_routes l) whole
     ∙ bytes-first (codes "/v1/rings/") all_routes (ring ++ 47 ∷ rest) row
-    (between-first (codes "/nodes") (ring_row (codes "/nodes") Nodes).1 _ ring rest row
-    (piece-of ring named) bytes (refl, (refl, (refl, tt))) found)
+    (between-first (codes "/nodes") (ring_row (codes "/nodes") Nodes).1 further_rows whole_row.1
+    ring rest row (piece-of ring named) bytes (refl, (refl, (refl, tt))) found)
+
+-- a path that ends behind the ring's name has the row of the whole ring
+found_whole : (path ring : List ℕ) → IsText path → path ≡ codes "/v1/rings/" ++ ring
+    → IsPathSegment ring → first all_routes path ≡ Some whole_row.1
+found_whole path ring text is named =
+    let bytes : IsText ring = text-behind (codes "/v1/rings/") ring (subst IsText is text) in
+    ap (λ (l : List ℕ). first all_routes l) is
+    ∙ bytes-first (codes "/v1/rings/") all_routes ring whole_row.1
+    (end-first ring_rows whole_row.1 ring (piece-of ring named) bytes (refl, (refl, (refl, tt))))
 
 row-ends : (row : Row) → first (([], row) ∷ []) [] ≡ Some row
 unfolding matchit_on_literals
 row-ends row = refl
 
--- a plain read's word has the row of words
-word-first : (plain : Plain) → first ring_rows (47 ∷ plain_word plain) ≡ Some word_row.1
+-- a path that ends in front of the names of rings has the row of the rings
+rings-end : first (steps (codes "/v1/rings") all_routes) [] ≡ Some rings_row.1
 unfolding matchit_on_literals
-word-first Devices = refl
-word-first Balance = refl
+rings-end = refl
+
+-- a plain read's word has the row of words
+word-first : (asked : Plain) → first ring_rows (47 ∷ plain_word asked) ≡ Some word_row.1
+unfolding matchit_on_literals
+word-first plain.Devices = refl
+word-first plain.Balance = refl
+word-first plain.Ring = refl
+
+-- and so have those of a preview and of what moved
+preview-first : first ring_rows (codes "/preview") ≡ Some word_row.1
+unfolding matchit_on_literals
+preview-first = refl
+
+moves-first : first ring_rows (codes "/moves") ≡ Some word_row.1
+unfolding matchit_on_literals
+moves-first = refl
 
 -- what the row of words takes for the word
 word-part : (path ring word : List ℕ) → path ≡ (codes "/v1/rings/" ++ ring) ++ 47 ∷ word
@@ -353,11 +463,31 @@ there path endpoint.Import ring version text h =
           (last-first import_row.1 ring (piece-of ring h.1) bytes),
       tt,
     )
-there path (endpoint.Word plain) ring version text h = (
-  word_row.1,
-  found_in_ring path ring (plain_word plain) word_row.1 text h.0 h.1 (word-first plain),
-  word-part path ring (plain_word plain) h.0 h.1,
+there path endpoint.Rings ring version text h = (
+  rings_row.1,
+  ap (λ (l : List ℕ). first all_routes l) h.0
+      ∙ bytes-first (codes "/v1/rings") all_routes [] rings_row.1 rings-end,
+  tt,
 )
+there path endpoint.Status ring version text h = (
+  status_row.1,
+  ap (λ (l : List ℕ). first all_routes l) h.0
+      ∙ bytes-first (codes "/v1/status") all_routes [] status_row.1 (row-ends status_row.1),
+  tt,
+)
+there path (endpoint.Word asked) ring version text h = elim (is_whole asked) [
+  | inl whole ↦
+      let is : path ≡ codes "/v1/rings/" ++ ring =
+      h.0 ∙ ap (λ p. ring_path ring ++ plain_tail p) whole ∙ append-nil (ring_path ring) in
+      (whole_row.1, found_whole path ring text is h.1, whole)
+  | inr other ↦
+      let is : path ≡ ring_path ring ++ 47 ∷ plain_word asked =
+      h.0 ∙ ap (λ (t : List ℕ). ring_path ring ++ t) (tail_is asked other) in (
+        word_row.1,
+        found_in_ring path ring (plain_word asked) word_row.1 text is h.1 (word-first asked),
+        (other, word-part path ring (plain_word asked) is h.1),
+      )
+]
 there path endpoint.Nodes ring version text h = (
   (ring_row (codes "/nodes") Nodes).1,
   found_in_ring path ring (codes "nodes") (ring_row (codes "/nodes") Nodes).1 text h.0 h.1
@@ -376,6 +506,16 @@ there path endpoint.Text ring version text h =
           (last-first text_row.1 version (piece-of version h.2) bytes)),
       tt,
     )
+there path endpoint.Preview ring version text h = (
+  word_row.1,
+  found_in_ring path ring (codes "preview") word_row.1 text h.0 h.1 preview-first,
+  word-part path ring (codes "preview") h.0 h.1,
+)
+there path endpoint.Moves ring version text h = (
+  word_row.1,
+  found_in_ring path ring (codes "moves") word_row.1 text h.0 h.1 moves-first,
+  word-part path ring (codes "moves") h.0 h.1,
+)
 
 pub none-found : (path : List ℕ) → IsText path → first all_routes path ≡ None → HasNone path
 none-found path text none at ring version h =
@@ -398,6 +538,11 @@ in-ring : (ring tail : List ℕ) → IsPathSegment ring → IsUtf8 tail
 in-ring ring tail named utf8 = IsUtf8-append (codes "/v1/rings/" ++ ring) tail
     (IsUtf8-append (codes "/v1/rings/") ring (plain-utf8 (codes "/v1/rings/") refl) named.2) utf8
 
+tail-utf8 : (asked : Plain) → IsUtf8 (plain_tail asked)
+tail-utf8 plain.Devices = plain-utf8 (codes "/devices") refl
+tail-utf8 plain.Balance = plain-utf8 (codes "/balance") refl
+tail-utf8 plain.Ring = plain-utf8 [] refl
+
 -- a path that has a route is text
 pub routed-utf8 : (path : List ℕ) (endpoint : Endpoint) (ring version : List ℕ)
     → HasRoute path endpoint ring version → IsUtf8 path
@@ -406,15 +551,21 @@ routed-utf8 path endpoint.Requests ring version h = subst IsUtf8 (sym h.0)
 routed-utf8 path endpoint.Import ring version h =
     subst IsUtf8 (sym h.0) (IsUtf8-append (codes "/v1/import/") ring
     (plain-utf8 (codes "/v1/import/") refl) h.1.2)
-routed-utf8 path (endpoint.Word Devices) ring version h = subst IsUtf8 (sym h.0)
-    (in-ring ring (codes "/devices") h.1 (plain-utf8 (codes "/devices") refl))
-routed-utf8 path (endpoint.Word Balance) ring version h = subst IsUtf8 (sym h.0)
-    (in-ring ring (codes "/balance") h.1 (plain-utf8 (codes "/balance") refl))
+routed-utf8 path endpoint.Rings ring version h = subst IsUtf8 (sym h.0)
+    (plain-utf8 (codes "/v1/rings") refl)
+routed-utf8 path endpoint.Status ring version h = subst IsUtf8 (sym h.0)
+    (plain-utf8 (codes "/v1/status") refl)
+routed-utf8 path (endpoint.Word asked) ring version h = subst IsUtf8 (sym h.0)
+    (in-ring ring (plain_tail asked) h.1 (tail-utf8 asked))
 routed-utf8 path endpoint.Nodes ring version h = subst IsUtf8 (sym h.0)
     (in-ring ring (codes "/nodes") h.1 (plain-utf8 (codes "/nodes") refl))
 routed-utf8 path endpoint.Text ring version h = subst IsUtf8 (sym h.0)
     (IsUtf8-append ((codes "/v1/rings/" ++ ring) ++ codes "/text/") version
     (in-ring ring (codes "/text/") h.1 (plain-utf8 (codes "/text/") refl)) h.2.2)
+routed-utf8 path endpoint.Preview ring version h = subst IsUtf8 (sym h.0)
+    (in-ring ring (codes "/preview") h.1 (plain-utf8 (codes "/preview") refl))
+routed-utf8 path endpoint.Moves ring version h = subst IsUtf8 (sym h.0)
+    (in-ring ring (codes "/moves") h.1 (plain-utf8 (codes "/moves") refl))
 
 -- what is shown of a part that may be missing
 pub shown-part : {B : Type 0} (view : B → List ℕ) (result : Option B) (other : B)

@@ -5,7 +5,9 @@ use Rattle.http_messages.specs.declared.request.Method.{Method}
 use Rattle.http_routes.specs.declared.routes.Endpoint.{Endpoint}
 use Rattle.http_routes.specs.declared.routes.Endpoint.TheVariants as endpoint
 use Rattle.ring_reads.specs.declared.reads.Format.TheVariants as format
+use Rattle.ring_reads.specs.declared.reads.Question.TheVariants as question
 use Rattle.ring_reads.specs.declared.reads.Read.TheVariants.{Plain, Tables, Nodes, Published}
+use Rattle.ring_reads.specs.declared.reads.Read.TheVariants.{EachMove, Moves, Preview}
 use Rattle.http_routes.specs.declared.target.TargetAsk.{TargetAsk}
 use Rattle.http_routes.specs.declared.target.TargetAsk.TheVariants.{Deliver, Import, Read}
 use Rattle.http_routes.specs.declared.target.TargetFault.{TargetFault}
@@ -41,34 +43,73 @@ module _ (target : List ℕ) (by : Method) (at : Endpoint) (ring version : List 
         rw named label,
         query,
       )
-  told (Ok (Read name (Plain plain))) (is, named, label) =
+  told (Ok (Read question.Rings)) is = let h = here endpoint.Rings is in (
+    by_this endpoint.Rings is,
+    (h.0, refl, refl),
+  )
+  told (Ok (Read question.Status)) is = let h = here endpoint.Status is in (
+    by_this endpoint.Status is,
+    (h.0, refl, refl),
+  )
+  told (Ok (Read (question.Ring name (Plain plain)))) (is, named, label) =
       let h = here (endpoint.Word plain) is in (
         by_this (endpoint.Word plain) is,
-        rw named label,
-        subst (λ (n : List ℕ). HasRoute Path (endpoint.Word plain) n []) (sym named) (h.0, h.1, refl),
+        (
+          rw named label,
+          subst (λ (n : List ℕ). HasRoute Path (endpoint.Word plain) n []) (sym named)
+              (h.0, h.1, refl),
+        ),
       )
-  told (Ok (Read name (Nodes names))) (is, named, label, query, good) =
+  told (Ok (Read (question.Ring name (Nodes names)))) (is, named, label, query, good) =
       let h = here endpoint.Nodes is in (
         by_this endpoint.Nodes is,
-        rw named label,
         (
-          subst (λ (n : List ℕ). HasRoute Path endpoint.Nodes n []) (sym named) (h.0, h.1, refl),
-          query,
-          good,
+          rw named label,
+          (
+            subst (λ (n : List ℕ). HasRoute Path endpoint.Nodes n []) (sym named) (h.0, h.1, refl),
+            query,
+            good,
+          ),
         ),
       )
-  told (Ok (Read name Tables)) asks = absurd asks
-  told (Ok (Read name (Published number format.Swift))) asks = absurd asks
-  told (Ok (Read name (Published number format.Text))) (is, named, label, spelled) =
+  told (Ok (Read (question.Ring name Tables))) asks = absurd asks
+  told (Ok (Read (question.Ring name (Published number format.Swift)))) asks = absurd asks
+  told (Ok (Read (question.Ring name (Published number format.Text)))) (is, named, label, spelled) =
       let h = here endpoint.Text is in (
         by_this endpoint.Text is,
-        rw named label,
         (
-          version,
-          subst (λ (n : List ℕ). HasRoute Path endpoint.Text n version) (sym named) h,
-          spelled,
+          rw named label,
+          (
+            version,
+            subst (λ (n : List ℕ). HasRoute Path endpoint.Text n version) (sym named) h,
+            spelled,
+          ),
         ),
       )
+  told (Ok (Read (question.Ring name (Preview seed hour)))) (is, named, label, query) =
+      let h = here endpoint.Preview is in (
+        by_this endpoint.Preview is,
+        (
+          rw named label,
+          (
+            subst (λ (n : List ℕ). HasRoute Path endpoint.Preview n []) (sym named)
+                (h.0, h.1, refl),
+            query,
+          ),
+        ),
+      )
+  told (Ok (Read (question.Ring name (Moves from to)))) (is, named, label, query) =
+      let h = here endpoint.Moves is in (
+        by_this endpoint.Moves is,
+        (
+          rw named label,
+          (
+            subst (λ (n : List ℕ). HasRoute Path endpoint.Moves n []) (sym named) (h.0, h.1, refl),
+            query,
+          ),
+        ),
+      )
+  told (Ok (Read (question.Ring name (EachMove from to)))) asks = absurd asks
   told (Err (fault.Route why)) f = absurd f
   told (Err fault.Unreadable) f = (at, ring, version, route, right, f.0, f.1)
   told (Err fault.BadPath) f =

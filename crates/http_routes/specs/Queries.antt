@@ -1,7 +1,7 @@
 -- What queries say.
 use Rattle.std.specs.Prelude.{◌≡◌, ◌+◌, ℕ, List, [], ◌∷◌, IsTrue, Some, None, codes, length, map}
 use Rattle.ring_words.specs.Limits.{greatest_long}
-use Rattle.std.specs.Prelude.{if◌then◌else◌}
+use Rattle.std.specs.Prelude.{Option, if◌then◌else◌, unwrap_or}
 use Rattle.std.specs.List.{filter_map}
 use Rattle.std.specs.Option.{option_to_list}
 use Rattle.std.specs.Str.{bytes_eq}
@@ -38,3 +38,24 @@ pub record IsPathQuery (pairs : List (List ℕ × List ℕ)) (names : PathNames)
   pub object : values_of_pairs (codes "object") pairs ≡ option_to_list names.object
   pub nothing_else : length pairs
       ≡ 1 + length (option_to_list names.container) + length (option_to_list names.object)
+
+-- The query of a preview: a seed once, an hour at most once, and nothing else. Without an hour it
+-- is that of 0.
+pub record IsPreviewQuery (pairs : List (List ℕ × List ℕ)) (seed hour : ℕ) : Type 0 where
+  pub seed_text : List ℕ
+  pub hour_text : Option (List ℕ)
+  pub seed_once : values_of_pairs (codes "seed") pairs ≡ seed_text ∷ []
+  pub seed_spelled : SpellsNumber seed_text 0 greatest_long seed
+  pub hour_once : values_of_pairs (codes "hour") pairs ≡ option_to_list hour_text
+  pub hour_spelled : SpellsNumber (unwrap_or hour_text (codes "0")) 0 greatest_long hour
+  pub nothing_else : length pairs ≡ 1 + length (option_to_list hour_text)
+
+-- The query of what moved: the versions from which and to which, once each, and nothing else.
+pub record IsMovesQuery (pairs : List (List ℕ × List ℕ)) (from to : ℕ) : Type 0 where
+  pub from_text : List ℕ
+  pub to_text : List ℕ
+  pub from_once : values_of_pairs (codes "from") pairs ≡ from_text ∷ []
+  pub from_spelled : SpellsNumber from_text 0 greatest_long from
+  pub to_once : values_of_pairs (codes "to") pairs ≡ to_text ∷ []
+  pub to_spelled : SpellsNumber to_text 0 greatest_long to
+  pub nothing_else : length pairs ≡ 2

@@ -5,6 +5,8 @@ use Rattle.std.specs.Prelude.{position, take, unwrap_or}
 use Rattle.http_messages.specs.declared.faults.RouteFault.TheVariants.{NoRoute, WrongMethod}
 use Rattle.http_messages.specs.declared.request.Method.{Method}
 use Rattle.http_messages.specs.declared.request.Method.TheVariants as method
+use Rattle.ring_reads.specs.declared.reads.Question.{Question}
+use Rattle.ring_reads.specs.declared.reads.Question.TheVariants as question
 use Rattle.ring_reads.specs.declared.reads.Read.{Read as RingRead}
 use Rattle.path_lookup.specs.Names.{PathNames, is_path}
 use Rattle.ring_words.specs.Spelling.{SpellsNumber}
@@ -16,10 +18,12 @@ use Rattle.http_routes.specs.declared.target.TargetAsk.{TargetAsk}
 use Rattle.http_routes.specs.declared.target.TargetAsk.TheVariants.{Deliver, Import, Read}
 use Rattle.ring_reads.specs.declared.reads.Format.TheVariants as format
 use Rattle.ring_reads.specs.declared.reads.Read.TheVariants.{Plain, Tables, Nodes, Published}
+use Rattle.ring_reads.specs.declared.reads.Read.TheVariants.{EachMove, Moves, Preview}
 use Rattle.http_routes.specs.declared.target.TargetFault.{TargetFault}
 use Rattle.http_routes.specs.declared.target.TargetFault.TheVariants as fault
-use Rattle.http_routes.specs.Queries.{pairs_of, IsImportQuery, IsPathQuery}
-use Rattle.http_routes.specs.Routes.{endpoint_method, HasRoute}
+use Rattle.http_routes.specs.Queries.{pairs_of, IsImportQuery, IsMovesQuery, IsPathQuery}
+use Rattle.http_routes.specs.Queries.{IsPreviewQuery}
+use Rattle.http_routes.specs.Routes.{endpoint_method, HasRoute, IsOfRing}
 
 -- where the first question mark of a target is, or its end
 abbrev pub path_end : List ℕ → ℕ
@@ -44,6 +48,18 @@ ReadsRing path query ring (Published version format.Swift) = ⊥
 ReadsRing path query ring (Published version format.Text) =
     (segment : List ℕ) × HasRoute path endpoint.Text ring segment ×
     SpellsNumber segment 0 greatest_long version
+ReadsRing path query ring (Preview seed hour) =
+    HasRoute path endpoint.Preview ring [] × IsPreviewQuery (pairs_of query) seed hour
+ReadsRing path query ring (Moves from to) =
+    HasRoute path endpoint.Moves ring [] × IsMovesQuery (pairs_of query) from to
+ReadsRing path query ring (EachMove from to) = ⊥
+
+-- The path and the query ask that this is read. The name of a ring is of its form.
+abbrev pub AsksRead : List ℕ → List ℕ → Question → Type 0
+AsksRead path query question.Rings = HasRoute path endpoint.Rings [] []
+AsksRead path query question.Status = HasRoute path endpoint.Status [] []
+AsksRead path query (question.Ring ring what) = IsTrue (is_label ring) × ReadsRing path query ring
+    what
 
 -- The target asks for this by this method. The names of rings and the numbers are of their forms.
 abbrev pub TargetAsks : List ℕ → Method → TargetAsk → Type 0
@@ -53,17 +69,20 @@ TargetAsks target by (Import ring key) =
     (by ≡ method.Post) × HasRoute (target_path target) endpoint.Import ring [] ×
     IsTrue (is_label ring)
     × IsImportQuery (pairs_of (target_query target)) key
-TargetAsks target by (Read ring read) =
-    (by ≡ method.Get) × IsTrue (is_label ring) × ReadsRing (target_path target)
-    (target_query target) ring read
+TargetAsks target by (Read asked) =
+    (by ≡ method.Get) × AsksRead (target_path target) (target_query target) asked
 
 -- What stands in a route is not of its form: the ring's name, the version, or the query of an
--- import.
+-- import, of a preview or of what moved.
 abbrev pub IsMalformed : Endpoint → List ℕ → List ℕ → List ℕ → Type 0
 IsMalformed at ring version query =
     (IsTrue (is_label ring) → ⊥)
     ⊎ ((at ≡ endpoint.Import) × ((key : Key) → IsImportQuery (pairs_of query) key → ⊥))
     ⊎ ((at ≡ endpoint.Text) × ((number : ℕ) → SpellsNumber version 0 greatest_long number → ⊥))
+    ⊎ ((at ≡ endpoint.Preview)
+    × ((said : ℕ × ℕ) → IsPreviewQuery (pairs_of query) said.0 said.1 → ⊥))
+    ⊎ ((at ≡ endpoint.Moves)
+    × ((said : ℕ × ℕ) → IsMovesQuery (pairs_of query) said.0 said.1 → ⊥))
 
 -- The target asks by this method for nothing, for this reason. Want of memory says nothing.
 abbrev pub TargetFails : List ℕ → Method → TargetFault → Type 0
@@ -76,8 +95,7 @@ TargetFails target by (fault.Route (WrongMethod other)) =
 TargetFails target by fault.Unreadable =
     (at : Endpoint) × (ring : List ℕ) × (version : List ℕ) × HasRoute (target_path target) at ring
     version
-    × (by ≡ endpoint_method at) × (at ≢ endpoint.Requests) ×
-    IsMalformed at ring version (target_query target)
+    × (by ≡ endpoint_method at) × IsOfRing at × IsMalformed at ring version (target_query target)
 TargetFails target by fault.BadPath =
     (ring : List ℕ) × HasRoute (target_path target) endpoint.Nodes ring [] × (by ≡ method.Get) ×
     IsTrue (is_label ring)

@@ -1,12 +1,13 @@
 //! Queries.
 ghost use Rattle.std.specs.Prelude.{◌≡◌, ℕ, List, [], ◌∷◌, ◌≤◌, IfOk, length, map, string_bytes};
 ghost use Rattle.http_routes.specs.Queries.{pairs_of, values_of_pairs, IsImportQuery, IsPathQuery};
+ghost use Rattle.http_routes.specs.Queries.{IsMovesQuery, IsPreviewQuery};
 ghost use Rattle.http_routes.specs.Inner.Pairs.{IsValueFound, ReadsPath, decoded, pair_text};
 ghost use Rattle.ring_words.specs.Spelling.{Reads};
 
 use form_urlencoded::{decode, raw_pairs};
 use path_lookup::{Path, PathFault};
-use ring_words::{Caller, Key, SpellingFault, read_name, read_number};
+use ring_words::{Caller, Hour, Key, SpellingFault, read_name, read_number};
 use std::alloc::{AllocError, Global};
 
 /// A pair of a query.
@@ -108,4 +109,49 @@ pub fn read_path(alloc: Global, query: &[u8]) -> Result<Path, PathFault>
         return Err(PathFault::BadPath);
     }
     Path::new(alloc, account.as_bytes(), container, object)
+}
+
+/// The seed and the hour that the query of a preview says; the hour is 0 where it says none. Bad
+/// exactly where it is no such query.
+pub fn read_seed(alloc: Global, query: &[u8]) -> Result<(u32, Hour), SpellingFault>
+    ensures { Reads (λ x. IsPreviewQuery (pairs_of query.now) x.0 x.1) result }
+{
+    let pairs = read_pairs(alloc, query)?;
+    let ValueFound::One(seed) = find(&pairs, "seed") else {
+        return Err(SpellingFault::Bad);
+    };
+    let mut known = 1;
+    let hour = match find(&pairs, "hour") {
+        ValueFound::Missing => "0",
+        ValueFound::One(hour) => {
+            known += 1;
+            hour
+        }
+        ValueFound::Several => return Err(SpellingFault::Bad),
+    };
+    if pairs.len() != known {
+        return Err(SpellingFault::Bad);
+    }
+    let seed = read_number(seed, u32::MAX)?;
+    let hour = read_number(hour, u32::MAX)?;
+    Ok((seed, hour))
+}
+
+/// The two versions that the query of what moved says. Bad exactly where it is no such query.
+pub fn read_versions(alloc: Global, query: &[u8]) -> Result<(u32, u32), SpellingFault>
+    ensures { Reads (λ x. IsMovesQuery (pairs_of query.now) x.0 x.1) result }
+{
+    let pairs = read_pairs(alloc, query)?;
+    let ValueFound::One(from) = find(&pairs, "from") else {
+        return Err(SpellingFault::Bad);
+    };
+    let ValueFound::One(to) = find(&pairs, "to") else {
+        return Err(SpellingFault::Bad);
+    };
+    if pairs.len() != 2 {
+        return Err(SpellingFault::Bad);
+    }
+    let from = read_number(from, u32::MAX)?;
+    let to = read_number(to, u32::MAX)?;
+    Ok((from, to))
 }

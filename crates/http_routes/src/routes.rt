@@ -12,12 +12,20 @@ pub enum Endpoint {
     Requests,
     /// A table of devices is imported into a ring.
     Import,
+    /// Which rings there are.
+    Rings,
+    /// How much is kept.
+    Status,
     /// What a word alone asks of a ring.
     Word(Plain),
     /// The nodes of a path in a ring.
     Nodes,
     /// A published text of a ring.
     Text,
+    /// What a rebalance of a ring would do.
+    Preview,
+    /// What moved between two published versions of a ring.
+    Moves,
 }
 
 impl Endpoint {
@@ -27,7 +35,13 @@ impl Endpoint {
     {
         match self {
             Endpoint::Requests | Endpoint::Import => Method::Post,
-            Endpoint::Word(_) | Endpoint::Nodes | Endpoint::Text => Method::Get,
+            Endpoint::Rings
+            | Endpoint::Status
+            | Endpoint::Word(_)
+            | Endpoint::Nodes
+            | Endpoint::Text
+            | Endpoint::Preview
+            | Endpoint::Moves => Method::Get,
         }
     }
 }

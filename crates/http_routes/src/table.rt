@@ -21,8 +21,14 @@ enum TableRow {
     Nodes,
     /// A published text of a ring.
     Text,
-    /// What a word alone asks of a ring.
+    /// A whole ring.
+    Ring,
+    /// What another word asks of a ring.
     Word,
+    /// Which rings there are.
+    Rings,
+    /// How much is kept.
+    Status,
 }
 
 /// The routes over HTTP, as a router holds them.
@@ -53,11 +59,32 @@ fn add_all(router: &mut Router<TableRow>) -> Result<(), AllocError>
     add(router, "/v1/import/{ring}", TableRow::Import)?;
     add(router, "/v1/rings/{ring}/nodes", TableRow::Nodes)?;
     add(router, "/v1/rings/{ring}/text/{version}", TableRow::Text)?;
-    add(router, "/v1/rings/{ring}/{word}", TableRow::Word)
+    add(router, "/v1/rings/{ring}/{word}", TableRow::Word)?;
+    add(router, "/v1/rings/{ring}", TableRow::Ring)?;
+    add(router, "/v1/rings", TableRow::Rings)?;
+    add(router, "/v1/status", TableRow::Status)
 }
 
-/// Where a row leads whose segment for a word is this one. `None` exactly where no plain read has
-/// this word.
+/// Where the row of words leads for this one. `None` exactly where it is none of a preview, of what
+/// moved or of a plain read, or that of the whole ring, which has a row of its own.
+fn endpoint_of_word(word: &str) -> Option<Endpoint>
+    ensures { MatchOption result
+        ((endpoint : Endpoint) → RowLeadsTo TableRow.Word word.now endpoint → ⊥)
+        (RowLeadsTo TableRow.Word word.now) }
+{
+    match word {
+        "preview" => Some(Endpoint::Preview),
+        "moves" => Some(Endpoint::Moves),
+        _ => match Plain::of_word(word) {
+            Some(Plain::Ring) => None,
+            Some(plain) => Some(Endpoint::Word(plain)),
+            None => None,
+        },
+    }
+}
+
+/// Where a row leads whose segment for a word is this one. `None` exactly where it is the row of
+/// words, and leads nowhere for this one.
 fn endpoint_of(row: TableRow, word: &str) -> Option<Endpoint>
     ensures { MatchOption result ((endpoint : Endpoint) → RowLeadsTo row word.now endpoint → ⊥)
         (RowLeadsTo row word.now) }
@@ -67,10 +94,10 @@ fn endpoint_of(row: TableRow, word: &str) -> Option<Endpoint>
         TableRow::Import => Some(Endpoint::Import),
         TableRow::Nodes => Some(Endpoint::Nodes),
         TableRow::Text => Some(Endpoint::Text),
-        TableRow::Word => match Plain::of_word(word) {
-            Some(plain) => Some(Endpoint::Word(plain)),
-            None => None,
-        },
+        TableRow::Ring => Some(Endpoint::Word(Plain::Ring)),
+        TableRow::Rings => Some(Endpoint::Rings),
+        TableRow::Status => Some(Endpoint::Status),
+        TableRow::Word => endpoint_of_word(word),
     }
 }
 

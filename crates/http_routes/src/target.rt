@@ -2,13 +2,14 @@
 ghost use Rattle.std.specs.Prelude.{◌≡◌, ◌==◌, MatchResult, position};
 ghost use Rattle.http_routes.specs.Targets.{TargetAsks, TargetFails, target_path, target_query};
 ghost use Rattle.http_routes.specs.Inner.Routing.{RouteAsks, RouteFails};
+ghost use Rattle.http_routes.specs.Routes.{IsOfRing};
 
-use crate::query::{read_key, read_path};
+use crate::query::{read_key, read_path, read_seed, read_versions};
 use crate::routes::{Endpoint, FoundRoute};
 use crate::table::Routes;
 use http_messages::{Method, RouteFault};
 use path_lookup::PathFault;
-use ring_reads::{Format, Read};
+use ring_reads::{Format, Question, Read};
 use ring_words::{Key, RingName, SpellingFault, read_name, read_number};
 use std::alloc::Global;
 
@@ -19,8 +20,8 @@ pub enum TargetAsk {
     Deliver,
     /// That the table in the body is imported into a ring.
     Import(RingName, Key),
-    /// That this is read of a ring.
-    Read(RingName, Read),
+    /// That this is read.
+    Read(Question),
 }
 
 /// Why a target asks for nothing.
@@ -80,28 +81,53 @@ fn split_target(target: &[u8]) -> (&[u8], &[u8])
     }
 }
 
+/// What a route of a ring asks for.
+fn read_ring_route(
+    alloc: Global,
+    found: FoundRoute<'_>,
+    query: &[u8],
+) -> Result<TargetAsk, TargetFault>
+    requires { IsOfRing found.endpoint }
+    ensures { MatchResult result (RouteAsks found.entry.endpoint found.entry.ring.now
+        found.entry.version.now query.now)
+        (RouteFails found.entry.endpoint found.entry.ring.now found.entry.version.now query.now) }
+{
+    let ring: RingName = read_name(alloc, found.ring)?;
+    match found.endpoint {
+        Endpoint::Import => Ok(TargetAsk::Import(ring, read_key(alloc, query)?)),
+        Endpoint::Word(plain) => Ok(TargetAsk::Read(Question::Ring(ring, Read::Plain(plain)))),
+        Endpoint::Nodes => {
+            let path = read_path(alloc, query)?;
+            Ok(TargetAsk::Read(Question::Ring(ring, Read::Nodes(path))))
+        }
+        Endpoint::Text => {
+            let version = read_number(found.version, u32::MAX)?;
+            let text = Read::Published(version, Format::Text);
+            Ok(TargetAsk::Read(Question::Ring(ring, text)))
+        }
+        Endpoint::Preview => {
+            let (seed, hour) = read_seed(alloc, query)?;
+            Ok(TargetAsk::Read(Question::Ring(ring, Read::Preview(seed, hour))))
+        }
+        Endpoint::Moves => {
+            let (from, to) = read_versions(alloc, query)?;
+            Ok(TargetAsk::Read(Question::Ring(ring, Read::Moves(from, to))))
+        }
+        _ => unreachable!(),
+    }
+}
+
 /// What a route asks for.
 fn read_route(alloc: Global, found: FoundRoute<'_>, query: &[u8]) -> Result<TargetAsk, TargetFault>
     ensures { MatchResult result (RouteAsks found.entry.endpoint found.entry.ring.now
         found.entry.version.now query.now)
         (RouteFails found.entry.endpoint found.entry.ring.now found.entry.version.now query.now) }
 {
-    if let Endpoint::Requests = found.endpoint {
-        return Ok(TargetAsk::Deliver);
-    }
-    let ring: RingName = read_name(alloc, found.ring)?;
     match found.endpoint {
         Endpoint::Requests => Ok(TargetAsk::Deliver),
-        Endpoint::Import => Ok(TargetAsk::Import(ring, read_key(alloc, query)?)),
-        Endpoint::Word(plain) => Ok(TargetAsk::Read(ring, Read::Plain(plain))),
-        Endpoint::Nodes => {
-            let path = read_path(alloc, query)?;
-            Ok(TargetAsk::Read(ring, Read::Nodes(path)))
-        }
-        Endpoint::Text => {
-            let version = read_number(found.version, u32::MAX)?;
-            Ok(TargetAsk::Read(ring, Read::Published(version, Format::Text)))
-        }
+        Endpoint::Rings => Ok(TargetAsk::Read(Question::Rings)),
+        Endpoint::Status => Ok(TargetAsk::Read(Question::Status)),
+        _ => read_ring_route(alloc, found, query),
     }
 }
 

@@ -64,4 +64,11 @@ impl<T: time::Clock> Clock for HourClock<T> {
         }
         self.told
     }
+
+    fn now(&self) -> Hour {
+        match self.fixed {
+            Some(hour) => hour,
+            None => machine_hour(&self.time).unwrap_or(self.told),
+        }
+    }
 }

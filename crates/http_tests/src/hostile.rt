@@ -1,5 +1,5 @@
 //! Streams that no client should send.
-use crate::serving::{CREATED, LOST, Sent, Step, Told, session};
+use crate::serving::{CREATED, LOST, NO_RING, Sent, Step, Told, session};
 use std::alloc::{AllocError, Global};
 use std::test::Fail;
 
@@ -244,13 +244,22 @@ fn an_account_of_257_bytes_is_refused(rt: HostRuntime) -> Result<(), Fail> {
 }
 
 /// Segments are taken as they stand, and empty ones are none.
-static SEGMENTS: [Step<'_>; 12] = [
+static SEGMENTS: [Step<'_>; 21] = [
     (Sent::Get("/v1/rings/object/text/01"), UNREADABLE),
     (Sent::Get("/v1/rings/object/text/4294967296"), UNREADABLE),
     (Sent::Get("/v1/rings/%6Fbject/devices"), UNREADABLE),
     (Sent::Get("/v1/rings/Object/balance"), UNREADABLE),
+    (Sent::Get("/v1/rings/Object"), UNREADABLE),
+    (Sent::Get("/v1/rings/%6Fbject"), UNREADABLE),
     (Sent::Get("/v1/rings//devices"), LOST),
-    (Sent::Get("/v1/rings/object"), LOST),
+    (Sent::Get("/v1/rings/object"), NO_RING),
+    (Sent::Get("/v1/rings/object/"), LOST),
+    (Sent::Get("/v1/rings/"), LOST),
+    (Sent::Get("/v1/ring"), LOST),
+    (Sent::Get("/v1/Rings"), LOST),
+    (Sent::Get("/v1/status/"), LOST),
+    (Sent::Get("/v1/statu"), LOST),
+    (Sent::Get("/v1/status%3F"), LOST),
     (Sent::Get("/v1/rings/object/devices/"), LOST),
     (Sent::Get("/v1/rings/object/text/"), LOST),
     (Sent::Get("/v1/rings/a/b/devices"), LOST),

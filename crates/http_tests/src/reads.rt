@@ -1,5 +1,5 @@
 //! Rings that are read, and tables that are imported.
-use crate::serving::{NO_RING, RingBook, Sent, Step, Told, are_steps, open, session};
+use crate::serving::{LOST, NO_RING, RingBook, Sent, Step, Told, are_steps, open, session};
 use ring_words::Limits;
 use std::alloc::Global;
 use std::test::Fail;
@@ -193,6 +193,175 @@ static TABLES: [Step<'_>; 2] = [
 #[test]
 fn tables_are_read(rt: HostRuntime) -> Result<(), Fail> {
     assert!(rt; session_after(rt.alloc(), &OBJECT, &TABLES)?);
+    Ok(())
+}
+
+/// A read of the whole ring `tiny`, and of what is none.
+static WHOLE: [Step<'_>; 2] = [
+    (
+        Sent::Get("/v1/rings/tiny"),
+        Told::Json(
+            "200 OK",
+            "{\"balance\":0,\"devices\":[{\"address\":\"10.0.0.1\",\"has\":2,\"id\":0,\"name\":\"d0\",\"port\":6200,\"region\":1,\"state\":\"open\",\"wanted\":2,\"weight\":\"100.00\",\"zone\":1}],\"dispersion\":0,\"hour\":0,\"locked\":0,\"min_hours\":0,\"next_id\":1,\"power\":1,\"published\":[2],\"replicas\":1,\"rests\":0,\"ring\":\"tiny\",\"seats\":2,\"version\":2}",
+        ),
+    ),
+    (Sent::Get("/v1/rings/tiny/ring"), LOST),
+];
+
+#[test]
+fn a_whole_ring_is_read(rt: HostRuntime) -> Result<(), Fail> {
+    assert!(rt; session_after(rt.alloc(), &TINY, &WHOLE)?);
+    Ok(())
+}
+
+/// Previews of the ring `tiny`, and of what is none.
+static PREVIEWS: [Step<'_>; 4] = [
+    (
+        Sent::Get("/v1/rings/tiny/preview?seed=7"),
+        Told::Json(
+            "200 OK",
+            "{\"balance\":0,\"changed\":0,\"devices\":[{\"gives\":0,\"has\":2,\"id\":0,\"takes\":0,\"then\":2,\"wanted\":2}],\"dispersion\":0,\"hour\":0,\"locked\":0,\"partitions\":0,\"ring\":\"tiny\",\"seed\":7,\"version\":3}",
+        ),
+    ),
+    (
+        Sent::Get("/v1/rings/tiny/preview?hour=5&seed=%34294967295"),
+        Told::Json(
+            "200 OK",
+            "{\"balance\":0,\"changed\":0,\"devices\":[{\"gives\":0,\"has\":2,\"id\":0,\"takes\":0,\"then\":2,\"wanted\":2}],\"dispersion\":0,\"hour\":5,\"locked\":0,\"partitions\":0,\"ring\":\"tiny\",\"seed\":4294967295,\"version\":3}",
+        ),
+    ),
+    (Sent::Get("/v1/rings/other/preview?seed=7"), NO_RING),
+    (Sent::Get("/v1/rings/tiny/preview/7"), LOST),
+];
+
+/// Queries that are none of a preview.
+static NO_PREVIEWS: [Step<'_>; 9] = [
+    (Sent::Get("/v1/rings/tiny/preview"), UNREADABLE),
+    (Sent::Get("/v1/rings/tiny/preview?seed="), UNREADABLE),
+    (Sent::Get("/v1/rings/tiny/preview?seed=07"), UNREADABLE),
+    (
+        Sent::Get("/v1/rings/tiny/preview?seed=4294967296"),
+        UNREADABLE,
+    ),
+    (Sent::Get("/v1/rings/tiny/preview?hour=5"), UNREADABLE),
+    (Sent::Get("/v1/rings/tiny/preview?seed=7&hour="), UNREADABLE),
+    (
+        Sent::Get("/v1/rings/tiny/preview?seed=7&seed=7"),
+        UNREADABLE,
+    ),
+    (
+        Sent::Get("/v1/rings/tiny/preview?seed=7&hour=5&hour=5"),
+        UNREADABLE,
+    ),
+    (
+        Sent::Get("/v1/rings/tiny/preview?seed=7&more=1"),
+        UNREADABLE,
+    ),
+];
+
+#[test]
+fn previews_are_read(rt: HostRuntime) -> Result<(), Fail> {
+    assert!(rt; session_after(rt.alloc(), &TINY, &PREVIEWS)?);
+    assert!(rt; session_after(rt.alloc(), &TINY, &NO_PREVIEWS)?);
+    Ok(())
+}
+
+/// What moved between versions of the ring `tiny`, of which one is published.
+static MOVES: [Step<'_>; 8] = [
+    (
+        Sent::Get("/v1/rings/tiny/moves?from=2&to=2"),
+        Told::Json(
+            "200 OK",
+            "{\"changed\":0,\"devices\":[],\"from\":2,\"partitions\":0,\"ring\":\"tiny\",\"to\":2}",
+        ),
+    ),
+    (
+        Sent::Get("/v1/rings/tiny/moves?to=3&from=2"),
+        Told::Json(
+            "422 Unprocessable Entity",
+            "{\"refused\":\"NoVersion\",\"rule\":32}",
+        ),
+    ),
+    (Sent::Get("/v1/rings/other/moves?from=2&to=2"), NO_RING),
+    (Sent::Get("/v1/rings/tiny/moves"), UNREADABLE),
+    (Sent::Get("/v1/rings/tiny/moves?from=2"), UNREADABLE),
+    (Sent::Get("/v1/rings/tiny/moves?from=2&to=x"), UNREADABLE),
+    (
+        Sent::Get("/v1/rings/tiny/moves?from=2&to=2&each=1"),
+        UNREADABLE,
+    ),
+    (Sent::Get("/v1/rings/tiny/moves?from=2&from=2"), UNREADABLE),
+];
+
+#[test]
+fn moves_are_read(rt: HostRuntime) -> Result<(), Fail> {
+    assert!(rt; session_after(rt.alloc(), &TINY, &MOVES)?);
+    Ok(())
+}
+
+/// A ring without devices, and the refusal of its preview.
+static EMPTY_RING: [Step<'_>; 2] = [
+    (
+        Sent::Message(
+            "{\"caller\":\"ops\",\"do\":\"create\",\"min_hours\":0,\"number\":1,\"power\":1,\"replicas\":1,\"ring\":\"tiny\"}",
+        ),
+        Told::Json("200 OK", "{\"done\":\"create\",\"version\":0}"),
+    ),
+    (
+        Sent::Get("/v1/rings/tiny/preview?seed=7"),
+        Told::Json(
+            "422 Unprocessable Entity",
+            "{\"refused\":\"TooFewDevices\",\"rule\":9}",
+        ),
+    ),
+];
+
+#[test]
+fn a_preview_is_refused_as_a_rebalance_is(rt: HostRuntime) -> Result<(), Fail> {
+    assert!(rt; session(rt.alloc(), &EMPTY_RING)?);
+    Ok(())
+}
+
+/// Reads of which rings there are and of how much is kept, with the ring `tiny` and its four numbers.
+static STORE: [Step<'_>; 3] = [
+    (
+        Sent::Get("/v1/rings"),
+        Told::Json("200 OK", "{\"rings\":[{\"ring\":\"tiny\",\"version\":2}]}"),
+    ),
+    (
+        Sent::Get("/v1/status?x"),
+        Told::Json(
+            "200 OK",
+            "{\"hour\":0,\"kept\":4,\"limit\":100000,\"rings\":1}",
+        ),
+    ),
+    (
+        Sent::Post("/v1/status", ""),
+        Told::Bytes(
+            "HTTP/1.1 405 Method Not Allowed\r\nContent-Type: application/json\r\nContent-Length: 36\r\nAllow: GET\r\n\r\n{\"fault\":\"WrongMethod\",\"status\":405}",
+        ),
+    ),
+];
+
+/// The same reads where there is nothing.
+static EMPTY_STORE: [Step<'_>; 2] = [
+    (
+        Sent::Get("/v1/rings?x=y"),
+        Told::Json("200 OK", "{\"rings\":[]}"),
+    ),
+    (
+        Sent::Get("/v1/status"),
+        Told::Json(
+            "200 OK",
+            "{\"hour\":0,\"kept\":0,\"limit\":100000,\"rings\":0}",
+        ),
+    ),
+];
+
+#[test]
+fn the_rings_and_the_status_are_read(rt: HostRuntime) -> Result<(), Fail> {
+    assert!(rt; session_after(rt.alloc(), &TINY, &STORE)?);
+    assert!(rt; session(rt.alloc(), &EMPTY_STORE)?);
     Ok(())
 }
 

@@ -1,26 +1,37 @@
 -- What a line asks for.
-use Rattle.std.proofs.Common.{◌≡◌, ℕ, ◌^◌, ◌<◌, ◌≤◌, true, List, [], ◌∷◌, ◌++◌, decimal, sym, subst}
+use Rattle.std.proofs.Common.{◌≡◌, ◌≢◌, ℕ, zero, suc, ◌^◌, ◌<◌, ◌≤◌, true, false, List, [], ◌∷◌}
+use Rattle.std.proofs.Common.{◌++◌, decimal, get_or, sym, subst}
 use Rattle.std.proofs.Common.{◌∙◌, lit<, ⊎_elim, arith, ap, refl, codes, length, ◌+◌, Bor, Option}
-use Rattle.std.proofs.Common.{Some, None}
-use Rattle.std.specs.Prelude.{IsUtf8, ◌==◌, ◌&&◌, ◌||◌, nat_le}
-use Rattle.std.specs.List.{after_first, before_first, list_all, position_or_len}
+use Rattle.std.proofs.Common.{Some, None, Result, Ok, Err}
+use Rattle.std.specs.Prelude.{IsUtf8, ◌==◌, ◌&&◌, ◌||◌, IsTrue, MatchOption, nat_le}
+use Rattle.std.specs.List.{before_first, list_all, position_or_len}
 use Rattle.std.proofs.lemmas.Bool.{and_parts, or_cases, leb-true, eqb-true}
 use Rattle.std.proofs.lemmas.List.{append_cancel_left, length-append}
 use Rattle.std.proofs.lemmas.Fmt.{IsAscii-decimal}
+use Rattle.std.proofs.lemmas.Option.{MatchOption-at_some}
+use Rattle.std.proofs.lemmas.Str.Pattern.{IsSplitOnceResult, split_after}
 use Rattle.std.proofs.lemmas.Str.{IsUtf8-append, IsUtf8-from_ascii}
 use Rattle.std.proofs.lemmas.Str.Ascii.{IsAscii-cons, IsAscii-nil}
 use Rattle.std.specs.Str.{IsAscii}
-use Rattle.ring_words.specs.Texts.{is_digit, is_label_byte, is_lower}
+use Rattle.ring_words.specs.Limits.{long_count}
+use Rattle.ring_words.specs.Texts.{is_digit, is_label, is_label_byte, is_lower}
 use Rattle.ring_words.specs.declared.command.Command.{Command}
 use Rattle.ring_words.specs.declared.request.Delivery.{Delivery}
+use Rattle.ring_words.specs.Spelling.{Reads, SpellsName}
+use Rattle.ring_words.specs.declared.spelling.SpellingFault.{SpellingFault}
+use Rattle.ring_words.specs.declared.spelling.SpellingFault.TheVariants.{Bad, NoMemory}
 use Rattle.ring_words.proofs.Decimals.{separated_parts}
 use Rattle.ring_messages.specs.Message.{IsMessage}
 use Rattle.ring_words.proofs.Decimals.{IsCut, Splits}
 use Rattle.ring_reads.specs.Reads.{plain_word}
 use Rattle.ring_reads.specs.declared.plain.Plain.{Plain}
-use Rattle.ring_reads.specs.declared.plain.Plain.TheVariants.{Devices, Balance}
+use Rattle.ring_reads.specs.declared.plain.Plain.TheVariants.{Devices, Balance, Ring}
 use Rattle.ring_reads.specs.declared.reads.Question.{Question}
-use Rattle.line_api.specs.Lines.{Asks, AsksPlain}
+use Rattle.ring_reads.specs.declared.reads.Question.TheVariants as question
+use Rattle.ring_reads.specs.declared.reads.Read.{Read}
+use Rattle.ring_reads.specs.declared.reads.Read.TheVariants as read
+use Rattle.line_api.specs.Lines.{AreTwoNumbers, AskOfRing, AskPlain, AskQuestion, Asks, AsksQuestion}
+use Rattle.line_api.specs.Lines.{IsNumbered, NamesNumbers}
 
 -- a line that asks for something is text
 pub asks_text : (line : List ℕ) (x : Delivery Command) → Asks line x → IsUtf8 line
@@ -64,16 +75,19 @@ asked_text plain rest = plain_word plain ++ 32 ∷ rest
 word_text : (plain : Plain) → IsUtf8 (plain_word plain)
 word_text Devices = IsUtf8-from_ascii (codes "devices") (label_bytes (codes "devices") refl)
 word_text Balance = IsUtf8-from_ascii (codes "balance") (label_bytes (codes "balance") refl)
+word_text Ring = IsUtf8-from_ascii (codes "ring") (label_bytes (codes "ring") refl)
 
 first_word : (plain : Plain) (rest : List ℕ) →
     before_first (λ b. b == 32) (asked_text plain rest) ≡ plain_word plain
 first_word Devices rest = refl
 first_word Balance rest = refl
+first_word Ring rest = refl
 
 first_place : (plain : Plain) (rest : List ℕ) →
     position_or_len (λ b. b == 32) (asked_text plain rest) ≡ length (plain_word plain)
 first_place Devices rest = refl
 first_place Balance rest = refl
+first_place Ring rest = refl
 
 -- a text that begins with a word and a space has a space
 pub has_space : (t : List ℕ) (r : Option (Bor (List ℕ) × Bor (List ℕ))) → Splits 32 t r → r ≡ None →
@@ -94,17 +108,220 @@ pub is_word : (t front back : List ℕ) → IsCut 32 t front back → (plain : P
 is_word t front back cut plain rest e = sym cut.before ∙ ap (before_first (λ b. b == 32)) e
     ∙ first_word plain rest
 
--- what stands behind the question mark of a question
-pub behind_mark : (line rest : List ℕ) (question : Question) → line ≡ codes "? " ++ rest →
-    (asks : AsksPlain line question) → rest ≡ asked_text asks.plain question.ring
-behind_mark line rest question is asks = append_cancel_left (codes "? ") rest
-    (asked_text asks.plain question.ring) (sym is ∙ asks.is)
+label_text : (name : List ℕ) → IsTrue (is_label name) → IsAscii name
+label_text name named = label_bytes name (and_parts _ _ named).1
+
+number_text : (n : ℕ) → n < long_count → IsUtf8 (decimal n)
+number_text n fits = IsUtf8-from_ascii (decimal n) (IsAscii-decimal n (omega (arith, fits)))
+
+space_text : (rest : List ℕ) → IsUtf8 rest → IsUtf8 (32 ∷ rest)
+space_text rest text = IsUtf8-append (32 ∷ []) rest
+    (IsUtf8-from_ascii (32 ∷ []) (IsAscii-cons 32 [] (lit< tt) IsAscii-nil)) text
+
+numbers_text : (text : List ℕ) (first second : ℕ) → AreTwoNumbers text first second → IsUtf8 text
+numbers_text text first second are = subst (λ (t : List ℕ). IsUtf8 t) (sym are.is)
+    (IsUtf8-append (decimal first) (32 ∷ decimal second) (number_text first are.first_fits)
+    (space_text (decimal second) (number_text second are.second_fits)))
+
+numbered_text : (text name : List ℕ) (first second : ℕ) → NamesNumbers text name first second →
+    IsUtf8 text
+numbered_text text name first second names = subst (λ (t : List ℕ). IsUtf8 t)
+    (sym names.numbered.is)
+    (IsUtf8-append name (32 ∷ names.numbered.numbers)
+    (IsUtf8-from_ascii name (label_text name names.named))
+    (space_text names.numbered.numbers
+    (numbers_text names.numbered.numbers first second names.numbered.are)))
+
+-- words that ask something are text
+of_ring_text : (words name : List ℕ) (what : Read) → AskOfRing words name what → IsUtf8 words
+of_ring_text words name (read.Plain plain) asks =
+    subst (λ (t : List ℕ). IsUtf8 t) (sym asks.is)
+    (IsUtf8-append (plain_word plain) (32 ∷ name) (word_text plain)
+    (IsUtf8-from_ascii (32 ∷ name) (IsAscii-cons 32 name (lit< tt) (label_text name asks.named))))
+of_ring_text words name read.Tables asks = absurd asks
+of_ring_text words name (read.Nodes path) asks = absurd asks
+of_ring_text words name (read.Published version written) asks = absurd asks
+of_ring_text words name (read.Preview seed hour) asks =
+    subst (λ (t : List ℕ). IsUtf8 t) (sym asks.1)
+    (IsUtf8-append (codes "preview ") asks.0
+    (IsUtf8-append (codes "preview") (32 ∷ [])
+    (IsUtf8-from_ascii (codes "preview") (label_bytes (codes "preview") refl))
+    (IsUtf8-from_ascii (32 ∷ []) (IsAscii-cons 32 [] (lit< tt) IsAscii-nil)))
+    (numbered_text asks.0 name seed hour asks.2))
+of_ring_text words name (read.Moves from to) asks =
+    subst (λ (t : List ℕ). IsUtf8 t) (sym asks.1)
+    (IsUtf8-append (codes "moves ") asks.0
+    (IsUtf8-append (codes "moves") (32 ∷ [])
+    (IsUtf8-from_ascii (codes "moves") (label_bytes (codes "moves") refl))
+    (IsUtf8-from_ascii (32 ∷ []) (IsAscii-cons 32 [] (lit< tt) IsAscii-nil)))
+    (numbered_text asks.0 name from to asks.2))
+of_ring_text words name (read.EachMove from to) asks = absurd asks
+
+words_text : (words : List ℕ) (asked : Question) → AskQuestion words asked → IsUtf8 words
+words_text words question.Rings is = subst (λ (t : List ℕ). IsUtf8 t) (sym is)
+    (IsUtf8-from_ascii (codes "rings") (label_bytes (codes "rings") refl))
+words_text words question.Status is = subst (λ (t : List ℕ). IsUtf8 t) (sym is)
+    (IsUtf8-from_ascii (codes "status") (label_bytes (codes "status") refl))
+words_text words (question.Ring name what) asks = of_ring_text words name what asks
+
+-- the words of a question stand behind its question mark
+behind_mark : (line rest : List ℕ) (asked : Question) → line ≡ codes "? " ++ rest →
+    (asks : AsksQuestion line asked) → asks.words ≡ rest
+behind_mark line rest asked is asks = append_cancel_left (codes "? ") asks.words rest
+    (sym asks.is ∙ is)
 
 -- what stands behind the question mark is text
-pub question_text : (line rest : List ℕ) (question : Question) → line ≡ codes "? " ++ rest →
-    AsksPlain line question → IsUtf8 rest
-question_text line rest question is asks =
-    subst (λ (t : List ℕ). IsUtf8 t) (sym (behind_mark line rest question is asks))
-    (IsUtf8-append (plain_word asks.plain) (32 ∷ question.ring) (word_text asks.plain)
-    (IsUtf8-from_ascii (32 ∷ question.ring) (IsAscii-cons 32 question.ring (lit< tt)
-    (label_bytes question.ring (and_parts _ _ asks.named).1))))
+pub question_text : (line rest : List ℕ) (asked : Question) → line ≡ codes "? " ++ rest →
+    AsksQuestion line asked → IsUtf8 rest
+question_text line rest asked is asks =
+    subst (λ (t : List ℕ). IsUtf8 t) (behind_mark line rest asked is asks)
+    (words_text asks.words asked asks.asks)
+
+-- words that ask neither for the rings nor for the status, nor anything of a ring, ask nothing
+pub ask_nothing : (words : List ℕ) (fault : SpellingFault) → (words ≡ codes "rings" → ⊥) →
+    (words ≡ codes "status" → ⊥) →
+    Reads (λ (x : List ℕ × Read). AskOfRing words x.0 x.1) (Err fault) →
+    Reads (AskQuestion words) (Err fault)
+ask_nothing words NoMemory no_rings no_status none = tt
+ask_nothing words Bad no_rings no_status none = by
+  where
+    by : (asked : Question) → AskQuestion words asked → ⊥
+    by question.Rings asks = no_rings asks
+    by question.Status asks = no_status asks
+    by (question.Ring name what) asks = none (name, what) asks
+
+-- ---- a name and two numbers
+
+-- no byte of a label is a space
+no_space : (name : List ℕ) → list_all is_label_byte name ≡ true → (i : ℕ) → i < length name →
+    get_or name i 0 ≢ 32
+no_space [] h i lt = absurd (omega (arith, lt))
+no_space (b ∷ name) h zero lt = λ is.
+    let no : is_label_byte b ≡ false = ap is_label_byte is in
+    let yes : is_label_byte b ≡ true =
+    (and_parts (is_label_byte b) (list_all is_label_byte name) h).0 in
+    cc (no, yes)
+no_space (b ∷ name) h (suc i) lt = no_space name (and_parts _ _ h).1 i (omega (arith, lt))
+
+-- where a text is cut at its first space, if a label and a space stand in front
+cut_name : (t : List ℕ) (r : Option (Bor (List ℕ) × Bor (List ℕ))) → IsSplitOnceResult 32 t r →
+    (name rest : List ℕ) → IsTrue (is_label name) → t ≡ name ++ 32 ∷ rest →
+    MatchOption r ⊥ (λ x. (x.0.now ≡ name) × (x.1.now ≡ rest))
+cut_name t r split name rest named is =
+    split_after 32 t name rest r split (lit< tt) is (no_space name (and_parts _ _ named).1)
+
+pub no_name : (t : List ℕ) (r : Option (Bor (List ℕ) × Bor (List ℕ))) → IsSplitOnceResult 32 t r →
+    r ≡ None → (name : List ℕ) (first second : ℕ) → IsTrue (is_label name) →
+    IsNumbered t name first second → ⊥
+no_name t None split is name first second named numbered =
+    cut_name t None split name numbered.numbers named numbered.is
+no_name t (Some x) split is name first second named numbered = cc
+
+pub cut_is : (t : List ℕ) (r : Option (Bor (List ℕ) × Bor (List ℕ)))
+    (x : Bor (List ℕ) × Bor (List ℕ)) → IsSplitOnceResult 32 t r → r ≡ Some x →
+    (name : List ℕ) (first second : ℕ) → IsTrue (is_label name) →
+    (numbered : IsNumbered t name first second) →
+    (x.0.now ≡ name) × (x.1.now ≡ numbered.numbers)
+cut_is t r x split is name first second named numbered =
+    MatchOption-at_some _ _ x is (cut_name t r split name numbered.numbers named numbered.is)
+
+-- where what stands before the numbers is no label, the text names no ring
+pub numbered_none : (text name : List ℕ) (fault : SpellingFault) → ((other : List ℕ)
+    (first second : ℕ) → IsTrue (is_label other) → IsNumbered text other first second →
+    name ≡ other) → Reads (SpellsName is_label name) (Err fault) →
+    Reads (λ (x : List ℕ × ℕ × ℕ). NamesNumbers text x.0 x.1 x.2) (Err fault)
+numbered_none text name NoMemory only bad = tt
+numbered_none text name Bad only bad = λ x names. bad x.0 (record {
+  is = only x.0 x.1 x.2 names.named names.numbered;
+  valid = names.named;
+})
+
+-- ---- what is asked of a ring
+
+-- a preview and what moved have different words in front
+preview_moves : (rest text : List ℕ) → codes "moves " ++ rest ≡ codes "preview " ++ text → ⊥
+preview_moves rest text is =
+    let clash : ◌≡◌ {A = ℕ} 109 112 = ap (λ (t : List ℕ). get_or t 0 0) is in omega (arith, clash)
+
+-- and so have a plain read and what moved
+moves_word : (plain : Plain) (rest text : List ℕ) → asked_text plain rest ≡ codes "moves " ++ text
+    → ⊥
+moves_word Devices rest text is =
+    let clash : ◌≡◌ {A = ℕ} 100 109 = ap (λ (t : List ℕ). get_or t 0 0) is in omega (arith, clash)
+moves_word Balance rest text is =
+    let clash : ◌≡◌ {A = ℕ} 98 109 = ap (λ (t : List ℕ). get_or t 0 0) is in omega (arith, clash)
+moves_word Ring rest text is =
+    let clash : ◌≡◌ {A = ℕ} 114 109 = ap (λ (t : List ℕ). get_or t 0 0) is in omega (arith, clash)
+
+-- a plain read and a preview have different words in front
+other_word : (plain : Plain) (rest text : List ℕ) →
+    asked_text plain rest ≡ codes "preview " ++ text → ⊥
+other_word Devices rest text is =
+    let clash : ◌≡◌ {A = ℕ} 100 112 = ap (λ (t : List ℕ). get_or t 0 0) is in omega (arith, clash)
+other_word Balance rest text is =
+    let clash : ◌≡◌ {A = ℕ} 98 112 = ap (λ (t : List ℕ). get_or t 0 0) is in omega (arith, clash)
+other_word Ring rest text is =
+    let clash : ◌≡◌ {A = ℕ} 114 112 = ap (λ (t : List ℕ). get_or t 0 0) is in omega (arith, clash)
+
+-- where what stands behind the word names no ring and numbers, the words ask nothing of a ring
+pub no_preview : (words text : List ℕ) (fault : SpellingFault) →
+    words ≡ codes "preview " ++ text →
+    Reads (λ (x : List ℕ × ℕ × ℕ). NamesNumbers text x.0 x.1 x.2) (Err fault) →
+    Reads (λ (x : List ℕ × Read). AskOfRing words x.0 x.1) (Err fault)
+no_preview words text NoMemory is none = tt
+no_preview words text Bad is none = λ x. by x.0 x.1
+  where
+    by : (name : List ℕ) (what : Read) → AskOfRing words name what → ⊥
+    by name (read.Plain plain) asks = other_word plain name text (sym asks.is ∙ is)
+    by name read.Tables asks = asks
+    by name (read.Nodes path) asks = asks
+    by name (read.Published version written) asks = asks
+    by name (read.Preview seed hour) asks = none (name, seed, hour)
+        (subst (λ (t : List ℕ). NamesNumbers t name seed hour)
+        (append_cancel_left (codes "preview ") asks.0 text (sym asks.1 ∙ is)) asks.2)
+    by name (read.Moves from to) asks = preview_moves asks.0 text (sym asks.1 ∙ is)
+    by name (read.EachMove from to) asks = asks
+
+-- the same of what moved
+pub no_moves : (words text : List ℕ) (fault : SpellingFault) → words ≡ codes "moves " ++ text →
+    Reads (λ (x : List ℕ × ℕ × ℕ). NamesNumbers text x.0 x.1 x.2) (Err fault) →
+    Reads (λ (x : List ℕ × Read). AskOfRing words x.0 x.1) (Err fault)
+no_moves words text NoMemory is none = tt
+no_moves words text Bad is none = λ x. by x.0 x.1
+  where
+    by : (name : List ℕ) (what : Read) → AskOfRing words name what → ⊥
+    by name (read.Plain plain) asks = moves_word plain name text (sym asks.is ∙ is)
+    by name read.Tables asks = asks
+    by name (read.Nodes path) asks = asks
+    by name (read.Published version written) asks = asks
+    by name (read.Preview seed hour) asks = preview_moves text asks.0 (sym is ∙ asks.1)
+    by name (read.Moves from to) asks = none (name, from, to)
+        (subst (λ (t : List ℕ). NamesNumbers t name from to)
+        (append_cancel_left (codes "moves ") asks.0 text (sym asks.1 ∙ is)) asks.2)
+    by name (read.EachMove from to) asks = asks
+
+-- words that ask for no preview and no moves, and nothing by a word alone, ask nothing of a ring
+pub nothing_alone : (words : List ℕ) (fault : SpellingFault) → ((text : List ℕ) →
+    words ≡ codes "preview " ++ text → ⊥) → ((text : List ℕ) → words ≡ codes "moves " ++ text → ⊥) →
+    Reads (λ (x : List ℕ × Plain). AskPlain words x.0 x.1) (Err fault) →
+    Reads (λ (x : List ℕ × Read). AskOfRing words x.0 x.1) (Err fault)
+nothing_alone words NoMemory unseen unmoved none = tt
+nothing_alone words Bad unseen unmoved none = λ x. by x.0 x.1
+  where
+    by : (name : List ℕ) (what : Read) → AskOfRing words name what → ⊥
+    by name (read.Plain plain) asks = none (name, plain) asks
+    by name read.Tables asks = asks
+    by name (read.Nodes path) asks = asks
+    by name (read.Published version written) asks = asks
+    by name (read.Preview seed hour) asks = unseen asks.0 asks.1
+    by name (read.Moves from to) asks = unmoved asks.0 asks.1
+    by name (read.EachMove from to) asks = asks
+
+-- what is read of the words is read of the line
+pub line_reads : (line words : List ℕ) (result : Result Question SpellingFault) →
+    line ≡ codes "? " ++ words → Reads (AskQuestion words) result →
+    Reads (AsksQuestion line) result
+line_reads line words (Ok asked) is reads = record { words = words; is = is; asks = reads }
+line_reads line words (Err NoMemory) is reads = tt
+line_reads line words (Err Bad) is none = λ asked asks. none asked
+    (subst (λ (w : List ℕ). AskQuestion w asked) (behind_mark line words asked is asks) asks.asks)

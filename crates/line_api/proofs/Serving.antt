@@ -49,7 +49,7 @@ module _ {K : Type 0} (kept : Keeping K) where
   abbrev IsTurn : Book → List ℕ → Asked → List ℕ → Book → Type 0
   IsTurn old line asked text new = Turn steps_of kept.content kept.sound kept.limit kept.fault_count
       (λ book. book)
-      (λ before item asks answer after. Gets (Found kept before after) item
+      (λ before item asks answer after. Gets (Found kept 0 before after) item
       asks answer) old line asked text new
 
   turns : (old : Book) (line text : List ℕ) (new : Book) → Gives old line text new →
@@ -73,7 +73,7 @@ module _ {K : Type 0} (kept : Keeping K) where
   serves old lines texts new turn = in_turn_serves steps_of kept.content kept.sound kept.limit
       kept.fault_count
       (λ book. book)
-      (λ before item asks answer after. Gets (Found kept before after) item
+      (λ before item asks answer after. Gets (Found kept 0 before after) item
       asks answer) Gives turns old lines texts new turn
 
   -- what the server of lines tells of its handler holds of the run
@@ -95,7 +95,7 @@ module _ {K : Type 0} (kept : Keeping K) where
   proper_line line delivery asks = (asks.reads.delivery.proper, asks.hour)
 
   proper_call : (old : Book) (line : List ℕ) (call : Call Command Reply) (text : List ℕ) (new : Book)
-      → Gets (Found kept old new) line (Some call) text → IsProperCall call
+      → Gets (Found kept 0 old new) line (Some call) text → IsProperCall call
   proper_call old line (Deliver delivery answer) text new (inl (short, inl answered)) =
       proper_line line delivery answered.0
   proper_call old line (Deliver delivery answer) text new (inl (short, inr lost)) =
@@ -108,7 +108,7 @@ module _ {K : Type 0} (kept : Keeping K) where
       (serves : ServesLines kept old lines texts new) → All IsProperCall serves.calls
   proper_lines old lines texts new serves = all_such steps_of kept.content kept.sound kept.limit
       kept.fault_count (λ book. book)
-      (λ before item asks answer after. Gets (Found kept before after) item asks answer)
+      (λ before item asks answer after. Gets (Found kept 0 before after) item asks answer)
       IsProperCall proper_call old old new [] serves.calls lines texts serves.answered
 
   -- calls that are one run are a safe run

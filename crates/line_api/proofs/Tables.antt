@@ -1,23 +1,24 @@
--- A table ends with a line feed.
+-- What is written of a table or of JSON ends with a line feed.
 use Rattle.std.proofs.Common.{◌≡◌, ℕ, List, [], ◌∷◌, ◌++◌, codes, decimal, map, refl, sym, ap, ◌∙◌}
-use Rattle.std.proofs.Common.{append-nil, append_assoc, subst, Result, Ok, Err}
+use Rattle.std.proofs.Common.{append-nil, append_assoc, Result, Ok, Err}
 use Rattle.std.specs.List.{concat, zip}
 use Rattle.ring_model.specs.Ring.{RingRecord}
 use Rattle.ring_words.specs.Texts.{hundredths_text}
 use Rattle.ring_share.specs.Figures.{ring_balance, ring_dispersion}
-use Rattle.builder.specs.Step.{State}
 use Rattle.request_book.specs.declared.book.Fault.{Fault}
 use Rattle.ring_book.specs.Reads.{ReadShows}
-use Rattle.ring_reads.specs.Reads.{IsPlainText, IsShown}
+use Rattle.ring_reads.specs.Holding.{Holding, hour_now}
+use Rattle.ring_reads.specs.Reads.{IsPlainText, IsText, written_as}
 use Rattle.ring_reads.specs.declared.plain.Plain.{Plain}
-use Rattle.ring_reads.specs.declared.plain.Plain.TheVariants.{Devices, Balance}
+use Rattle.ring_reads.specs.declared.plain.Plain.TheVariants.{Devices, Balance, Ring}
 use Rattle.ring_reads.specs.declared.reads.Question.{Question}
-use Rattle.ring_reads.specs.declared.reads.Read.{Read}
+use Rattle.ring_reads.specs.declared.reads.Question.TheVariants as question
 use Rattle.ring_reads.specs.declared.reads.Read.TheVariants as read
 use Rattle.ring_reads.specs.Layout.{Columns, cells, row, table}
 use Rattle.ring_reads.specs.Tables.{balance_columns, balance_table, balance_texts, balance_titles}
 use Rattle.ring_reads.specs.Tables.{device_columns, device_table, device_texts, device_titles}
 use Rattle.ring_reads.specs.Tables.{figures_line}
+use Rattle.line_api.specs.Lines.{AsksQuestion}
 
 -- a text ends with a line feed
 abbrev pub IsEnded : List ℕ → Type 0
@@ -61,18 +62,44 @@ balance_table_ends ring wants text is =
       is ∙ ap (λ (t : List ℕ). rows ++ t) last.1 ∙ sym (append_assoc rows last.0 (10 ∷ [])),
     )
 
-plain_ends : (plain : Plain) (ring : RingRecord) (hour : ℕ) (text : List ℕ) →
-    IsPlainText plain ring hour text → IsEnded text
-plain_ends Devices ring hour text is = device_table_ends ring text is
-plain_ends Balance ring hour text is = balance_table_ends ring is.0 text is.2
+plain_ends : (plain : Plain) (name : List ℕ) (ring : RingRecord) (hour : ℕ) (text : List ℕ) →
+    IsPlainText plain name ring hour text →
+    IsEnded (written_as (question.Ring name (read.Plain plain)) text)
+plain_ends Devices name ring hour text is = device_table_ends ring text is
+plain_ends Balance name ring hour text is = balance_table_ends ring is.0 text is.2
+plain_ends Ring name ring hour text is = (text, refl)
 
--- what a word alone asks for ends with a line feed
-pub shown_ends : (Finds : State → ℕ → Type 0) (prefix suffix : List ℕ) (question : Question)
-    (plain : Plain) (answer : Result (Unit {0}) Fault) (bytes : List ℕ) →
-    question.read ≡ read.Plain plain → ReadShows Finds prefix suffix question answer bytes →
-    IsEnded bytes
-shown_ends Finds prefix suffix question plain (Ok ready) bytes is shows =
-    let ring = shows.3.0 in
-    plain_ends plain ring shows.1 bytes
-    (subst (λ (what : Read). IsShown prefix suffix ring shows.1 what bytes) is shows.3.2)
-shown_ends Finds prefix suffix question plain (Err fault) bytes is shows = absurd shows
+-- what is written of what a line asks for ends with a line feed
+pub shown_ends : (Finds : Holding → Type 0) (prefix suffix line : List ℕ) (asked : Question) →
+    AsksQuestion line asked → (answer : Result (Unit {0}) Fault) (bytes : List ℕ) →
+    ReadShows Finds prefix suffix asked answer bytes → IsEnded (written_as asked bytes)
+shown_ends Finds prefix suffix line question.Rings asks answer bytes shows = (bytes, refl)
+shown_ends Finds prefix suffix line question.Status asks answer bytes shows = (bytes, refl)
+shown_ends Finds prefix suffix line (question.Ring name (read.Plain plain)) asks (Ok ready) bytes
+    shows = plain_ends plain name shows.2.0 (hour_now shows.0) bytes shows.2.2
+shown_ends Finds prefix suffix line (question.Ring name (read.Plain plain)) asks (Err fault) bytes
+    shows = absurd shows
+shown_ends Finds prefix suffix line (question.Ring name read.Tables) asks answer bytes shows =
+    absurd asks.asks
+shown_ends Finds prefix suffix line (question.Ring name (read.Nodes path)) asks answer bytes shows =
+    absurd asks.asks
+shown_ends Finds prefix suffix line (question.Ring name (read.Published version written)) asks answer
+    bytes shows = absurd asks.asks
+shown_ends Finds prefix suffix line (question.Ring name (read.Preview seed hour)) asks answer bytes
+    shows = (bytes, refl)
+shown_ends Finds prefix suffix line (question.Ring name (read.Moves from to)) asks answer bytes
+    shows = (bytes, refl)
+shown_ends Finds prefix suffix line (question.Ring name (read.EachMove from to)) asks answer bytes
+    shows = absurd asks.asks
+
+-- what is shown of what a line asks for is text
+pub is_text : (line : List ℕ) (asked : Question) → AsksQuestion line asked → IsText asked
+is_text line question.Rings asks = tt
+is_text line question.Status asks = tt
+is_text line (question.Ring name (read.Plain plain)) asks = tt
+is_text line (question.Ring name read.Tables) asks = absurd asks.asks
+is_text line (question.Ring name (read.Nodes path)) asks = absurd asks.asks
+is_text line (question.Ring name (read.Published version written)) asks = absurd asks.asks
+is_text line (question.Ring name (read.Preview seed hour)) asks = tt
+is_text line (question.Ring name (read.Moves from to)) asks = tt
+is_text line (question.Ring name (read.EachMove from to)) asks = tt

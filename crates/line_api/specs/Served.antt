@@ -9,9 +9,9 @@ module _ {K : Type 0} (kept : Keeping K) where
   Book = RingBook kept
 
   -- The lines get these texts, and the calls that they lead to are one run: of each line by what it
-  -- asks for, from the rings that the lines before it left.
+  -- asks for, from what the lines before it left.
   abbrev pub ServesLines : Book → List (List ℕ) → List (List ℕ) → Book → Type 0
   ServesLines old lines texts new = Serves steps_of kept.content kept.sound kept.limit
       kept.fault_count (λ book. book)
-      (λ before line asked text after. Gets (Found kept before after) line asked text) old lines texts
+      (λ before line asked text after. Gets (Found kept 0 before after) line asked text) old lines texts
       new

@@ -7,12 +7,11 @@ ghost use Rattle.builder.specs.Safety.{IsSafeRun};
 ghost use Rattle.byte_streams.specs.Counted.{FailsWithCause, LeavesFlushed, reader_of};
 ghost use Rattle.request_book.specs.Call.{Load};
 ghost use Rattle.request_book.specs.declared.book.Fault.{Fault};
-ghost use Rattle.line_api.specs.Lines.{Asks, AsksFor, IsTold, answer_line};
+ghost use Rattle.line_api.specs.Lines.{Asks, AsksFor, AsksQuestion, IsTold, answer_line};
 ghost use Rattle.line_api.specs.Served.{ServesLines};
 ghost use Rattle.line_api.specs.Inner.Answering.{Answers, Loses};
 ghost use Rattle.ring_book.specs.Book.{Found, Made};
-ghost use Rattle.ring_reads.specs.declared.plain.Plain.{Plain};
-ghost use Rattle.ring_reads.specs.declared.reads.Read.TheVariants as reads;
+ghost use Rattle.ring_reads.specs.Reads.{written_as};
 ghost use Rattle.line_stream.specs.Serving.{LinesServedOn, LinesStoppedOn};
 ghost use Rattle.ring_messages.specs.declared.told.Told.TheVariants as told;
 
@@ -24,7 +23,7 @@ use path_lookup::HashNames;
 use request_book::{Book, Keeper};
 use ring_book::{deliver, read};
 use ring_reads::Question;
-use ring_words::{Command, Delivery, parse_decimal_up_to};
+use ring_words::{Command, Delivery, Hour, parse_decimal_up_to};
 use std::alloc::{AllocError, Global};
 use std::io::{Read, Write};
 use std::marker::PhantomData;
@@ -35,7 +34,7 @@ use std::str;
 enum Request {
     /// That a delivery is made.
     Delivery(Delivery<Command>),
-    /// What a word alone asks of a ring.
+    /// That something is shown.
     Question(Question),
 }
 
@@ -74,39 +73,51 @@ pub fn answer_text(alloc: Global, told: &Told) -> Result<String, AllocError>
     format!(in alloc; "{status} {text}")
 }
 
-/// Bytes that are shown, as an answer, which has no line feed at its end.
-fn shown_text(bytes: Vec<u8>) -> String
+/// A text without the line feed at its end.
+fn unended(text: String) -> String
+    requires { (front : List ℕ) × (string_bytes text ≡ front ++ 10 ∷ []) }
+    ensures { string_bytes result ++ 10 ∷ [] ≡ string_bytes text }
+{
+    let mut text = text;
+    let _ = text.pop();
+    text
+}
+
+/// Bytes that are shown of a question, as an answer, which has no line feed at its end.
+fn shown_text(question: &Question, bytes: Vec<u8>) -> String
     requires utf8 { IsUtf8 bytes.items }
-    requires ended { (front : List ℕ) × (bytes.items ≡ front ++ 10 ∷ []) }
-    ensures { string_bytes result ++ 10 ∷ [] ≡ bytes.items }
+    requires ended { (front : List ℕ)
+        × (written_as question.now bytes.items ≡ front ++ 10 ∷ []) }
+    ensures { string_bytes result ++ 10 ∷ [] ≡ written_as question.now bytes.items }
 {
     match String::from_utf8(bytes) {
-        Ok(mut text) => {
-            let _ = text.pop();
-            text
-        }
+        Ok(text) if question.is_json() => text,
+        Ok(text) => unended(text),
         Err(_) => unreachable!(),
     }
 }
 
-/// Answers a question from the rings that a book holds.
+/// Lines tell the hours of deliveries, and none of a clock.
+const NO_CLOCK: Hour = 0;
+
+/// Answers a question, which is that of a line, from what a book holds.
 fn show<K: Keeper<RingMachine>>(
     alloc: Global,
     book: &mut Book<RingMachine, K>,
     question: &Question,
 ) -> Result<String, AllocError>
-    requires { (plain : Plain) × (question.now.read ≡ reads.Plain plain) }
+    requires { (line : List ℕ) × AsksQuestion line question.now }
     ensures { (answer : Result (Unit {0}) Fault)
         × Made K.Keeper book.old book.new (Some (Load answer))
-        × IfOk result (λ text. IsTold (Found K.Keeper book.old book.new)
+        × IfOk result (λ text. IsTold (Found K.Keeper 0 book.old book.new)
         question.now answer (string_bytes text)) }
 {
     let no_names = HashNames {
         prefix: b"",
         suffix: b"",
     };
-    match read(alloc, book, no_names, question) {
-        Ok(bytes) => Ok(shown_text(bytes)),
+    match read(alloc, book, NO_CLOCK, no_names, question) {
+        Ok(bytes) => Ok(shown_text(question, bytes)),
         Err(told) => answer_text(alloc, &told),
     }
 }
@@ -154,14 +165,16 @@ impl<K: Keeper<RingMachine>> Handler for RingLines<K> {
 
 /// Answers every line of a reader on a writer, in order, and tells how many there were, 4294967295
 /// for more. A line is an hour in decimal, one space, and a message with the request's key and its
-/// command; it is answered by a status, a space and the answer. Or it is `? WORD RING`, where the
-/// word alone asks for something of the ring, as `devices` and `balance` do, and is answered by what
-/// is shown, or by a status, a space and why nothing is. What came is answered and flushed before the
-/// reader is asked for more.
+/// command; it is answered by a status, a space and the answer. Or it is a question: `? rings` for
+/// which rings there are, `? status` for how much is kept, `? WORD RING`, where the word alone asks
+/// for something of the ring, as `devices`, `balance` and `ring` do, `? preview RING SEED HOUR` for
+/// what a rebalance would do, or `? moves RING FROM TO` for what moved between two published
+/// versions. It is answered by what is shown, or by a status, a space and why nothing is. What came
+/// is answered and flushed before the reader is asked for more.
 ///
 /// The deliveries are one run of the book: each number is decided once, in the order of the lines,
-/// and every repeat gets its kept reply. A question is answered from the rings that the deliveries
-/// of the lines before it left, and changes nothing.
+/// and every repeat gets its kept reply. A question is answered from what the deliveries of the lines
+/// before it left, and changes nothing.
 ///
 /// After ReadFailed the answers so far were written and flushed, and after WriteFailed a beginning
 /// of them was written; what was decided stays decided. NoMemory comes before the first read, and

@@ -27,10 +27,37 @@ fn told(alloc: Global, line: &str) -> Result<String, AllocError> {
 }
 
 /// What the words of a line ask for.
-static ASKED: [(&str, &str); 22] = [
+static ASKED: [(&str, &str); 31] = [
     ("run", "Run { file: None }"),
     ("run --file F", "Run { file: Some(\"F\") }"),
     ("table F object", "Table { file: \"F\", ring: \"object\" }"),
+    (
+        "show F object",
+        "Show { file: \"F\", what: Ring(\"object\") }",
+    ),
+    ("show F", "Show { file: \"F\", what: Rings }"),
+    (
+        "show F status",
+        "Show { file: \"F\", what: Ring(\"status\") }",
+    ),
+    ("show F --status", "Show { file: \"F\", what: Status }"),
+    ("show --status F", "Show { file: \"F\", what: Status }"),
+    (
+        "preview F object --seed 7",
+        "Show { file: \"F\", what: Preview { ring: \"object\", seed: 7, hour: None } }",
+    ),
+    (
+        "preview --hour 9 F --seed=4294967295 object",
+        "Show { file: \"F\", what: Preview { ring: \"object\", seed: 4294967295, hour: Some(9) } }",
+    ),
+    (
+        "moves F object 2 5",
+        "Show { file: \"F\", what: Moves { ring: \"object\", from: \"2\", to: \"5\", each: false } }",
+    ),
+    (
+        "moves F --each object 2 05",
+        "Show { file: \"F\", what: Moves { ring: \"object\", from: \"2\", to: \"05\", each: true } }",
+    ),
     ("renew F G", "Renew { file: \"F\", new: \"G\" }"),
     ("version", "Version"),
     (
@@ -104,7 +131,7 @@ static ASKED: [(&str, &str); 22] = [
 ];
 
 /// Lines whose argument is not of its form.
-static NOT_OF_ITS_FORM: [&str; 25] = [
+static NOT_OF_ITS_FORM: [&str; 29] = [
     // ports and counts
     "serve F 0 1",
     "serve F 65536 1",
@@ -129,13 +156,18 @@ static NOT_OF_ITS_FORM: [&str; 25] = [
     "found G a.text --min-hours day",
     "found G a.text --min-hours 1 --hour 4294967296",
     "found G a.text --min-hours 1 --hour now",
+    // seeds
+    "preview F object --seed 4294967296",
+    "preview F object --seed 01",
+    "preview F object --seed x",
+    "preview F object --seed 1 --hour now",
     // formats
     "export F object 7 --format",
     "export F object 7 --format Swift",
     "export F object 7 --format json",
 ];
 
-static OTHER_WORDS: [&str; 48] = [
+static OTHER_WORDS: [&str; 64] = [
     "",
     "ran",
     "Run",
@@ -144,6 +176,22 @@ static OTHER_WORDS: [&str; 48] = [
     "run --files F",
     "table F",
     "table F object more",
+    "show",
+    "show --status",
+    "show F object more",
+    "show F object --status",
+    "show --status F object",
+    "show F --status --status",
+    "preview F object",
+    "preview F object 7",
+    "preview F --seed 7",
+    "preview F object more --seed 7",
+    "preview F object --seed 7 --seed 8",
+    "preview F object --seed",
+    "moves F object 2",
+    "moves F object 2 5 7",
+    "moves F object 2 5 --each --each",
+    "moves F object 2 5 --each=yes",
     "nodes F tiny",
     "export F object",
     "export F object 7 swift",

@@ -47,6 +47,7 @@ module _ (Holds : List ℕ → Type 0) (IsUnread : ℕ → ProgramFault → Type
   lost_table fault.NoRing unread is = absurd is
   lost_table fault.RingExists unread is = absurd is
   lost_table fault.TooManyRings unread is = absurd is
+  lost_table fault.TooFewDevices unread is = absurd is
   lost_table fault.NotAssigned unread is = absurd is
   lost_table fault.Unreadable unread is = absurd is
   lost_table fault.StoreFault unread is = absurd is

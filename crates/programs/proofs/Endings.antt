@@ -160,6 +160,8 @@ shown_failed memory stores Begins Ends remaining contents reader writer later Ho
 shown_failed memory stores Begins Ends remaining contents reader writer later Holds IsUnread before
     after Refuses IsUnmade (task.Table file ring) showing why (inr work) = inr (refl, work.0, work.1)
 shown_failed memory stores Begins Ends remaining contents reader writer later Holds IsUnread before
+    after Refuses IsUnmade (task.Show file what) showing why (inr work) = inr (refl, work.0, work.1)
+shown_failed memory stores Begins Ends remaining contents reader writer later Holds IsUnread before
     after Refuses IsUnmade (task.Nodes file ring account container object names) showing why
     (inr work) = inr (refl, work.0, work.1)
 shown_failed memory stores Begins Ends remaining contents reader writer later Holds IsUnread before

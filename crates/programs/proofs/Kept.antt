@@ -4,7 +4,7 @@ use Rattle.std.specs.Prelude.{IfErr, OnOk}
 use Rattle.byte_streams.specs.declared.counted.CountedReader.{CountedReader}
 use Rattle.byte_streams.specs.declared.counted.CountedWriter.{CountedWriter}
 use Rattle.byte_streams.specs.declared.fault.StreamFault.{StreamFault}
-use Rattle.builder.specs.Step.{State}
+use Rattle.ring_reads.specs.Holding.{Holding}
 use Rattle.ring_messages.specs.declared.told.Told.{Told}
 use Rattle.ring_words.specs.declared.device.Row.{Row}
 use Rattle.programs.specs.Importing.{Imports}
@@ -50,6 +50,7 @@ unclosed_store fault.TooLong is = absurd is
 unclosed_store fault.NoRing is = absurd is
 unclosed_store fault.RingExists is = absurd is
 unclosed_store fault.TooManyRings is = absurd is
+unclosed_store fault.TooFewDevices is = absurd is
 unclosed_store fault.NotAssigned is = absurd is
 unclosed_store fault.Unreadable is = absurd is
 unclosed_store fault.BadStore is = absurd is
@@ -84,7 +85,7 @@ module _ {K : Type 0} (g : Keeping K) (Begins Ends : K → Type 0) (kept left : 
     stops_kept why all = stops g (λ k. k ≡ kept) Begins (λ k. k ≡ left) Ends same_kept same_left
         remaining contents reader late_reader writer late_writer why all
 
-  pub asked_kept : (Tells : State → ℕ → Type 0)
+  pub asked_kept : (Tells : Holding → Type 0)
       → IsAsked g (λ k. k ≡ kept) (λ k. k ≡ left) Tells → IsAsked g Begins Ends Tells
   asked_kept Tells a = asked g (λ k. k ≡ kept) Begins (λ k. k ≡ left) Ends same_kept same_left Tells a
 

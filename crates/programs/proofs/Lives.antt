@@ -49,6 +49,7 @@ use Rattle.csv_import.specs.declared.fault.CsvFault.TheVariants as csv
 use Rattle.http_api.specs.Http.{told_csv}
 use Rattle.path_lookup.specs.declared.hash.HashNames.{HashNames}
 use Rattle.ring_messages.specs.declared.told.Told.TheVariants as told
+use Rattle.ring_reads.specs.Holding.{Holding}
 use Rattle.ring_reads.specs.declared.reads.Question.{Question}
 use Rattle.http_sockets.specs.Listening.{AcceptsNone, HasAcceptedNone}
 use Rattle.programs.specs.Begun.{AreServiceLimits, Closing, FailedToClose, IsBegun, IsClosed}
@@ -165,7 +166,7 @@ module _ {K : Type 0} (g : Keeping K) (Begins Ends : K → Type 0) where
       proper = All-nil IsProperCall;
     }
 
-    pub asked_run : (Tells : State → ℕ → Type 0) → IsAsked g Begins Ends Tells
+    pub asked_run : (Tells : Holding → Type 0) → IsAsked g Begins Ends Tells
         → IsOneRun g Begins Ends []
     asked_run Tells a = still_run a.keeper a.later a.opened a.left a.stays_sound a.stays
 
@@ -652,6 +653,8 @@ module _ {M K R W : Type 0} (memory : Keeping M) (stores : Keeping K)
         given all.1
     done_once (task.Table file ring) all = shown_run stores (Begins file.now) Ends none more contents
         writer later [] [] (AsksShown (task.Table file ring)) all.1
+    done_once (task.Show file what) all = shown_run stores (Begins file.now) Ends none more contents
+        writer later [] [] (AsksShown (task.Show file what)) all.1
     done_once (task.Nodes file ring account container object names) all = shown_run stores
         (Begins file.now) Ends none more contents writer later names.prefix.now names.suffix.now
         (AsksShown (task.Nodes file ring account container object names)) all.1
@@ -680,6 +683,7 @@ module _ {M K R W : Type 0} (memory : Keeping M) (stores : Keeping K)
     refused_once (task.Service file port hosts hour_ok names) all = absurd all
     refused_once (task.Loop file input given names) all = absurd all
     refused_once (task.Table file ring) all = absurd all
+    refused_once (task.Show file what) all = absurd all
     refused_once (task.Nodes file ring account container object names) all = absurd all
     refused_once (task.Export file ring version written) all = absurd all
     refused_once (task.Renew file fresh) all = absurd all
@@ -733,6 +737,9 @@ module _ {M K R W : Type 0} (memory : Keeping M) (stores : Keeping K)
         ring caller number csv given all.1.0 why all.1.2)
     work_failed (task.Table file ring) why all = at_opening (show_failed stores (Begins file.now) Ends
         none more contents writer later before after (Refuses file.now) [] [] (AsksShown (task.Table file ring)) why
+        all.2 all.1)
+    work_failed (task.Show file what) why all = at_opening (show_failed stores (Begins file.now) Ends
+        none more contents writer later before after (Refuses file.now) [] [] (AsksShown (task.Show file what)) why
         all.2 all.1)
     work_failed (task.Nodes file ring account container object names) why all = at_opening (show_failed
         stores (Begins file.now) Ends none more contents writer later before after (Refuses file.now)

@@ -5,7 +5,7 @@ use Rattle.byte_streams.specs.declared.counted.CountedReader.{CountedReader}
 use Rattle.byte_streams.specs.declared.counted.CountedWriter.{CountedWriter}
 use Rattle.byte_streams.specs.declared.fault.StreamFault.{StreamFault}
 use Rattle.builder.specs.declared.machine.RingMachine.{RingMachine}
-use Rattle.builder.specs.Step.{State}
+use Rattle.ring_reads.specs.Holding.{Holding}
 use Rattle.request_book.specs.Book.{Parts}
 use Rattle.ring_messages.specs.declared.told.Told.{Told}
 use Rattle.ring_words.specs.declared.device.Row.{Row}
@@ -81,10 +81,11 @@ module _ {K : Type 0} (g : Keeping K) (Begins Early Ends Late : K → Type 0)
     stops why all = let run = all.0 in
         ((run.0, run.1, early run.0 run.2, leave run.1.keeper run.3, run.4, run.5), all.1, all.2)
 
-  pub asked : (Tells : State → ℕ → Type 0) → IsAsked g Begins Ends Tells → IsAsked g Early Late Tells
+  pub asked : (Tells : Holding → Type 0) → IsAsked g Begins Ends Tells → IsAsked g Early Late Tells
   asked Tells a = record {
     keeper = a.keeper;
     later = a.later;
+    clock = a.clock;
     opened = weaken a.keeper a.opened;
     left = leave a.later a.left;
     stays_sound = a.stays_sound;

@@ -20,6 +20,7 @@ abbrev pub program_fault_name : ProgramFault → List ℕ
 program_fault_name fault.NoRing = codes "NoRing"
 program_fault_name fault.RingExists = codes "RingExists"
 program_fault_name fault.TooManyRings = codes "TooManyRings"
+program_fault_name fault.TooFewDevices = codes "TooFewDevices"
 program_fault_name fault.NotAssigned = codes "NotAssigned"
 program_fault_name fault.Unreadable = codes "Unreadable"
 program_fault_name fault.NoMemory = codes "NoMemory"
@@ -40,6 +41,7 @@ abbrev pub fault_number : ProgramFault → ℕ
 fault_number fault.NoRing = 1
 fault_number fault.RingExists = 2
 fault_number fault.TooManyRings = 3
+fault_number fault.TooFewDevices = 9
 fault_number fault.NotAssigned = 10
 fault_number fault.Unreadable = 20
 fault_number fault.NoMemory = 23

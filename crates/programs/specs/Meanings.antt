@@ -11,6 +11,7 @@ abbrev pub fault_meaning : ProgramFault → List ℕ
 fault_meaning fault.NoRing = codes "it has no ring of this name: look at the spelling of both, since a FILE that is missing is made, without rings\n"
 fault_meaning fault.RingExists = codes "two rings have one name: give one of them another, in the second line of its text\n"
 fault_meaning fault.TooManyRings = codes "a file holds 16 rings at most: found some of them in a file of their own\n"
+fault_meaning fault.TooFewDevices = codes "fewer of the ring's devices take seats than a partition has replicas: add devices, or give some a weight above 0\n"
 fault_meaning fault.NotAssigned = codes "the ring was never rebalanced, so no device holds any of it: rebalance it first\n"
 fault_meaning fault.Unreadable = codes "a name or a number is not of its form: names of rings and callers are 1 to 32 of a to z, 0 to 9 and -, a letter first; numbers are 0 to 4294967295, without leading zeros\n"
 fault_meaning fault.NoMemory = codes "there was not enough memory: look at the limits of the unit or the shell, and try again\n"
@@ -42,6 +43,7 @@ store_named (task.Service file port hosts hour_ok names) why = file.now
 store_named (task.Loop file input given names) why = file.now
 store_named (task.Import file ring caller number csv given) why = file.now
 store_named (task.Table file ring) why = file.now
+store_named (task.Show file what) why = file.now
 store_named (task.Nodes file ring account container object names) why = file.now
 store_named (task.Export file ring version written) why = file.now
 store_named (task.Renew file fresh) why = named_of_two fresh.now (Some file.now) why
@@ -70,6 +72,7 @@ input_named _ why = codes "standard input"
 -- the file of which a fault tells, if it tells of one
 abbrev pub file_told : Task → ProgramFault → Option (List ℕ)
 file_told t fault.NoRing = Some (store_named t fault.NoRing)
+file_told t fault.TooFewDevices = Some (store_named t fault.TooFewDevices)
 file_told t fault.NotAssigned = Some (store_named t fault.NotAssigned)
 file_told t fault.NoVersion = Some (store_named t fault.NoVersion)
 file_told t fault.StoreFault = Some (store_named t fault.StoreFault)

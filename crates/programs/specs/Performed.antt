@@ -39,7 +39,7 @@ use Rattle.ring_book.specs.Book.{Keeping}
 -- this, before and after.
 module _ {K W : Type 0} (stores : Keeping K) (Begins : K → Type 0) (Ends : K → Closing → Type 0)
     (contents : W → Option (List ℕ)) (writer later : CountedWriter W) where
-  -- What is asked for was shown of the rings in a store, which was closed.
+  -- What is asked for was shown of a store, which was closed.
   abbrev pub ShowsStore : List ℕ → List ℕ → (Question → Type 0) → Type 0
   ShowsStore prefix suffix Asks = (question : Question) × Asks question
       × ShowsRead stores Begins (IsClosedWhole stores Ends) contents writer later prefix suffix question
@@ -129,6 +129,10 @@ module _ {M K R W : Type 0} (memory : Keeping M) (stores : Keeping K)
           × ShowsStore stores (Begins file.now) Ends contents writer later [] []
           (AsksShown (task.Table file ring))
           × OpensOne before after
+      EndsSo (task.Show file what) Done = (late_reader ≡ reader)
+          × ShowsStore stores (Begins file.now) Ends contents writer later [] []
+          (AsksShown (task.Show file what))
+          × OpensOne before after
       EndsSo (task.Export file ring version written) Done = (late_reader ≡ reader)
           × ShowsStore stores (Begins file.now) Ends contents writer later [] []
           (AsksShown (task.Export file ring version written))
@@ -174,6 +178,10 @@ module _ {M K R W : Type 0} (memory : Keeping M) (stores : Keeping K)
       FailsToDo (task.Table file ring) why = (late_reader ≡ reader)
           × FailsToShowStore stores (Begins file.now) Ends contents writer later (Refuses file.now) [] []
           (AsksShown (task.Table file ring)) why
+          × OpensOne before after
+      FailsToDo (task.Show file what) why = (late_reader ≡ reader)
+          × FailsToShowStore stores (Begins file.now) Ends contents writer later (Refuses file.now) [] []
+          (AsksShown (task.Show file what)) why
           × OpensOne before after
       FailsToDo (task.Export file ring version written) why = (late_reader ≡ reader)
           × FailsToShowStore stores (Begins file.now) Ends contents writer later (Refuses file.now) [] []

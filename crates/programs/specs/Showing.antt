@@ -1,5 +1,6 @@
--- What the programs `table`, `nodes` and `export` show.
-use Rattle.std.specs.Prelude.{◌≡◌, ◌≢◌, ◌⊎◌, ⊤, ℕ, List, [], ◌∷◌, ◌++◌, Option, true}
+-- What the programs `table`, `show`, `preview`, `moves`, `nodes` and `export` show.
+use Rattle.std.specs.Prelude.{◌≡◌, ◌≢◌, ◌⊎◌, ⊤, ℕ, Bool, List, [], ◌∷◌, ◌++◌, Option, true}
+use Rattle.std.specs.Prelude.{if◌then◌else◌, unwrap_or}
 use Rattle.ring_words.specs.Limits.{greatest_long}
 use Rattle.std.specs.Borrow.{Bor}
 use Rattle.std.specs.Option.{option_map}
@@ -7,15 +8,20 @@ use Rattle.std.specs.Io.KnownBytes.{Appends}
 use Rattle.byte_streams.specs.Counted.{IsFlushed, one_more, write_faults, writer_of}
 use Rattle.byte_streams.specs.Writing.{WritesBeginning}
 use Rattle.byte_streams.specs.declared.counted.CountedWriter.{CountedWriter}
-use Rattle.builder.specs.Step.{State}
 use Rattle.path_lookup.specs.Names.{PathNames, is_path, names_of}
 use Rattle.ring_reads.specs.declared.reads.Format.{Format}
 use Rattle.ring_reads.specs.declared.reads.Hidden.{Hidden}
 use Rattle.ring_reads.specs.declared.reads.Hidden.TheVariants as hidden
 use Rattle.ring_reads.specs.declared.reads.Question.{Question}
+use Rattle.ring_reads.specs.declared.reads.Question.TheVariants as asking
 use Rattle.ring_reads.specs.declared.reads.Read.{Read}
-use Rattle.ring_reads.specs.declared.reads.Read.TheVariants.{Tables, Nodes, Published}
-use Rattle.ring_reads.specs.Reads.{Hides, Shows}
+use Rattle.ring_reads.specs.declared.plain.Plain.TheVariants.{Ring}
+use Rattle.ring_reads.specs.declared.reads.Read.TheVariants.{Plain, Tables, Nodes, Published}
+use Rattle.ring_reads.specs.declared.reads.Read.TheVariants.{EachMove, Moves, Preview}
+use Rattle.ring_reads.specs.Holding.{Holding}
+use Rattle.ring_reads.specs.Reads.{Hides, Shows, written_as}
+use Rattle.command_line.specs.declared.task.Shown.{Shown}
+use Rattle.command_line.specs.declared.task.Shown.TheVariants as shown
 use Rattle.command_line.specs.declared.task.Task.{Task}
 use Rattle.command_line.specs.declared.task.Task.TheVariants as task
 use Rattle.ring_words.specs.Spelling.{SpellsName, SpellsNumber}
@@ -26,7 +32,7 @@ use Rattle.programs.specs.Begun.{WasClosed, WasClosedAfter}
 use Rattle.programs.specs.Faults.{keep_fault}
 use Rattle.programs.specs.declared.faults.ProgramFault.{ProgramFault}
 use Rattle.programs.specs.declared.faults.ProgramFault.TheVariants as fault
-use Rattle.ring_book.specs.Book.{Keeping}
+use Rattle.ring_book.specs.Book.{Keeping, holding}
 
 -- ---- what is asked
 
@@ -35,28 +41,60 @@ abbrev pub names_given : Bor (List ℕ) → Option (Bor (List ℕ)) → Option (
 names_given account container object = names_of account.now (option_map (λ t. t.now) container)
     (option_map (λ t. t.now) object)
 
+-- The question is for such a read of the ring whose name a word spells.
+abbrev pub AsksOfRing : List ℕ → (Read → Type 0) → Question → Type 0
+AsksOfRing word Is asking.Rings = ⊥
+AsksOfRing word Is asking.Status = ⊥
+AsksOfRing word Is (asking.Ring name what) = SpellsName is_label word name × Is what
+
 -- What `table` asks of the ring of this name.
-pub record AsksTables (name : List ℕ) (question : Question) : Type 0 where
-  pub ring : SpellsName is_label name question.ring
-  pub read : question.read ≡ Tables
+abbrev pub AsksTables : List ℕ → Question → Type 0
+AsksTables name question = AsksOfRing name (λ what. what ≡ Tables) question
+
+-- What `show` asks of the ring of this name.
+abbrev pub AsksRing : List ℕ → Question → Type 0
+AsksRing name question = AsksOfRing name (λ what. what ≡ Plain Ring) question
+
+-- What `preview` asks of the ring of this name: with this seed, and at this hour or, where none is
+-- given, at that of 0, so that the greatest hour counts.
+abbrev pub AsksPreview : List ℕ → ℕ → Option ℕ → Question → Type 0
+AsksPreview name seed hour question =
+    AsksOfRing name (λ what. what ≡ Preview seed (unwrap_or hour 0)) question
+
+-- what is read of what moved between two versions: each seat, or else all in one
+abbrev pub moves_read : ℕ → ℕ → Bool → Read
+moves_read from to each = if each then EachMove from to else Moves from to
+
+-- What `moves` asks of the ring of this name, between the versions that two words spell.
+abbrev pub AsksMoves : List ℕ → List ℕ → List ℕ → Bool → Question → Type 0
+AsksMoves name one other each question = AsksOfRing name (λ what. (from : ℕ)
+    × SpellsNumber one 0 greatest_long from × ((to : ℕ) × SpellsNumber other 0 greatest_long to
+    × (what ≡ moves_read from to each))) question
+
+-- What `show` asks: for the rings, for the status, or for a ring; and what `preview` and `moves`
+-- ask.
+abbrev pub AsksToShow : Shown → Question → Type 0
+AsksToShow shown.Rings question = question ≡ asking.Rings
+AsksToShow shown.Status question = question ≡ asking.Status
+AsksToShow (shown.Ring name) question = AsksRing name.now question
+AsksToShow (shown.Preview ring seed hour) question = AsksPreview ring.now seed hour question
+AsksToShow (shown.Moves ring from to each) question =
+    AsksMoves ring.now from.now to.now each question
 
 -- What `export` asks of the ring of this name, in a format.
-pub record AsksPublished (name word : List ℕ) (written : Format) (question : Question) : Type 0
-  where
-    pub ring : SpellsName is_label name question.ring
-    pub number : ℕ
-    pub version : SpellsNumber word 0 greatest_long number
-    pub read : question.read ≡ Published number written
+abbrev pub AsksPublished : List ℕ → List ℕ → Format → Question → Type 0
+AsksPublished name word written question = AsksOfRing name (λ what. (number : ℕ)
+    × SpellsNumber word 0 greatest_long number × (what ≡ Published number written)) question
 
 -- What `nodes` asks of the ring of this name.
-pub record AsksNodes (name : List ℕ) (path : PathNames) (question : Question) : Type 0 where
-  pub ring : SpellsName is_label name question.ring
-  pub is_one : is_path path ≡ true
-  pub read : question.read ≡ Nodes path
+abbrev pub AsksNodes : List ℕ → PathNames → Question → Type 0
+AsksNodes name path question =
+    AsksOfRing name (λ what. (is_path path ≡ true) × (what ≡ Nodes path)) question
 
 -- The task is to show this.
 abbrev pub AsksShown : Task → Question → Type 0
 AsksShown (task.Table file ring) question = AsksTables ring.now question
+AsksShown (task.Show file what) question = AsksToShow what question
 AsksShown (task.Export file ring version written) question = AsksPublished ring.now version.now
     written question
 AsksShown (task.Nodes file ring account container object names) question =
@@ -71,6 +109,15 @@ IsNoName word = (name : List ℕ) → SpellsName is_label word name → ⊥
 abbrev pub IsNoNumber : List ℕ → Type 0
 IsNoNumber word = (number : ℕ) → SpellsNumber word 0 greatest_long number → ⊥
 
+-- The ring that is to be shown has no name that is spelt so, or a version is no number.
+abbrev pub HasNoName : Shown → Type 0
+HasNoName shown.Rings = ⊥
+HasNoName shown.Status = ⊥
+HasNoName (shown.Ring name) = IsNoName name.now
+HasNoName (shown.Preview ring seed hour) = IsNoName ring.now
+HasNoName (shown.Moves ring from to each) = IsNoName ring.now ⊎ IsNoNumber from.now
+    ⊎ IsNoNumber to.now
+
 -- The fault tells a word that isn't of its form or, where all words are of theirs, names that make
 -- no path. Want of memory says nothing.
 abbrev pub IsFormFault : Type 0 → Type 0 → ProgramFault → Type 0
@@ -82,6 +129,7 @@ IsFormFault malformed pathless _ = ⊥
 -- A name or a number of the task isn't of its form.
 abbrev pub HasBadWord : Task → Type 0
 HasBadWord (task.Table file ring) = IsNoName ring.now
+HasBadWord (task.Show file what) = HasNoName what
 HasBadWord (task.Export file ring version written) = IsNoName ring.now ⊎ IsNoNumber version.now
 HasBadWord (task.Nodes file ring account container object names) = IsNoName ring.now
 HasBadWord (task.Import file ring caller number csv hour) = IsNoName ring.now ⊎ IsNoName caller.now
@@ -96,47 +144,44 @@ IsPathless _ = ⊥
 
 -- ---- what is shown
 
--- what is written of a read that shows these bytes: the nodes of a path as a line, all else as it is
-abbrev pub written_as : Read → List ℕ → List ℕ
-written_as (Nodes path) bytes = bytes ++ 10 ∷ []
-written_as _ bytes = bytes
-
 -- the fault that tells why nothing is shown
 abbrev pub hidden_fault : Hidden → ProgramFault
 hidden_fault hidden.NoRing = fault.NoRing
 hidden_fault hidden.NotAssigned = fault.NotAssigned
 hidden_fault hidden.NoVersion = fault.NoVersion
 hidden_fault hidden.BadText = fault.BadStore
+hidden_fault hidden.TooFewDevices = fault.TooFewDevices
 hidden_fault hidden.NoMemory = fault.NoMemory
 
--- The text is what is written of what these rings show of a question at an hour. Paths are hashed
+-- The text is what is written of what is shown of a question where this is held. Paths are hashed
 -- between a prefix and a suffix.
-abbrev pub ShowsAs : List ℕ → List ℕ → Question → List ℕ → State → ℕ → Type 0
-ShowsAs prefix suffix question text rings hour = (bytes : List ℕ)
-    × Shows prefix suffix rings hour question bytes
-    × (text ≡ written_as question.read bytes)
+abbrev pub ShowsAs : List ℕ → List ℕ → Question → List ℕ → Holding → Type 0
+ShowsAs prefix suffix question text held = (bytes : List ℕ)
+    × Shows prefix suffix held question bytes
+    × (text ≡ written_as question bytes)
 
--- The fault tells why these rings show nothing of a question.
-abbrev pub HidesAs : Question → ProgramFault → State → Type 0
-HidesAs question why rings = (cause : Hidden) × Hides rings question cause
+-- The fault tells why nothing is shown of a question where this is held.
+abbrev pub HidesAs : Question → ProgramFault → Holding → Type 0
+HidesAs question why held = (cause : Hidden) × Hides held question cause
     × (why ≡ hidden_fault cause)
 
 -- ---- what the programs do
 
 module _ {K : Type 0} (g : Keeping K) (Begins Ends : K → Type 0) where
-  -- A keeper that begins so is asked, keeps its content, and is left so.
-  pub record IsAsked (Tells : State → ℕ → Type 0) : Type 0 where
+  -- A keeper that begins so is asked at an hour of the clock, keeps its content, and is left so.
+  pub record IsAsked (Tells : Holding → Type 0) : Type 0 where
     pub keeper : K
     pub later : K
+    pub clock : ℕ
     pub opened : Begins keeper
     pub left : Ends later
     pub stays_sound : g.sound later → g.sound keeper
     pub stays : g.sound later → g.content later ≡ g.content keeper
-    pub tells : g.sound later → Tells (g.content keeper).state (g.content keeper).hour
+    pub tells : g.sound later → Tells (holding g clock keeper)
 
   module _ {W : Type 0} (contents : W → Option (List ℕ)) (writer later : CountedWriter W)
       (prefix suffix : List ℕ) where
-    -- What its rings show of a question was written and flushed.
+    -- What is shown of it of a question was written and flushed.
     abbrev pub ShowsRead : Question → Type 0
     ShowsRead question = (text : List ℕ) × IsAsked (ShowsAs prefix suffix question text)
         × Appends (contents (writer_of writer)) (contents (writer_of later)) text
@@ -144,20 +189,20 @@ module _ {K : Type 0} (g : Keeping K) (Begins Ends : K → Type 0) where
 
 -- Keepers of stores are these, begin so, and end so with what closing them answers.
 module _ {K : Type 0} (g : Keeping K) (Begins : K → Type 0) (Ends : K → Closing → Type 0) where
-  -- The store was asked and not shown, and keeps its content: its keeper failed so; or what its
-  -- rings show was read, and closing it failed so; or they don't show it, for that fault.
+  -- The store was asked and not shown, and keeps its content: its keeper failed so; or what is shown
+  -- of it was read, and closing it failed so; or nothing is shown, for that fault.
   abbrev pub ShowsNothing : List ℕ → List ℕ → Question → ProgramFault → Type 0
   ShowsNothing prefix suffix question why = ((cause : KeepFault) × (why ≡ keep_fault cause)
-      × IsAsked g Begins (WasClosedAfter g Ends cause) (λ rings hour. ⊤))
+      × IsAsked g Begins (WasClosedAfter g Ends cause) (λ held. ⊤))
       ⊎ (IsCloseFault why × ((text : List ℕ)
       × IsAsked g Begins (FailedToClose Ends why) (ShowsAs prefix suffix question text)))
-      ⊎ IsAsked g Begins (WasClosed Ends) (λ rings hour. HidesAs question why rings)
+      ⊎ IsAsked g Begins (WasClosed Ends) (λ held. HidesAs question why held)
 
   module _ {W : Type 0} (contents : W → Option (List ℕ)) (writer later : CountedWriter W)
       (prefix suffix : List ℕ) where
     -- This fault came of it: the store wasn't opened, for that fault; or it was asked and not shown.
     -- Then the writer wasn't touched. Or the store was closed well, and the writer failed and took a
-    -- beginning of what its rings show.
+    -- beginning of what is shown of it.
     abbrev pub FailsToShow : (ProgramFault → Type 0) → Question → ProgramFault → Type 0
     FailsToShow Refuses question why =
         (Refuses why × IsStoreFault why × (later ≡ writer))

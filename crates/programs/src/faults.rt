@@ -20,6 +20,8 @@ pub enum ProgramFault {
     RingExists,
     /// More rings are to be in a store than there may be.
     TooManyRings,
+    /// Fewer devices of the ring are open than each partition has replicas.
+    TooFewDevices,
     /// No seat of the ring is taken.
     NotAssigned,
     /// A name or a number among the words isn't of its form.
@@ -133,6 +135,7 @@ fn fault_line(fault: ProgramFault) -> &'static str
         ProgramFault::NoRing => "ringd: NoRing 1\n",
         ProgramFault::RingExists => "ringd: RingExists 2\n",
         ProgramFault::TooManyRings => "ringd: TooManyRings 3\n",
+        ProgramFault::TooFewDevices => "ringd: TooFewDevices 9\n",
         ProgramFault::NotAssigned => "ringd: NotAssigned 10\n",
         ProgramFault::Unreadable => "ringd: Unreadable 20\n",
         ProgramFault::NoMemory => "ringd: NoMemory 23\n",

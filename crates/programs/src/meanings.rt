@@ -19,6 +19,9 @@ const RING_EXISTS: &str =
 const TOO_MANY_RINGS: &str =
     "a file holds 16 rings at most: found some of them in a file of their own\n";
 
+const TOO_FEW_DEVICES: &str =
+    "fewer of the ring's devices take seats than a partition has replicas: add devices, or give some a weight above 0\n";
+
 const NOT_ASSIGNED: &str =
     "the ring was never rebalanced, so no device holds any of it: rebalance it first\n";
 
@@ -67,6 +70,7 @@ fn meaning_of(fault: ProgramFault) -> &'static str
         ProgramFault::NoRing => NO_RING,
         ProgramFault::RingExists => RING_EXISTS,
         ProgramFault::TooManyRings => TOO_MANY_RINGS,
+        ProgramFault::TooFewDevices => TOO_FEW_DEVICES,
         ProgramFault::NotAssigned => NOT_ASSIGNED,
         ProgramFault::Unreadable => UNREADABLE,
         ProgramFault::NoMemory => NO_MEMORY,
@@ -106,6 +110,7 @@ fn store_named<'a>(task: &Task<'a>, fault: ProgramFault) -> &'a str
         | Task::Loop { file, .. }
         | Task::Import { file, .. }
         | Task::Table { file, .. }
+        | Task::Show { file, .. }
         | Task::Nodes { file, .. }
         | Task::Export { file, .. } => *file,
         Task::Run { file: Some(file) } => *file,
@@ -148,6 +153,7 @@ fn file_told<'a>(task: &Task<'a>, fault: ProgramFault) -> Option<&'a str>
 {
     match fault {
         ProgramFault::NoRing
+        | ProgramFault::TooFewDevices
         | ProgramFault::NotAssigned
         | ProgramFault::NoVersion
         | ProgramFault::StoreFault

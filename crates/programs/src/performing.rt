@@ -23,7 +23,7 @@ use crate::meanings::tell_meaning;
 use crate::renewing::renew_store;
 use crate::service::{ServiceAsk, is_lasting, serve_programs};
 use crate::serving::{loop_file, serve_store};
-use crate::showing::{ask_nodes, ask_published, ask_tables, show};
+use crate::showing::{ask_nodes, ask_published, ask_shown, ask_tables, show};
 use crate::stores::Stores;
 use crate::version::tell_version;
 use builder::RingMachine;
@@ -130,6 +130,10 @@ fn show_task<S: Stores, W: Write>(
                 stores,
             )
         }
+        Task::Show { file, what } => {
+            let asked = ask_shown(alloc, *what);
+            show_asked(rt, *file, asked, NO_NAMES, writer, stores)
+        }
         Task::Nodes {
             file,
             ring,
@@ -227,7 +231,7 @@ fn perform_task<S: Stores, R: Read, W: Write>(
             loop_file(rt, *file, *input, *hour, *names, writer, stores)?;
             Ok(Ending::Done)
         }
-        Task::Table { .. } | Task::Nodes { .. } | Task::Export { .. } => {
+        Task::Table { .. } | Task::Show { .. } | Task::Nodes { .. } | Task::Export { .. } => {
             show_task(rt, task, writer, stores)
         }
         Task::Renew { file, new } => {

@@ -66,10 +66,9 @@ fn figures_of<K: Keeper<RingMachine>>(keeper: &mut K) -> Result<Figures, KeepFau
         (K.content keeper.old) }
 {
     let hour = keeper.hour()?;
-    let numbers = keeper.count()?;
     keeper.load()?;
     Ok(Figures {
-        numbers,
+        numbers: keeper.count(),
         rings: keeper.state().list().len(),
         hour,
     })

@@ -1,26 +1,32 @@
-//! The programs `table`, `nodes` and `export`: what a store's rings show.
+//! The programs `table`, `show`, `preview`, `moves`, `nodes` and `export`: what is shown of a
+//! store.
 ghost use Rattle.std.specs.Prelude.{◌≡◌, ◌≢◌, ◌⊎◌, ◌++◌, ◌∷◌, [], ⊤, IfErr, IfOk, OnOk, true};
 ghost use Rattle.path_lookup.specs.Names.{is_path};
 ghost use Rattle.request_book.specs.declared.keeper.KeepFault.{KeepFault};
 ghost use Rattle.programs.specs.Begun.{HasFailedBy, HasNotFailed, IsClosedWhole, IsStoreFault};
 ghost use Rattle.programs.specs.Begun.{OpensOne};
 ghost use Rattle.programs.specs.Faults.{keep_fault};
-ghost use Rattle.programs.specs.Showing.{AsksNodes, AsksPublished, AsksTables, FailsToShow};
-ghost use Rattle.programs.specs.Showing.{HidesAs, ShowsNothing};
+ghost use Rattle.programs.specs.Showing.{AsksMoves, AsksNodes, AsksPreview, AsksPublished};
+ghost use Rattle.programs.specs.Showing.{AsksRing};
+ghost use Rattle.programs.specs.Showing.{AsksTables};
+ghost use Rattle.programs.specs.Showing.{AsksToShow, FailsToShow, HasNoName, HidesAs, ShowsNothing};
 ghost use Rattle.programs.specs.Showing.{IsAsked, IsFormFault, IsNoName, IsNoNumber, ShowsAs};
 ghost use Rattle.programs.specs.Showing.{ShowsRead};
-ghost use Rattle.programs.specs.Showing.{hidden_fault, names_given};
+ghost use Rattle.programs.specs.Showing.{hidden_fault, moves_read, names_given};
 ghost use Rattle.programs.specs.Left.{Closes, RefusesToOpen};
+ghost use Rattle.ring_book.specs.Book.{holding};
+ghost use Rattle.ring_reads.specs.Holding.{holding_of};
 
 use crate::dropping::{close_store, open_store};
 use crate::faults::ProgramFault;
+use crate::hours::hour_of;
 use crate::stores::Stores;
 use builder::RingMachine;
 use byte_streams::{CountedWriter, write_text};
+use command_line::Shown;
 use path_lookup::{HashNames, Path, PathFault};
 use request_book::Keeper;
-use ring_model::Rings;
-use ring_reads::{Format, Hidden, Question, Read, show as show_rings};
+use ring_reads::{Format, Held, Hidden, Plain, Question, Read, show as show_held};
 use ring_words::{Hour, read_name, read_number};
 use std::alloc::{AllocError, Global};
 use std::io::Write;
@@ -30,10 +36,78 @@ pub(crate) fn ask_tables(alloc: Global, ring: &str) -> Result<Question, ProgramF
     ensures asked { IfOk result (AsksTables ring.now) }
     ensures fault { IfErr result (IsFormFault (IsNoName ring.now) ⊥) }
 {
-    Ok(Question {
-        ring: read_name(alloc, ring)?,
-        read: Read::Tables,
-    })
+    Ok(Question::Ring(read_name(alloc, ring)?, Read::Tables))
+}
+
+/// What `show` shows of a ring.
+fn ask_ring(alloc: Global, ring: &str) -> Result<Question, ProgramFault>
+    ensures asked { IfOk result (AsksRing ring.now) }
+    ensures fault { IfErr result (IsFormFault (IsNoName ring.now) ⊥) }
+{
+    let whole = Read::Plain(Plain::Ring);
+    Ok(Question::Ring(read_name(alloc, ring)?, whole))
+}
+
+/// What `preview` shows of a ring.
+fn ask_preview(
+    alloc: Global,
+    ring: &str,
+    seed: u32,
+    hour: Option<Hour>,
+) -> Result<Question, ProgramFault>
+    ensures asked { IfOk result (AsksPreview ring.now seed hour) }
+    ensures fault { IfErr result (IsFormFault (IsNoName ring.now) ⊥) }
+{
+    let preview = Read::Preview(seed, hour.unwrap_or(0));
+    Ok(Question::Ring(read_name(alloc, ring)?, preview))
+}
+
+/// What is read of what moved between two versions: each seat, or else all in one.
+fn moves_read(from: u32, to: u32, each: bool) -> Read
+    ensures { result ≡ moves_read from to each }
+{
+    if each {
+        Read::EachMove(from, to)
+    } else {
+        Read::Moves(from, to)
+    }
+}
+
+/// What `moves` shows of a ring.
+fn ask_moves(
+    alloc: Global,
+    ring: &str,
+    from: &str,
+    to: &str,
+    each: bool,
+) -> Result<Question, ProgramFault>
+    ensures asked { IfOk result (AsksMoves ring.now from.now to.now each) }
+    ensures fault { IfErr result (IsFormFault (IsNoName ring.now ⊎ IsNoNumber from.now
+        ⊎ IsNoNumber to.now) ⊥) }
+{
+    let ring = read_name(alloc, ring)?;
+    let from = read_number(from, u32::MAX)?;
+    let to = read_number(to, u32::MAX)?;
+    Ok(Question::Ring(ring, moves_read(from, to, each)))
+}
+
+/// What `show`, `preview` and `moves` show.
+pub(crate) fn ask_shown(alloc: Global, what: Shown<'_>) -> Result<Question, ProgramFault>
+    ensures asked { IfOk result (AsksToShow what.entry) }
+    ensures fault { IfErr result (IsFormFault (HasNoName what.entry) ⊥) }
+{
+    match what {
+        Shown::Rings => Ok(Question::Rings),
+        Shown::Status => Ok(Question::Status),
+        Shown::Ring(ring) => ask_ring(alloc, ring),
+        Shown::Preview { ring, seed, hour } => ask_preview(alloc, ring, seed, hour),
+        Shown::Moves {
+            ring,
+            from,
+            to,
+            each,
+        } => ask_moves(alloc, ring, from, to, each),
+    }
 }
 
 /// What `export` shows.
@@ -48,10 +122,7 @@ pub(crate) fn ask_published(
 {
     let ring = read_name(alloc, ring)?;
     let version = read_number(version, u32::MAX)?;
-    Ok(Question {
-        ring,
-        read: Read::Published(version, format),
-    })
+    Ok(Question::Ring(ring, Read::Published(version, format)))
 }
 
 /// The path of names that words give.
@@ -91,10 +162,7 @@ pub(crate) fn ask_nodes(
 {
     let name = read_name(alloc, ring)?;
     let path = path_given(alloc, account, container, object)?;
-    Ok(Question {
-        ring: name,
-        read: Read::Nodes(path),
-    })
+    Ok(Question::Ring(name, Read::Nodes(path)))
 }
 
 impl From<Hidden> for ProgramFault {
@@ -106,6 +174,7 @@ impl From<Hidden> for ProgramFault {
             Hidden::NotAssigned => ProgramFault::NotAssigned,
             Hidden::NoVersion => ProgramFault::NoVersion,
             Hidden::BadText => ProgramFault::BadStore,
+            Hidden::TooFewDevices => ProgramFault::TooFewDevices,
             Hidden::NoMemory => ProgramFault::NoMemory,
         }
     }
@@ -119,53 +188,70 @@ fn end_line(bytes: &mut Vec<u8>) -> Result<(), AllocError>
     Ok(())
 }
 
-/// What is shown of these rings at an hour, as a program writes it: the nodes of a path end with a
-/// line feed.
+/// What is shown where this is held, as a program writes it: JSON ends with a line feed.
 fn shown_bytes(
     alloc: Global,
-    rings: &Rings,
-    hour: Hour,
     names: HashNames<'_>,
+    held: &Held<'_>,
     question: &Question,
 ) -> Result<Vec<u8>, ProgramFault>
-    ensures shown { IfOk result (λ bytes. ShowsAs names.entry.prefix.now names.entry.suffix.now question.now bytes.items rings.now
-        hour) }
-    ensures fault { IfErr result (λ why. HidesAs question.now why rings.now) }
+    ensures shown { IfOk result (λ bytes. ShowsAs names.entry.prefix.now names.entry.suffix.now
+        question.now bytes.items (holding_of held.now)) }
+    ensures fault { IfErr result (λ why. HidesAs question.now why (holding_of held.now)) }
 {
-    let mut bytes = show_rings(alloc, hour, names, rings, question)?;
-    if let Read::Nodes(_) = question.read {
+    let mut bytes = show_held(alloc, names, held, question)?;
+    if question.is_json() {
         end_line(&mut bytes)?;
     }
     Ok(bytes)
 }
 
-/// What is shown of the rings that a keeper holds.
+/// What a keeper holds that was made ready to be read, and whose greatest hour is this, at the hour of
+/// the clock.
+fn held_by<K: Keeper<RingMachine>>(keeper: &K, hour: Hour, clock: Hour) -> Held<'_>
+    requires loaded { K.is_loaded keeper.now }
+    requires faults { K.fault_count keeper.now ≡ 0 }
+    ensures { K.sound keeper.now → hour ≡ (K.content keeper.now).hour →
+        holding_of result ≡ holding K.Keeper clock keeper.now }
+{
+    Held {
+        rings: keeper.state(),
+        hour,
+        clock,
+        kept: keeper.count(),
+        limit: keeper.most(),
+    }
+}
+
+/// What is shown of what a keeper holds, at the hour of the clock.
 fn kept_bytes<K: Keeper<RingMachine>>(
     alloc: Global,
     keeper: &mut K,
+    clock: Hour,
     names: HashNames<'_>,
     question: &Question,
 ) -> Result<Vec<u8>, ProgramFault>
     requires { K.fault_count keeper.old ≡ 0 }
     ensures shown { IfOk result (λ bytes. K.sound keeper.new
-        → ShowsAs names.entry.prefix.now names.entry.suffix.now question.now bytes.items (K.content keeper.old).state
-        (K.content keeper.old).hour) }
+        → ShowsAs names.entry.prefix.now names.entry.suffix.now question.now bytes.items
+        (holding K.Keeper clock keeper.old)) }
     ensures fault { IfErr result (λ why. ((cause : KeepFault) × (why ≡ keep_fault cause)
         × HasFailedBy K.Keeper cause keeper.new)
-        ⊎ (K.sound keeper.new → HidesAs question.now why (K.content keeper.old).state)) }
+        ⊎ (K.sound keeper.new → HidesAs question.now why (holding K.Keeper clock keeper.old))) }
     ensures whole { OnOk result (HasNotFailed K.Keeper keeper.new) }
     ensures sound { K.sound keeper.new → K.sound keeper.old }
     ensures content { K.sound keeper.new → K.content keeper.new ≡ K.content keeper.old }
 {
     let hour = keeper.hour()?;
     keeper.load()?;
-    shown_bytes(alloc, keeper.state(), hour, names, question)
+    shown_bytes(alloc, names, &held_by(&*keeper, hour, clock), question)
 }
 
-/// What is shown of the rings that a keeper holds, and the keeper as it is then.
+/// What is shown of what a keeper holds at the hour of the clock, and the keeper as it is then.
 fn told_bytes<K: Keeper<RingMachine>>(
     alloc: Global,
     keeper: K,
+    clock: Hour,
     names: HashNames<'_>,
     question: &Question,
 ) -> (Result<Vec<u8>, ProgramFault>, K)
@@ -174,16 +260,16 @@ fn told_bytes<K: Keeper<RingMachine>>(
         (ShowsAs names.entry.prefix.now names.entry.suffix.now question.now bytes.items)) }
     ensures fault { let Asked = IsAsked K.Keeper (λ k. k ≡ keeper) (λ k. k ≡ result.1) in
         IfErr result.0 (λ why. ((cause : KeepFault) × (why ≡ keep_fault cause)
-        × HasFailedBy K.Keeper cause result.1 × Asked (λ rings hour. ⊤))
-        ⊎ Asked (λ rings hour. HidesAs question.now why rings)) }
+        × HasFailedBy K.Keeper cause result.1 × Asked (λ held. ⊤))
+        ⊎ Asked (λ held. HidesAs question.now why held)) }
     ensures whole { OnOk result.0 (HasNotFailed K.Keeper result.1) }
 {
     let mut keeper = keeper;
-    let bytes = kept_bytes(alloc, &mut keeper, names, question);
+    let bytes = kept_bytes(alloc, &mut keeper, clock, names, question);
     (bytes, keeper)
 }
 
-/// What is shown of the rings in a store, which is closed then.
+/// What is shown of a store, at the hour of the machine. The store is closed then.
 fn store_bytes<S: Stores>(
     rt: &HostRuntime,
     file: &str,
@@ -200,7 +286,7 @@ fn store_bytes<S: Stores>(
         names.entry.suffix.now question.now why) }
 {
     let keeper = open_store(rt, file, stores)?;
-    let (bytes, keeper) = told_bytes(rt.alloc(), keeper, names, question);
+    let (bytes, keeper) = told_bytes(rt.alloc(), keeper, hour_of(rt, None), names, question);
     let closed = close_store::<S>(keeper);
     let bytes = bytes?;
     closed?;

@@ -41,14 +41,6 @@ module _ {M S C R K : Type 0} (step : M → S → ℕ → C → R → S → Type
       CallsMade start mid calls → CallMade mid new asked →
       CallsMade start new (calls ++ option_to_list asked)
 
-  -- the state that a call finds where one book becomes the other: the one that the first holds
-  abbrev pub Finds : Parts M K → Parts M K → S → Type 0
-  Finds old new state = sound new.keeper → state ≡ (content old.keeper).state
-
-  -- the hour that the call finds then: the greatest that the first has decided at
-  abbrev pub FindsHour : Parts M K → Parts M K → ℕ → Type 0
-  FindsHour old new hour = sound new.keeper → hour ≡ (content old.keeper).hour
-
   -- A front has a book, and says which text an item gets where this is the call that it leads to,
   -- if any.
   module _ {F I : Type 0} (book_of : F → Parts M K) (Gets : F → I → Option (Call C R) → List ℕ → F →

@@ -251,6 +251,21 @@ impl<M: Machine, K: Keeper<M>> Book<M, K> {
     {
         self.keeper.state()
     }
+
+    /// How many requests it has decided, each with its reply. It touches nothing.
+    pub fn count(&self) -> usize
+        requires { K.fault_count self.now.keeper ≡ 0 }
+        ensures { K.sound self.now.keeper → result ≡ length (K.content self.now.keeper).book }
+    {
+        self.keeper.count()
+    }
+
+    /// How many requests it decides at most. It touches nothing.
+    pub fn most(&self) -> u32
+        ensures { result ≡ K.limit self.now.keeper }
+    {
+        self.keeper.most()
+    }
 }
 
 impl<M: Machine + Drop, K: Keeper<M>> Book<M, K> {

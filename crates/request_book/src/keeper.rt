@@ -89,16 +89,14 @@ pub trait Keeper<M: Machine> {
         ensures limit { limit self.new ≡ limit self.old }
         ensures cause { HasCause (fault_count self.old) (fault_count self.new) result };
 
-    /// How many requests the book has. The content stays.
-    fn count(&mut self) -> Result<usize, KeepFault>
-        requires { fault_count self.old ≡ 0 }
-        ensures count { sound self.new → IfOk result (λ count. count ≡
-            length (content self.old).book) }
-        ensures content { sound self.new → content self.new ≡ content self.old }
-        ensures left { sound self.new → LeavesOnly (may_leave self.new) (content self.old) }
-        ensures sound { sound self.new → sound self.old }
-        ensures limit { limit self.new ≡ limit self.old }
-        ensures cause { HasCause (fault_count self.old) (fault_count self.new) result };
+    /// How many requests the book has.
+    fn count(&self) -> usize
+        requires { fault_count self.now ≡ 0 }
+        ensures { sound self.now → result ≡ length (content self.now).book };
+
+    /// How many requests it keeps at most.
+    fn most(&self) -> u32
+        ensures { result ≡ limit self.now };
 
     /// The greatest hour. The content stays.
     fn hour(&mut self) -> Result<Hour, KeepFault>

@@ -79,8 +79,12 @@ impl<M: Machine> Keeper<M> for MemKeeper<M::State, M::Command, M::Reply> {
         Ok(self.entries.len() >= self.limit as usize)
     }
 
-    fn count(&mut self) -> Result<usize, KeepFault> {
-        Ok(self.entries.len())
+    fn count(&self) -> usize {
+        self.entries.len()
+    }
+
+    fn most(&self) -> u32 {
+        self.limit
     }
 
     fn hour(&mut self) -> Result<Hour, KeepFault> {

@@ -92,6 +92,14 @@ fn has_count<K: Keeper<Counter>>(book: &mut Book<Counter, K>, count: u32) -> boo
     }
 }
 
+/// Whether a book keeps so many requests, of at most so many.
+fn keeps<K: Keeper<Counter>>(book: &mut Book<Counter, K>, count: usize, most: u32) -> bool {
+    match book.load() {
+        Ok(_hour) => book.count() == count && book.most() == most,
+        Err(_) => false,
+    }
+}
+
 #[test]
 fn each_number_is_decided_once(rt: HostRuntime) -> Result<(), Fail> {
     let alloc = rt.alloc();
@@ -116,6 +124,7 @@ fn each_number_is_decided_once(rt: HostRuntime) -> Result<(), Fail> {
     let mut book = open(alloc, 6);
     assert_eq!(rt; other_answer(alloc, &mut book, &rows)?, None);
     assert!(rt; has_count(&mut book, 10));
+    assert!(rt; keeps(&mut book, 6, 6));
     Ok(())
 }
 

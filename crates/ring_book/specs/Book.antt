@@ -1,14 +1,15 @@
 -- What a book of rings is asked, and what each call makes of it.
-use Rattle.std.specs.Prelude.{◌≡◌, ℕ, Option, Result, Some}
-use Rattle.builder.specs.Life.{IsProperDelivery}
+use Rattle.std.specs.Prelude.{◌≡◌, ℕ, Option, Result, Some, length}
+use Rattle.builder.specs.Life.{BookContent, IsProperDelivery}
 use Rattle.builder.specs.Step.{State, Step}
 use Rattle.builder.specs.declared.machine.RingMachine.{RingMachine}
 use Rattle.request_book.specs.Book.{Parts}
 use Rattle.request_book.specs.Call.{Call, Deliver}
-use Rattle.request_book.specs.Front.{CallMade, Finds, FindsHour}
+use Rattle.request_book.specs.Front.{CallMade}
 use Rattle.request_book.specs.declared.book.Fault.{Fault}
 use Rattle.request_book.specs.declared.keeper.Keeper.{Ghosts}
 use Rattle.ring_messages.specs.declared.told.Told.{Told}
+use Rattle.ring_reads.specs.Holding.{Holding}
 use Rattle.ring_words.specs.declared.command.Command.{Command}
 use Rattle.ring_words.specs.declared.command.Reply.{Reply}
 use Rattle.ring_words.specs.declared.request.Delivery.{Delivery}
@@ -17,6 +18,16 @@ use Rattle.ring_book.specs.Told.{told_of}
 -- the steps of a builder
 abbrev pub steps_of : RingMachine → State → ℕ → Command → Reply → State → Type 0
 steps_of machine rings hour command reply after = Step machine.limits rings hour command reply after
+
+-- what a read finds where this is kept, of numbers at most so many, and the clock tells this hour
+abbrev pub holding_with : BookContent → ℕ → ℕ → Holding
+holding_with content limit clock = record {
+  rings = content.state;
+  hour = content.hour;
+  clock = clock;
+  kept = length content.book;
+  limit = limit;
+}
 
 -- what contracts see of a keeper of the builder
 abbrev pub Keeping : Type 0 → Type 1
@@ -36,12 +47,14 @@ module _ {K : Type 0} (kept : Keeping K) where
   Made old new asked = CallMade steps_of kept.content kept.sound kept.limit kept.fault_count old new
       asked
 
-  -- the rings and the hour that a call finds: those that the book holds, and the greatest that it
-  -- has decided at
-  abbrev pub Found : RingBook → RingBook → State → ℕ → Type 0
-  Found old new rings hour = Finds steps_of kept.content kept.sound kept.limit kept.fault_count old
-      new rings
-      × FindsHour steps_of kept.content kept.sound kept.limit kept.fault_count old new hour
+  -- what a read finds that a keeper holds, at this hour of the clock
+  abbrev pub holding : ℕ → K → Holding
+  holding clock keeper = holding_with (kept.content keeper) (kept.limit keeper) clock
+
+  -- Where one book becomes the other, a call finds this at this hour of the clock: what the first
+  -- holds.
+  abbrev pub Found : ℕ → RingBook → RingBook → Holding → Type 0
+  Found clock old new held = kept.sound new.keeper → held ≡ holding clock old.keeper
 
   -- A delivery gets an answer that is told so, and one book becomes the other. Its command is such as
   -- there are, and its hour has 32 bits.

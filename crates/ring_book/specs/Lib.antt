@@ -1,3 +1,4 @@
 pub mod Told
 pub mod Book
 pub mod Reads
+pub mod Foretold

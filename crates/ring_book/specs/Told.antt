@@ -23,11 +23,12 @@ abbrev pub told_of : Result Reply Fault → Told
 told_of (Ok reply) = told.Reply reply
 told_of (Err fault) = told_fault fault
 
--- What is told where nothing is shown of a ring. A published text that is that of no ring is told
--- as a fault of the store.
+-- What is told where nothing is shown. A published text that is that of no ring is told as a fault
+-- of the store.
 abbrev pub told_hidden : Hidden → Told
 told_hidden hidden.NoRing = told.Reply (reply.Refused refusal.NoRing)
 told_hidden hidden.NotAssigned = told.Reply (reply.Refused refusal.NotAssigned)
 told_hidden hidden.NoVersion = told.NoVersion
 told_hidden hidden.BadText = told.StoreFault
+told_hidden hidden.TooFewDevices = told.Reply (reply.Refused refusal.TooFewDevices)
 told_hidden hidden.NoMemory = told.NoMemory

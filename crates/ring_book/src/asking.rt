@@ -1,9 +1,10 @@
 //! What a book is asked.
-ghost use Rattle.std.specs.Prelude.{IfOk, IsUtf8, MatchResult, Result, Some};
+ghost use Rattle.std.specs.Prelude.{◌≡◌, IfOk, IsUtf8, MatchResult, Result, Some};
 ghost use Rattle.request_book.specs.Call.{Load};
 ghost use Rattle.request_book.specs.declared.book.Fault.{Fault};
-ghost use Rattle.ring_book.specs.Book.{Delivers, Found, Made};
+ghost use Rattle.ring_book.specs.Book.{Delivers, Found, Made, holding};
 ghost use Rattle.ring_book.specs.Reads.{IsReadAs, TellsHidden};
+ghost use Rattle.ring_reads.specs.Holding.{holding_of};
 ghost use Rattle.ring_reads.specs.Reads.{IsText, Shows};
 
 use crate::telling::{told_fault, told_hidden, told_of};
@@ -11,8 +12,7 @@ use builder::{RingMachine, Told};
 use path_lookup::HashNames;
 use request_book::{Book, Keeper};
 use ring_messages::command_is_proper;
-use ring_model::Rings;
-use ring_reads::{Question, show};
+use ring_reads::{Held, Question, show};
 use ring_words::{Command, Hour, Key};
 use std::alloc::Global;
 
@@ -33,42 +33,61 @@ pub fn deliver<K: Keeper<RingMachine>>(
     told_of(book.deliver(hour, key, command))
 }
 
-/// What rings show of a question, or what is told where they show nothing.
-fn read_rings(
+/// What is shown of a question where this is held, or what is told where nothing is shown.
+fn read_held(
     alloc: Global,
-    hour: Hour,
     names: HashNames<'_>,
-    rings: &Rings,
+    held: &Held<'_>,
     question: &Question,
 ) -> Result<Vec<u8>, Told>
     ensures told { MatchResult result (λ bytes. Shows names.entry.prefix.now names.entry.suffix.now
-        rings.now hour question.now bytes.items) (TellsHidden rings.now question.now) }
-    ensures text { IfOk result (λ bytes. IsText question.now.read → IsUtf8 bytes.items) }
+        (holding_of held.now) question.now bytes.items)
+        (TellsHidden (holding_of held.now) question.now) }
+    ensures text { IfOk result (λ bytes. IsText question.now → IsUtf8 bytes.items) }
 {
-    match show(alloc, hour, names, rings, question) {
+    match show(alloc, names, held, question) {
         Ok(bytes) => Ok(bytes),
         Err(why) => Err(told_hidden(why)),
     }
 }
 
-/// What the rings that a book holds show of a question, at the greatest hour that it has decided
-/// at, or what is told where there is nothing to show. Paths are hashed between names. A read leads
-/// to one call of the book, which changes nothing of what it holds.
+/// What a book holds that was made ready to be read, and whose greatest hour is this, at the hour of
+/// the clock.
+fn held_in<K: Keeper<RingMachine>>(book: &Book<RingMachine, K>, hour: Hour, clock: Hour) -> Held<'_>
+    requires loaded { K.is_loaded book.now.keeper }
+    requires faults { K.fault_count book.now.keeper ≡ 0 }
+    ensures { K.sound book.now.keeper → hour ≡ (K.content book.now.keeper).hour →
+        holding_of result ≡ holding K.Keeper clock book.now.keeper }
+{
+    Held {
+        rings: book.state(),
+        hour,
+        clock,
+        kept: book.count(),
+        limit: book.most(),
+    }
+}
+
+/// What is shown of a question of all that a book holds, or what is told where there is nothing to
+/// show. The hour is the clock's, 0 where none is looked at, or the greatest that the book has decided
+/// at, if that is greater. Paths are hashed between names. A read leads to one call of the book, which
+/// changes nothing of what it holds.
 pub fn read<K: Keeper<RingMachine>>(
     alloc: Global,
     book: &mut Book<RingMachine, K>,
+    clock: Hour,
     names: HashNames<'_>,
     question: &Question,
 ) -> Result<Vec<u8>, Told>
     ensures told { (answer : Result (Unit {0}) Fault)
         × Made K.Keeper book.old book.new (Some (Load answer))
-        × IsReadAs (Found K.Keeper book.old book.new) names.entry.prefix.now
+        × IsReadAs (Found K.Keeper clock book.old book.new) names.entry.prefix.now
         names.entry.suffix.now question.now answer result (λ bytes. bytes.items) }
     // What is shown is text, unless it is a file of Swift's.
-    ensures text { IfOk result (λ bytes. IsText question.now.read → IsUtf8 bytes.items) }
+    ensures text { IfOk result (λ bytes. IsText question.now → IsUtf8 bytes.items) }
 {
     match book.load() {
-        Ok(hour) => read_rings(alloc, hour, names, book.state(), question),
+        Ok(hour) => read_held(alloc, names, &held_in(&*book, hour, clock), question),
         Err(fault) => Err(told_fault(fault)),
     }
 }

@@ -6,6 +6,7 @@
 #![tactic(auto)]
 
 mod asking;
+pub mod laws;
 mod telling;
 
 pub use asking::{deliver, read};

@@ -30,7 +30,7 @@ pub fn told_of(answer: Answer<Reply>) -> Told
     }
 }
 
-/// What is told where nothing is shown of a ring.
+/// What is told where nothing is shown.
 pub fn told_hidden(why: Hidden) -> Told
     ensures { result ≡ told_hidden why }
 {
@@ -39,6 +39,7 @@ pub fn told_hidden(why: Hidden) -> Told
         Hidden::NotAssigned => Told::Reply(Reply::Refused(Refusal::NotAssigned)),
         Hidden::NoVersion => Told::NoVersion,
         Hidden::BadText => Told::StoreFault,
+        Hidden::TooFewDevices => Told::Reply(Reply::Refused(Refusal::TooFewDevices)),
         Hidden::NoMemory => Told::NoMemory,
     }
 }

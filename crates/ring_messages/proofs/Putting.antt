@@ -5,7 +5,7 @@ use Rattle.std.proofs.lemmas.List.{take_more}
 use Rattle.std.specs.Borrow.{Bor}
 use Rattle.serde_json.specs.Data.{Members, put}
 use Rattle.ring_messages.specs.declared.objects.Scalar.{Scalar}
-use Rattle.ring_messages.specs.Inner.Objects.{scalar_data, with_each}
+use Rattle.ring_messages.specs.Objects.{scalar_data, with_each}
 
 put_last : (each : List (Bor (List ℕ) × Scalar)) (next : Bor (List ℕ) × Scalar) (ms : Members)
     → put next.0.now (scalar_data next.1) (with_each each ms) ≡ with_each (each ++ next ∷ []) ms

@@ -1,5 +1,6 @@
 pub mod Reads
 pub mod Fields
+pub mod Objects
 pub mod Words
 pub mod Commands
 pub mod Message

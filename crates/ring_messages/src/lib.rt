@@ -2,7 +2,7 @@
 //!
 //! A message is a JSON object that says who asks, that caller's number for it, and a command. A
 //! command, a reply and each further answer has one text, which is compact JSON with its keys in
-//! byte order.
+//! byte order. Other crates put their objects together from numbers and texts by the same calls.
 #![tactic(auto)]
 
 mod commands;
@@ -17,6 +17,7 @@ mod words;
 
 pub use commands::{command_is_proper, command_text};
 pub use laws::{one_message, one_reply, one_text};
+pub use objects::{Scalar, members, object};
 pub use read::{read_command, read_delivery};
 pub use replies::{read_reply, reply_is_proper, reply_text};
 use ring_words::SpellingFault;

@@ -2,16 +2,18 @@
 ghost use Rattle.std.specs.Prelude.{◌≡◌, IfOk, OnOk, map};
 ghost use Rattle.serde_json.specs.Data.{array, no_members, object, put};
 ghost use Rattle.serde_json.specs.View.{items_of, members_view, view};
-ghost use Rattle.ring_messages.specs.Inner.Objects.{scalar_data, with_each};
+ghost use Rattle.ring_messages.specs.Objects.{scalar_data, with_each};
 
 use self::Scalar::{Number, Text};
 use serde_json::{Map, Value, json, put};
 use std::alloc::{AllocError, Global};
 
-/// What stands under a key.
+/// What stands under a key of an object, or in a list.
 #[derive(Clone, Copy)]
-pub(crate) enum Scalar<'a> {
+pub enum Scalar<'a> {
+    /// A whole number.
     Number(u64),
+    /// A text, without quotes and escapes.
     Text(&'a str),
 }
 
@@ -36,8 +38,8 @@ fn put_member(
     put(map, alloc, key, scalar_value(alloc, scalar)?)
 }
 
-/// These members. Of two with one key the later stands.
-pub(crate) fn members(
+/// These members, for an object that gets others beside them. Of two with one key the later stands.
+pub fn members(
     alloc: Global,
     members: &[(&str, Scalar<'_>)],
 ) -> Result<Map<String, Value>, AllocError>
@@ -51,7 +53,7 @@ pub(crate) fn members(
 }
 
 /// The object with these members. Of two with one key the later stands.
-pub(crate) fn object(alloc: Global, of: &[(&str, Scalar<'_>)]) -> Result<Value, AllocError>
+pub fn object(alloc: Global, of: &[(&str, Scalar<'_>)]) -> Result<Value, AllocError>
     ensures { IfOk result (λ v. view v ≡ object (with_each of.now no_members)) }
 {
     Ok(Value::Object(members(alloc, of)?))

@@ -1,3 +1,9 @@
 pub mod Padding
 pub mod RowByRow
 pub mod NodeLemmas
+pub mod Resting
+pub mod RingData
+pub mod StoreData
+pub mod Moving
+pub mod SeatMoving
+pub mod Hiding

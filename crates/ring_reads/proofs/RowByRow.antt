@@ -2,7 +2,8 @@
 use Rattle.std.proofs.Common.{◌≡◌, ℕ, ◌+◌, ◌<◌, List, [], ◌∷◌, ◌++◌, length, get_or, take, map, sym}
 use Rattle.std.proofs.Common.{ap, ◌∙◌, append_assoc, arith}
 use Rattle.std.specs.List.{zip, concat, join_with_byte}
-use Rattle.std.proofs.lemmas.List.{take_more, map-append, append-nil}
+use Rattle.std.specs.Prelude.{slice_index}
+use Rattle.std.proofs.lemmas.List.{take_more, map-append, append-nil, get_or_default}
 use Rattle.std.proofs.lemmas.List.Folds.{concat-append}
 use Rattle.std.proofs.lemmas.Slice.Zip.{get_or-zip, length-zip}
 use Rattle.ring_reads.specs.Layout.{Columns, row, table}
@@ -94,3 +95,11 @@ pair_at {X = X} {Y = Y} xs ys i x y below under first second =
 pub pair_below : {X Y : Type 0} (xs : List X) (ys : List Y) (i : ℕ) → i < length xs →
     i < length ys → i < length (zip xs ys)
 pair_below xs ys i below under = let long = length-zip xs ys in omega (arith, long)
+
+-- an element beside the number at the same place of another list
+pub read_pair : {X : Type 0} (xs : List X) (ns : List ℕ) (i : ℕ) (x : X) → i < length xs →
+    i < length ns → x ≡ get_or xs i x →
+    (x, slice_index ns i) ≡ get_or (zip xs ns) i (x, slice_index ns i)
+read_pair xs ns i x below under at =
+    pair_at xs ns i x (slice_index ns i) below under at
+    (get_or_default ns i 0 (slice_index ns i) under)

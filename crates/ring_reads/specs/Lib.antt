@@ -1,4 +1,12 @@
 pub mod Layout
 pub mod Tables
 pub mod Nodes
+pub mod Locks
+pub mod RingJson
+pub mod Moves
+pub mod Preview
+pub mod SeatMoves
+pub mod MovesJson
+pub mod Holding
+pub mod StoreJson
 pub mod Reads

@@ -11,7 +11,7 @@ use ring_words::{Address, Device};
 use std::alloc::{AllocError, Global};
 
 /// Whether seats may go to a device, in a word.
-fn state_text(device: &Device) -> &'static str
+pub(crate) fn state_text(device: &Device) -> &'static str
     ensures { result.now ≡ state_text device.now }
 {
     if device.removed {

@@ -1,4 +1,6 @@
-//! What is read of rings: tables for operators, the nodes of a path, and published texts.
+//! What is read of rings: which there are and how much is kept, as JSON; of a ring its tables for
+//! operators, the whole of it, the nodes of a path, the preview of a rebalance and what moved
+//! between two published versions as JSON, and published texts.
 //!
 //! A front reads what is asked in its own words, and clothes what is shown; what that is, and why
 //! nothing is shown, stands here alone. The layout of the tables is this project's own. The
@@ -8,11 +10,22 @@
 mod balances;
 mod cells;
 mod devices;
+mod held;
+mod locks;
+mod moves;
+mod moves_text;
 mod nodes;
 mod plain;
+mod preview;
 mod reads;
+mod seat_moves;
+mod whole_ring;
+mod whole_store;
 
 pub use balances::balance_table;
 pub use devices::device_table;
+pub use held::Held;
 pub use plain::Plain;
 pub use reads::{Format, Hidden, Question, Read, show};
+pub use whole_ring::ring_json;
+pub use whole_store::{rings_json, status_json};

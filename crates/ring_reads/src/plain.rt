@@ -5,8 +5,9 @@ ghost use Rattle.ring_reads.specs.declared.plain.Plain.{Plain as PlainModel};
 
 use crate::balances::balance_table;
 use crate::devices::device_table;
+use crate::whole_ring::ring_json;
 use ring_model::Ring;
-use ring_words::Hour;
+use ring_words::{Hour, RingName};
 use std::alloc::{AllocError, Global};
 
 /// What a word alone asks of a ring.
@@ -16,6 +17,8 @@ pub enum Plain {
     Devices,
     /// How many seats each device wants and has, and how far that is from its share.
     Balance,
+    /// The whole ring, as JSON without a line feed.
+    Ring,
 }
 
 impl Plain {
@@ -27,17 +30,27 @@ impl Plain {
         match word {
             "devices" => Some(Plain::Devices),
             "balance" => Some(Plain::Balance),
+            "ring" => Some(Plain::Ring),
             _ => None,
         }
     }
 
-    /// What it shows of a ring at an hour: lines, each with its line feed.
-    pub fn text(self, alloc: Global, ring: &Ring, _hour: Hour) -> Result<String, AllocError>
-        ensures { IfOk result (λ text. IsPlainText self ring.now _hour (string_bytes text)) }
+    /// What it shows of a ring of this name at an hour: lines, each with its line feed, or JSON
+    /// without one.
+    pub fn text(
+        self,
+        alloc: Global,
+        name: &RingName,
+        ring: &Ring,
+        hour: Hour,
+    ) -> Result<String, AllocError>
+        ensures { IfOk result (λ text. IsPlainText self name.now ring.now hour
+            (string_bytes text)) }
     {
         match self {
             Plain::Devices => device_table(alloc, ring),
             Plain::Balance => balance_table(alloc, ring),
+            Plain::Ring => ring_json(alloc, name, ring, hour),
         }
     }
 }

@@ -1,17 +1,26 @@
 //! What is read of rings.
-ghost use Rattle.std.specs.Prelude.{◌≡◌, ◌⊎◌, ℕ, IfErr, IfOk, IsUtf8, List, string_bytes};
+ghost use Rattle.std.specs.Prelude.{◌≡◌, ◌⊎◌, ℕ, IfErr, IfOk, IsUtf8, List, max, string_bytes};
+ghost use Rattle.ring_reads.specs.Holding.{holding_of};
+ghost use Rattle.ring_reads.specs.MovesJson.{AreMoveLines, IsMovesJson, WasPublished};
+ghost use Rattle.ring_reads.specs.Preview.{IsPreviewJson};
 ghost use Rattle.ring_reads.specs.Reads.{AreTables, Hides, IsHidden, IsShown, IsSwiftFileOf, Shows};
-ghost use Rattle.ring_reads.specs.Reads.{IsText, SpellsNoRing, TellsNodes};
+ghost use Rattle.ring_reads.specs.Reads.{IsText, IsTextRead, IsVersionUnread, SpellsNoRing};
+ghost use Rattle.ring_reads.specs.Reads.{TellsNodes};
 ghost use Rattle.ring_reads.specs.declared.reads.Hidden.TheVariants.{BadText, NoMemory};
 ghost use Rattle.ring_reads.specs.declared.reads.Read.TheVariants as read;
 
 use crate::balances::balance_table;
 use crate::devices::device_table;
+use crate::held::Held;
+use crate::moves_text::{move_lines, moves_json};
 use crate::nodes::nodes_text;
 use crate::plain::Plain;
+use crate::preview::preview_json;
+use crate::whole_store::{rings_json, status_json};
 use path_lookup::{HashNames, NodesFault, Path, hash_path, nodes, partition_of};
-use ring_model::{Ring, Rings};
-use ring_text::read_ring;
+use ring_model::Ring;
+use ring_place::{PlaceError, rebalance};
+use ring_text::{Snapshot, read_ring};
 use ring_words::{Hour, RingName, SpellingFault};
 use std::alloc::{AllocError, Global};
 use swift_ring::write_swift_ring;
@@ -36,13 +45,55 @@ pub enum Read {
     Nodes(Path),
     /// It as it is published under this version, in a format.
     Published(u32, Format),
+    /// What a rebalance with this seed would do, as JSON without a line feed: at this hour, in
+    /// whole hours since 1970, or at the one at which a request would be decided now, if that is
+    /// later.
+    Preview(u32, Hour),
+    /// What moved between these two published versions, as JSON without a line feed.
+    Moves(u32, u32),
+    /// A line for each seat that differs between them.
+    EachMove(u32, u32),
 }
 
-/// What is read of which ring.
+impl Read {
+    ghost use Rattle.std.specs.Prelude.{◌≡◌};
+    ghost use Rattle.ring_reads.specs.Reads.{is_json_read};
+
+    /// Whether what is shown of it is JSON, which has no line feed at its end.
+    fn is_json(&self) -> bool
+        ensures { result ≡ is_json_read self.now }
+    {
+        matches!(
+            self,
+            Read::Plain(Plain::Ring) | Read::Nodes(_) | Read::Preview(..) | Read::Moves(..)
+        )
+    }
+}
+
+/// What is read.
 #[derive(Drop)]
-pub struct Question {
-    pub ring: RingName,
-    pub read: Read,
+pub enum Question {
+    /// Which rings there are, as JSON without a line feed.
+    Rings,
+    /// How much is kept, as JSON without a line feed.
+    Status,
+    /// This of the ring of a name.
+    Ring(RingName, Read),
+}
+
+impl Question {
+    ghost use Rattle.std.specs.Prelude.{◌≡◌};
+    ghost use Rattle.ring_reads.specs.Reads.{is_json};
+
+    /// Whether what is shown of it is JSON, which has no line feed at its end.
+    pub fn is_json(&self) -> bool
+        ensures { result ≡ is_json self.now }
+    {
+        match self {
+            Question::Rings | Question::Status => true,
+            Question::Ring(_, what) => what.is_json(),
+        }
+    }
 }
 
 /// Why nothing is shown.
@@ -56,6 +107,8 @@ pub enum Hidden {
     NoVersion,
     /// The text that is published under it is that of no ring.
     BadText,
+    /// Fewer devices of the ring are open than each partition has replicas.
+    TooFewDevices,
     /// A growth of memory was refused.
     NoMemory,
 }
@@ -101,6 +154,48 @@ fn path_nodes(
     }
 }
 
+/// What a rebalance of a ring of this name would do at an hour with a seed.
+fn preview_at(
+    alloc: Global,
+    name: &RingName,
+    ring: &Ring,
+    hour: Hour,
+    seed: u32,
+) -> Result<String, Hidden>
+    ensures told { IfOk result (λ text. IsPreviewJson name.now ring.now hour seed
+        (string_bytes text)) }
+    ensures hidden { IfErr result (IsHidden ring.now (read.Preview seed hour)) }
+{
+    match rebalance(alloc, ring, hour, seed) {
+        Ok(done) => Ok(preview_json(alloc, name, ring, hour, seed, &done)?),
+        Err(PlaceError::TooFewDevices) => Err(Hidden::TooFewDevices),
+        Err(PlaceError::NoMemory) => Err(Hidden::NoMemory),
+    }
+}
+
+/// The later of two hours.
+fn later(a: Hour, b: Hour) -> Hour
+    ensures { result ≡ max a b }
+{
+    a.max(b)
+}
+
+/// What a rebalance of a ring of this name would do with a seed at the later of two hours.
+fn preview_text(
+    alloc: Global,
+    name: &RingName,
+    ring: &Ring,
+    hour: Hour,
+    seed: u32,
+    asked: Hour,
+) -> Result<String, Hidden>
+    ensures told { IfOk result (λ text. IsPreviewJson name.now ring.now (max hour asked) seed
+        (string_bytes text)) }
+    ensures hidden { IfErr result (IsHidden ring.now (read.Preview seed asked)) }
+{
+    preview_at(alloc, name, ring, later(hour, asked), seed)
+}
+
 /// Swift's ring file of the ring that a text spells.
 fn swift_bytes(alloc: Global, text: &str) -> Result<Vec<u8>, Hidden>
     ensures told { IfOk result (λ bytes. IsSwiftFileOf text.now bytes.items) }
@@ -121,9 +216,9 @@ fn published_bytes(
     version: u32,
     format: Format,
 ) -> Result<Vec<u8>, Hidden>
-    ensures told { IfOk result (λ bytes. (prefix suffix : List ℕ) (hour : ℕ) → IsShown prefix suffix
-        ring.now hour (read.Published version format) bytes.items) }
-    ensures text { IfOk result (λ bytes. IsText (read.Published version format) →
+    ensures told { IfOk result (λ bytes. (prefix suffix name : List ℕ) (hour : ℕ) → IsShown prefix
+        suffix name ring.now hour (read.Published version format) bytes.items) }
+    ensures text { IfOk result (λ bytes. IsTextRead (read.Published version format) →
         IsUtf8 bytes.items) }
     ensures hidden { IfErr result (IsHidden ring.now (read.Published version format)) }
 {
@@ -136,42 +231,110 @@ fn published_bytes(
     }
 }
 
-/// What a ring shows.
+/// A ring as it was published under a version, read back.
+fn published_ring(alloc: Global, ring: &Ring, version: u32) -> Result<Snapshot, Hidden>
+    ensures published { IfOk result (λ snapshot. WasPublished ring.now version snapshot) }
+    ensures hidden { IfErr result (IsVersionUnread ring.now version) }
+{
+    let Some(text) = ring.published(version) else {
+        return Err(Hidden::NoVersion);
+    };
+    match read_ring(alloc, text.as_bytes()) {
+        Ok(snapshot) => Ok(snapshot),
+        Err(SpellingFault::Bad) => Err(Hidden::BadText),
+        Err(SpellingFault::NoMemory) => Err(Hidden::NoMemory),
+    }
+}
+
+/// What moved between two versions of a ring of this name.
+fn moves_text(
+    alloc: Global,
+    name: &RingName,
+    ring: &Ring,
+    from: u32,
+    to: u32,
+) -> Result<String, Hidden>
+    ensures told { IfOk result (λ text. IsMovesJson name.now ring.now from to
+        (string_bytes text)) }
+    ensures hidden { IfErr result (IsHidden ring.now (read.Moves from to)) }
+{
+    let old = published_ring(alloc, ring, from)?;
+    let new = published_ring(alloc, ring, to)?;
+    Ok(moves_json(alloc, name, from, to, &old, &new)?)
+}
+
+/// A line for each seat that differs between two versions of a ring.
+fn each_move(alloc: Global, ring: &Ring, from: u32, to: u32) -> Result<String, Hidden>
+    ensures told { IfOk result (λ text. AreMoveLines ring.now from to (string_bytes text)) }
+    ensures hidden { IfErr result (IsHidden ring.now (read.EachMove from to)) }
+{
+    let old = published_ring(alloc, ring, from)?;
+    let new = published_ring(alloc, ring, to)?;
+    Ok(move_lines(alloc, &old, &new)?)
+}
+
+/// What a ring of this name shows of a read at an hour.
 fn ring_bytes(
     alloc: Global,
     hour: Hour,
     names: HashNames<'_>,
+    name: &RingName,
     ring: &Ring,
-    read: &Read,
+    what: &Read,
 ) -> Result<Vec<u8>, Hidden>
     ensures shown { IfOk result (λ bytes. IsShown names.entry.prefix.now names.entry.suffix.now
-        ring.now hour read.now bytes.items) }
-    ensures text { IfOk result (λ bytes. IsText read.now → IsUtf8 bytes.items) }
-    ensures hidden { IfErr result (IsHidden ring.now read.now) }
+        name.now ring.now hour what.now bytes.items) }
+    ensures text { IfOk result (λ bytes. IsTextRead what.now → IsUtf8 bytes.items) }
+    ensures hidden { IfErr result (IsHidden ring.now what.now) }
 {
-    match read {
-        Read::Plain(plain) => Ok(plain.text(alloc, ring, hour)?.into_bytes()),
+    match what {
+        Read::Plain(plain) => Ok(plain.text(alloc, name, ring, hour)?.into_bytes()),
         Read::Tables => Ok(tables_text(alloc, ring)?.into_bytes()),
         Read::Nodes(path) => Ok(path_nodes(alloc, names, ring, path)?.into_bytes()),
         Read::Published(version, format) => published_bytes(alloc, ring, *version, *format),
+        Read::Preview(seed, asked) => {
+            Ok(preview_text(alloc, name, ring, hour, *seed, *asked)?.into_bytes())
+        }
+        Read::Moves(from, to) => Ok(moves_text(alloc, name, ring, *from, *to)?.into_bytes()),
+        Read::EachMove(from, to) => Ok(each_move(alloc, ring, *from, *to)?.into_bytes()),
     }
 }
 
-/// What these rings show of a question at an hour. Paths are hashed between names.
+/// What the ring of this name that is held shows of a read.
+fn named_bytes(
+    alloc: Global,
+    names: HashNames<'_>,
+    held: &Held<'_>,
+    name: &RingName,
+    what: &Read,
+) -> Result<Vec<u8>, Hidden>
+    ensures shown { IfOk result (λ bytes. Shows names.entry.prefix.now names.entry.suffix.now
+        (holding_of held.now) (Question.Ring name.now what.now) bytes.items) }
+    ensures text { IfOk result (λ bytes. IsTextRead what.now → IsUtf8 bytes.items) }
+    ensures hidden { IfErr result (Hides (holding_of held.now)
+        (Question.Ring name.now what.now)) }
+{
+    match held.rings.get(name) {
+        Some(ring) => ring_bytes(alloc, held.hour_now(), names, name, ring, what),
+        None => Err(Hidden::NoRing),
+    }
+}
+
+/// What is shown of a question where this is held. Paths are hashed between names.
 pub fn show(
     alloc: Global,
-    hour: Hour,
     names: HashNames<'_>,
-    rings: &Rings,
+    held: &Held<'_>,
     question: &Question,
 ) -> Result<Vec<u8>, Hidden>
     ensures shown { IfOk result (λ bytes. Shows names.entry.prefix.now names.entry.suffix.now
-        rings.now hour question.now bytes.items) }
-    ensures text { IfOk result (λ bytes. IsText question.now.read → IsUtf8 bytes.items) }
-    ensures hidden { IfErr result (Hides rings.now question.now) }
+        (holding_of held.now) question.now bytes.items) }
+    ensures text { IfOk result (λ bytes. IsText question.now → IsUtf8 bytes.items) }
+    ensures hidden { IfErr result (Hides (holding_of held.now) question.now) }
 {
-    match rings.get(&question.ring) {
-        Some(ring) => ring_bytes(alloc, hour, names, ring, &question.read),
-        None => Err(Hidden::NoRing),
+    match question {
+        Question::Rings => Ok(rings_json(alloc, held.rings)?.into_bytes()),
+        Question::Status => Ok(status_json(alloc, held)?.into_bytes()),
+        Question::Ring(name, what) => named_bytes(alloc, names, held, name, what),
     }
 }

@@ -1,5 +1,5 @@
 //! Rows, devices and rings that the tests start from, most of them spelled in tables.
-use ring_model::{Ring, RingParts};
+use ring_model::{Ring, RingParts, Rings};
 use ring_text::{Snapshot, snapshot};
 use ring_words::{Address, Device, DeviceName, Hour, Port, Power, Replicas, RingName, Row, Weight};
 use std::alloc::Global;
@@ -205,6 +205,15 @@ pub fn spelled_parts(alloc: Global, row: &RingRow) -> Result<RingParts, Fail> {
 /// The ring that a row of a table spells.
 pub fn spelled_ring(alloc: Global, row: &RingRow) -> Result<Ring, Fail> {
     Ok(Ring::build(alloc, spelled_parts(alloc, row)?)?)
+}
+
+/// Rings with one more.
+pub fn with_ring(alloc: Global, rings: &Rings, name: &str, ring: Ring) -> Result<Rings, Fail> {
+    let name = RingName::new(alloc, name)?;
+    if rings.get(&name).is_some() || rings.list().len() >= 16 {
+        return Err(Fail::from("there is room for the ring"));
+    }
+    Ok(rings.with(name, ring)?)
 }
 
 /// Seats on so many devices in turn.

@@ -12,7 +12,11 @@ mod founding;
 #[cfg(test)]
 mod model;
 #[cfg(test)]
+mod moves;
+#[cfg(test)]
 mod paths;
+#[cfg(test)]
+mod previews;
 #[cfg(test)]
 mod share;
 #[cfg(test)]

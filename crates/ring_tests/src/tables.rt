@@ -1,12 +1,12 @@
-//! What no contract says: worked tables, byte for byte, and that calls succeed where there is
-//! memory.
+//! What no contract says: worked tables, and rings and stores as JSON, byte for byte, and that calls
+//! succeed where there is memory.
 use crate::fixtures::{
     DEVICE_0, DEVICE_1, DEVICE_2, DEVICE_3, DeviceRow, FAR, NEAR, OF_FOUR_WEIGHTS, OF_ONE_WEIGHT,
-    RingRow, WITHOUT_DEVICES, device, ring, spelled_ring,
+    RingRow, WITHOUT_DEVICES, device, ring, spelled_ring, with_ring,
 };
-use ring_model::Ring;
-use ring_reads::{balance_table, device_table};
-use ring_words::{Address, Device, DeviceName, Port};
+use ring_model::{Ring, Rings};
+use ring_reads::{Held, balance_table, device_table, ring_json, rings_json, status_json};
+use ring_words::{Address, Device, DeviceName, Hour, Port, RingName};
 use std::alloc::Global;
 use std::test::Fail;
 
@@ -154,6 +154,75 @@ static BALANCE_TABLES: [(&str, RingRow, &str); 7] = [
     ),
 ];
 
+/// Rings, hours, and what is told of the rings at these.
+static RINGS: [(&str, RingRow, Hour, &str); 4] = [
+    (
+        "a partition is free once its hours have passed, and another isn't",
+        RingRow {
+            moved: &[Some(6), Some(25)],
+            published: &[(2, "the second"), (4, "the fourth")],
+            ..NEAR
+        },
+        30,
+        concat!(
+            r#"{"balance":10000,"devices":["#,
+            r#"{"address":"10.0.0.1","has":2,"id":0,"name":"d0","port":6200,"region":1,"#,
+            r#""state":"open","wanted":1,"weight":"100.00","zone":1},"#,
+            r#"{"address":"10.0.0.2","has":2,"id":1,"name":"d1","port":6200,"region":1,"#,
+            r#""state":"open","wanted":1,"weight":"100.00","zone":1},"#,
+            r#"{"address":"10.0.0.3","has":0,"id":2,"name":"d2","port":6200,"region":2,"#,
+            r#""state":"open","wanted":2,"weight":"200.00","zone":1}],"#,
+            r#""dispersion":10000,"hour":30,"locked":1,"min_hours":24,"next_id":65536,"power":1,"#,
+            r#""published":[2,4],"replicas":2,"rests":19,"ring":"photos","seats":4,"version":4}"#,
+        ),
+    ),
+    (
+        "the partition that was moved last is locked longest",
+        RingRow {
+            moved: &[Some(25), Some(10), None, Some(6)],
+            ..BALANCED
+        },
+        30,
+        concat!(
+            r#"{"balance":0,"devices":["#,
+            r#"{"address":"10.0.0.1","has":2,"id":0,"name":"d0","port":6200,"region":1,"#,
+            r#""state":"open","wanted":2,"weight":"100.00","zone":1},"#,
+            r#"{"address":"10.0.0.2","has":2,"id":1,"name":"d1","port":6200,"region":1,"#,
+            r#""state":"open","wanted":2,"weight":"100.00","zone":1}],"#,
+            r#""dispersion":0,"hour":30,"locked":2,"min_hours":24,"next_id":65536,"power":2,"#,
+            r#""published":[],"replicas":1,"rests":19,"ring":"photos","seats":4,"version":3}"#,
+        ),
+    ),
+    (
+        "a ring without devices has empty lists",
+        WITHOUT_DEVICES,
+        0,
+        concat!(
+            r#"{"balance":0,"devices":[],"dispersion":0,"hour":0,"locked":0,"min_hours":24,"#,
+            r#""next_id":65536,"power":1,"published":[],"replicas":1,"rests":0,"#,
+            r#""ring":"photos","seats":0,"version":0}"#,
+        ),
+    ),
+    (
+        "removed and drained devices are told apart",
+        REMOVED_AND_DRAINED,
+        480000,
+        concat!(
+            r#"{"balance":99999,"devices":["#,
+            r#"{"address":"10.0.0.1","has":1,"id":0,"name":"d0","port":6200,"region":1,"#,
+            r#""state":"removed","wanted":0,"weight":"100.00","zone":1},"#,
+            r#"{"address":"10.0.0.2","has":0,"id":1,"name":"d1","port":6200,"region":1,"#,
+            r#""state":"drained","wanted":0,"weight":"0.00","zone":1},"#,
+            r#"{"address":"10.0.0.3","has":1,"id":2,"name":"d2","port":6200,"region":1,"#,
+            r#""state":"open","wanted":2,"weight":"50.00","zone":1},"#,
+            r#"{"address":"10.0.0.4","has":0,"id":3,"name":"d3","port":6200,"region":1,"#,
+            r#""state":"removed","wanted":0,"weight":"0.00","zone":1}],"#,
+            r#""dispersion":0,"hour":480000,"locked":0,"min_hours":24,"next_id":65536,"power":1,"#,
+            r#""published":[],"replicas":1,"rests":0,"ring":"photos","seats":2,"version":9}"#,
+        ),
+    ),
+];
+
 /// Whether a ring's table of devices is this text.
 fn has_devices(alloc: Global, ring: &Ring, text: &str) -> Result<bool, Fail> {
     Ok(device_table(alloc, ring)?.as_str() == text)
@@ -188,6 +257,121 @@ fn devices_are_told(rt: HostRuntime) -> Result<(), Fail> {
 fn balances_are_told(rt: HostRuntime) -> Result<(), Fail> {
     for (shows, row, text) in &BALANCE_TABLES {
         assert!(rt; is_balance_told(rt.alloc(), row, text)?, "{shows}");
+    }
+    Ok(())
+}
+
+/// Whether this text is what is told, under the name `photos`, of the ring that a row spells.
+fn is_ring_told(alloc: Global, row: &RingRow, hour: Hour, text: &str) -> Result<bool, Fail> {
+    let ring = spelled_ring(alloc, row)?;
+    let name = RingName::new(alloc, "photos")?;
+    Ok(ring_json(alloc, &name, &ring, hour)?.as_str() == text)
+}
+
+#[test]
+fn rings_are_told(rt: HostRuntime) -> Result<(), Fail> {
+    for (shows, row, hour, text) in &RINGS {
+        assert!(rt; is_ring_told(rt.alloc(), row, *hour, text)?, "{shows}");
+    }
+    Ok(())
+}
+
+/// A ring under its name.
+type NamedRow = (&'static str, RingRow);
+
+/// Rings of four names.
+const FOUR_RINGS: [NamedRow; 4] = [
+    ("photos", BALANCED),
+    ("a2", NEAR),
+    ("a", WITHOUT_DEVICES),
+    ("a-2", REMOVED_AND_DRAINED),
+];
+
+/// Rings, and what is told of which there are.
+static LISTS: [(&str, &[NamedRow], &str); 3] = [
+    ("no rings are an empty list", &[], r#"{"rings":[]}"#),
+    (
+        "a ring has its version",
+        &[("photos", BALANCED)],
+        r#"{"rings":[{"ring":"photos","version":3}]}"#,
+    ),
+    (
+        "rings stand by their names, byte by byte",
+        &FOUR_RINGS,
+        concat!(
+            r#"{"rings":[{"ring":"a","version":0},{"ring":"a-2","version":9},{"#,
+            r#""ring":"a2","version":4},{"ring":"photos","version":3}]}"#,
+        ),
+    ),
+];
+
+/// Rings, hours, how many numbers are kept and may be, and what is told of all that.
+static STATUSES: [(&str, &[NamedRow], (Hour, usize, u32), &str); 3] = [
+    (
+        "before the first request all is 0",
+        &[],
+        (0, 0, 100_000),
+        r#"{"hour":0,"kept":0,"limit":100000,"rings":0}"#,
+    ),
+    (
+        "each figure stands under its key",
+        &FOUR_RINGS,
+        (480_000, 1_234, 100_000),
+        r#"{"hour":480000,"kept":1234,"limit":100000,"rings":4}"#,
+    ),
+    (
+        "the greatest figures are told",
+        &[("photos", BALANCED)],
+        (u32::MAX, 100_000, u32::MAX),
+        r#"{"hour":4294967295,"kept":100000,"limit":4294967295,"rings":1}"#,
+    ),
+];
+
+/// The rings that rows spell, under their names.
+fn spelled_rings(alloc: Global, rows: &[NamedRow]) -> Result<Rings, Fail> {
+    let mut rings = Rings::new(alloc);
+    for (name, row) in rows {
+        rings = with_ring(alloc, &rings, name, spelled_ring(alloc, row)?)?;
+    }
+    Ok(rings)
+}
+
+/// Whether this text tells which rings there are.
+fn are_rings_told(alloc: Global, rows: &[NamedRow], text: &str) -> Result<bool, Fail> {
+    let rings = spelled_rings(alloc, rows)?;
+    Ok(rings_json(alloc, &rings)?.as_str() == text)
+}
+
+/// Whether this text tells how much is held: these rings, and an hour, how many numbers are kept and
+/// how many may be.
+fn is_status_told(
+    alloc: Global,
+    rows: &[NamedRow],
+    figures: (Hour, usize, u32),
+    text: &str,
+) -> Result<bool, Fail> {
+    let rings = spelled_rings(alloc, rows)?;
+    let (hour, kept, limit) = figures;
+    let held = Held {
+        rings: &rings,
+        hour,
+        clock: 0,
+        kept,
+        limit,
+    };
+    Ok(status_json(alloc, &held)?.as_str() == text)
+}
+
+#[test]
+fn stores_are_told(rt: HostRuntime) -> Result<(), Fail> {
+    for (shows, rows, text) in &LISTS {
+        assert!(rt; are_rings_told(rt.alloc(), rows, text)?, "{shows}");
+    }
+    for (shows, rows, figures, text) in &STATUSES {
+        assert!(rt;
+            is_status_told(rt.alloc(), rows, *figures, text)?,
+            "{shows}"
+        );
     }
     Ok(())
 }

@@ -2,7 +2,7 @@
 use Rattle.std.specs.Prelude.{List, [], ◌∷◌}
 use Rattle.store_model.specs.declared.change.RowChange.{RowChange}
 use Rattle.store_model.specs.declared.change.RowChange.TheVariants.{DropDevice, PutRing}
-use Rattle.store_model.specs.declared.change.RowChange.TheVariants.{AddDevice, PutPart}
+use Rattle.store_model.specs.declared.change.RowChange.TheVariants.{AddDevice, PutPart, AddPart}
 use Rattle.store_model.specs.declared.change.RowChange.TheVariants.{PutPublished}
 use Rattle.store_model.specs.declared.rows.MetaRow.{MetaRow}
 use Rattle.store_model.specs.declared.rows.RequestRow.{RequestRow}
@@ -18,6 +18,7 @@ with_change c (DropDevice key) = without_device c (device_key key)
 with_change c (PutRing row) = with_ring_row c (ring_of row).0 (ring_of row).1
 with_change c (AddDevice row) = with_device_row c (device_of row).0 (device_of row).1
 with_change c (PutPart row) = with_part c (part_of row).0 (part_of row).1
+with_change c (AddPart row) = with_part c (part_of row).0 (part_of row).1
 with_change c (PutPublished row) = with_published_row c (published_of row).0 (published_of row).1
 
 -- What the changes make of the contents, one after another.

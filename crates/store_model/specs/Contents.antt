@@ -2,6 +2,7 @@
 use Rattle.std.specs.Prelude.{ℕ, ℤ, List, string_bytes}
 use Rattle.std.specs.Ordering.{int_cmp}
 use Rattle.std.specs.FinMap.{FinMap, empty, insert, remove}
+use Rattle.std.specs.Rc.{rc_str_bytes}
 use Rattle.store_model.specs.Entries.{name_cmp, NameNumber, name_number_cmp, SeatKey, seat_cmp}
 use Rattle.store_model.specs.Entries.{Meta, Ring, Device, Request, Part}
 use Rattle.store_model.specs.declared.rows.MetaRow.{MetaRow}
@@ -73,7 +74,7 @@ moved_of row = ((string_bytes row.ring, row.part), row.hour)
 
 -- The key and the value that a row of `published` stands for.
 abbrev pub published_of : PublishedRow → NameNumber × List ℕ
-published_of row = ((string_bytes row.ring, row.version), string_bytes row.body)
+published_of row = ((string_bytes row.ring, row.version), rc_str_bytes row.body)
 
 -- The key and the value that a row of `request` stands for.
 abbrev pub request_of : RequestRow → NameNumber × Request

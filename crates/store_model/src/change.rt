@@ -10,5 +10,7 @@ pub enum RowChange {
     PutRing(RingRow),
     AddDevice(DeviceRow),
     PutPart(PartRow),
+    /// For a partition that has no row yet.
+    AddPart(PartRow),
     PutPublished(PublishedRow),
 }

@@ -1,6 +1,8 @@
 //! The rows of the tables. Texts are as they stand in the table, numbers as SQL has them: what
 //! they may be is for the caller to judge.
 
+use std::rc::RcStr;
+
 /// The row on the whole store.
 #[derive(Debug, Drop)]
 pub struct MetaRow {
@@ -67,7 +69,8 @@ pub struct MovedRow {
 pub struct PublishedRow {
     pub ring: String,
     pub version: i64,
-    pub body: String,
+    /// It is shared with the ring that it is a text of.
+    pub body: RcStr,
 }
 
 /// A decided request and its reply.

@@ -1,5 +1,5 @@
 -- What changes of rows make of the contents.
-use Rattle.std.proofs.Common.{◌≡◌, inl, inr, Bool, true, false, not, cond, List, [], ◌∷◌, ◌++◌, map}
+use Rattle.std.proofs.Common.{◌≡◌, inl, inr, ℤ, int_lt, Bool, true, false, not, cond, List, [], ◌∷◌, ◌++◌, map}
 use Rattle.std.proofs.Common.{filter, Option, Some, None, Ordering, Equal, refl, sym, ap, ◌∙◌}
 use Rattle.std.specs.Ordering.{is_lt, eq_by_cmp}
 use Rattle.std.specs.Cmp.{IsTotalOrder}
@@ -13,7 +13,7 @@ use Rattle.store_model.specs.Contents.{published_of}
 use Rattle.store_model.specs.Changes.{with_change, changed_all}
 use Rattle.store_model.specs.declared.change.RowChange.{RowChange}
 use Rattle.store_model.specs.declared.change.RowChange.TheVariants.{DropDevice, PutRing}
-use Rattle.store_model.specs.declared.change.RowChange.TheVariants.{AddDevice, PutPart}
+use Rattle.store_model.specs.declared.change.RowChange.TheVariants.{AddDevice, PutPart, AddPart}
 use Rattle.store_model.specs.declared.change.RowChange.TheVariants.{PutPublished}
 use Rattle.store_model.specs.declared.rows.DeviceKey.{DeviceKey}
 use Rattle.store_model.specs.declared.rows.DeviceRow.{DeviceRow}
@@ -23,6 +23,7 @@ use Rattle.store_model.specs.declared.rows.PublishedRow.{PublishedRow}
 use Rattle.store_model.proofs.Keys.{tied}
 use Rattle.store_rows.specs.Differences.{has_same, new_entries}
 use Rattle.store_rows.specs.Inner.Lacking.{lacking}
+use Rattle.store_rows.specs.Inner.Written.{part_change}
 use Rattle.store_rows.proofs.Maps.{entries_of}
 
 -- ---- many changes of one kind
@@ -59,11 +60,21 @@ devices_are c (r ∷ rs) = devices_are (record c {
       (device_of r).1;
 }) rs
 
-pub parts_are : (c : Contents) (rs : List PartRow) → changed_all c (map PutPart rs) ≡ record c
+-- it is the same whether a partition is put or added
+part_is : (c : Contents) (r : PartRow) (old : Bool) → with_change c
+    (cond old (PutPart r) (AddPart r)) ≡ record c
+    { parts = insert c.parts (part_of r).0 (part_of r).1 }
+part_is c r true = refl
+part_is c r false = refl
+
+pub parts_are : (known : ℤ) (c : Contents) (rs : List PartRow) →
+    changed_all c (map (part_change known) rs) ≡ record c
     { parts = put_all c.parts (map part_of rs) }
-parts_are c [] = refl
-parts_are c (r ∷ rs) = parts_are (record c { parts = insert c.parts (part_of r).0 (part_of r).1 })
-    rs
+parts_are known c [] = refl
+parts_are known c (r ∷ rs) = ap (λ d. changed_all d (map (part_change known) rs)) (part_is c r
+    (int_lt r.part known)) ∙ parts_are known (record c {
+      parts = insert c.parts (part_of r).0 (part_of r).1;
+    }) rs
 
 pub texts_are : (c : Contents) (rs : List PublishedRow) → changed_all c (map PutPublished rs) ≡
     record c { published = put_all c.published (map published_of rs) }

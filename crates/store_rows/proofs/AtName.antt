@@ -1,6 +1,6 @@
 -- Rings that differ from others at one name alone: so do their rows.
 use Rattle.std.proofs.Common.{◌≡◌, inl, inr, ℕ, Bool, true, false, not, cond, List, [], ◌∷◌, ◌++◌}
-use Rattle.std.proofs.Common.{map, length, ◌≤◌, Option, Some, None, IfSome, Less, refl}
+use Rattle.std.proofs.Common.{map, filter, length, ◌≤◌, Option, Some, None, IfSome, Less, refl}
 use Rattle.std.proofs.Common.{sym, ap, subst, ◌∙◌, append-nil, is_none, nat_eq, rules}
 use Rattle.std.proofs.Common as std
 use Rattle.std.specs.List.{AllByRecursion, count_by, flat_map}
@@ -25,11 +25,12 @@ use Rattle.store_rows.specs.Differences.{Grows, IsChangedAt, has_same, is_same_d
 use Rattle.store_rows.specs.Differences.{is_same_part, is_same_ring, is_same_text}
 use Rattle.store_rows.specs.Inner.Lacking.{Succeeds, added_ring, device_entries_of, device_in, gone}
 use Rattle.store_rows.specs.Inner.Lacking.{lacking, ring_value, rows_at, text_entries_of}
-use Rattle.store_rows.specs.Inner.Written.{AreNone, AreRowsBetween, AreRowsOfRing}
+use Rattle.store_rows.specs.Inner.Written.{AreNone, AreRowsBetween, AreRowsOfRing, parts_from}
 use Rattle.store_rows.specs.declared.written.WrittenRows.{WrittenRows}
 use Rattle.store_rows.proofs.Blocks.{lacking_of}
 use Rattle.store_rows.proofs.Changing.{Later, ring_itself, valid_at}
 use Rattle.store_rows.proofs.Counting.{alike_filter, gone_count}
+use Rattle.store_rows.proofs.NewParts.{keys_lacked, new_of_one}
 use Rattle.store_rows.proofs.OneRings.{no_less}
 use Rattle.store_rows.proofs.Ordered.{NamedAs, Rising, devices_named, devices_of_sorted}
 use Rattle.store_rows.proofs.Ordered.{parts_named, parts_of_sorted, texts_named, texts_of_sorted}
@@ -291,6 +292,9 @@ module _ (name : List ℕ) (old new : NamedRings) (p : AreRings old) (q : AreRin
         devices_differ;
     parts = are.parts ∙ ap (λ o. lacking name_number_cmp is_same_part (rows_at part_entries_of name
         was) (rows_at part_entries_of name o)) (sym at) ∙ sym parts_differ;
+    added = (λ i. parts_from (are.known i) (are.parts i)) ∙ new_of_one name old p new ring
+        (ap (λ o. lacking name_number_cmp is_same_part (rows_at part_entries_of name was)
+        (rows_at part_entries_of name o)) (sym at) ∙ sym parts_differ);
     texts = are.texts (succeeds_from was is ring at (valid_at name old p) (valid_at name new q)
         (changed.grows name)) ∙ ap (λ o. lacking name_number_cmp is_same_text (rows_at
         text_entries_of name was) (rows_at text_entries_of name o)) (sym at) ∙ sym texts_differ;
@@ -323,6 +327,12 @@ module _ (name : List ℕ) (old new : NamedRings) (p : AreRings old) (q : AreRin
         devices_differ;
     parts = ap (map part_of) are.parts ∙ ap (λ o. lacking name_number_cmp is_same_part (rows_at
         part_entries_of name was) (rows_at part_entries_of name o)) (sym at) ∙ sym parts_differ;
+    added = ap (λ rs. parts_from made.known (map part_of rs)) are.parts ∙ ap
+        (filter (λ (e : NameNumber × rows.Part). is_none (find name_number_cmp e.0
+        (part_entries old)))) (ap (λ o. lacking name_number_cmp is_same_part (rows_at
+        part_entries_of name was) (rows_at part_entries_of name o)) (sym at) ∙ sym
+        parts_differ) ∙ keys_lacked name_number_cmp is_same_part (part_entries old)
+        (part_entries new);
     texts = ap (map published_of) are.texts ∙ ap (λ o. lacking name_number_cmp is_same_text (rows_at
         text_entries_of name was) (rows_at text_entries_of name o)) (sym at) ∙ sym texts_differ;
   }

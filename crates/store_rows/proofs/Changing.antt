@@ -2,7 +2,7 @@
 use Rattle.std.proofs.Common.{◌≡◌, ◌⊎◌, inl, inr, ℕ, zero, suc, ◌+◌, ◌<◌, ◌≤◌, ◌^◌, ℤ, pos, negsuc}
 use Rattle.std.proofs.Common.{◌&&◌, Bool, true, false, not, cond, List, [], ◌∷◌, ◌++◌, map, length}
 use Rattle.std.proofs.Common.{Option, Some, None, IfSome, IsTrue, All, refl, sym, ap, subst, ◌∙◌}
-use Rattle.std.proofs.Common.{nat_eq, is_some, arith, append-nil}
+use Rattle.std.proofs.Common.{nat_eq, int_lt, is_some, arith, append-nil}
 use Rattle.std.proofs.Common as std
 use Rattle.std.specs.Prelude.{IsSomeAnd}
 use Rattle.std.specs.List.{AllByRecursion, flat_map, enumerate_from, slice_get}
@@ -27,7 +27,7 @@ use Rattle.store_model.specs.Contents.{published_of}
 use Rattle.store_model.specs.Changes.{changed_all}
 use Rattle.store_model.specs.declared.change.RowChange.{RowChange}
 use Rattle.store_model.specs.declared.change.RowChange.TheVariants.{DropDevice, PutRing}
-use Rattle.store_model.specs.declared.change.RowChange.TheVariants.{AddDevice, PutPart}
+use Rattle.store_model.specs.declared.change.RowChange.TheVariants.{AddDevice, PutPart, AddPart}
 use Rattle.store_model.specs.declared.change.RowChange.TheVariants.{PutPublished}
 use Rattle.store_model.specs.declared.rows.DeviceKey.{DeviceKey}
 use Rattle.store_model.specs.declared.rows.DeviceRow.{DeviceRow}
@@ -42,10 +42,12 @@ use Rattle.store_rows.specs.RingRows.{published_entries}
 use Rattle.store_rows.specs.Stands.{AreRings, IsNamedRing, RingContent, contents_for}
 use Rattle.store_rows.specs.Differences.{Grows, KeepsTexts, WritesDifferences, is_same_ring, is_same_device}
 use Rattle.store_rows.specs.Differences.{is_same_part, is_same_text, with_state, ring_written}
-use Rattle.store_rows.specs.Differences.{device_written, device_dropped, part_written, text_written}
+use Rattle.store_rows.specs.Differences.{device_written, device_dropped, part_added, part_written}
+use Rattle.store_rows.specs.Differences.{text_written}
 use Rattle.store_rows.specs.Differences.{differing_rows, gone_entries, new_entries}
 use Rattle.store_rows.specs.Inner.Lacking.{gone, lacking, rows_at, part_in, part_value, ring_value}
 use Rattle.store_rows.specs.Inner.Lacking.{text_in, text_entries_of}
+use Rattle.store_rows.specs.Inner.Written.{part_change, parts_from}
 use Rattle.store_rows.proofs.RequestKeys.{holds_of_found}
 use Rattle.store_rows.proofs.Ordered.{up, rings_sorted, devices_sorted, parts_sorted, texts_sorted}
 use Rattle.store_rows.proofs.Ordered.{parts_named, texts_named}
@@ -271,7 +273,7 @@ module _ (old new : NamedRings) (p : AreRings old) (q : AreRings new) (grows : G
       (up old p) ∙ no_negative name k _ (counted_texts_at name (ring_at name old))
 
   module _ (keys : List DeviceKey) (rings : List RingRow) (devices : List DeviceRow)
-      (parts : List PartRow) (texts : List PublishedRow)
+      (known : ℤ) (parts : List PartRow) (texts : List PublishedRow)
       (keys_are : map device_key keys ≡ map (λ (e : NameNumber × rows.Device). e.0)
       (lacking name_number_cmp is_same_device (device_entries new) (device_entries old)))
       (new_rings : map ring_of rings ≡ lacking name_cmp is_same_ring (ring_entries old)
@@ -284,7 +286,7 @@ module _ (old new : NamedRings) (p : AreRings old) (q : AreRings new) (grows : G
       (published_entries old) (published_entries new)) where
     abbrev all : List RowChange
     all = (((map DropDevice keys ++ map PutRing rings) ++ map AddDevice devices) ++
-        map PutPart parts) ++ map PutPublished texts
+        map (part_change known) parts) ++ map PutPublished texts
 
     changed_by_kind : (c : Contents) → changed_all c all ≡ record c {
       devices = put_all (remove_all c.devices (map device_key keys)) (map device_of devices);
@@ -294,18 +296,18 @@ module _ (old new : NamedRings) (p : AreRings old) (q : AreRings new) (grows : G
     }
     changed_by_kind c =
         let four = ((map DropDevice keys ++ map PutRing rings) ++ map AddDevice devices) ++
-        map PutPart parts in
+        map (part_change known) parts in
         let three = (map DropDevice keys ++ map PutRing rings) ++ map AddDevice devices in
         let two = map DropDevice keys ++ map PutRing rings in
         changed-append four (map PutPublished texts) c
-        ∙ ap (λ d. changed_all d (map PutPublished texts)) (changed-append three (map PutPart parts)
+        ∙ ap (λ d. changed_all d (map PutPublished texts)) (changed-append three (map (part_change known) parts)
         c
-        ∙ ap (λ d. changed_all d (map PutPart parts)) (changed-append two (map AddDevice devices) c
+        ∙ ap (λ d. changed_all d (map (part_change known) parts)) (changed-append two (map AddDevice devices) c
         ∙ ap (λ d. changed_all d (map AddDevice devices)) (changed-append (map DropDevice keys)
         (map PutRing rings) c
         ∙ ap (λ d. changed_all d (map PutRing rings)) (drops_are c keys) ∙ rings_are _ rings)
         ∙ devices_are _ devices)
-        ∙ parts_are _ parts)
+        ∙ parts_are known _ parts)
         ∙ texts_are _ texts
 
     rings_made : put_all (from_entries {R = name_cmp} (ring_entries old)) (map ring_of rings) ≡
@@ -367,25 +369,56 @@ module _ (old new : NamedRings) (p : AreRings old) (q : AreRings new) (grows : G
     joined : {E : Type 0} (f : RowChange → List E) (k r d e t : List E) →
         flat_map f (map DropDevice keys) ≡ k → flat_map f (map PutRing rings) ≡ r →
         flat_map f (map AddDevice devices) ≡ d
-        → flat_map f (map PutPart parts) ≡ e → flat_map f (map PutPublished texts) ≡ t →
+        → flat_map f (map (part_change known) parts) ≡ e → flat_map f (map PutPublished texts) ≡ t →
         flat_map f all ≡ (((k ++ r) ++ d) ++ e) ++ t
     joined f k r d e t is_k is_r is_d is_e is_t =
         flat_map-append f (((map DropDevice keys ++ map PutRing rings) ++ map AddDevice devices) ++
-        map PutPart parts) (map PutPublished texts)
+        map (part_change known) parts) (map PutPublished texts)
         ∙ ap (λ xs. xs ++ flat_map f (map PutPublished texts))
         (flat_map-append f ((map DropDevice keys ++ map PutRing rings) ++ map AddDevice devices)
-        (map PutPart parts)
-        ∙ ap (λ xs. xs ++ flat_map f (map PutPart parts)) (flat_map-append f (map DropDevice keys ++
+        (map (part_change known) parts)
+        ∙ ap (λ xs. xs ++ flat_map f (map (part_change known) parts)) (flat_map-append f (map DropDevice keys ++
         map PutRing rings) (map AddDevice devices)
         ∙ ap (λ xs. xs ++ flat_map f (map AddDevice devices))
         (flat_map-append f (map DropDevice keys) (map PutRing rings))))
         ∙ (λ i. (((is_k i ++ is_r i) ++ is_d i) ++ is_e i) ++ is_t i)
 
+    -- a change of a partition is one of two
+    part_none : {E : Type 0} (f : RowChange → List E) (z : PartRow) → ((r : PartRow) →
+        f (PutPart r) ≡ []) → ((r : PartRow) → f (AddPart r) ≡ []) → f (part_change known z) ≡ []
+    part_none f z put add = by (int_lt z.part known)
+      where
+        by : (old : Bool) → f (cond old (PutPart z) (AddPart z)) ≡ []
+        by true = put z
+        by false = add z
+
+    part_one_of : (z : PartRow) → part_written (part_change known z) ≡ part_of z ∷ []
+    part_one_of z = by (int_lt z.part known)
+      where
+        by : (old : Bool) → part_written (cond old (PutPart z) (AddPart z)) ≡ part_of z ∷ []
+        by true = refl
+        by false = refl
+
+    -- those from the first unknown partition on are added
+    adds : (rs : List PartRow) → flat_map part_added (map (part_change known) rs) ≡ parts_from known
+        (map part_of rs)
+    adds [] = refl
+    adds (r ∷ rs) = by (int_lt r.part known) (adds rs)
+      where
+        by : (old : Bool) → flat_map part_added (map (part_change known) rs) ≡ parts_from known
+            (map part_of rs) → part_added (cond old (PutPart r) (AddPart r)) ++
+            flat_map part_added (map (part_change known) rs) ≡ cond (not old)
+            (part_of r ∷ parts_from known (map part_of rs)) (parts_from known (map part_of rs))
+        by true later = later
+        by false later = ap (λ es. part_of r ∷ es) later
+
     rings_in : flat_map ring_written all ≡ map ring_of rings
     rings_in = joined ring_written [] (map ring_of rings) [] [] [] (picks_none ring_written
         DropDevice (λ z. refl) keys) (picks_one ring_written PutRing ring_of (λ z. refl) rings)
-        (picks_none ring_written AddDevice (λ z. refl) devices) (picks_none ring_written PutPart
-        (λ z. refl) parts) (picks_none ring_written PutPublished (λ z. refl) texts) ∙ simp
+        (picks_none ring_written AddDevice (λ z. refl) devices)
+        (picks_none ring_written (part_change known) (λ z. part_none ring_written z
+        (λ r. refl) (λ r. refl)) parts)
+        (picks_none ring_written PutPublished (λ z. refl) texts) ∙ simp
         append-nil
 
     devices_in : flat_map device_written all ≡ map device_of devices
@@ -393,33 +426,45 @@ module _ (old new : NamedRings) (p : AreRings old) (q : AreRings new) (grows : G
         (picks_none device_written DropDevice (λ z. refl) keys) (picks_none device_written PutRing
         (λ z. refl) rings)
         (picks_one device_written AddDevice device_of (λ z. refl) devices)
-        (picks_none device_written PutPart (λ z. refl) parts) (picks_none device_written
-        PutPublished (λ z. refl) texts) ∙ simp append-nil
+        (picks_none device_written (part_change known) (λ z. part_none device_written z
+        (λ r. refl) (λ r. refl)) parts)
+        (picks_none device_written PutPublished (λ z. refl) texts) ∙ simp append-nil
 
     dropped_in : flat_map device_dropped all ≡ map device_key keys
     dropped_in = joined device_dropped (map device_key keys) [] [] [] [] (picks_one device_dropped
         DropDevice device_key (λ z. refl) keys) (picks_none device_dropped PutRing (λ z. refl)
         rings)
-        (picks_none device_dropped AddDevice (λ z. refl) devices) (picks_none device_dropped PutPart
-        (λ z. refl) parts) (picks_none device_dropped PutPublished (λ z. refl) texts) ∙ simp
+        (picks_none device_dropped AddDevice (λ z. refl) devices)
+        (picks_none device_dropped (part_change known) (λ z. part_none device_dropped z
+        (λ r. refl) (λ r. refl)) parts)
+        (picks_none device_dropped PutPublished (λ z. refl) texts) ∙ simp
         append-nil
 
     parts_in : flat_map part_written all ≡ map part_of parts
     parts_in = joined part_written [] [] [] (map part_of parts) [] (picks_none part_written
         DropDevice (λ z. refl) keys) (picks_none part_written PutRing (λ z. refl) rings)
-        (picks_none part_written AddDevice (λ z. refl) devices) (picks_one part_written PutPart
-        part_of (λ z. refl) parts) (picks_none part_written PutPublished (λ z. refl) texts) ∙
+        (picks_none part_written AddDevice (λ z. refl) devices) (picks_one part_written
+        (part_change known) part_of part_one_of parts) (picks_none part_written PutPublished (λ z. refl) texts) ∙
         simp append-nil
+
+    added_in : flat_map part_added all ≡ parts_from known (map part_of parts)
+    added_in = joined part_added [] [] [] (parts_from known (map part_of parts)) []
+        (picks_none part_added DropDevice (λ z. refl) keys) (picks_none part_added PutRing
+        (λ z. refl) rings) (picks_none part_added AddDevice (λ z. refl) devices) (adds parts)
+        (picks_none part_added PutPublished (λ z. refl) texts) ∙ simp append-nil
 
     texts_in : flat_map text_written all ≡ map published_of texts
     texts_in = joined text_written [] [] [] [] (map published_of texts) (picks_none text_written
         DropDevice (λ z. refl) keys) (picks_none text_written PutRing (λ z. refl) rings)
-        (picks_none text_written AddDevice (λ z. refl) devices) (picks_none text_written PutPart
-        (λ z. refl) parts) (picks_one text_written PutPublished published_of (λ z. refl) texts)
+        (picks_none text_written AddDevice (λ z. refl) devices)
+        (picks_none text_written (part_change known) (λ z. part_none text_written z
+        (λ r. refl) (λ r. refl)) parts)
+        (picks_one text_written PutPublished published_of (λ z. refl) texts)
 
-    pub written : (content : RingContent) → content.state ≡ old →
+    pub written : parts_from known (map part_of parts) ≡ gone name_number_cmp (part_entries new)
+        (part_entries old) → (content : RingContent) → content.state ≡ old →
         WritesDifferences (contents_for content) (contents_for (with_state content new)) all
-    written content state = subst (λ s. WritesDifferences (contents_for (with_state content s))
+    written added content state = subst (λ s. WritesDifferences (contents_for (with_state content s))
         (contents_for (with_state content new)) all) (sym state) (record {
           rings = rings_in ∙ new_rings ∙ sym (new_are name_total name_exact is_same_ring ring_one
               ring_itself (ring_entries old) (ring_entries new) (rings_sorted new (up new q)));
@@ -431,6 +476,8 @@ module _ (old new : NamedRings) (p : AreRings old) (q : AreRings new) (grows : G
               (device_entries new) (device_entries old) (devices_sorted old p)));
           parts = parts_in ∙ new_parts ∙ sym (new_are name_number_total name_number_exact is_same_part
               part_one part_itself (part_entries old) (part_entries new) (parts_sorted new q));
+          added = added_in ∙ added ∙ sym (gone_are name_number_total name_number_exact
+              (part_entries new) (part_entries old) (parts_sorted new q));
           published = texts_in ∙ new_texts ∙ sym (new_are name_number_total name_number_exact
               is_same_text text_one same_bytes (published_entries old) (published_entries new)
               (texts_sorted new q));

@@ -11,7 +11,6 @@ use Rattle.store_model.specs.Entries.{name_number_cmp}
 use Rattle.store_model.specs.Contents.{Contents, meta_of, part_of}
 use Rattle.store_model.specs.Changes.{prepared}
 use Rattle.store_model.specs.declared.change.RowChange.{RowChange}
-use Rattle.store_model.specs.declared.change.RowChange.TheVariants.{PutPart}
 use Rattle.store_model.specs.declared.rows.PartRow.{PartRow}
 use Rattle.store_model.proofs.Keys.{name_total, name_exact, name_number_total, name_number_exact}
 use Rattle.store_model.proofs.Keys.{seat_total, seat_exact}
@@ -20,6 +19,7 @@ use Rattle.store_rows.specs.Stands.{AreRings, DecidedRequest, RingContent, conte
 use Rattle.store_rows.specs.Stands.{first_contents_for, meta_value, request_entries}
 use Rattle.store_rows.specs.Differences.{is_same_part}
 use Rattle.store_rows.specs.Judging.{AreRowsOf, meta_now}
+use Rattle.store_rows.specs.Inner.Written.{part_change}
 use Rattle.store_rows.specs.Inner.Sayings.{SayRings, contents_under}
 use Rattle.store_rows.specs.declared.judging.StoreRows.{StoreRows}
 use Rattle.store_rows.proofs.Maps.{made_of, put_again}
@@ -67,7 +67,7 @@ parts_filled rings held =
 
 -- the changes that write a row for each partition make a store of schema 1 one of schema 2
 pub migrated : (held : RingContent) → AreRings held.state →
-    (changes : List RowChange) (rs : List PartRow) → changes ≡ map PutPart rs →
+    (changes : List RowChange) (rs : List PartRow) → changes ≡ map (part_change (pos 0)) rs →
     map part_of rs ≡ part_entries held.state
     → prepared (first_contents_for held) changes (meta_now held.hour) ≡ contents_for held
 migrated held proper changes rs are of =
@@ -76,7 +76,7 @@ migrated held proper changes rs are of =
       meta = insert d.meta (pos 1) (meta_value 2 held.hour);
       seats = empty;
       moved = empty;
-    }) (parts_are (first_contents_for held) rs)
+    }) (parts_are (pos 0) (first_contents_for held) rs)
     ∙ (λ i. record (contents_for held) {
       meta = put_again int_cmp_total int_cmp-IsAntisymmetric (pos 1) (meta_value 1 held.hour)
           (meta_value 2 held.hour) i;
@@ -85,7 +85,7 @@ migrated held proper changes rs are of =
 
 abbrev Migrates : Bool → NamedRings → Option (Vec RowChange Global) → Type 0
 Migrates is_first rings migration = MatchOption migration (is_first ≡ false)
-    (λ changes. (is_first ≡ true) × ((rs : List PartRow) × (changes.items ≡ map PutPart rs) ×
+    (λ changes. (is_first ≡ true) × ((rs : List PartRow) × (changes.items ≡ map (part_change (pos 0)) rs) ×
     (map part_of rs ≡ part_entries rings)))
 
 pub found_in : (is_first : Bool) (held : RingContent) (c : Contents)

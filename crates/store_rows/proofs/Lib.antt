@@ -22,6 +22,7 @@ pub mod RingParts
 pub mod Parting
 pub mod Unchanged
 pub mod KeptTexts
+pub mod NewParts
 pub mod AtName
 pub mod FirstRings
 pub mod OneStore

@@ -10,7 +10,7 @@ use Rattle.ring_model.specs.Ring.{RingRecord, published_at}
 use Rattle.ring_model.specs.Rings.{ring_at}
 use Rattle.store_model.specs.declared.change.RowChange.{RowChange}
 use Rattle.store_model.specs.declared.change.RowChange.TheVariants.{DropDevice, PutRing}
-use Rattle.store_model.specs.declared.change.RowChange.TheVariants.{AddDevice, PutPart}
+use Rattle.store_model.specs.declared.change.RowChange.TheVariants.{AddDevice, PutPart, AddPart}
 use Rattle.store_model.specs.declared.change.RowChange.TheVariants.{PutPublished}
 use Rattle.store_model.specs.Entries as rows
 use Rattle.store_model.specs.Contents.{Contents, device_key, ring_of, device_of, part_of}
@@ -45,6 +45,7 @@ ring_written (PutRing row) = ring_of row ∷ []
 ring_written (DropDevice key) = []
 ring_written (AddDevice row) = []
 ring_written (PutPart row) = []
+ring_written (AddPart row) = []
 ring_written (PutPublished row) = []
 
 -- The row of `device` that a change writes, if it does.
@@ -53,6 +54,7 @@ device_written (AddDevice row) = device_of row ∷ []
 device_written (PutRing row) = []
 device_written (DropDevice key) = []
 device_written (PutPart row) = []
+device_written (AddPart row) = []
 device_written (PutPublished row) = []
 
 -- The key of the row of `device` that a change takes out, if it does.
@@ -61,15 +63,26 @@ device_dropped (DropDevice key) = device_key key ∷ []
 device_dropped (PutRing row) = []
 device_dropped (AddDevice row) = []
 device_dropped (PutPart row) = []
+device_dropped (AddPart row) = []
 device_dropped (PutPublished row) = []
 
 -- The row of `part` that a change writes, if it does.
 abbrev pub part_written : RowChange → List (rows.NameNumber × rows.Part)
 part_written (PutPart row) = part_of row ∷ []
+part_written (AddPart row) = part_of row ∷ []
 part_written (PutRing row) = []
 part_written (DropDevice key) = []
 part_written (AddDevice row) = []
 part_written (PutPublished row) = []
+
+-- The row of `part` that a change adds and does not put over another, if it does.
+abbrev pub part_added : RowChange → List (rows.NameNumber × rows.Part)
+part_added (AddPart row) = part_of row ∷ []
+part_added (PutPart row) = []
+part_added (PutRing row) = []
+part_added (DropDevice key) = []
+part_added (AddDevice row) = []
+part_added (PutPublished row) = []
 
 -- The row of `published` that a change writes, if it does.
 abbrev pub text_written : RowChange → List (rows.NameNumber × List ℕ)
@@ -78,6 +91,7 @@ text_written (PutRing row) = []
 text_written (DropDevice key) = []
 text_written (AddDevice row) = []
 text_written (PutPart row) = []
+text_written (AddPart row) = []
 
 -- ---- which rows differ
 
@@ -110,10 +124,10 @@ abbrev pub new_entries : {K V : Type 0} {R : K → K → Ordering} → (V → V 
     FinMap R V → List (K × V)
 new_entries same old new = filter (λ e. not (has_same same (get old e.0) e.1)) (entries new)
 
--- The entries of the old map whose keys the new one does not have.
+-- The entries of a map whose keys another does not have.
 abbrev pub gone_entries : {K V : Type 0} {R : K → K → Ordering} → FinMap R V → FinMap R V →
     List (K × V)
-gone_entries old new = filter (λ e. not (contains_key new e.0)) (entries old)
+gone_entries one other = filter (λ e. not (contains_key other e.0)) (entries one)
 
 -- At how many keys two maps differ: at those where the new one has another entry than the old one,
 -- or the old one has none, and at those where the new one has none.
@@ -130,13 +144,14 @@ differing_rows old new =
 
 -- Each row that these changes write is one that the new contents have and the old ones have not,
 -- and all of these are written. The rows of devices that are there no more, or are others now, are
--- taken out.
+-- taken out. The rows of partitions that are added are those of partitions that had none.
 pub record WritesDifferences (old new : Contents) (changes : List RowChange) : Type 0 where
   pub rings : flat_map ring_written changes ≡ new_entries is_same_ring old.rings new.rings
   pub devices : flat_map device_written changes ≡ new_entries is_same_device old.devices new.devices
   pub dropped : flat_map device_dropped changes ≡ map (λ e. e.0) (new_entries is_same_device
       new.devices old.devices)
   pub parts : flat_map part_written changes ≡ new_entries is_same_part old.parts new.parts
+  pub added : flat_map part_added changes ≡ gone_entries new.parts old.parts
   pub published : flat_map text_written changes ≡ new_entries is_same_text old.published
       new.published
 

@@ -2,8 +2,8 @@
 ghost use Rattle.std.specs.Prelude.{◌≡◌, ◌++◌, IfOk, OnOk, map};
 ghost use Rattle.store_model.specs.Contents.{device_key, device_of};
 ghost use Rattle.store_model.specs.declared.change.RowChange.TheVariants.{AddDevice, DropDevice};
-ghost use Rattle.store_model.specs.declared.change.RowChange.TheVariants.{PutPart, PutPublished};
-ghost use Rattle.store_model.specs.declared.change.RowChange.TheVariants.{PutRing};
+ghost use Rattle.store_model.specs.declared.change.RowChange.TheVariants.{PutPublished, PutRing};
+ghost use Rattle.store_rows.specs.Inner.Written.{part_change};
 
 use crate::differences::{count_gone, devices_of};
 use crate::proper::rings_are_proper;
@@ -59,12 +59,28 @@ fn push_devices(into: &mut Vec<RowChange>, rows: Vec<DeviceRow>) -> Result<(), A
     Ok(())
 }
 
-/// Adds a change that puts each partition of rows.
-pub(crate) fn push_parts(into: &mut Vec<RowChange>, rows: Vec<PartRow>) -> Result<(), AllocError>
-    ensures { OnOk result (into.new.items ≡ into.old.items ++ map PutPart rows.items) }
+/// The change that writes the row of a partition, where those below this number have a row already.
+fn part_change(row: PartRow, known: i64) -> RowChange
+    ensures { result ≡ part_change known row }
+{
+    if row.part < known {
+        RowChange::PutPart(row)
+    } else {
+        RowChange::AddPart(row)
+    }
+}
+
+/// Adds a change that writes each partition of rows, where those below this number have a row
+/// already.
+pub(crate) fn push_parts(
+    into: &mut Vec<RowChange>,
+    rows: Vec<PartRow>,
+    known: i64,
+) -> Result<(), AllocError>
+    ensures { OnOk result (into.new.items ≡ into.old.items ++ map (part_change known) rows.items) }
 {
     for row in rows {
-        into.push(RowChange::PutPart(row))?;
+        into.push(part_change(row, known))?;
     }
     Ok(())
 }
@@ -87,13 +103,14 @@ fn all_changes(
 ) -> Result<Vec<RowChange>, AllocError>
     ensures { IfOk result (λ all. all.items ≡
         (((map DropDevice keys.items ++ map PutRing rows.rings.items)
-        ++ map AddDevice rows.devices.items) ++ map PutPart rows.parts.items)
+        ++ map AddDevice rows.devices.items) ++ map (part_change rows.known) rows.parts.items)
         ++ map PutPublished rows.texts.items) }
 {
     let WrittenRows {
         dropped: _,
         rings,
         devices,
+        known,
         parts,
         texts,
     } = rows;
@@ -101,7 +118,7 @@ fn all_changes(
     push_drops(&mut all, keys)?;
     push_rings(&mut all, rings)?;
     push_devices(&mut all, devices)?;
-    push_parts(&mut all, parts)?;
+    push_parts(&mut all, parts, known)?;
     push_texts(&mut all, texts)?;
     Ok(all)
 }
@@ -154,7 +171,8 @@ impl Change {
     /// was, and no ring, no partition and no published text went. So no other ring is looked at, and
     /// no text that was published before.
     ///
-    /// Each row that differs is written once, and no row that stays.
+    /// Each row that differs is written once, and no row that stays. A partition that had no row is
+    /// added, so that the store looks for none to put it over.
     pub fn between(
         alloc: Global,
         name: &RingName,

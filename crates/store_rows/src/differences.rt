@@ -1,7 +1,7 @@
 //! The rows that a ring has and an old ring has not.
 ghost use Rattle.std.specs.Prelude.{[], ◌∷◌, ◌≡◌, ◌++◌, ◌*◌, ◌<◌, ◌≤◌, ◌==◌, ◌↔◌, ℕ, IfOk, IfSome};
 ghost use Rattle.std.specs.Prelude.{IsTrue, List, OnOk, count_by, drop, is_none, length, find, map};
-ghost use Rattle.std.specs.Prelude.{slice_get, slice_index_or, take, None, IsSomeAnd};
+ghost use Rattle.std.specs.Prelude.{slice_get, slice_index_or, take, None, IsSomeAnd, pos};
 ghost use Rattle.std.specs.Option.{option_copied, option_map};
 ghost use Rattle.std.specs.Rc.{rc_str_bytes};
 ghost use Rattle.ring_model.specs.Ring.{partition_count};
@@ -15,11 +15,12 @@ ghost use Rattle.store_rows.specs.Inner.Lacking.{Succeeds, added_ring, device_en
 ghost use Rattle.store_rows.specs.Inner.Lacking.{device_in, device_value, is_kept_text, lacking};
 ghost use Rattle.store_rows.specs.Inner.Lacking.{part_at, part_in, part_value, ring_value, rows_at};
 ghost use Rattle.store_rows.specs.Inner.Lacking.{lacking_texts, text_entries_of, text_in};
+ghost use Rattle.store_rows.specs.Inner.Written.{known_partitions};
 ghost use Rattle.store_rows.specs.RingRows.{device_entry, part_entries_of, published_entry};
 
 use crate::ring_rows::{device_row, part_row, partition_seats, published_row, ring_row};
 use ring_model::Ring;
-use ring_words::{Device, DeviceId, Hour, RingName};
+use ring_words::{Device, DeviceId, Hour, RingName, partition_count};
 use std::alloc::{AllocError, Global};
 use std::rc::RcStr;
 use store_model::{DeviceRow, PartRow, PublishedRow, RingRow};
@@ -263,6 +264,16 @@ fn push_new_part(
     }
     into.push(part_row(alloc, name, ring, partition)?)?;
     Ok(())
+}
+
+/// How many partitions a ring has, none where there is no ring.
+pub(crate) fn known_partitions(ring: Option<&Ring>) -> i64
+    ensures { result ≡ pos (known_partitions (option_map (λ ring. ring.now) ring.entry)) }
+{
+    match ring {
+        Some(ring) => partition_count(ring.power()) as i64,
+        None => 0,
+    }
 }
 
 /// Whether two lists of last moves are the same.

@@ -7,7 +7,7 @@ ghost use Rattle.store_rows.specs.Inner.Found.{ReadsRow};
 ghost use Rattle.std.specs.Prelude.{map, pos, true};
 ghost use Rattle.ring_words.specs.Limits.{long_count};
 ghost use Rattle.store_model.specs.Contents.{meta_of, part_of, Contents};
-ghost use Rattle.store_model.specs.declared.change.RowChange.TheVariants.{PutPart};
+ghost use Rattle.store_rows.specs.Inner.Written.{part_change};
 ghost use Rattle.store_model.specs.declared.rows.PartRow.{PartRow};
 ghost use Rattle.store_rows.specs.Stands.{meta_value};
 ghost use Rattle.store_rows.specs.RingRows.{part_entries};
@@ -170,14 +170,14 @@ fn migration(
     rings: &Rings,
 ) -> Result<Option<Vec<RowChange>>, AllocError>
     ensures { IfOk result (λ migration. MatchOption migration (is_first ≡ false)
-        (λ changes. (is_first ≡ true) × ((rows : List PartRow) × (changes.items ≡ map PutPart rows) × (map part_of rows ≡ part_entries rings.now)))) }
+        (λ changes. (is_first ≡ true) × ((rows : List PartRow) × (changes.items ≡ map (part_change (pos 0)) rows) × (map part_of rows ≡ part_entries rings.now)))) }
 {
     if !is_first {
         return Ok(None);
     }
     let mut changes = Vec::new(alloc);
     let parts = part_rows(alloc, rings)?;
-    push_parts(&mut changes, parts)?;
+    push_parts(&mut changes, parts, 0)?;
     Ok(Some(changes))
 }
 

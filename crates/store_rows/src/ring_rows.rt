@@ -62,7 +62,7 @@ pub(crate) fn published_row(
     Ok(PublishedRow {
         ring: String::from_str(alloc, name.as_str())?,
         version: i64::from(text.0),
-        body: String::from_str(alloc, text.1.as_str())?,
+        body: text.1.clone()?,
     })
 }
 

@@ -69,9 +69,9 @@ impl Readable for PublishedRow {
 
     ghost stands = { StandsForText };
 
-    fn read(&self, alloc: Global) -> Result<(u32, RcStr), SpellingFault> {
+    fn read(&self, _alloc: Global) -> Result<(u32, RcStr), SpellingFault> {
         let version = number32(self.version)?;
-        Ok((version, RcStr::from_str(alloc, self.body.as_str())?))
+        Ok((version, self.body.clone()?))
     }
 }
 

@@ -1,7 +1,8 @@
 //! The rows that a change writes or takes out.
 use crate::all_rows::{device_rows, part_rows, published_rows, ring_rows};
 use crate::differences::{
-    devices_of, push_changed_devices, push_dropped_devices, push_new_ring, push_parts, push_texts,
+    devices_of, known_partitions, push_changed_devices, push_dropped_devices, push_new_ring,
+    push_parts, push_texts,
 };
 use ring_model::{Ring, Rings};
 use ring_words::RingName;
@@ -15,6 +16,8 @@ pub(crate) struct WrittenRows {
     pub(crate) dropped: Vec<DeviceRow>,
     pub(crate) rings: Vec<RingRow>,
     pub(crate) devices: Vec<DeviceRow>,
+    /// Partitions below this number have a row in the old rings, the others have none.
+    pub(crate) known: i64,
     pub(crate) parts: Vec<PartRow>,
     pub(crate) texts: Vec<PublishedRow>,
 }
@@ -32,6 +35,7 @@ impl WrittenRows {
             dropped: Vec::new(alloc),
             rings: Vec::new(alloc),
             devices: Vec::new(alloc),
+            known: 0,
             parts: Vec::new(alloc),
             texts: Vec::new(alloc),
         }
@@ -51,6 +55,7 @@ impl WrittenRows {
         push_dropped_devices(alloc, &mut rows.dropped, name, ring.devices(), old)?;
         push_new_ring(alloc, &mut rows.rings, name, old, ring)?;
         push_changed_devices(alloc, &mut rows.devices, name, devices_of(old), ring)?;
+        rows.known = known_partitions(old);
         push_parts(alloc, &mut rows.parts, name, old, ring)?;
         push_texts(alloc, &mut rows.texts, name, old, ring)?;
         Ok(rows)
@@ -64,6 +69,7 @@ impl WrittenRows {
             dropped: Vec::new(alloc),
             rings: ring_rows(alloc, rings)?,
             devices: device_rows(alloc, rings)?,
+            known: 0,
             parts: part_rows(alloc, rings)?,
             texts: published_rows(alloc, rings)?,
         })

@@ -14,7 +14,7 @@ ghost use Rattle.store_tables.specs.Store.{begun_contents};
 
 use crate::creating::create_missing;
 use crate::writes::{
-    add_device, add_request, clear_moved, clear_seats, drop_device, put, put_published,
+    Replaces, add_device, add_request, clear_moved, clear_seats, drop_device, put, put_published,
 };
 use sqlite::{Alter, Connection, Error, Transaction};
 use store_model::{MetaRow, RequestRow, RowChange};
@@ -33,6 +33,7 @@ fn apply_one<S: Alter>(tx: &mut Transaction<'_, S>, change: &RowChange) -> Resul
         RowChange::PutRing(row) => put(tx, row),
         RowChange::AddDevice(row) => add_device(tx, row),
         RowChange::PutPart(row) => put(tx, row),
+        RowChange::AddPart(row) => row.add(tx),
         RowChange::PutPublished(row) => put_published(tx, row),
     }
 }

@@ -11,6 +11,7 @@ ghost use Rattle.store_tables.specs.Store.{ReadsTables, SeesStore};
 
 use sqlite::{Alter, Connection, Error, Row, params};
 use std::alloc::Global;
+use std::rc::RcStr;
 use store_model::{
     DeviceRow, KeptRequest, MetaRow, MovedRow, PartRow, PublishedRow, RequestRow, RingRow, SeatRow,
 };
@@ -41,7 +42,7 @@ pub trait Listed: Sized {
         ensures { Lists result.now layout listed };
 
     /// The row, from its columns.
-    fn read(row: &Row) -> Result<Self, Error>
+    fn read(alloc: Global, row: &Row) -> Result<Self, Error>
         ensures entry { IfOk result (λ it. shown_as layout row.now ≡ entry it) }
         ensures unfailed { IfErr result (λ e. tells_failure e ≡ false) };
 }
@@ -68,7 +69,7 @@ impl Listed for MetaRow {
         "SELECT * FROM meta ORDER BY one"
     }
 
-    fn read(row: &Row) -> Result<MetaRow, Error> {
+    fn read(_alloc: Global, row: &Row) -> Result<MetaRow, Error> {
         Ok(MetaRow {
             one: row.get(0)?,
             schema: row.get(1)?,
@@ -99,7 +100,7 @@ impl Listed for RingRow {
         "SELECT * FROM ring ORDER BY name"
     }
 
-    fn read(row: &Row) -> Result<RingRow, Error> {
+    fn read(_alloc: Global, row: &Row) -> Result<RingRow, Error> {
         Ok(RingRow {
             name: row.get(0)?,
             power: row.get(1)?,
@@ -132,7 +133,7 @@ impl Listed for DeviceRow {
         "SELECT * FROM device ORDER BY ring, id"
     }
 
-    fn read(row: &Row) -> Result<DeviceRow, Error> {
+    fn read(_alloc: Global, row: &Row) -> Result<DeviceRow, Error> {
         Ok(DeviceRow {
             ring: row.get(0)?,
             id: row.get(1)?,
@@ -169,7 +170,7 @@ impl Listed for SeatRow {
         "SELECT * FROM seat ORDER BY ring, part, replica"
     }
 
-    fn read(row: &Row) -> Result<SeatRow, Error> {
+    fn read(_alloc: Global, row: &Row) -> Result<SeatRow, Error> {
         Ok(SeatRow {
             ring: row.get(0)?,
             part: row.get(1)?,
@@ -201,7 +202,7 @@ impl Listed for MovedRow {
         "SELECT * FROM moved ORDER BY ring, part"
     }
 
-    fn read(row: &Row) -> Result<MovedRow, Error> {
+    fn read(_alloc: Global, row: &Row) -> Result<MovedRow, Error> {
         Ok(MovedRow {
             ring: row.get(0)?,
             part: row.get(1)?,
@@ -232,11 +233,12 @@ impl Listed for PublishedRow {
         "SELECT * FROM published ORDER BY ring, version"
     }
 
-    fn read(row: &Row) -> Result<PublishedRow, Error> {
+    fn read(alloc: Global, row: &Row) -> Result<PublishedRow, Error> {
+        let body: String = row.get(2)?;
         Ok(PublishedRow {
             ring: row.get(0)?,
             version: row.get(1)?,
-            body: row.get(2)?,
+            body: RcStr::from_str(alloc, body.as_str())?,
         })
     }
 }
@@ -262,7 +264,7 @@ impl Listed for RequestRow {
         "SELECT * FROM request ORDER BY caller, number"
     }
 
-    fn read(row: &Row) -> Result<RequestRow, Error> {
+    fn read(_alloc: Global, row: &Row) -> Result<RequestRow, Error> {
         Ok(RequestRow {
             caller: row.get(0)?,
             number: row.get(1)?,
@@ -295,7 +297,7 @@ impl Listed for PartRow {
         "SELECT * FROM part ORDER BY ring, part"
     }
 
-    fn read(row: &Row) -> Result<PartRow, Error> {
+    fn read(_alloc: Global, row: &Row) -> Result<PartRow, Error> {
         Ok(PartRow {
             ring: row.get(0)?,
             part: row.get(1)?,
@@ -305,14 +307,16 @@ impl Listed for PartRow {
     }
 }
 
-/// Rows of a table, each from its columns.
-fn rows_in<T: Listed + Drop>(alloc: Global, shown: &[Row]) -> Result<Vec<T>, Error>
+/// Rows of a table, each from its columns. What was shown of a row is let go once it is read, so
+/// that no text is held twice.
+fn rows_in<T: Listed + Drop>(alloc: Global, shown: Vec<Row>) -> Result<Vec<T>, Error>
     ensures unfailed { IfErr result (λ e. tells_failure e ≡ false) }
-    ensures rows { IfOk result (λ rows. map T.entry rows.items ≡ map (shown_as T.layout) shown.now) }
+    ensures rows { IfOk result (λ rows. map T.entry rows.items ≡ map (shown_as T.layout)
+        shown.items) }
 {
     let mut rows = Vec::new(alloc);
     'rows: for row in shown {
-        rows.push(T::read(row)?)?;
+        rows.push(T::read(alloc, &row)?)?;
     }
     Ok(rows)
 }
@@ -329,7 +333,7 @@ pub fn all_rows<T: Listed + Drop, S: Alter>(
     ensures cause { FailsForCause (state S.Store conn.old) (state S.Store conn.new) result }
 {
     let shown = conn.query_all(T::query(), &[])?;
-    rows_in(alloc, &shown)
+    rows_in(alloc, shown)
 }
 
 /// What a row of the four columns tells of a request.

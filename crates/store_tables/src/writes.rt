@@ -212,7 +212,7 @@ pub(crate) fn put_published<S: Alter>(
     run(
         tx,
         "INSERT OR REPLACE INTO published VALUES (?1, ?2, ?3)",
-        params![&row.ring, &row.version, &row.body],
+        params![&row.ring, &row.version, row.body.as_str()],
     )
 }
 

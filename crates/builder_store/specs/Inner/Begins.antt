@@ -16,12 +16,13 @@ use Rattle.builder_store.specs.Keepers.{content_of_keeper}
 use Rattle.builder_store.specs.Left.{IsMadeOfConnection}
 use Rattle.builder_store.specs.Making.{IsFailure, IsJudgement, rings_alone}
 use Rattle.builder_store.specs.Opening.{AreDeclared, IsMadeOf, IsOpenedAs, KeepsRows, Stands}
+use Rattle.builder_store.specs.Opening.{TellsFault}
 use Rattle.builder_store.specs.Standing.{StandsAlone}
 use Rattle.builder_store.specs.Inner.Opened.{IsFresh}
 use Rattle.builder_store.specs.declared.fault.MakeFault.{MakeFault}
 use Rattle.builder_store.specs.declared.fault.MakeFault.TheVariants.{Taken}
 use Rattle.builder_store.specs.declared.fault.OpenFault.{OpenFault}
-use Rattle.builder_store.specs.declared.fault.OpenFault.TheVariants.{BadRows, BadTables, Store}
+use Rattle.builder_store.specs.declared.fault.OpenFault.TheVariants.{BadRows, BadTables}
 use Rattle.builder_store.specs.declared.keeper.SqlKeeper.{SqlKeeper}
 use Rattle.store_rows.specs.Stands.{RingContent}
 
@@ -56,8 +57,8 @@ module _ {S : Type 0} (g : Ghosts S) where
         → IsOpenedAs (state g conn).committed.trees content → ⊥
     pub tables : why ≡ BadTables → HasCleanDisk (state g left) → (made : ℕ)
         → AreDeclared made (state g conn).committed.trees → ⊥
-    -- The store is told to have failed only where its disk failed or refused.
-    pub failed : why ≡ Store → HasCleanDisk (state g left)
+    -- The store is told to have failed or to be damaged only where its disk met a fault.
+    pub failed : TellsFault why → HasCleanDisk (state g left)
         → MoreFaults (state g conn).faults (state g left).faults
     -- A crash leaves what was committed, or what the opening made of it; where the rows are refused,
     -- no row of it is another.
@@ -85,7 +86,7 @@ module _ {S : Type 0} (g : Ghosts S) where
     pub of_connection : IsMadeOfConnection why
     pub taken : why ≡ Taken → HasCleanDisk (state g left)
         → AreDeclared 0 (state g conn).committed.trees → ⊥
-    -- The store is told to have failed only where its disk failed or refused.
+    -- The store is told to have failed or to be damaged only where its disk met a fault.
     pub failed : IsFailure why → HasCleanDisk (state g left)
         → MoreFaults (state g conn).faults (state g left).faults
     -- A crash leaves what was committed, or what was to be made; where something is there already,

@@ -7,7 +7,9 @@ use Rattle.store_tables.specs.Failing.{tells_failure}
 use Rattle.builder_store.specs.declared.fault.OpenFault.{OpenFault}
 use Rattle.builder_store.specs.declared.fault.OpenFault.TheVariants as opening
 
--- Memory was wanted, its disk failed or it was shut, or a statement was refused.
+-- Memory was wanted, its disk gave back what is no page, failed or was shut, or a statement was
+-- refused.
 abbrev pub opening_fault : Error → OpenFault
 opening_fault (SqliteFailure code.OutOfMemory) = opening.NoMemory
+opening_fault (SqliteFailure code.DatabaseCorrupt) = opening.Damaged
 opening_fault error = cond (tells_failure error) opening.Store opening.Refused

@@ -1,16 +1,15 @@
 -- What the steps of an opening find and leave.
-use Rattle.std.specs.Prelude.{◌≡◌, Err, IfOk, IsTrue, OnOk, Result, length}
+use Rattle.std.specs.Prelude.{◌≡◌, IfErr, IfOk, IsTrue, OnOk, Result, length}
 use Rattle.sqlite_trees.specs.Tree.{Trees}
 use Rattle.sqlite.specs.State.{HasCleanDisk, IsLive, State, Survives}
 use Rattle.store_model.specs.Contents.{Contents}
 use Rattle.store_tables.specs.Failing.{HasFailed}
 use Rattle.store_tables.specs.Store.{AreOrdered}
 use Rattle.store_rows.specs.Stands.{RingContent}
-use Rattle.builder_store.specs.Opening.{IsOpenedAs, OpensAs, Stands}
+use Rattle.builder_store.specs.Opening.{IsOpenedAs, OpensAs, Stands, TellsFault}
 use Rattle.builder_store.specs.Inner.Tables.{HasTables}
 use Rattle.builder_store.specs.declared.reading.Opened.{Opened}
 use Rattle.builder_store.specs.declared.fault.OpenFault.{OpenFault}
-use Rattle.builder_store.specs.declared.fault.OpenFault.TheVariants.{Store}
 
 -- The tables stand for the content that is found in these contents.
 abbrev pub LeadsInStore : Contents → Trees → Type 0
@@ -33,10 +32,11 @@ pub record OpensRows (c : Contents) (old new : State) (result : Result Opened Op
     pub found : HasCleanDisk new → IfOk result (LeadsTo c new.committed.trees)
     pub survives : Survives old new (LeadsInStore c)
 
--- A step is told to have failed for the store only where its disk failed or refused, or where it was
--- shut before.
+-- A step is told to have failed for the disk only where that failed or refused or gave back what is
+-- no page, or where the store was shut before.
 abbrev pub FailsOnlyFor : State → State → {A : Type 0} → Result A OpenFault → Type 0
-FailsOnlyFor old new result = HasCleanDisk new → result ≡ Err Store → HasFailed old new
+FailsOnlyFor old new result = HasCleanDisk new → IfErr result (λ why. TellsFault why
+    → HasFailed old new)
 
 -- What is known of a connection that was made over a store.
 pub record IsFresh (s : State) : Type 0 where

@@ -2,11 +2,11 @@
 use Rattle.std.specs.Prelude.{List, ◌++◌, [], ◌∷◌, map, false}
 use Rattle.clap.specs.Simple.{App, Shape, on_top}
 use Rattle.clap.specs.Walk.{Rule}
-use Rattle.command_line.specs.Shapes.{flag, named, needed, optional, program, repeated}
+use Rattle.command_line.specs.Shapes.{flag, named, needed, optional, possible, program, repeated}
 use Rattle.command_line.specs.Shapes.{several}
 use Rattle.command_line.specs.declared.commands.Argument.{Argument}
 use Rattle.command_line.specs.declared.commands.Argument.TheVariants.{Flag, Named, Needed, Optional}
-use Rattle.command_line.specs.declared.commands.Argument.TheVariants.{Repeated, Several}
+use Rattle.command_line.specs.declared.commands.Argument.TheVariants.{Possible, Repeated, Several}
 use Rattle.command_line.specs.declared.commands.Program.{Program}
 
 -- The command has these arguments, behind those that it had.
@@ -17,6 +17,7 @@ with_rules app rules = on_top (λ shape. record shape { rules = shape.rules ++ r
 abbrev pub rule_told : Argument → Rule
 rule_told (Needed name) = needed name.now
 rule_told (Several name) = several name.now
+rule_told (Possible name) = possible name.now
 rule_told (Optional name) = optional name.now
 rule_told (Named name) = named name.now
 rule_told (Repeated name) = repeated name.now

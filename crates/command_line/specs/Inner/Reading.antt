@@ -3,9 +3,10 @@ use Rattle.std.specs.Prelude.{◌≡◌, ℕ, List, Option, Some, None, codes}
 use Rattle.clap.specs.Walk.{Row, Text}
 use Rattle.std.specs.Borrow.{Bor}
 use Rattle.ring_words.specs.Limits.{greatest_short}
-use Rattle.command_line.specs.Tasks.{HasArguments, HasFormat, HasHour, HasNumber, HasText}
-use Rattle.command_line.specs.Tasks.{program_of}
+use Rattle.command_line.specs.Tasks.{HasArguments, HasFormat, HasHour, HasNumber, HasShown, HasText}
+use Rattle.command_line.specs.Tasks.{program_of, shown_program}
 use Rattle.ring_reads.specs.declared.reads.Format.{Format}
+use Rattle.command_line.specs.declared.task.Shown.{Shown}
 use Rattle.command_line.specs.declared.task.Task.{Task}
 
 -- The task is one of this program with these arguments; there is None where no task is.
@@ -36,6 +37,12 @@ IsPlace rows None = (file : Bor Text) (port : ℕ) → HasText rows (codes "FILE
 abbrev pub IsFormat : List Row → Option Format → Type 0
 IsFormat rows (Some written) = HasFormat rows written
 IsFormat rows None = (written : Format) → HasFormat rows written → ⊥
+
+-- This is to be shown by the program of this name; None stands for arguments that name nothing that
+-- it shows.
+abbrev pub IsToShow : Text → List Row → Option Shown → Type 0
+IsToShow name rows (Some what) = (shown_program what ≡ name) × HasShown rows what
+IsToShow name rows None = (what : Shown) → shown_program what ≡ name → HasShown rows what → ⊥
 
 -- These are the hours that a moved partition stays and the hour of founding, if that is given; None
 -- stands for arguments without them, or that are none.

@@ -13,7 +13,7 @@ module _ {K C : Type 0} (kept : Keeping K)
   -- a request is answered by this text, and one front becomes the other
   abbrev pub HttpAnswers : Front → Ask → List ℕ → Front → Type 0
   HttpAnswers old ask text new =
-      (asked : Asked) × IsHttpAnswer tells prefix suffix (Found kept old.1
+      (asked : Asked) × IsHttpAnswer tells prefix suffix (λ hour. Found kept hour old.1
       new.1) old.0 ask asked text new.0
       × Made kept old.1 new.1 asked
 

@@ -1,5 +1,5 @@
 -- The routes as a router holds them.
-use Rattle.std.specs.Prelude.{◌≡◌, ◌++◌, ℕ, List, [], ◌∷◌, None, Result, Ok, Err, codes, ⊤}
+use Rattle.std.specs.Prelude.{◌≡◌, ◌≢◌, ◌++◌, ℕ, List, [], ◌∷◌, None, Result, Ok, Err, codes, ⊤}
 use Rattle.matchit.specs.Order.{placed}
 use Rattle.matchit.specs.Route.{Scan}
 use Rattle.matchit.specs.Router.{RouteOf, nearest, route_from}
@@ -10,8 +10,9 @@ use Rattle.http_routes.specs.Routes.{IsPathSegment, ring_path}
 use Rattle.http_routes.specs.declared.routes.Endpoint.TheVariants as endpoint
 use Rattle.http_routes.specs.declared.table.TableRow.{TableRow}
 use Rattle.http_routes.specs.declared.table.TableRow.TheVariants.{Requests, Import, Nodes, Text}
-use Rattle.http_routes.specs.declared.table.TableRow.TheVariants.{Word}
+use Rattle.http_routes.specs.declared.table.TableRow.TheVariants.{Ring, Rings, Status, Word}
 use Rattle.ring_reads.specs.Reads.{plain_word}
+use Rattle.ring_reads.specs.declared.plain.Plain.TheVariants as plain
 
 -- the token of a parameter
 abbrev pub segment_token : ℕ
@@ -41,12 +42,23 @@ abbrev pub word_row : List ℕ × RouteOf TableRow
 word_row = route_row (codes "/v1/rings/" ++ segment_token ∷ 47 ∷ segment_token ∷ [])
     (codes "/v1/rings/{ring}/{word}") ((11, 15) ∷ (18, 22) ∷ []) Word
 
+-- the route of a whole ring
+abbrev pub whole_row : List ℕ × RouteOf TableRow
+whole_row = ring_row [] Ring
+
 abbrev pub requests_row : List ℕ × RouteOf TableRow
 requests_row = route_row (codes "/v1/requests") (codes "/v1/requests") [] Requests
 
+abbrev pub rings_row : List ℕ × RouteOf TableRow
+rings_row = route_row (codes "/v1/rings") (codes "/v1/rings") [] Rings
+
+abbrev pub status_row : List ℕ × RouteOf TableRow
+status_row = route_row (codes "/v1/status") (codes "/v1/status") [] Status
+
 -- the routes, in the order of a router
 abbrev pub all_routes : RowsOf (RouteOf TableRow)
-all_routes = import_row ∷ requests_row ∷ ring_row (codes "/nodes") Nodes ∷ text_row ∷ word_row ∷ []
+all_routes = import_row ∷ requests_row ∷ ring_row (codes "/nodes") Nodes ∷ text_row ∷ word_row ∷
+    whole_row ∷ rings_row ∷ status_row ∷ []
 
 -- The path has this row, with these segments as they stand in it.
 abbrev pub HasRow : List ℕ → TableRow → List ℕ → List ℕ → List ℕ → Type 0
@@ -58,8 +70,11 @@ HasRow path Nodes ring version word = (path ≡ ring_path ring ++ codes "/nodes"
     IsPathSegment ring × (version ≡ [])
 HasRow path Text ring version word = (path ≡ ring_path ring ++ codes "/text/" ++ version) ×
     IsPathSegment ring × IsPathSegment version
+HasRow path Ring ring version word = (path ≡ ring_path ring) × IsPathSegment ring × (version ≡ [])
 HasRow path Word ring version word = (path ≡ ring_path ring ++ 47 ∷ word) × IsPathSegment ring ×
     (version ≡ [])
+HasRow path Rings ring version word = (path ≡ codes "/v1/rings") × (ring ≡ []) × (version ≡ [])
+HasRow path Status ring version word = (path ≡ codes "/v1/status") × (ring ≡ []) × (version ≡ [])
 
 -- The row leads to this endpoint where its segment for a word is this one.
 abbrev pub RowLeadsTo : TableRow → List ℕ → Endpoint → Type 0
@@ -67,7 +82,12 @@ RowLeadsTo Requests word endpoint.Requests = ⊤
 RowLeadsTo Import word endpoint.Import = ⊤
 RowLeadsTo Nodes word endpoint.Nodes = ⊤
 RowLeadsTo Text word endpoint.Text = ⊤
-RowLeadsTo Word word (endpoint.Word plain) = word ≡ plain_word plain
+RowLeadsTo Ring word (endpoint.Word asked) = asked ≡ plain.Ring
+RowLeadsTo Word word (endpoint.Word asked) = (asked ≢ plain.Ring) × (word ≡ plain_word asked)
+RowLeadsTo Word word endpoint.Preview = word ≡ codes "preview"
+RowLeadsTo Word word endpoint.Moves = word ≡ codes "moves"
+RowLeadsTo Rings word endpoint.Rings = ⊤
+RowLeadsTo Status word endpoint.Status = ⊤
 RowLeadsTo _ word _ = ⊥
 
 -- A text that reads as a route and conflicts with none of the rows.

@@ -10,7 +10,7 @@ module _ {K : Type 0} (kept : Keeping K) where
   -- a line is answered by this text, and one book becomes the other
   abbrev pub Answers : Book → List ℕ → List ℕ → Book → Type 0
   Answers old line text new =
-      (asked : Asked) × IsAnswer (Found kept old new) line asked text ×
+      (asked : Asked) × IsAnswer (Found kept 0 old new) line asked text ×
       Made kept old new asked
 
   -- the answer to a line is lost for want of memory, and one book becomes the other

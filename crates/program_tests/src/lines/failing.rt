@@ -60,8 +60,12 @@ impl<K: Keeper<RingMachine>> Keeper<RingMachine> for Failing<K> {
         self.kept.is_full()
     }
 
-    fn count(&mut self) -> Result<usize, KeepFault> {
+    fn count(&self) -> usize {
         self.kept.count()
+    }
+
+    fn most(&self) -> u32 {
+        self.kept.most()
     }
 
     fn hour(&mut self) -> Result<Hour, KeepFault> {

@@ -1,4 +1,5 @@
-//! Questions for the tables of a ring.
+//! Questions for the rings and the status, for the tables of a ring, for the whole of it, for
+//! previews and for what moved.
 use super::changes::{BEFORE, Line, NO_RING, runs, runs_behind};
 use super::failing::Failing;
 use super::{Memory, UNREADABLE, answers, ask, ask_again, open};
@@ -13,7 +14,7 @@ use std::test::Fail;
 /// The lines that make a ring and ask for its tables, named by what they show, and their answers.
 type Shown<'a> = (&'a str, &'a str, &'a str);
 
-static BALANCED: [Shown<'_>; 3] = [
+static BALANCED: [Shown<'_>; 7] = [
     (
         "wants_and_balances_are_shown",
         "0 {\"caller\":\"ops\",\"do\":\"create\",\"min_hours\":24,\"number\":1,\"power\":3,\"replicas\":2,\"ring\":\"object\"}
@@ -60,6 +61,88 @@ balance 100.00 dispersion 0.00 version 3\n",
    id region  zone address          port     weight state   name
    id     weight wanted    has balance
 balance 0.00 dispersion 0.00 version 0\n",
+    ),
+    (
+        "a_whole_ring_is_shown_in_one_line_at_the_greatest_hour",
+        "0 {\"caller\":\"ops\",\"do\":\"create\",\"min_hours\":24,\"number\":1,\"power\":1,\"replicas\":1,\"ring\":\"object\"}
+0 {\"address\":\"10.0.0.1\",\"caller\":\"ops\",\"do\":\"add\",\"name\":\"d0\",\"number\":2,\"port\":6200,\"region\":1,\"ring\":\"object\",\"weight\":\"100.00\",\"zone\":1}
+5 {\"caller\":\"ops\",\"do\":\"rebalance\",\"number\":3,\"ring\":\"object\",\"seed\":7}
+6 {\"caller\":\"ops\",\"do\":\"publish\",\"number\":4,\"ring\":\"object\"}
+? ring object",
+        "200 {\"done\":\"create\",\"version\":0}
+200 {\"done\":\"add\",\"id\":0,\"version\":1}
+200 {\"balance\":0,\"changed\":2,\"dispersion\":0,\"done\":\"rebalance\",\"version\":2}
+200 {\"done\":\"publish\",\"version\":2}
+{\"balance\":0,\"devices\":[{\"address\":\"10.0.0.1\",\"has\":2,\"id\":0,\"name\":\"d0\",\"port\":6200,\"region\":1,\"state\":\"open\",\"wanted\":2,\"weight\":\"100.00\",\"zone\":1}],\"dispersion\":0,\"hour\":6,\"locked\":2,\"min_hours\":24,\"next_id\":1,\"power\":1,\"published\":[2],\"replicas\":1,\"rests\":23,\"ring\":\"object\",\"seats\":2,\"version\":2}\n",
+    ),
+    (
+        "rings_are_listed_by_name_and_a_refused_request_is_kept_and_a_repeat_is_not",
+        "? rings
+? status
+5 {\"caller\":\"ops\",\"do\":\"create\",\"min_hours\":24,\"number\":1,\"power\":1,\"replicas\":1,\"ring\":\"object\"}
+6 {\"caller\":\"ops\",\"do\":\"create\",\"min_hours\":24,\"number\":2,\"power\":1,\"replicas\":1,\"ring\":\"disks\"}
+9 {\"caller\":\"ops\",\"do\":\"create\",\"min_hours\":24,\"number\":3,\"power\":1,\"replicas\":1,\"ring\":\"disks\"}
+3 {\"caller\":\"ops\",\"do\":\"set_hours\",\"min_hours\":1,\"number\":4,\"ring\":\"object\"}
+12 {\"caller\":\"ops\",\"do\":\"set_hours\",\"min_hours\":1,\"number\":4,\"ring\":\"object\"}
+? rings
+? status",
+        "{\"rings\":[]}
+{\"hour\":0,\"kept\":0,\"limit\":100000,\"rings\":0}
+200 {\"done\":\"create\",\"version\":0}
+200 {\"done\":\"create\",\"version\":0}
+422 {\"refused\":\"RingExists\",\"rule\":2}
+200 {\"done\":\"set_hours\",\"version\":1}
+200 {\"done\":\"set_hours\",\"version\":1}
+{\"rings\":[{\"ring\":\"disks\",\"version\":0},{\"ring\":\"object\",\"version\":1}]}
+{\"hour\":9,\"kept\":4,\"limit\":100000,\"rings\":2}\n",
+    ),
+    (
+        "a_preview_is_of_no_earlier_hour_and_tells_what_a_rebalance_then_does",
+        "0 {\"caller\":\"ops\",\"do\":\"create\",\"min_hours\":24,\"number\":1,\"power\":2,\"replicas\":1,\"ring\":\"object\"}
+? preview object 7 5
+0 {\"address\":\"10.0.0.1\",\"caller\":\"ops\",\"do\":\"add\",\"name\":\"d0\",\"number\":2,\"port\":6200,\"region\":1,\"ring\":\"object\",\"weight\":\"100.00\",\"zone\":1}
+5 {\"caller\":\"ops\",\"do\":\"rebalance\",\"number\":3,\"ring\":\"object\",\"seed\":7}
+6 {\"address\":\"10.0.0.2\",\"caller\":\"ops\",\"do\":\"add\",\"name\":\"d1\",\"number\":4,\"port\":6200,\"region\":1,\"ring\":\"object\",\"weight\":\"100.00\",\"zone\":1}
+? preview object 7 3
+? preview object 7 29
+29 {\"caller\":\"ops\",\"do\":\"rebalance\",\"number\":5,\"ring\":\"object\",\"seed\":7}",
+        "200 {\"done\":\"create\",\"version\":0}
+422 {\"refused\":\"TooFewDevices\",\"rule\":9}
+200 {\"done\":\"add\",\"id\":0,\"version\":1}
+200 {\"balance\":0,\"changed\":4,\"dispersion\":0,\"done\":\"rebalance\",\"version\":2}
+200 {\"done\":\"add\",\"id\":1,\"version\":3}
+{\"balance\":10000,\"changed\":0,\"devices\":[{\"gives\":0,\"has\":4,\"id\":0,\"takes\":0,\"then\":4,\"wanted\":2},{\"gives\":0,\"has\":0,\"id\":1,\"takes\":0,\"then\":0,\"wanted\":2}],\"dispersion\":0,\"hour\":6,\"locked\":4,\"partitions\":0,\"ring\":\"object\",\"seed\":7,\"version\":4}
+{\"balance\":0,\"changed\":2,\"devices\":[{\"gives\":2,\"has\":4,\"id\":0,\"takes\":0,\"then\":2,\"wanted\":2},{\"gives\":0,\"has\":0,\"id\":1,\"takes\":2,\"then\":2,\"wanted\":2}],\"dispersion\":0,\"hour\":29,\"locked\":0,\"partitions\":2,\"ring\":\"object\",\"seed\":7,\"version\":4}
+200 {\"balance\":0,\"changed\":2,\"dispersion\":0,\"done\":\"rebalance\",\"version\":4}\n",
+    ),
+    (
+        "moves_are_told_between_published_versions_and_by_the_partitions_of_the_greater_power",
+        "0 {\"caller\":\"ops\",\"do\":\"create\",\"min_hours\":0,\"number\":1,\"power\":1,\"replicas\":1,\"ring\":\"object\"}
+0 {\"address\":\"10.0.0.1\",\"caller\":\"ops\",\"do\":\"add\",\"name\":\"d0\",\"number\":2,\"port\":6200,\"region\":1,\"ring\":\"object\",\"weight\":\"100.00\",\"zone\":1}
+0 {\"caller\":\"ops\",\"do\":\"rebalance\",\"number\":3,\"ring\":\"object\",\"seed\":7}
+0 {\"caller\":\"ops\",\"do\":\"publish\",\"number\":4,\"ring\":\"object\"}
+0 {\"address\":\"10.0.0.2\",\"caller\":\"ops\",\"do\":\"add\",\"name\":\"d1\",\"number\":5,\"port\":6200,\"region\":1,\"ring\":\"object\",\"weight\":\"100.00\",\"zone\":1}
+0 {\"caller\":\"ops\",\"do\":\"rebalance\",\"number\":6,\"ring\":\"object\",\"seed\":7}
+? moves object 2 4
+0 {\"caller\":\"ops\",\"do\":\"publish\",\"number\":7,\"ring\":\"object\"}
+? moves object 2 4
+0 {\"caller\":\"ops\",\"do\":\"raise_power\",\"number\":8,\"ring\":\"object\"}
+0 {\"caller\":\"ops\",\"do\":\"publish\",\"number\":9,\"ring\":\"object\"}
+? moves object 4 5
+? moves object 2 5",
+        "200 {\"done\":\"create\",\"version\":0}
+200 {\"done\":\"add\",\"id\":0,\"version\":1}
+200 {\"balance\":0,\"changed\":2,\"dispersion\":0,\"done\":\"rebalance\",\"version\":2}
+200 {\"done\":\"publish\",\"version\":2}
+200 {\"done\":\"add\",\"id\":1,\"version\":3}
+200 {\"balance\":0,\"changed\":1,\"dispersion\":0,\"done\":\"rebalance\",\"version\":4}
+422 {\"refused\":\"NoVersion\",\"rule\":32}
+200 {\"done\":\"publish\",\"version\":4}
+{\"changed\":1,\"devices\":[{\"gives\":1,\"id\":0,\"takes\":0},{\"gives\":0,\"id\":1,\"takes\":1}],\"from\":2,\"partitions\":1,\"ring\":\"object\",\"to\":4}
+200 {\"done\":\"raise_power\",\"version\":5}
+200 {\"done\":\"publish\",\"version\":5}
+{\"changed\":0,\"devices\":[],\"from\":4,\"partitions\":0,\"ring\":\"object\",\"to\":5}
+{\"changed\":2,\"devices\":[{\"gives\":2,\"id\":0,\"takes\":0},{\"gives\":0,\"id\":1,\"takes\":2}],\"from\":2,\"partitions\":2,\"ring\":\"object\",\"to\":5}\n",
     ),
 ];
 
@@ -112,9 +195,12 @@ static BEFORE_IT_IS_MADE: [Line<'_>; 2] = [
     ("? balance object", NO_RING),
 ];
 
-static NOT_THERE: [Line<'_>; 5] = [
+static NOT_THERE: [Line<'_>; 8] = [
     ("? devices none", NO_RING),
     ("? balance none", NO_RING),
+    ("? ring none", NO_RING),
+    ("? preview none 1 0", NO_RING),
+    ("? moves none 2 2", NO_RING),
     ("? devices objec", NO_RING),
     ("? balance object-2", NO_RING),
     ("? devices a2345678901234567890123456789012", NO_RING),
@@ -133,7 +219,7 @@ fn a_ring_that_is_not_there_has_no_table(rt: HostRuntime) -> Result<(), Fail> {
     Ok(())
 }
 
-static NO_QUESTIONS: [&str; 26] = [
+static NO_QUESTIONS: [&str; 57] = [
     "?",
     "? ",
     "? devices",
@@ -160,6 +246,37 @@ static NO_QUESTIONS: [&str; 26] = [
     "? balance ",
     "? balance  object",
     "? balanceobject",
+    "? ring",
+    "? Ring object",
+    "? rings ",
+    "? rings object",
+    "?  rings",
+    "?rings",
+    "? Rings",
+    "? status object",
+    "? status\r",
+    "? statu",
+    "? status status",
+    "? preview object",
+    "? preview object 1",
+    "? preview object 1 ",
+    "? preview object 1 2 3",
+    "? preview object 1 2 ",
+    "? preview object 1  2",
+    "? preview  object 1 2",
+    "? preview object 01 2",
+    "? preview object 1 4294967296",
+    "? preview object -1 2",
+    "? preview Object 1 2",
+    "? preview object 1 2\r",
+    "? previews object 1 2",
+    "? preview 1 2",
+    "? moves object",
+    "? moves object 1",
+    "? moves object 1 2 --each",
+    "? moves object 1 02",
+    "? moves Object 1 2",
+    "? move object 1 2",
 ];
 
 #[test]
@@ -239,7 +356,7 @@ fn are_given(
     Ok(true)
 }
 
-static SHOWN: [Line<'_>; 3] = [
+static SHOWN: [Line<'_>; 5] = [
     ("? devices object", BOTH),
     (
         "? balance object",
@@ -249,6 +366,14 @@ static SHOWN: [Line<'_>; 3] = [
 balance 100.00 dispersion 0.00 version 2",
     ),
     ("? balance none", NO_RING),
+    (
+        "? rings",
+        "{\"rings\":[{\"ring\":\"object\",\"version\":2}]}",
+    ),
+    (
+        "? status",
+        "{\"hour\":0,\"kept\":3,\"limit\":100000,\"rings\":1}",
+    ),
 ];
 
 #[test]

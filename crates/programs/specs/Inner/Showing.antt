@@ -9,9 +9,11 @@ use Rattle.programs.specs.Performed.{FailsToShowStore, ShowsStore}
 use Rattle.programs.specs.Showing.{AsksShown, HasBadWord, IsFormFault, IsPathless}
 use Rattle.programs.specs.declared.faults.ProgramFault.{ProgramFault}
 
--- The task asks to be shown a ring's tables, where a path is held, or a published ring.
+-- The task asks to be shown a ring's tables, the rings, the status, a whole ring or what a
+-- rebalance would do, where a path is held, or a published ring.
 abbrev pub IsShowing : Task → Type 0
 IsShowing (task.Table file ring) = ⊤
+IsShowing (task.Show file what) = ⊤
 IsShowing (task.Nodes file ring account container object names) = ⊤
 IsShowing (task.Export file ring version written) = ⊤
 IsShowing _ = ⊥
@@ -19,6 +21,7 @@ IsShowing _ = ⊥
 -- the name of the store of which a task shows something
 abbrev pub shown_file : Task → List ℕ
 shown_file (task.Table file ring) = file.now
+shown_file (task.Show file what) = file.now
 shown_file (task.Nodes file ring account container object names) = file.now
 shown_file (task.Export file ring version written) = file.now
 shown_file _ = []

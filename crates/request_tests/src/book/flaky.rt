@@ -88,11 +88,12 @@ impl<M: Machine, K: Keeper<M>> Keeper<M> for Flaky<K> {
         self.kept.is_full()
     }
 
-    fn count(&mut self) -> Result<usize, KeepFault> {
-        if self.fails_now() {
-            return Err(KeepFault::Store);
-        }
+    fn count(&self) -> usize {
         self.kept.count()
+    }
+
+    fn most(&self) -> u32 {
+        self.kept.most()
     }
 
     fn hour(&mut self) -> Result<Hour, KeepFault> {

@@ -1,19 +1,10 @@
 //! Rings by their names, and devices of a draft by their places.
 use super::small_ring;
-use crate::fixtures::row;
-use ring_model::{Draft, Ring, Rings};
+use crate::fixtures::{row, with_ring};
+use ring_model::{Draft, Rings};
 use ring_words::RingName;
 use std::alloc::Global;
 use std::test::Fail;
-
-/// Rings with one more.
-fn with_ring(alloc: Global, rings: &Rings, name: &str, ring: Ring) -> Result<Rings, Fail> {
-    let name = RingName::new(alloc, name)?;
-    if rings.get(&name).is_some() || rings.list().len() >= 16 {
-        return Err(Fail::from("there is room for the ring"));
-    }
-    Ok(rings.with(name, ring)?)
-}
 
 /// The version of the ring of a name.
 fn version_of(alloc: Global, rings: &Rings, name: &str) -> Result<Option<u32>, Fail> {

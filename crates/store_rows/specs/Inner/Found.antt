@@ -1,7 +1,8 @@
 -- What reading a row says where the row stands for something.
 use Rattle.std.specs.Prelude.{◌≡◌, ◌++◌, ◌+◌, ◌<◌, ◌≤◌, ◌*◌, ℕ, ℤ, Bool, true, false, cond}
-use Rattle.std.specs.Prelude.{List, [], All, map, length, Option, Result, Ok, Err, ⊤, pos, string_bytes}
+use Rattle.std.specs.Prelude.{List, [], All, map, length, Option, Result, Ok, Err, ⊤, pos}
 use Rattle.std.specs.List.{enumerate_from, flat_map}
+use Rattle.std.specs.Rc.{rc_str_bytes}
 use Rattle.ring_words.specs.Limits.{long_count, short_count}
 use Rattle.ring_words.specs.declared.device.Device.{Device}
 use Rattle.ring_words.specs.declared.spelling.SpellingFault.{SpellingFault}
@@ -42,7 +43,7 @@ pub record StandsForDevice (row : DeviceRow) (device : Device) : Type 0 where
 pub record StandsForText (row : PublishedRow) (text : ℕ × List ℕ) : Type 0 where
   pub version : row.version ≡ pos text.0
   pub small : text.0 < long_count
-  pub body : string_bytes row.body ≡ text.1
+  pub body : rc_str_bytes row.body ≡ text.1
 
 -- The row stands for a seat on this device.
 pub record StandsForSeat (row : SeatRow) (id : ℕ) : Type 0 where

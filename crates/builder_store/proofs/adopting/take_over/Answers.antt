@@ -1,4 +1,4 @@
-use Rattle.std.proofs.Common.{◌≡◌, ◌∙◌, ap, arith, false, inl, inr, refl, subst, sym}
+use Rattle.std.proofs.Common.{◌≡◌, ◌∙◌, ap, arith, false, inl, inr, subst, sym}
 use Rattle.std.proofs.lemmas.Bool.{cases_Bool}
 use Rattle.builder_store.proofs.Taking.{if_err_two, over_fails}
 use Rattle.sqlite.specs.Held.{state}
@@ -97,7 +97,7 @@ returns-then-is_broken-clause-cause g c = λ clean.
     let quiet = c.into_store-store.ensures.quiet in
     let broken = sym (c.is_broken.ensures clean) ∙ c.if-is_broken.true in
     inr (
-      refl,
+      tt,
       elim (cases_Bool (g.S.Store.view c.args.conn.store).is_open) [
         | inl was ↦ elim (quiet.closes clean was) [
           | inl still ↦ absurd (let a = (undone.undone still).1 in let b = broken in cc)

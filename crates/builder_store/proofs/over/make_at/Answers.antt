@@ -3,7 +3,8 @@ use Rattle.sqlite.specs.Files.{file_state}
 use Rattle.sqlite.specs.State.{HasCleanDisk}
 use Rattle.builder_store.specs.Left.{IsMadeOfConnection}
 use Rattle.builder_store.specs.Opening.{AreDeclared}
-use Rattle.builder_store.proofs.Rests.{judged_of_connection, not_connected}
+use Rattle.builder_store.proofs.Rests.{failure_of_connection, judged_of_connection}
+use Rattle.builder_store.proofs.Rests.{not_connected}
 use Rattle.builder_store.proofs.over.make_at.Goals as goal
 
 pub make_over-requires : goal.make_over-requires
@@ -88,7 +89,7 @@ returns-in-Err-make_over-clause-crash g c = λ clean db may.
 
 pub returns-in-Err-clause-failed : goal.returns-in-Err-clause-failed
 returns-in-Err-clause-failed g c = λ is. absurd (c.in-Err.ensures.unmade.0
-    (subst IsMadeOfConnection (sym is) tt))
+    (failure_of_connection c.in-Err.fault is))
 
 pub returns-in-Err-make_over-clause-failed : goal.returns-in-Err-make_over-clause-failed
 returns-in-Err-make_over-clause-failed g c = λ is clean. omega

@@ -4,7 +4,7 @@ use Rattle.sqlite.specs.State.{HasCleanDisk}
 use Rattle.builder_store.specs.Opening.{IsOpenedAs}
 use Rattle.builder_store.specs.Left.{IsOfConnection}
 use Rattle.builder_store.proofs.Causes.{same_cause}
-use Rattle.builder_store.proofs.Rests.{bad_of_connection, not_connected}
+use Rattle.builder_store.proofs.Rests.{bad_of_connection, fault_of_connection, not_connected}
 use Rattle.builder_store.proofs.over.open_from.Goals as goal
 
 pub over-requires : goal.over-requires
@@ -86,8 +86,8 @@ returns-in-Err-over-clause-crash g c = λ clean db may.
 
 pub returns-in-Err-clause-failed : goal.returns-in-Err-clause-failed
 returns-in-Err-clause-failed g c = λ is. absurd (c.in-Err.ensures.unmade.0
-    (subst IsOfConnection (sym is) tt))
+    (fault_of_connection c.in-Err.fault is))
 
 pub returns-in-Err-over-clause-failed : goal.returns-in-Err-over-clause-failed
 returns-in-Err-over-clause-failed g c = λ is clean. omega
-    (arith, c.in-Err-over.ensures.refused.failed (same_cause _ _ is) clean)
+    (arith, c.in-Err-over.ensures.refused.failed is clean)

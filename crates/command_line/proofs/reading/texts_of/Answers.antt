@@ -1,4 +1,4 @@
-use Rattle.std.proofs.Common.{List, [], Option, ap, ◌∙◌, map, Bor, ℕ}
+use Rattle.std.proofs.Common.{List, [], Option, ap, ◌∙◌, map, Bor}
 use Rattle.std.specs.Prelude.{unwrap_or}
 use Rattle.std.proofs.lemmas.Result.{IfOk-weaker}
 use Rattle.clap.specs.Matches.{found_of}

@@ -1,5 +1,6 @@
 use Rattle.http_routes.proofs.Built.{none-before, one, after-one, two, after-two, three}
-use Rattle.http_routes.proofs.Built.{after-three, four, after-four, all-added}
+use Rattle.http_routes.proofs.Built.{after-three, four, after-four, five, after-five, six}
+use Rattle.http_routes.proofs.Built.{after-six, seven, after-seven, all-added}
 use Rattle.http_routes.proofs.table.add_all.Goals as goal
 
 pub add-requires : goal.add-requires
@@ -32,10 +33,43 @@ add-requires-5 c =
     let rows_4 = four _ _ rows_3 c.in_ok-add-4.ensures in
     after-four _ rows_4
 
+pub add-requires-6 : goal.add-requires-6
+add-requires-6 c =
+    let rows_1 = one _ _ c.requires c.in_ok-add.ensures in
+    let rows_2 = two _ _ rows_1 c.in_ok-add-2.ensures in
+    let rows_3 = three _ _ rows_2 c.in_ok-add-3.ensures in
+    let rows_4 = four _ _ rows_3 c.in_ok-add-4.ensures in
+    let rows_5 = five _ _ rows_4 c.in_ok-add-5.ensures in
+    after-five _ rows_5
+
+pub add-requires-7 : goal.add-requires-7
+add-requires-7 c =
+    let rows_1 = one _ _ c.requires c.in_ok-add.ensures in
+    let rows_2 = two _ _ rows_1 c.in_ok-add-2.ensures in
+    let rows_3 = three _ _ rows_2 c.in_ok-add-3.ensures in
+    let rows_4 = four _ _ rows_3 c.in_ok-add-4.ensures in
+    let rows_5 = five _ _ rows_4 c.in_ok-add-5.ensures in
+    let rows_6 = six _ _ rows_5 c.in_ok-add-6.ensures in
+    after-six _ rows_6
+
+pub add-requires-8 : goal.add-requires-8
+add-requires-8 c =
+    let rows_1 = one _ _ c.requires c.in_ok-add.ensures in
+    let rows_2 = two _ _ rows_1 c.in_ok-add-2.ensures in
+    let rows_3 = three _ _ rows_2 c.in_ok-add-3.ensures in
+    let rows_4 = four _ _ rows_3 c.in_ok-add-4.ensures in
+    let rows_5 = five _ _ rows_4 c.in_ok-add-5.ensures in
+    let rows_6 = six _ _ rows_5 c.in_ok-add-6.ensures in
+    let rows_7 = seven _ _ rows_6 c.in_ok-add-7.ensures in
+    after-seven _ rows_7
+
 pub returns : goal.returns
 returns c =
     let rows_1 = one _ _ c.requires c.in_ok-add.ensures in
     let rows_2 = two _ _ rows_1 c.in_ok-add-2.ensures in
     let rows_3 = three _ _ rows_2 c.in_ok-add-3.ensures in
     let rows_4 = four _ _ rows_3 c.in_ok-add-4.ensures in
-    all-added c.add-5.result _ _ rows_4 c.add-5.ensures
+    let rows_5 = five _ _ rows_4 c.in_ok-add-5.ensures in
+    let rows_6 = six _ _ rows_5 c.in_ok-add-6.ensures in
+    let rows_7 = seven _ _ rows_6 c.in_ok-add-7.ensures in
+    all-added c.add-8.result _ _ rows_7 c.add-8.ensures

@@ -13,6 +13,9 @@ returns-in-RingExists c = rw (c.in-RingExists.is, decimal_digit 2 (lit< tt)) ref
 pub returns-in-TooManyRings : goal.returns-in-TooManyRings
 returns-in-TooManyRings c = rw (c.in-TooManyRings.is, decimal_digit 3 (lit< tt)) refl
 
+pub returns-in-TooFewDevices : goal.returns-in-TooFewDevices
+returns-in-TooFewDevices c = rw (c.in-TooFewDevices.is, decimal_digit 9 (lit< tt)) refl
+
 pub returns-in-NotAssigned : goal.returns-in-NotAssigned
 returns-in-NotAssigned c = rw (c.in-NotAssigned.is, two_digits 1 0 (lit≤ tt) (lit< tt) (lit< tt)) refl
 

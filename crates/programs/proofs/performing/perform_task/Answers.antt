@@ -72,8 +72,11 @@ returns-in-Table-clause-failed g c =
     let showing : IsShowing c.args.task.now = elim c.in-Table.is [
       | inl it ↦ subst IsShowing (sym it.2) tt
       | inr rest ↦ elim rest [
-        | inl it ↦ subst IsShowing (sym it.6) tt
-        | inr it ↦ subst IsShowing (sym it.4) tt
+        | inl it ↦ subst IsShowing (sym it.2) tt
+        | inr further ↦ elim further [
+          | inl it ↦ subst IsShowing (sym it.6) tt
+          | inr it ↦ subst IsShowing (sym it.4) tt
+        ]
       ]
     ] in
     IfErr-weaker c.show_task.result _ _ (shown_failed _ g.S.Kept.Keeper g.S.Stores.begins

@@ -15,6 +15,18 @@ returns-in-Table-clause-failed g c = rw c.in-Table.is (failed_asked
     (λ why f. inr (as_asked c.ask_tables.result _ _ c.ask_tables.ensures.asked f.0, f.1))
     c.show_asked.ensures.failed)
 
+pub returns-in-Show-clause-done : goal.returns-in-Show-clause-done
+returns-in-Show-clause-done g c = rw c.in-Show.is (ended_shown _ _ (Closes g.S.Stores) g.W.Write.contents
+    c.args.writer.now c.show_asked-in-Show.new.writer c.show_asked-in-Show.result c.ask_shown-asked.result [] [] _ _ _
+    c.ask_shown-asked.ensures.asked (λ s one. (refl, (s, one))) c.show_asked-in-Show.ensures.done)
+
+pub returns-in-Show-clause-failed : goal.returns-in-Show-clause-failed
+returns-in-Show-clause-failed g c = rw c.in-Show.is (failed_asked
+    c.args.writer.now c.show_asked-in-Show.new.writer _ c.show_asked-in-Show.result c.ask_shown-asked.result _ _ _
+    c.ask_shown-asked.ensures.fault (λ why form same none. inl (form, same, none))
+    (λ why f. inr (as_asked c.ask_shown-asked.result _ _ c.ask_shown-asked.ensures.asked f.0, f.1))
+    c.show_asked-in-Show.ensures.failed)
+
 pub returns-in-Nodes-clause-done : goal.returns-in-Nodes-clause-done
 returns-in-Nodes-clause-done g c = rw c.in-Nodes.is (ended_shown _ _ (Closes g.S.Stores) g.W.Write.contents
     c.args.writer.now c.show_asked-in-Nodes.new.writer c.show_asked-in-Nodes.result c.ask_nodes-asked.result _ _ _ _ _

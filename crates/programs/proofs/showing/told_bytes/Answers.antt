@@ -8,6 +8,7 @@ returns-clause-shown g c = let kept = c.kept_bytes-bytes in
     (λ bytes tells. record {
       keeper = c.args.keeper;
       later = kept.new.keeper;
+      clock = c.args.clock;
       opened = refl;
       left = refl;
       stays_sound = kept.ensures.sound;
@@ -27,6 +28,7 @@ returns-clause-fault g c = let kept = c.kept_bytes-bytes in
         record {
           keeper = c.args.keeper;
           later = kept.new.keeper;
+          clock = c.args.clock;
           opened = refl;
           left = refl;
           stays_sound = kept.ensures.sound;
@@ -37,6 +39,7 @@ returns-clause-fault g c = let kept = c.kept_bytes-bytes in
       | inr hides ↦ inr (record {
         keeper = c.args.keeper;
         later = kept.new.keeper;
+        clock = c.args.clock;
         opened = refl;
         left = refl;
         stays_sound = kept.ensures.sound;

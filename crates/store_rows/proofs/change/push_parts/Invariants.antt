@@ -1,6 +1,6 @@
 use Rattle.std.proofs.Common.{◌≡◌, ◌++◌, map}
-use Rattle.store_model.specs.declared.change.RowChange.TheVariants.{PutPart}
+use Rattle.store_rows.specs.Inner.Written.{part_change}
 use Rattle.store_rows.proofs.change.push_parts.Given as goal
 
 abbrev pub invariant-loop-row : goal.invariant-loop-row
-invariant-loop-row l = l.into.items ≡ l.fn.into.items ++ map PutPart l.yielded
+invariant-loop-row l = l.into.items ≡ l.fn.into.items ++ map (part_change l.known) l.yielded

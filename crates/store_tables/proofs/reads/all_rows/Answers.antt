@@ -1,4 +1,4 @@
-use Rattle.std.proofs.Common.{[], map, rules}
+use Rattle.std.proofs.Common.{[], map, refl, rules}
 use Rattle.sqlite.specs.Held.{state}
 use Rattle.store_tables.proofs.Failing.{hands_on, query_fails, unfailing}
 use Rattle.store_tables.proofs.Reading.{reads_listed, reads_nothing}
@@ -13,7 +13,7 @@ pub returns-clause-reads : goal.returns-clause-reads
 returns-clause-reads g c = reads_listed c.query.result.now g.T.Listed.layout g.T.Listed.listed
     c.query.ensures (state g.S.Store c.args.conn.now) (state g.S.Store c.query_all.new.self)
     c.requires c.query_all.ensures.survives c.rows_in.result
-    (λ rows. map g.T.Listed.entry rows.items) _ c.in_ok-shown.shown.items c.deref.ensures.value
+    (λ rows. map g.T.Listed.entry rows.items) _ c.in_ok-shown.shown.items refl
     c.in_ok-shown.ensures.ok c.rows_in.ensures.rows
 
 pub returns-in_err-shown-clause-cause : goal.returns-in_err-shown-clause-cause

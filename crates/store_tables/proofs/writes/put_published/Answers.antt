@@ -10,6 +10,10 @@ returns-clause-writes g c =
     let new = state g.S.Store c.run.new.tx.conn.now in
     let row = published_of c.args.row.now in
     writes_so _ _ old new _ (puts_published old new row.0 row.1) c.requires c.run.result
-    (λ clean. rw (c.params-to_sql.ensures, c.params-to_sql-2.ensures, c.params-to_sql-3.ensures) at
-    (c.run.ensures.done clean))
+    (λ clean. rw (
+      c.params-to_sql.ensures,
+      c.params-to_sql-2.ensures,
+      c.params-to_sql-3.ensures,
+      c.as_str.ensures.value,
+    ) at (c.run.ensures.done clean))
     c.run.ensures.inside c.run.ensures.kept c.run.ensures.survives

@@ -2,7 +2,6 @@ use Rattle.std.proofs.Common.{arith, inl, inr, subst, sym}
 use Rattle.sqlite.specs.Held.{state}
 use Rattle.sqlite.specs.State.{HasCleanDisk}
 use Rattle.builder_store.specs.Opening.{AreDeclared}
-use Rattle.builder_store.proofs.Causes.{failed_opening}
 use Rattle.builder_store.proofs.Taking.{met_before}
 use Rattle.builder_store.proofs.keeper.SqlKeeper.make.Goals as goal
 
@@ -56,7 +55,7 @@ returns-in-Err-make_over-clause-crash g c = λ clean db left.
 
 pub returns-in-Err-clause-failed : goal.returns-in-Err-clause-failed
 returns-in-Err-clause-failed g c = λ told clean. met_before (state g.S.Store c.args.conn) _
-    c.in-Err.error _ c.fault_of.ensures.which (c.in-Err.ensures.cause clean) (failed_opening _ told)
+    c.in-Err.error _ c.fault_of.ensures.which (c.in-Err.ensures.cause clean) told
 
 pub returns-in-Err-make_over-clause-failed : goal.returns-in-Err-make_over-clause-failed
 returns-in-Err-make_over-clause-failed g c = λ told clean.

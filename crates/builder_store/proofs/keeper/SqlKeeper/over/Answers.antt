@@ -1,8 +1,9 @@
-use Rattle.std.proofs.Common.{◌∙◌, ◌≤◌, Err, ap, arith, inl, inr, subst, sym}
+use Rattle.std.proofs.Common.{◌∙◌, ◌≤◌, Err, IfErr, ap, arith, inl, inr, subst, sym}
 use Rattle.sqlite_trees.specs.View.{doubt}
 use Rattle.sqlite.specs.Held.{state}
 use Rattle.sqlite.specs.State.{HasCleanDisk}
-use Rattle.builder_store.specs.Opening.{IsOpenedAs}
+use Rattle.store_tables.specs.Failing.{HasFailed}
+use Rattle.builder_store.specs.Opening.{IsOpenedAs, TellsFault}
 use Rattle.builder_store.proofs.Finds.{alone_from}
 use Rattle.builder_store.proofs.Taking.{met_while_open}
 use Rattle.builder_store.proofs.keeper.SqlKeeper.over.Goals as goal
@@ -50,7 +51,8 @@ returns-in-Err-clause-refused g c =
       rows = λ is. c.open_ready.ensures.bad (c.in-Err.is ∙ ap Err is);
       tables = λ is. c.open_ready.ensures.missing (c.in-Err.is ∙ ap Err is);
       failed = λ is clean. met_while_open old new (c.requires.fresh (before clean)).is_open
-          (c.open_ready.ensures.failed clean (c.in-Err.is ∙ ap Err is));
+          (subst (λ r. IfErr r (λ why. TellsFault why → HasFailed old new)) c.in-Err.is
+          (c.open_ready.ensures.failed clean) is);
       kept = λ is clean db may. elim ((c.open_ready.ensures.quiet (c.in-Err.is ∙ ap Err is)).crash
           clean db may) [
             | inl was ↦ inl (g.met.S.Store.settled c.args.conn.store db (c.requires.fresh

@@ -44,4 +44,4 @@ returns-in-Ok-Read g c =
       body = c.args.body.now;
       is_last =
           c.args.is_last;
-    }) _ _ _ c.in-Ok-Read.ring c.in-Ok-Read.read asks told.0 told.1 c.answer_read.result told.2
+    }) _ _ _ c.in-Ok-Read.question asks told.0 told.1 c.answer_read.result told.2

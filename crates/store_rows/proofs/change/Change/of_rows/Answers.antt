@@ -14,11 +14,11 @@ returns-clause-leads c = λ old new p q grows are.
     ∙ ap (map (λ (e : rows.NameNumber × rows.Device). e.0)) are.dropped in
     subst (IsChange old new) (sym c.in_ok-rows.ensures) (record {
       applied = applied old new p q grows c.in_ok-keys.keys.items made.rings.items
-          made.devices.items made.parts.items made.texts.items keys are.rings are.devices are.parts
-          are.texts;
+          made.devices.items made.known made.parts.items made.texts.items keys are.rings are.devices
+          are.parts are.texts;
       written = written old new p q grows c.in_ok-keys.keys.items made.rings.items
-          made.devices.items made.parts.items made.texts.items keys are.rings are.devices are.parts
-          are.texts;
+          made.devices.items made.known made.parts.items made.texts.items keys are.rings are.devices
+          are.parts are.texts are.added;
     })
 
 pub returns-clause-counted : goal.returns-clause-counted
@@ -28,8 +28,8 @@ returns-clause-counted c = λ old new p q grows are gone content state.
     c.deref.ensures.value ∙ mapped_keys made.dropped.items
     ∙ ap (map (λ (e : rows.NameNumber × rows.Device). e.0)) are.dropped in
     let total = counted old new p q grows c.in_ok-keys.keys.items made.rings.items
-    made.devices.items made.parts.items made.texts.items keys are.rings are.devices are.parts
-    are.texts content state c.args.gone_devices gone in
+    made.devices.items made.known made.parts.items made.texts.items keys are.rings are.devices
+    are.parts are.texts content state c.args.gone_devices gone in
     let lengths : c.len.result + c.len-2.result + c.len-3.result + c.len-4.result +
     c.args.gone_devices
     ≡ length made.rings.items + length made.devices.items + length made.parts.items + length

@@ -1,0 +1,74 @@
+-- Seats that stay, seats that differ, and what is told of a rebalance.
+use Rattle.std.proofs.Common.{◌≡◌, ℕ, ◌<◌, ◌≤◌, ◌+◌, ◌∙◌, true, false, not, List}
+use Rattle.std.proofs.Common.{[], ◌∷◌, get_or, length, map, take, count_by, Option, Some, None, ap}
+use Rattle.std.proofs.Common.{refl, ⊎_elim}
+use Rattle.std.proofs.Math.Dec.{eqb}
+use Rattle.std.proofs.lemmas.Bool.{cases_lt}
+use Rattle.std.proofs.lemmas.List.Sums.{count_by_more_no, count_by_more_yes}
+use Rattle.std.proofs.lemmas.Slice.Zip.{get_or-zip}
+use Rattle.std.specs.List.{zip}
+use Rattle.std.specs.Option.{option_eq}
+use Rattle.serde_json.specs.Data.{Data}
+use Rattle.serde_json.specs.View.{items_of}
+use Rattle.serde_json.specs.Written.{has_float, items_have_float}
+use Rattle.ring_model.specs.Ring.{RingRecord}
+use Rattle.ring_place.specs.Rebalance.{differs}
+use Rattle.ring_words.specs.declared.device.Device.{Device}
+use Rattle.ring_reads.specs.Moves.{stays_on}
+use Rattle.ring_reads.specs.Preview.{device_moves, preview_data}
+use Rattle.ring_reads.proofs.RowByRow.{pair_below}
+
+-- two seats are compared
+pub differs_is : (a b : Option ℕ) → not (option_eq eqb a b) ≡ differs a b
+differs_is None None = refl
+differs_is None (Some y) = refl
+differs_is (Some x) None = refl
+differs_is (Some x) (Some y) = refl
+
+-- what is on the device of a number both times at a place
+at_place : (before after : List ℕ) (id place : ℕ) → place < length before → place < length after →
+    stays_on id (get_or (zip before after) place (0, 0))
+    ≡ stays_on id (get_or before place 0, get_or after place 0)
+at_place before after id place below under =
+    ap (stays_on id) (get_or-zip before after place (0, 0) below under)
+
+-- one more seat stays
+pub one_stays : (before after : List ℕ) (id place : ℕ) → place < length before →
+    place < length after → stays_on id (get_or before place 0, get_or after place 0) ≡ true →
+    count_by (stays_on id) (take (place + 1) (zip before after))
+    ≡ count_by (stays_on id) (take place (zip before after)) + 1
+one_stays before after id place below under stays =
+    count_by_more_yes (stays_on id) (zip before after) place (0, 0)
+    (pair_below before after place below under)
+    (at_place before after id place below under ∙ stays)
+
+-- one more seat doesn't
+pub one_leaves : (before after : List ℕ) (id place : ℕ) → place < length before →
+    place < length after → stays_on id (get_or before place 0, get_or after place 0) ≡ false →
+    count_by (stays_on id) (take (place + 1) (zip before after))
+    ≡ count_by (stays_on id) (take place (zip before after))
+one_leaves before after id place below under leaves =
+    count_by_more_no (stays_on id) (zip before after) place (0, 0)
+    (pair_below before after place below under)
+    (at_place before after id place below under ∙ leaves)
+
+-- what is told of a device beside what it wants
+abbrev pub pair_moves : RingRecord → RingRecord → Device × ℕ → Data
+pair_moves old new e = device_moves old new e.0 e.1
+
+-- no number of a device is a float
+devices_keep_whole : (old new : RingRecord) (pairs : List (Device × ℕ)) →
+    items_have_float (items_of (map (pair_moves old new) pairs)) ≡ false
+devices_keep_whole old new [] = refl
+devices_keep_whole old new (pair ∷ pairs) = devices_keep_whole old new pairs
+
+pub preview_without_float : (name : List ℕ) (hour seed : ℕ) (old : RingRecord) (wants : List ℕ)
+    (new : RingRecord) → has_float (preview_data name hour seed old wants new) ≡ false
+preview_without_float name hour seed old wants new =
+    rw (devices_keep_whole old new (zip old.devices wants)) refl
+
+-- where there aren't too few, there are enough
+pub enough_open : (open_devices replicas : ℕ) → (open_devices < replicas → ⊥) →
+    replicas ≤ open_devices
+enough_open open_devices replicas none =
+    ⊎_elim (λ few. absurd (none few)) (λ enough. enough) (cases_lt open_devices replicas)
