@@ -151,10 +151,14 @@ SESSION = [
      refused("this is no path: an account and a container are 1 to 256 bytes without /, an object 1 to 1024")),
     ("balance pictures", refused("there is no ring pictures")),
     ("show pictures", refused("there is no ring pictures")),
+    ("preview pictures", refused("there is no ring pictures")),
+    ("moves photos 7 11", refused("photos was not published as version 7 or 11")),
+    ("moves photos 11 11", done("0 seats in 0 partitions moved from version 11 to 11")),
+    ("preview photos --seed x", (2, "", "ringctl: the seed is x; it is a whole number from 0 to 4294967295\n")),
     ("finish", (0, "", "")),
 ]
 READS = ["balance photos", "nodes photos alice", "nodes photos alice --json", "nodes photos alice cats",
-         "text photos 11", "nodes photos alice cats tom+&kitty.jpg"]
+         "text photos 11", "nodes photos alice cats tom+&kitty.jpg", "preview photos --seed 3"]
 
 
 def write_tables(room):
@@ -190,6 +194,13 @@ def session(checks):
         checks.show("nodes are a line each", re.fullmatch(nodes, reads[0][1][1]), reads[0][1])
         text = reads[0][4][1]
         checks.show("text is the published text", text.startswith("swift-ring-text 1\nring photos\nversion 11\n"), text)
+        shown = json.loads(by_url("preview", "photos", "--seed", "3", "--json")[1])
+        moving = [device for device in shown["devices"] if device["gives"] or device["takes"]]
+        lines_told = reads[0][6][1].splitlines()
+        checks.show("a preview is a line of figures, one for each device that gives or takes, and what does it",
+                    lines_told[0].startswith(f"{shown['changed']} seats would change in {shown['partitions']} partitions")
+                    and len(lines_told) == 2 + len(moving) + (1 if moving else 0)
+                    and lines_told[-1] == "ringctl rebalance photos --seed 3", reads[0][6])
         first, second = (ctl.entries()[0]["caller"] for ctl in (by_url, by_file))
         are_made = re.fullmatch("ctl-[a-z0-9]{8}", first) and first != second
         checks.show("the caller is made at random", are_made, (first, second))
