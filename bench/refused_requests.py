@@ -41,8 +41,12 @@ REQUESTS = [
     message(3, "rebalance", ',"seed":7'),
     message(4, "publish"),
     message(5, "remove", ',"id":60000'),
+    message(6, "keep", ',"id":0'),
+    message(7, "rebalance_as", ',"seed":7,"version":3,"hour":9'),
     get("/v1/rings"),
     get("/v1/status"),
+    get("/v1/log?from=1&most=2"),
+    get("/v1/metrics"),
     get("/v1/rings/disks"),
     get("/v1/rings/disks/preview?seed=7&hour=1"),
     get("/v1/rings/disks/moves?from=2&to=2"),
@@ -50,19 +54,20 @@ REQUESTS = [
     get("/v1/rings/disks/balance"),
     get("/v1/rings/disks/nodes?account=alice&container=cats"),
     get("/v1/rings/disks/text/2"),
+    get("/v1/rings/disks/swift/2"),
     get("/v1/rings/none/text/2"),
     get("/v2"),
 ]
 
 
 def answers(output):
-    """The status and the body of each answer."""
+    """The status and the body of each answer, a body of no text in escapes."""
     found, rest = [], output
     while rest:
         head, _, rest = rest.partition(b"\r\n\r\n")
         fields = dict(line.split(": ", 1) for line in head.decode().split("\r\n")[1:])
         length = int(fields["Content-Length"])
-        found.append((head.split(b" ", 2)[1].decode(), rest[:length].decode()))
+        found.append((head.split(b" ", 2)[1].decode(), rest[:length].decode(errors="surrogateescape")))
         rest = rest[length:]
     return found
 

@@ -227,13 +227,54 @@ def status(hour, kept, rings):
     return compact({"hour": hour, "kept": kept, "limit": 100000, "rings": rings}).encode()
 
 
+# The metrics of a ring in their order: name and help, and the value, of a whole ring as JSON tells it.
+RING_METRICS = [
+    ("version", "Version of the ring.", lambda ring: ring["version"]),
+    ("partitions", "Partitions of the ring.", lambda ring: 2 ** ring["power"]),
+    ("replicas", "Replicas of each partition.", lambda ring: ring["replicas"]),
+    ("balance_percent", "How far the worst device is from its share, in percent of it.", lambda ring: f"{ring['balance'] // 100}.{ring['balance'] % 100:02d}"),
+    ("dispersion_percent", "Partitions that could stand farther apart, in percent of all.", lambda ring: f"{ring['dispersion'] // 100}.{ring['dispersion'] % 100:02d}"),
+    ("locked_partitions", "Partitions that a rebalance now would leave where they are.", lambda ring: ring["locked"]),
+    ("locked_hours", "Hours until no partition is locked.", lambda ring: ring["rests"]),
+    ("published_versions", "Published versions of the ring.", lambda ring: len(ring["published"])),
+    ("published_limit", "Most versions that may be published.", lambda ring: 1000),
+    ("misplaced_seats", "Seats that devices have above those that they want.", lambda ring: sum(max(0, device["has"] - device["wanted"]) for device in ring["devices"])),
+]
+STATES = ("open", "drained", "removed")
+
+
+def unlocked(ring):
+    """A whole ring, as JSON tells it, at an hour at which none of its partitions is locked."""
+    return {**ring, "locked": 0, "rests": 0}
+
+
+def metrics(held, rings):
+    """The metrics of a status and of whole rings, as JSON tells them, in the text format of Prometheus."""
+    def family(name, what, samples):
+        name = f"ringd_{name}"
+        return [f"# HELP {name} {what}", f"# TYPE {name} gauge", *(f"{name}{labels} {value}" for labels, value in samples)]
+
+    told = []
+    for name, what, key in (("numbers_kept", "Numbers of callers that are kept.", "kept"),
+                            ("numbers_limit", "Most numbers that may be kept.", "limit"),
+                            ("greatest_hour", "Greatest hour decided at, in hours since 1970.", "hour")):
+        told += family(name, what, [("", held[key])])
+    rings = sorted(rings, key=lambda ring: ring["ring"])
+    for name, what, value in RING_METRICS:
+        told += family(f"ring_{name}", what, [(f'{{ring="{ring["ring"]}"}}', value(ring)) for ring in rings])
+    told += family("ring_devices", "Devices of the ring by state.", [
+        (f'{{ring="{ring["ring"]}",state="{state}"}}', sum(device["state"] == state for device in ring["devices"]))
+        for ring in rings for state in STATES])
+    return "".join(line + "\n" for line in told).encode()
+
+
 def tiny_nodes(partition):
     """The nodes of a path of this partition in the ring `tiny`, without a line feed."""
     device = {"address": "10.0.0.1", "device": "d0", "id": 0, "port": 6200, "region": 1, "zone": 1}
     return compact({"nodes": [device], "partition": partition}).encode()
 
 
-# Ten commands, two rebalances that move seats, refusals, a repeat and a number that is used again.
+# Twelve commands, three rebalances that move seats, refusals, a repeat and a number that is used again.
 MANY = [
     (10, message(1, "create", power=4, replicas=2, min_hours=1)),
     (10, message(2, "import", rows=[[1, place % 3, f"10.0.1.{place + 1}", 6200, f"disk{place}", "100.00"] for place in range(6)])),
@@ -250,7 +291,9 @@ MANY = [
     (11, message(11, "set_hours", min_hours=2)),
     (12, message(12, "pretend_passed")),
     (12, message(13, "raise_power")),
-    (12, message(14, "rebalance", seed=5)),
+    (12, message(1, "remove", caller="other", id=1)),
+    (12, message(2, "keep", caller="other", id=1)),
+    (12, message(14, "rebalance_as", seed=5, version=14, hour=12)),
     (12, message(15, "remove", id=77)),
     (12, message(16, "publish")),
 ]

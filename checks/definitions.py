@@ -35,15 +35,17 @@ SMALL = 15
 # Where the number of a limit stands for something else.
 NO_LIMITS = {
     "the octets of an address": {"ring_words/src/address.rt": {256}, "ring_words/specs/Texts.antt": {256, 65536},
-                                 "ring_reads/src/devices.rt": {256, 65536}},
+                                 "ring_tables/src/devices.rt": {256, 65536}},
     "the two bytes that a seat is in a row": {"store_rows/src/ring_reading.rt": {256}, "store_rows/src/ring_rows.rt": {256},
                                               "store_rows/specs/RingRows.antt": {256}},
     "the bytes of MD5": {"path_lookup/src/hash.rt": {16}},
     "the longest name of an account or a container": {"path_lookup/src/path.rt": {256}, "path_lookup/specs/Names.antt": {256}},
     "the greatest port, as the bound of its type": {"ring_words/src/bounded.rt": {65535}},
-    "the spaces of a text that is cut": {"ring_reads/src/cells.rt": {16}},
+    "the spaces of a text that is cut": {"ring_tables/src/cells.rt": {16}},
     "a count of 32 bits, below which no crate has the limits": {"byte_streams/specs/Serving.antt": {2 ** 32}},
     "a place in the text of a route": {"http_routes/specs/Inner/Table.antt": {16}},
+    "the number of a refusal": {"ring_messages/specs/Replies.antt": {16}, "ring_messages/src/replies.rt": {16}},
+    "a number within the page for a browser": {"ring_page/src/lib.rt": {2 ** 32 - 1}},
 }
 HEAD = """# The words of the contracts
 

@@ -155,7 +155,8 @@ def calls_fail(checks, is_older, most):
 def new_file(checks):
     """A run over a new file."""
     done = {text.partition('"do":"')[2].partition('"')[0] for _, text in MANY}
-    commands = {"create", "add", "import", "set_weight", "remove", "set_hours", "pretend_passed", "rebalance", "publish", "raise_power"}
+    commands = {"create", "add", "import", "set_weight", "remove", "keep", "set_hours", "pretend_passed", "rebalance", "rebalance_as", "publish",
+                "raise_power"}
     checks.same("its deliveries are of every command", done, commands)
     calls_fail(checks, False, MOST)
 

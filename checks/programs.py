@@ -19,6 +19,7 @@ NEW_FAULT = "another program has it, or it can't be opened, read or written: loo
             "whether the disk is full; a NEW must not be there yet"
 FORMS = "a name or a number is not of its form: names of rings and callers are 1 to 32 of a to z, 0 to 9 and -, a letter first; numbers are " \
         "0 to 4294967295, without leading zeros"
+NO_MEMORY = "there was not enough memory: look at the limits of the unit or the shell, and try again"
 # What the second line of a fault says behind the file of which it tells. `NoMemory 23` is not made here.
 MEANINGS = {
     "NoRing 1": "it has no ring of this name: look at the spelling of both, since a FILE that is missing is made, without rings",
@@ -240,13 +241,19 @@ def meanings(checks):
         checks.same("an import that is refused tells no fault, and so means nothing", refused, (1, b'400 {"fault":"BadHeader","rule":40}\n', b""))
 
 
+def on_the_page(checks):
+    """docs/commands.md shows what each fault means, in these words."""
+    rows = re.findall(r"^\| `(\w+ \d+)` \| (.+) \|$", (TOP / "docs/commands.md").read_text(), re.M)
+    checks.same("each fault has its row, and no other stands there", dict(rows), {**MEANINGS, "NoMemory 23": NO_MEMORY})
+
+
 def main():
     checks = Checks("programs.py", 120)
     if not has("found"):
         checks.skip("all of it", "the program has no found")
         print("0 passed, 0 failed")
         return 0
-    return checks.run(as_it_stands, rests, beside, refusals, version, meanings)
+    return checks.run(as_it_stands, rests, beside, refusals, version, meanings, on_the_page)
 
 
 if __name__ == "__main__":

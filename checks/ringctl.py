@@ -115,6 +115,8 @@ SESSION = [
     ("add photos r1z1-10.0.0.1:6200/sda 4000", done("photos: version 1, added d0")),
     ("add photos r2z1-10.0.0.1:6200/sda 4000", refused("photos has a device 10.0.0.1:6200/sda already")),
     ("rebalance photos", refused("photos: there are fewer open devices than replicas")),
+    ("preview photos --seed 1", refused("photos: there are fewer open devices than replicas")),
+    ("preview photos --seed 1 --json", (1, '{"refused":"TooFewDevices","rule":9}\n', "")),
     ("publish photos", refused("photos was never rebalanced")),
     ("nodes photos alice", refused("photos was never rebalanced")),
     ("add photos r1z1-10.0.0.2:6200/sdb 0.5", done("photos: version 2, added d1")),
@@ -156,9 +158,22 @@ SESSION = [
     ("moves photos 11 11", done("0 seats in 0 partitions moved from version 11 to 11")),
     ("preview photos --seed x", (2, "", "ringctl: the seed is x; it is a whole number from 0 to 4294967295\n")),
     ("finish", (0, "", "")),
+    ("create cold 1 1 0", done("cold: version 0, created")),
+    ("add cold r1z1-10.0.0.1:6200/sda 100", done("cold: version 1, added d0")),
+    (f"rebalance_as cold 7 2 {HOUR}",
+     done("cold: version 2, 2 seats changed as it was foretold, balance 0.00 %, dispersion 0.00 %")),
+    (f"rebalance_as cold 7 2 {HOUR}",
+     refused("cold was changed since the preview: it would not have version 2. Nothing was moved; look at a new preview")),
+    ("rebalance_as cold 7 3 7",
+     refused("cold: it is not hour 7 any more, so other partitions may move. Nothing was moved; look at a new preview")),
+    ("keep cold d0", refused("cold: device 0 is not marked: there is nothing to take back")),
+    ("remove cold d0", done("cold: version 3, d0 is marked and leaves at the next rebalance")),
+    ("keep cold r1z1-10.0.0.1:6200/sda", done("cold: version 4, d0 is marked no more, and stays")),
+    ("keep cold d9", refused("cold has no device 9")),
 ]
 READS = ["balance photos", "nodes photos alice", "nodes photos alice --json", "nodes photos alice cats",
-         "text photos 11", "nodes photos alice cats tom+&kitty.jpg", "preview photos --seed 3"]
+         "text photos 11", "nodes photos alice cats tom+&kitty.jpg", "preview photos --seed 3",
+         "preview photos --seed 3 --json"]
 
 
 def write_tables(room):
@@ -200,7 +215,12 @@ def session(checks):
         checks.show("a preview is a line of figures, one for each device that gives or takes, and what does it",
                     lines_told[0].startswith(f"{shown['changed']} seats would change in {shown['partitions']} partitions")
                     and len(lines_told) == 2 + len(moving) + (1 if moving else 0)
-                    and lines_told[-1] == "ringctl rebalance photos --seed 3", reads[0][6])
+                    and lines_told[-1] == f"ringctl rebalance_as photos 3 12 {shown['hour']}", reads[0][6])
+        logs = [re.sub("ctl-[a-z0-9]{8}", "ctl", ctl("log", "--from", "3")[1]).splitlines() for ctl in (by_url, by_file)]
+        checks.same("a log is the same both ways", *logs)
+        first = f"     3  {time.strftime('%Y-%m-%d %H:00', time.gmtime(int(HOUR) * 3600))} UTC  ctl 4"
+        checks.show("and has a line for each request", logs[0][0].startswith(first) and logs[0][0].endswith(": done id 0 version 1"), logs[0][:1])
+        checks.same("with each command", len({line.split("  ")[-1].split()[0] for line in logs[0] if line}), 12)
         first, second = (ctl.entries()[0]["caller"] for ctl in (by_url, by_file))
         are_made = re.fullmatch("ctl-[a-z0-9]{8}", first) and first != second
         checks.show("the caller is made at random", are_made, (first, second))
@@ -213,6 +233,9 @@ def session(checks):
                 "ringctl: photos: row 3 is refused: the device is marked and leaves at the next rebalance; "
                 "no row was imported\n")
         checks.same("one in a file", warned, (1, "", want))
+        run("run", "--file", f"{other}/rings.db", given=lines(*((HOUR, message(n, "publish", "many", "none")) for n in range(250))))
+        places = [json.loads(line)["place"] for line in by_file("log", "--json")[1].splitlines()]
+        checks.show("a log of several parts is told to its end", len(places) > 250 and places == list(range(len(places))), places[-3:])
         checks.same("a journal that begins is told once", (by_url.begun, by_file.begun), (1, 1))
 
 
@@ -349,9 +372,11 @@ def ready(caller, ring):
     ]
 
 
-KILLED = {"add": ["r1z1-10.0.0.3:6200/sda", "100"], "rebalance": []}
+KILLED = {"add": ["r1z1-10.0.0.3:6200/sda", "100"], "rebalance": [], "rebalance_as": [7, 3, HOUR], "import": ["new.csv"]}
 # What finishes what was left: a call that does nothing else, or a read.
-FINISHES = {"add": lambda ring: ["finish"], "rebalance": lambda ring: ["devices", ring]}
+FINISHES = {"add": lambda ring: ["finish"], "rebalance": lambda ring: ["devices", ring], "rebalance_as": lambda ring: ["show", ring],
+            "import": lambda ring: ["finish"]}
+NEW_ROW = "region,zone,address,port,name,weight\n1,1,10.0.0.3,6200,sda,100.00\n"
 
 
 def state(ctl, ring):
@@ -362,6 +387,7 @@ def state(ctl, ring):
 
 def one_kill(ctl, do, ring, stop):
     """Kills a request at a step, and finishes it: what is wrong, none where nothing is."""
+    Path(ctl.room, "new.csv").write_text(NEW_ROW)
     killed = ctl(do, ring, *KILLED[do], stop=stop)
     if killed != (-9, "", ""):
         return f"it was not killed: {killed}"
@@ -369,7 +395,7 @@ def one_kill(ctl, do, ring, stop):
     was_left = "was left without an answer" in errors
     if status != 0 or was_left != (3 <= stop <= 7):
         return f"what was left: {status}, {errors}"
-    new = 1 if do == "add" else 0
+    new = 1 if do in ("add", "import") else 0
     before, want = (2, 2), (2 + new, 3)
     told = state(ctl, ring)
     if told != (before if stop < 3 else want):
@@ -386,18 +412,24 @@ def one_kill(ctl, do, ring, stop):
 
 def killed_by_url(checks):
     """ringctl killed at each step of a request by URL: afterwards it is done exactly once."""
-    cases = [(do, f"{do}-{stop}", stop) for do in KILLED for stop in STEPS]
-    with scratch() as room:
-        first = lines(*(it for _, ring, _ in cases for it in ready(ring, ring)))
-        run("run", "--file", f"{room}/rings.db", given=first)
-        with Server(f"{room}/rings.db", hour=HOUR) as server, ThreadPoolExecutor(5) as workers:
-            def one(case):
-                do, ring, stop = case
-                os.mkdir(f"{room}/{ring}")
-                return one_kill(Ctl(f"{room}/{ring}", "--url", url(server.port)), do, ring, stop)
+    kinds = list(KILLED)
+    for some in (kinds[:2], kinds[2:]):  # a file holds 16 rings
+        with scratch() as room:
+            kill_by_url(checks, room, [(do, f"{do}-{stop}".replace("_", "-"), stop) for do in some for stop in STEPS])
 
-            for (do, _, stop), wrong in zip(cases, workers.map(one, cases)):
-                checks.show(f"{do}, step {stop}", wrong is None, wrong)
+
+def kill_by_url(checks, room, cases):
+    """Each case over a ring of its own in one file: the command, the ring and the step."""
+    first = lines(*(it for _, ring, _ in cases for it in ready(ring, ring)))
+    run("run", "--file", f"{room}/rings.db", given=first)
+    with Server(f"{room}/rings.db", hour=HOUR) as server, ThreadPoolExecutor(5) as workers:
+        def one(case):
+            do, ring, stop = case
+            os.mkdir(f"{room}/{ring}")
+            return one_kill(Ctl(f"{room}/{ring}", "--url", url(server.port)), do, ring, stop)
+
+        for (do, _, stop), wrong in zip(cases, workers.map(one, cases)):
+            checks.show(f"{do}, step {stop}", wrong is None, wrong)
 
 
 def killed_over_file(checks):

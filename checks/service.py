@@ -10,6 +10,7 @@ import http.client
 import json
 import os
 import random
+import re
 import shutil
 import signal
 import socket
@@ -148,6 +149,12 @@ def routes(checks):
                  ruled(422, "Unprocessable Entity", "refused", "RingExists", 2)),
                 ("a refusal is kept, and a repeat and a number that is used are not", request("GET", "/v1/status"),
                  answer(200, "OK", common.status(0, 9, 2))),
+                ("and stands at the end of the log", request("GET", "/v1/log?from=8"),
+                 answer(200, "OK", compact({"log": [{"hour": 0, "place": 8, "reply": {"refused": "RingExists", "rule": 2}, "status": 422,
+                                                     "request": json.loads(message(40, "create", power=1, replicas=1, min_hours=0))}]}))),
+                ("nothing stands behind it", request("GET", "/v1/log?most=1000&from=9"), answer(200, "OK", '{"log":[]}')),
+                ("more of the log than may be asked for", request("GET", "/v1/log?most=1001"),
+                 ruled(400, "Bad Request", "fault", "Unreadable", 20)),
                 ("no message", request("POST", "/v1/requests", "{}"), ruled(400, "Bad Request", "fault", "Unreadable", 20)),
                 ("no ring of this name", request("GET", "/v1/rings/none/devices"), ruled(422, "Unprocessable Entity", "refused", "NoRing", 1)),
                 ("no whole ring of this name", request("GET", "/v1/rings/none"), ruled(422, "Unprocessable Entity", "refused", "NoRing", 1)),
@@ -158,8 +165,10 @@ def routes(checks):
                 ("an account with a slash", request("GET", "/v1/rings/tiny/nodes?account=a%2Fb"), ruled(400, "Bad Request", "refused", "BadPath", 30)),
                 ("two accounts", request("GET", "/v1/rings/tiny/nodes?account=a&account=a"), ruled(400, "Bad Request", "refused", "BadPath", 30)),
                 ("no route", request("GET", "/v2"), answer(404, "Not Found", '{"fault":"NoRoute","status":404}')),
+                ("a version of no number as Swift's file", request("GET", "/v1/rings/tiny/swift/"), NO_ROUTE),
                 ("a slash behind the rings", request("GET", "/v1/rings/"), NO_ROUTE),
                 ("a slash behind the status", request("GET", "/v1/status/"), NO_ROUTE),
+                ("a slash behind the metrics", request("GET", "/v1/metrics/"), NO_ROUTE),
                 ("the rings by POST", request("POST", "/v1/rings", ""),
                  answer(405, "Method Not Allowed", '{"fault":"WrongMethod","status":405}', more="Allow: GET\r\n")),
                 ("a slash behind a ring's name", request("GET", "/v1/rings/tiny/"), NO_ROUTE),
@@ -319,6 +328,30 @@ def moves(checks):
         checks.same("of one version nothing moved", run("moves", file, "object", last, last, "--each"), (0, b"", b""))
 
 
+def swift_files(checks):
+    """A published ring as the file that Swift loads: the bytes that `export` writes, and refused where its text is."""
+    with scratch() as room:
+        file = f"{room}/rings.db"
+        run("run", "--file", file, given=lines(*MANY, *LATER))
+        with Server(file) as server:
+            published = json.loads(server.ask("GET", "/v1/rings/object")[1])["published"]
+            told = [server.ask("GET", f"/v1/rings/object/swift/{version}") for version in published]
+            raw = server.raw(request("GET", f"/v1/rings/object/swift/{published[0]}"))
+            checks.same("the answer says that it is no text", raw, answer(200, "OK", told[0][1], "application/octet-stream"))
+            for what, method, behind in [
+                ("no such ring", "GET", "none/{}/2"), ("no such version", "GET", "object/{}/4294967295"), ("another spelling of a version", "GET", "object/{}/02"),
+                ("no ring's name comes first", "GET", "Object/{}/02"), ("no version", "GET", "object/{}/"), ("something behind", "GET", "object/{}/2/3"),
+                ("the other method comes first", "POST", "Object/{}/02"),
+            ]:
+                body = "" if method == "POST" else None
+                as_swift, as_text = (server.raw(request(method, f"/v1/rings/{behind.format(word)}", body)) for word in ("swift", "text"))
+                checks.same(f"refused as the text: {what}", as_swift, as_text)
+                checks.show("and nothing is shown", as_swift.startswith(b"HTTP/1.1 4"), as_swift)
+        exported = [run("export", file, "object", version, "--format", "swift") for version in published]
+        checks.show("both versions were told", len(published) == 2 and told[0] != told[1], published)
+        checks.same("they are the bytes that export writes", [(0, body, b"") for status, body in told if status == 200], exported)
+
+
 def rings_and_status(checks):
     """Which rings there are and how much is kept, against each ring's tables and the rows of the file."""
     with scratch() as room:
@@ -343,6 +376,164 @@ def rings_and_status(checks):
         checks.same("with --status too", run("show", file, "--status"), (0, status[1] + b"\n", b""))
         both = listed[1] + b"\n" + status[1] + b"\n"
         checks.same("and so do lines", run("run", "--file", file, given=lines("? rings", "? status")), (0, both, b""))
+
+
+# Queries of reads that are none, with the target in front of each.
+NO_QUERIES = [f"/v1/log?{query}" for query in (
+    "most=0", "most=1001", "most=", "most=01", "most=x", "most=1&most=1", "from=", "from=01", "from=-1", "from=4294967296", "from=0&from=0",
+    "place=0", "from=0&more=1", "from", "%66rom=0&from=0")]
+NO_QUERIES += [f"/v1/rings/object/moves{query}" for query in (
+    "", "?", "?from=4", "?to=4", "?from=4&to=04", "?from=4&to=4294967296", "?from=4&to=-1", "?from=4&to=x", "?from=4&to=", "?from=4&from=4&to=4",
+    "?from=4&to=4&to=4", "?from=4&to=4&each", "?from=4&to=4&each=1")]
+NO_QUERIES += [f"/v1/rings/object/preview{query}" for query in (
+    "?", "?seed", "?seed=", "?seed=01", "?seed=-1", "?seed=4294967296", "?seed=1&hour=", "?seed=1&hour=4294967296", "?seed=1&hour=1&hour=1",
+    "?seed=1&more=1")]
+LOST_TARGETS = ["/v1/log/", "/v1/logs", "/v1/Log", "/v1/log/0", "/v1/page/", "/v1/Page", "/v1/page%3F", "/v1/pages", "/v1/rings/object/moves/",
+                "/v1/rings/object/moves/4", "/v1/rings/object/Moves", "/v1/rings/object/preview/", "/v1/rings/object/preview/7"]
+
+
+def log(checks):
+    """The log, read back, against the rows of the file and what each request is answered; and queries that are none."""
+    with scratch() as room:
+        file = f"{room}/rings.db"
+        run("run", "--file", file, given=lines(*MANY, *LATER))
+        with Server(file, hour=9) as server:
+            status, told = server.ask("GET", "/v1/log?most=1000")
+            entries = json.loads(told)["log"]
+            checks.same("it is compact, and its keys stand in order", (status, told), (200, compact({"log": entries}).encode()))
+            checks.same("without words it begins at the first and tells 100", server.ask("GET", "/v1/log"), (200, compact({"log": entries[:100]}).encode()))
+            parts = [json.loads(server.ask("GET", f"/v1/log?from={place}&most=7")[1])["log"] for place in range(0, len(entries) + 7, 7)]
+            checks.same("in parts of 7 it is the same, and the last is empty", (sum(parts, []), parts[-1]), (entries, []))
+            checks.same("as many are told as are kept", len(entries), json.loads(server.ask("GET", "/v1/status")[1])["kept"])
+            again = [server.post(compact(entry["request"])) for entry in entries]
+            checks.same("each request, sent again, is answered as it is told", again, [(entry["status"], compact(entry["reply"]).encode()) for entry in entries])
+            checks.same("which changes nothing of it", server.ask("GET", "/v1/log?most=1000"), (200, told))
+            none = [target for target in NO_QUERIES if server.ask("GET", target) != (400, b'{"fault":"Unreadable","rule":20}')]
+            checks.same("queries that are none are unreadable", none, [])
+            lost = [target for target in LOST_TARGETS if server.ask("GET", target) != (404, b'{"fault":"NoRoute","status":404}')]
+            checks.same("targets beside the routes have none", lost, [])
+            posted = [server.ask("POST", target, b"")[0] for target in ("/v1/log", "/v1/page", "/v1/rings/object/moves", "/v1/rings/object/preview")]
+            checks.same("none of them is asked for by POST", posted, [405] * 4)
+        rows = sorted(rows_of(file)["request"], key=lambda row: row[2])
+        keys = ("caller", "number")
+        want = [(*(entry["request"][key] for key in keys), entry["place"], entry["hour"],
+                 compact({key: value for key, value in entry["request"].items() if key not in keys}), compact(entry["reply"])) for entry in entries]
+        checks.same("its entries are the rows of the file", want, rows)
+        checks.same("a line tells these bytes and a line feed", run("run", "--file", file, given=lines("? log 0 1000")), (0, told + b"\n", b""))
+        each = "".join(f"{compact(entry)}\n" for entry in entries).encode()
+        checks.same("and the program an entry a line", run("log", file), (0, each, b""))
+
+
+NAME = r"[a-zA-Z_:][a-zA-Z0-9_:]*"
+LABEL = re.compile(r'([a-zA-Z_][a-zA-Z0-9_]*)="((?:[^"\\\n]|\\[\\"n])*)"')
+SAMPLE = re.compile(rf"({NAME})(?:\{{([^{{}}]*)\}})? (-?[0-9]+(?:\.[0-9]+)?)")
+
+
+def labels_of(text):
+    """The labels of a sample, each once and in their order."""
+    found, at = {}, 0
+    while at < len(text):
+        label = LABEL.match(text, at)
+        if not label or label[1] in found or label[1].startswith("__"):
+            raise ValueError(text)
+        found[label[1]] = re.sub(r"\\(.)", lambda escaped: {"n": "\n"}.get(escaped[1], escaped[1]), label[2])
+        at = label.end()
+        if text[at:at + 1] == "," and at + 1 < len(text):
+            at += 1
+        elif at < len(text):
+            raise ValueError(text)
+    return found
+
+
+def metrics_read(told):
+    """The samples of a text in the format of Prometheus by name and labels, each metric a gauge with HELP and TYPE in front of its
+    samples, all in one piece. ValueError for any other text."""
+    samples, known, name = {}, set(), None
+    text = told.decode()
+    if not text.endswith("\n"):
+        raise ValueError("the last line has no end")
+    rows = text[:-1].split("\n")
+    while rows:
+        row = rows.pop(0)
+        if row.startswith("#"):
+            if not (head := re.fullmatch(rf"# HELP ({NAME}) [^\\]+", row)) or head[1] in known:
+                raise ValueError(row)
+            name = head[1]
+            known.add(name)
+            if not rows or rows.pop(0) != f"# TYPE {name} gauge":
+                raise ValueError(f"no type of {name}")
+            continue
+        sample = SAMPLE.fullmatch(row)
+        if not sample or sample[1] != name:
+            raise ValueError(row)
+        place = (name, tuple(labels_of(sample[2] or "").items()))
+        if place in samples or (sample[2] is not None and not place[1]):
+            raise ValueError(row)
+        samples[place] = sample[3]
+    return samples
+
+
+# Texts that are none of the format, so that the reader of it is known to be strict.
+NO_METRICS = [
+    b"# HELP a b\n# TYPE a gauge\na 1", b"a 1\n", b"# TYPE a gauge\na 1\n", b"# HELP a b\na 1\n", b"# HELP a b\n# TYPE b gauge\nb 1\n",
+    b"# HELP a b\n# TYPE a gauge\na 1\na 1\n", b"# HELP a b\n# TYPE a gauge\na x\n", b"# HELP a b\n# TYPE a gauge\na  1\n",
+    b'# HELP a b\n# TYPE a gauge\na{c="d} 1\n', b'# HELP a b\n# TYPE a gauge\na{c="d",c="e"} 1\n', b'# HELP a b\n# TYPE a gauge\na{c="d"e="f"} 1\n',
+    b'# HELP a b\n# TYPE a gauge\na{c="\\d"} 1\n', b'# HELP a b\n# TYPE a gauge\na{c="d",} 1\n', b"# HELP a b\n# TYPE a gauge\na{} 1\n", b"# HELP a-b c\n# TYPE a-b gauge\na-b 1\n",
+    b"# HELP a b\n# TYPE a gauge\na 1\n# HELP c d\n# TYPE c gauge\na 2\n", b"# HELP a b\n# TYPE a gauge\n\na 1\n",
+]
+
+
+def is_refused(text):
+    """Whether a text is none of the format."""
+    try:
+        metrics_read(text)
+    except ValueError:
+        return True
+    return False
+
+
+def metrics(checks):
+    """The metrics, read by a strict reader of their format, against the status and each whole ring."""
+    checks.same("the reader refuses what is none of the format", [text for text in NO_METRICS if not is_refused(text)], [])
+    with scratch() as room:
+        file = f"{room}/rings.db"
+        two = [(hour, text.replace('"ops"', '"two"')) for hour, text in TINY]
+        with Server(f"{room}/none.db") as server:
+            empty = server.ask("GET", "/v1/metrics")
+            status = json.loads(server.ask("GET", "/v1/status")[1])
+            checks.same("of no ring there is no sample", empty, (200, common.metrics(status, [])))
+            checks.same("and the figures of the store stand alone", len(metrics_read(empty[1])), 3)
+        run("run", "--file", file, given=lines(*MANY, *LATER, *two))
+        with Server(file, hour=9) as server:
+            told = server.ask("GET", "/v1/metrics")
+            status = json.loads(server.ask("GET", "/v1/status")[1])
+            names = [ring["ring"] for ring in json.loads(server.ask("GET", "/v1/rings")[1])["rings"]]
+            rings = [json.loads(server.ask("GET", f"/v1/rings/{name}")[1]) for name in names]
+            raw = server.raw(request("GET", "/v1/metrics", fields=HEAD + "Accept: text/plain;version=0.0.4;q=0.5,*/*;q=0.1\r\n"))
+            want = answer(200, "OK", told[1], "text/plain; version=0.0.4; charset=utf-8")
+            checks.same("the answer names the format and its version", raw, want)
+            checks.same("the metrics by POST", server.ask("POST", "/v1/metrics", b"")[0], 405)
+        checks.same("they are what the status and the whole rings tell", told, (200, common.metrics(status, rings)))
+        samples = metrics_read(told[1])
+        for ring in rings:
+            of_ring = (("ring", ring["ring"]),)
+            figures = {name: float(samples[(f"ringd_ring_{name}", of_ring)]) for name, _, _ in common.RING_METRICS}
+            tellings = {name: float(value(ring)) for name, _, value in common.RING_METRICS}
+            checks.same(f"each figure of {ring['ring']} is that of the whole ring", figures, tellings)
+            states = {state: int(samples[("ringd_ring_devices", (*of_ring, ("state", state)))]) for state in common.STATES}
+            found = [device["state"] for device in ring["devices"]]
+            checks.same("and its devices by state", states, {state: found.count(state) for state in common.STATES})
+        store = [samples[(f"ringd_{name}", ())] for name in ("numbers_kept", "numbers_limit", "greatest_hour")]
+        checks.same("the figures of the store are those of the status", store, [str(status[key]) for key in ("kept", "limit", "hour")])
+        checks.same("there are no other samples", len(samples), 3 + len(rings) * (len(common.RING_METRICS) + len(common.STATES)))
+        some = [int(samples[(f"ringd_ring_{name}", (("ring", "object"),))]) for name in ("misplaced_seats", "locked_partitions", "locked_hours")]
+        checks.show("some seats are not where they are wanted, and some partitions are locked", min(some) > 0, samples)
+        later = common.metrics(status, [common.unlocked(ring) for ring in rings])
+        with Server(file, hour=99) as server:
+            checks.same("once the clock is ahead no partition is locked, and the greatest hour stays", server.ask("GET", "/v1/metrics"), (200, later))
+        checks.same("show prints these bytes, at the hour of the machine", run("show", file, "--metrics"), (0, later, b""))
+        line = run("run", "--file", file, given=lines("? metrics"))
+        checks.same("no line asks for them", line, (0, b'400 {"fault":"Unreadable","rule":20}\n', b""))
 
 
 def refusals(checks):
@@ -917,7 +1108,8 @@ def main():
         print("0 passed, 0 failed")
         return 0
     return checks.run(
-        words, routes, whole_ring, preview, moves, rings_and_status, refusals, heads, queries, at_full_size, by_curl, by_http_client, stopped_and_started, address, broken_off,
+        words, routes, whole_ring, preview, moves, swift_files, rings_and_status, log, metrics, refusals, heads, queries, at_full_size, by_curl, by_http_client,
+        stopped_and_started, address, broken_off,
         thousand_connections, random_requests, slow_ones)
 
 

@@ -6,6 +6,7 @@ fail at many sizes, stores that are none, a store of the older schema, and what 
 Nothing but Python's standard library is used. It takes some ten seconds.
 """
 import hashlib
+import json
 import os
 import resource
 import shutil
@@ -67,7 +68,10 @@ def first_run(checks):
         listed, status = common.listed(object=3) + b"\n", common.status(0, 4, 1) + b"\n"
         checks.same("show of no ring's name tells which there are", run("show", file), (0, listed, b""))
         checks.same("show with --status: the repeat is not kept again", run("show", file, "--status"), (0, status, b""))
-        for more in (["object", "--status"], ["--status", "object"], ["object", "other"], ["--status", "--status"]):
+        told = common.metrics(json.loads(status), [common.unlocked(json.loads(FIRST_RING))])
+        checks.same("show with --metrics, at the hour of the machine", run("show", file, "--metrics"), (0, told, b""))
+        for more in (["object", "--status"], ["--status", "object"], ["object", "other"], ["--status", "--status"], ["object", "--metrics"],
+                     ["--metrics", "--status"], ["--metrics", "--metrics"]):
             code, told, errors = run("show", file, *more)
             checks.show(f"show FILE {' '.join(more)} ends with status 2", code == 2 and not told and errors, (code, told, errors))
         asked = run("run", "--file", file, given=lines("? balance object", "? rings", "? devices object", "? status", "? ring object"))
@@ -85,6 +89,7 @@ def first_run(checks):
         checks.same("preview of a ring that is not there", run("preview", file, "other", "--seed", 1), fault("NoRing", 1))
         checks.same("moves of a version that is not published", run("moves", file, "object", "3", "3"), fault("NoVersion", 32))
         checks.same("moves of no version", run("moves", file, "object", "3", "03", "--each"), fault("Unreadable", 20))
+        checks.same("a log from no place", run("log", file, "--from", "03"), fault("Unreadable", 20))
         checks.same("nodes of no path", run("nodes", file, "object", "a", "--object", "o"), fault("BadPath", 30))
         checks.same("export of a version that is not published", run("export", file, "object", "3"), fault("NoVersion", 32))
         checks.same("export of no version", run("export", file, "object", "03"), fault("Unreadable", 20))
@@ -270,7 +275,7 @@ def broken_streams(checks):
 # Words that ask for nothing: a call for help, a program that there isn't, an argument that is missing, too many or not of its form.
 ASK_FOR_NOTHING = ["", "--help", "run --help", "help run", "walk", "serve FILE 0 1", "serve FILE 8642 65536", "serve FILE 8642", "loop FILE",
                    "run more", "run --files FILE", "export FILE object 1 --format csv", "table FILE object --hour 1", "show", "show --status",
-                   "show FILE object --status", "show FILE --status=yes", "preview FILE object", "preview FILE object --seed x", "moves FILE object 1", "moves FILE object 1 2 --each=yes", "found FILE TEXT", "found FILE --min-hours 1",
+                   "show FILE object --status", "show FILE --status=yes", "preview FILE object", "preview FILE object --seed x", "moves FILE object 1", "moves FILE object 1 2 --each=yes", "log FILE 3", "log FILE --lines=yes", "found FILE TEXT", "found FILE --min-hours 1",
                    "found FILE TEXT --min-hours 65536", "found FILE TEXT --min-hours 1 --hour x", "version more"]
 
 
@@ -535,7 +540,7 @@ def failing_writes(checks):
             shutil.copyfile(file, copy)
             limited = run("run", "--file", copy, given=lines(*MANY, more), **within(size))
             again = run("run", "--file", copy, given=lines(*MANY, more))
-            answers = want + b'200 {"done":"set_hours","version":13}\n'
+            answers = want + b'200 {"done":"set_hours","version":15}\n'
             is_right = is_named(limited) and is_cut_off(limited[1], answers) and again == (0, answers, b"")
             checks.show(f"a store that is there, and {size} bytes: then each delivery gets its one reply", is_right, (limited, again, answers))
 

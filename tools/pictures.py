@@ -20,10 +20,12 @@ DOCS = TOP / "docs"
 # Where each crate stands from left to right, in halves of a box, so that no box is on another and no line goes
 # behind the box of another crate.
 SLOTS = {name: int(slot) for name, slot in (word.split(":") for word in """
-    ring_room:0 ring_deal:0 path_lookup:0 ring_place:2 ring_share:2 ring_model:4 byte_streams:8 ring_text:6 swift_ring:4 ring_reads:7
-    ring_words:6 csv_import:6 request_book:8 ring_messages:10 builder:10 ring_book:10
-    store_tables:12 builder_store:12 store_model:13 store_rows:13 http_messages:17 http_routes:23 http_stream:21 http_api:18
-    timed_streams:19 http_sockets:19 line_stream:16 line_api:20 command_line:21 ring_founding:22 programs:22 file_stores:22 ringd:22
+    ring_words:10 byte_streams:19 ring_model:8 ring_share:6 ring_room:1 ring_tables:7 ring_deal:3
+    ring_place:9 ring_text:9 swift_ring:3 ring_founding:21 path_lookup:4 ring_metrics:7 ring_reads:10
+    csv_import:10 request_book:19 ring_messages:12 builder:12 ring_log:13 ring_book:12 store_model:16
+    store_tables:6 store_rows:16 builder_store:16 line_stream:15 line_api:15 ring_page:21 http_messages:14
+    http_stream:17 http_routes:14 http_api:17 timed_streams:22 http_sockets:22 command_line:19 programs:20
+    file_stores:16 ringd:16
     """.split())}
 COLOURS = ("#4e79a7", "#f28e2b", "#59a14f", "#e15759", "#b07aa1", "#76b7b2", "#9c755f", "#edc948", "#bab0ac")
 FONT = 'font-family="DejaVu Sans, Verdana, sans-serif"'

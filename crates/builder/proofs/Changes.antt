@@ -8,7 +8,7 @@ use Rattle.std.proofs.lemmas.Slice.Eq.{bytes_eq-Decides}
 use Rattle.ring_model.specs.Import.{after_row, after_rows}
 use Rattle.ring_model.specs.Publish.{is_published}
 use Rattle.ring_model.specs.Raise.{IsRaised}
-use Rattle.ring_model.specs.Ring.{RingRecord, added}
+use Rattle.ring_model.specs.Ring.{RingRecord, added, changed, risen}
 use Rattle.ring_model.specs.Rings.{ring_at}
 use Rattle.ring_place.specs.Rebalance.{IsRebalance}
 use Rattle.ring_words.specs.Rows.{has_place}
@@ -22,7 +22,7 @@ use Rattle.ring_words.specs.declared.command.Done.{Done}
 use Rattle.ring_words.specs.declared.command.Reply.{Reply}
 use Rattle.ring_words.specs.declared.command.Reply.TheVariants as reply
 use Rattle.request_book.specs.declared.entry.Entry.{Entry}
-use Rattle.builder.specs.Safety.{IsDone}
+use Rattle.builder.specs.Safety.{IsDone, IsSameBeside}
 use Rattle.builder.specs.Step.{Effect, RingEffect, State, Step, is_refused}
 use Rattle.builder.proofs.Others.{others_stay}
 use Rattle.builder.proofs.RingAt.{ring_at-with, same_name}
@@ -101,17 +101,66 @@ change_of (act.Import rows) answer name old new hour effect =
     let rest = alike_rows old rows in
     alike_as _ hour old _ new effect.0
     (record { power = rest.power; min_hours = rest.min_hours; moved = rest.moved })
+change_of (act.Keep id) answer name old new hour effect =
+    alike_as _ hour old _ new effect.0 (record { power = refl; min_hours = refl; moved = refl })
 change_of (act.Rebalance seed) answer name old new hour effect =
+    Rebalance effect.0
+change_of (act.RebalanceAs told) answer name old new hour effect =
     Rebalance effect.0
 change_of act.Publish answer name old new hour effect =
     alike_as _ hour old _ new effect.0 (alike_published_if (is_published old) old _)
 change_of a answer name old new hour effect = absurd effect
 
+-- ---- the version
+
+-- The version rises, or it stays and all but the published texts does.
+abbrev pub Rises : RingRecord → RingRecord → Type 0
+Rises old new = (new.version ≡ risen old.version) ⊎ IsSameBeside old new
+
+version_row_if : (b : Bool) (ring : RingRecord) (row : Row) (devices : List Device)
+    → (cond b (record ring { devices = devices }) (added ring row)).version ≡ ring.version
+version_row_if true ring row devices = refl
+version_row_if false ring row devices = refl
+
+version_rows : (ring : RingRecord) (rows : List Row) → (after_rows ring rows).version ≡ ring.version
+version_rows ring [] = refl
+version_rows ring (row ∷ rows) =
+    version_rows (after_row ring row) rows
+    ∙ version_row_if (has_place row ring.devices) ring row _
+
+beside_if : (b : Bool) (ring : RingRecord) (published : List (ℕ × List ℕ))
+    → IsSameBeside ring (cond b ring (record ring { published = published }))
+beside_if true ring published = refl
+beside_if false ring published = refl
+
+-- where a ring is the old one at the version after a change
+by_change : (old it new : RingRecord) → it.version ≡ old.version → new ≡ changed it → Rises old new
+by_change old it new same is =
+    inl (ap (λ (r : RingRecord). r.version) is ∙ ap risen same)
+
+rises_by : (a : Act) (answer : Done) (name : List ℕ) (old new : RingRecord) (hour : ℕ)
+    → RingEffect name hour old a answer new → Rises old new
+rises_by (act.Add row) answer name old new hour effect = by_change old _ new refl effect.0
+rises_by (act.SetWeight to) answer name old new hour effect = by_change old _ new refl effect.0
+rises_by (act.Remove id) answer name old new hour effect = by_change old _ new refl effect.0
+rises_by (act.Keep id) answer name old new hour effect = by_change old _ new refl effect.0
+rises_by (act.SetHours hours) answer name old new hour effect = by_change old _ new refl effect.0
+rises_by act.PretendPassed answer name old new hour effect = by_change old _ new refl effect.0
+rises_by act.RaisePower answer name old new hour effect = inl effect.0.version
+rises_by (act.Import rows) answer name old new hour effect =
+    by_change old (after_rows old rows) new (version_rows old rows) effect.0
+rises_by (act.Rebalance seed) answer name old new hour effect = inl effect.0.after.version
+rises_by (act.RebalanceAs told) answer name old new hour effect = inl effect.0.after.version
+rises_by act.Publish answer name old new hour effect =
+    inr (subst (λ (r : RingRecord). IsSameBeside old r) (sym effect.0)
+    (beside_if (is_published old) old _))
+rises_by a answer name old new hour effect = absurd effect
+
 -- What a step makes of the ring of a name: the ring stays, or the step's act is done on it.
 abbrev pub Next : List ℕ → Entry Command Reply → RingRecord → RingRecord → Type 0
 Next name entry old new =
     (new ≡ old) ⊎ (IsDone name entry.command.act entry × Change entry.command.act entry.hour old
-    new)
+    new × Rises old new)
 
 -- A ring that was there before a step is there after it.
 pub record IsNext (name : List ℕ) (entry : Entry Command Reply) (old : RingRecord) (after : State) :
@@ -148,6 +197,7 @@ by_reply limits rings after name entry (reply.Done answer) old gives step was =
           next = inr (
             record { ring = is; is = refl; done = ap is_refused gives },
             change_of entry.command.act answer name old new entry.hour effect,
+            rises_by entry.command.act answer name old new entry.hour effect,
           );
         }
 

@@ -8,7 +8,7 @@ use Rattle.std.proofs.lemmas.Option.{same_Some, slice_get-get_or}
 use Rattle.builder.specs.Safety.{AreValid}
 use Rattle.builder.specs.Step.{CountsRows, Effect, ImportsRows, NoRingEffect, RaisesPower}
 use Rattle.builder.specs.Step.{RingEffect, State, Step, answer_at}
-use Rattle.builder.proofs.Previews.{one_rebalance}
+use Rattle.builder.proofs.Previews.{one_foretold, one_rebalance}
 use Rattle.builder.proofs.ValidRings.{valid_at}
 use Rattle.ring_model.specs.Raise.{IsRaised}
 use Rattle.ring_model.specs.Ring.{RingRecord, moved_at, seat}
@@ -142,6 +142,8 @@ one_change name hour old (act.SetWeight to) answer also new other valid one two 
     by_equations _ _ answer also new other one two
 one_change name hour old (act.Remove id) answer also new other valid one two =
     by_equations _ _ answer also new other one two
+one_change name hour old (act.Keep id) answer also new other valid one two =
+    by_equations _ _ answer also new other one two
 one_change name hour old (act.SetHours hours) answer also new other valid one two =
     by_equations _ _ answer also new other one two
 one_change name hour old act.PretendPassed answer also new other valid one two =
@@ -152,6 +154,8 @@ one_change name hour old (act.Import rows) answer also new other valid one two =
     one_import rows old answer also new other one two
 one_change name hour old (act.Rebalance seed) answer also new other valid one two =
     one_rebalance name hour seed (Some old) answer also new other one two
+one_change name hour old (act.RebalanceAs told) answer also new other valid one two =
+    one_foretold name hour told (Some old) answer also new other one two
 one_change name hour old act.Publish answer also new other valid one two =
     by_equations _ _ answer also new other one two
 

@@ -5,6 +5,7 @@ pub mod Ways
 pub mod Few
 pub mod Hours
 pub mod Rests
+pub mod Versions
 pub mod Imports
 pub mod RebalancedValid
 pub mod ValidRings
@@ -14,7 +15,11 @@ pub mod Joined
 pub mod Lives
 pub mod KeptReplies
 pub mod Previews
+pub mod Foretold
+pub mod Kept
+pub mod Marks
 pub mod Functions
 pub mod OneBook
 pub mod OneLife
 pub mod Nothing
+pub mod Replays

@@ -64,13 +64,13 @@ led_life limits limit old new runs lives =
     safe_leads limits old new led.entries led.leads
 
 -- what was decided is proper, and stands behind the old book, and the new hour has 32 bits
-record IsProperly (old new : Content State Command Reply) : Type 0 where
-  entries : Entries
-  book : new.book ≡ old.book ++ entries
-  proper : All IsProperEntry entries
-  small : new.hour < long_count
+pub record IsProperly (old new : Content State Command Reply) : Type 0 where
+  pub entries : Entries
+  pub book : new.book ≡ old.book ++ entries
+  pub proper : All IsProperEntry entries
+  pub small : new.hour < long_count
 
-proper_life : (limits : Limits) (limit : ℕ) (old new : Content State Command Reply)
+pub proper_life : (limits : Limits) (limit : ℕ) (old new : Content State Command Reply)
     (runs : List (List (Call Command Reply))) → Lives limits limit old runs new
     → old.hour < long_count → AllByRecursion (All IsProperCall) runs → IsProperly old new
 proper_life limits limit old new [] same small proper = record {

@@ -19,12 +19,12 @@ use Rattle.ring_words.specs.declared.command.Reply.TheVariants as reply
 use Rattle.request_book.specs.declared.entry.Entry.{Entry}
 use Rattle.ring_place.specs.Rebalance.{IsAfter, IsRebalance, Leaves, has_changed, is_locked}
 use Rattle.ring_place.proofs.Lawful.{lawful, unlocked_leave}
-use Rattle.builder.specs.Safety.{DoNotFall, Entries, IsDone, IsWay, NeverBetween, RebalanceAt}
-use Rattle.builder.specs.Safety.{origin}
+use Rattle.builder.specs.Safety.{DoNotFall, Entries, HasRebalanced, IsDone, IsWay, NeverBetween}
+use Rattle.builder.specs.Safety.{RebalanceAt, origin}
 use Rattle.builder.specs.Step.{Effect, RingEffect, State, Step}
 use Rattle.builder.proofs.Changes.{Alike, Change, Next, PretendPassed, Raise, Rebalance, SetHours}
 use Rattle.builder.proofs.RingAt.{one_ring, ring_at-with}
-use Rattle.builder.proofs.Few.{done_answer, plain_step}
+use Rattle.builder.proofs.Few.{done_answer, plain_step, rebalanced_by}
 use Rattle.builder.proofs.Hours.{hours_next}
 use Rattle.builder.proofs.Ways.{IsThere, later_hour, of_there, there_later}
 
@@ -134,22 +134,22 @@ since_next name entry first partition since never late old new next held = ⊎_e
 
 -- ---- two rebalances
 
-rebalanced : (limits : Limits) (rings after : State) (name : List ℕ) (seed : ℕ)
-    (e : Entry Command Reply) (old new : RingRecord) → IsDone name (act.Rebalance seed) e
+rebalanced : (limits : Limits) (rings after : State) (name : List ℕ)
+    (e : Entry Command Reply) (old new : RingRecord) → HasRebalanced name e
     → Step limits rings e.hour e.command e.reply after → ring_at name rings ≡ Some old
     → ring_at name after ≡ Some new → IsRebalance old e.hour new
-rebalanced limits rings after name seed e old new is step was found =
+rebalanced limits rings after name e old new is step was found =
     let answer : Done = (done_answer e.reply is.done).0 in
-    let at : Step limits rings e.hour (record { ring = name; act = act.Rebalance seed })
+    let at : Step limits rings e.hour (record { ring = name; act = e.command.act })
     (reply.Done answer) after =
-    plain_step limits rings after name seed e is step in
+    plain_step limits rings after name e is step in
     let it : RingRecord = at.1.0 in
-    let effect : RingEffect name e.hour old (act.Rebalance seed) answer it =
-    subst (λ o. Effect name e.hour o (act.Rebalance seed) answer it) was at.1.1 in
+    let effect : RingEffect name e.hour old e.command.act answer it =
+    subst (λ o. Effect name e.hour o e.command.act answer it) was at.1.1 in
     let same : it ≡ new =
     one_ring it new (sym (ring_at-with rings name it) ∙ sym (ap (ring_at name) at.1.2) ∙ found) in
     subst (λ (r : RingRecord). IsRebalance old e.hour r) same
-    effect.0
+    (rebalanced_by e.command.act name e.hour old answer it is.is effect)
 
 -- just after a rebalance that changed a seat
 moved_now : (old new : RingRecord) (hour partition : ℕ) → IsAfter old hour new
@@ -196,7 +196,7 @@ module _ (limits : Limits) (old new : State) (entries : Entries) (rings : ℕ �
   rebalanced_at : (name : List ℕ) (i : ℕ) (it : RebalanceAt entries rings name i)
       → IsRebalance it.old it.entry.hour it.new
   rebalanced_at name i it =
-      rebalanced limits (rings i) (rings (i + 1)) name it.seed it.entry it.old it.new it.done
+      rebalanced limits (rings i) (rings (i + 1)) name it.entry it.old it.new it.done
       (way.steps i it.entry it.there) it.found it.left
 
   -- What is known of a ring just after an entry, and what each later one keeps, is known of it

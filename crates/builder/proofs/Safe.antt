@@ -6,15 +6,14 @@ use Rattle.std.specs.Option.{option_to_list}
 use Rattle.std.proofs.lemmas.Option.{get_or_from_slice_get, slice_get_cases, slice_get_within}
 use Rattle.ring_words.specs.declared.request.Limits.{Limits}
 use Rattle.ring_words.specs.declared.command.Command.{Command}
-use Rattle.ring_words.specs.declared.command.Act.TheVariants as act
 use Rattle.ring_words.specs.declared.command.Reply.{Reply}
 use Rattle.request_book.specs.Call.{Call}
 use Rattle.request_book.specs.Content.{Content}
 use Rattle.request_book.specs.Once.{once}
 use Rattle.request_book.specs.Run.{Leads, Run, kept}
 use Rattle.request_book.specs.declared.entry.Entry.{Entry}
-use Rattle.builder.specs.Safety.{AreValid, DoNotFall, Entries, FewLeft, IsDone, IsProperEntry, IsSafe}
-use Rattle.builder.specs.Safety.{IsWay, LeadsSafely}
+use Rattle.builder.specs.Safety.{AreValid, DoNotFall, Entries, FewLeft, HasRebalanced}
+use Rattle.builder.specs.Safety.{IsProperEntry, IsSafe, IsWay, LeadsSafely}
 use Rattle.builder.specs.Step.{State, Step}
 use Rattle.builder.proofs.Few.{few_left_of}
 use Rattle.builder.proofs.Hours.{kept_do_not_fall}
@@ -23,11 +22,11 @@ use Rattle.builder.proofs.ValidRings.{stay_valid}
 use Rattle.builder.proofs.Ways.{rings_of, way_of}
 
 pub few_left_on_the_way : (limits : Limits) (old new : State) (entries : Entries)
-    (rings : ℕ → State) → IsWay limits old entries new rings → (name : List ℕ) (n seed : ℕ)
+    (rings : ℕ → State) → IsWay limits old entries new rings → (name : List ℕ) (n : ℕ)
     (entry : Entry Command Reply) → slice_get entries n ≡ Some entry
-    → IsDone name (act.Rebalance seed) entry → FewLeft (rings n) name entry.hour (rings (n + 1))
-few_left_on_the_way limits old new entries rings way name n seed entry there is =
-    few_left_of limits (rings n) (rings (n + 1)) name seed entry is (way.steps n entry there)
+    → HasRebalanced name entry → FewLeft (rings n) name entry.hour (rings (n + 1))
+few_left_on_the_way limits old new entries rings way name n entry there is =
+    few_left_of limits (rings n) (rings (n + 1)) name entry is (way.steps n entry there)
 
 -- Where the first rings are valid and the entries proper, so are all rings on the way.
 pub valid_on_the_way : (limits : Limits) (old new : State) (entries : Entries)

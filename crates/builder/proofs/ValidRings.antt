@@ -20,6 +20,7 @@ use Rattle.ring_model.proofs.Raising.{raised_valid}
 use Rattle.ring_model.specs.Import.{after_row, after_rows, reweighed_by}
 use Rattle.ring_model.specs.Publish.{among, is_published, with_published}
 use Rattle.ring_model.specs.Ring.{RingRecord, added, marked, new_ring, partition_count, reweighed}
+use Rattle.ring_model.specs.Ring.{unmarked}
 use Rattle.ring_model.specs.Rings.{is_before, ring_at, with_ring}
 use Rattle.ring_model.specs.Valid.{IsHour, IsValid}
 use Rattle.ring_words.specs.Rows.{IsProperRow, has_place}
@@ -161,7 +162,7 @@ published_valid limits ring text room valid =
     omega (arith, limits.versions_within)))
 
 new_valid : (a : Act) (answer : Done) (limits : Limits) (name : List ℕ) (old new : RingRecord)
-    (hour : ℕ) → hour < long_count → AreClear (ring_causes limits old a) → IsProperAct a
+    (hour : ℕ) → hour < long_count → AreClear (ring_causes limits hour old a) → IsProperAct a
     → IsValid old
     → RingEffect name hour old a answer new → IsValid new
 new_valid (act.Add row) answer limits name old new hour small clear proper valid effect =
@@ -182,8 +183,11 @@ new_valid (act.SetWeight to) answer limits name old new hour small clear proper 
     (changed_valid _ (altered_valid (reweighed to.id to.weight) (reweighed_keeps to.id to.weight proper.1.0)
     old valid))
 new_valid (act.Remove id) answer limits name old new hour small clear proper valid effect =
-    subst IsValid (sym effect.0) (changed_valid _ (altered_valid (marked id) (marked_keeps id) old
-    valid))
+    subst IsValid (sym effect.0) (changed_valid _ (altered_valid (marked id) (marked_keeps true id)
+    old valid))
+new_valid (act.Keep id) answer limits name old new hour small clear proper valid effect =
+    subst IsValid (sym effect.0) (changed_valid _ (altered_valid (unmarked id)
+    (marked_keeps false id) old valid))
 new_valid (act.SetHours hours) answer limits name old new hour small clear proper valid effect =
     let most = proper.0.1 in
     subst IsValid (sym effect.0) (changed_valid _ (hours_valid old hours (omega (arith, most))
@@ -199,6 +203,8 @@ new_valid (act.Import rows) answer limits name old new hour small clear
     subst IsValid (sym effect.0) (changed_valid _ (rows_valid limits 1 old rows clear proper.0
     valid))
 new_valid (act.Rebalance seed) answer limits name old new hour small clear proper valid effect =
+    rebalanced_valid old new hour small valid effect.0
+new_valid (act.RebalanceAs told) answer limits name old new hour small clear proper valid effect =
     rebalanced_valid old new hour small valid effect.0
 new_valid act.Publish answer limits name old new hour small clear proper valid effect =
     subst IsValid (sym effect.0) (published_valid limits old _
@@ -265,7 +271,7 @@ first_valid a answer limits rings name new clear proper effect = absurd effect
 
 by_found : (found : Option RingRecord) (a : Act) (answer : Done) (limits : Limits) (rings : State)
     (name : List ℕ) (new : RingRecord) (hour : ℕ) → hour < long_count → ring_at name rings ≡ found
-    → AreClear (causes limits rings found a) → IsProperAct a → AreValid rings
+    → AreClear (causes limits rings hour found a) → IsProperAct a → AreValid rings
     → Effect name hour found a answer new → IsNewValid rings name new
 by_found None a answer limits rings name new hour small is clear proper valid effect =
     first_valid a answer limits rings name new clear proper effect
@@ -282,7 +288,8 @@ stay_valid limits rings after hour command (reply.Refused refused) small step pr
     subst AreValid (sym step.1) valid
 stay_valid limits rings after hour command (reply.Done answer) small step proper valid =
     let new : RingRecord = step.1.0 in
-    let clear = none_stands (causes limits rings (ring_at command.ring rings) command.act) step.0 in
+    let clear =
+    none_stands (causes limits rings hour (ring_at command.ring rings) command.act) step.0 in
     let is =
     by_found (ring_at command.ring rings) command.act answer limits rings command.ring new hour small refl
     clear proper.act valid step.1.1 in

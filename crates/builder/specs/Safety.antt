@@ -1,7 +1,7 @@
 -- What operators are promised of a run: how few replicas a rebalance takes off the devices that
 -- remain, how long those of a moved partition stay, and that the rings stay valid.
-use Rattle.std.specs.Prelude.{◌≡◌, ◌+◌, ◌-◌, ◌/◌, ◌^◌, ◌<◌, ◌≤◌, ◌++◌, ℕ, IsTrue, true, false, List}
-use Rattle.std.specs.Prelude.{length, slice_get, Some, All, AllPairs}
+use Rattle.std.specs.Prelude.{◌≡◌, ◌+◌, ◌-◌, ◌/◌, ◌^◌, ◌<◌, ◌≤◌, ◌++◌, ℕ, Bool, IsTrue, true, false}
+use Rattle.std.specs.Prelude.{List, length, slice_get, Some, All, AllPairs}
 use Rattle.ring_words.specs.Limits.{long_count, most_rings}
 use Rattle.ring_model.specs.Ring.{RingRecord, partition_count}
 use Rattle.ring_model.specs.Rings.{AreByName, ring_at, with_ring}
@@ -79,6 +79,18 @@ pub record IsDone (name : List ℕ) (what : Act) (entry : Entry Command Reply) :
   pub is : entry.command.act ≡ what
   pub done : is_refused entry.reply ≡ false
 
+-- whether an act rebalances a ring
+abbrev pub is_rebalance : Act → Bool
+is_rebalance (act.Rebalance seed) = true
+is_rebalance (act.RebalanceAs told) = true
+is_rebalance other = false
+
+-- The entry is a rebalance of the ring of this name, foretold or not, and it was done.
+pub record HasRebalanced (name : List ℕ) (entry : Entry Command Reply) : Type 0 where
+  pub ring : entry.command.ring ≡ name
+  pub is : is_rebalance entry.command.act ≡ true
+  pub done : is_refused entry.reply ≡ false
+
 -- Between two places this act on the ring of this name was never done.
 abbrev pub NeverBetween : Entries → ℕ → ℕ → List ℕ → Act → Type 0
 NeverBetween entries i j name what = (n : ℕ) (entry : Entry Command Reply) → i < n → n < j →
@@ -99,8 +111,7 @@ pub record RebalanceAt (entries : Entries) (rings : ℕ → State) (name : List 
   where
     pub entry : Entry Command Reply
     pub there : slice_get entries n ≡ Some entry
-    pub seed : ℕ
-    pub done : IsDone name (act.Rebalance seed) entry
+    pub done : HasRebalanced name entry
     pub old : RingRecord
     pub new : RingRecord
     pub found : ring_at name (rings n) ≡ Some old
@@ -130,6 +141,12 @@ RestsFor hours entries rings name i j = (move : RebalanceAt entries rings name i
     → has_changed move.old move.new (origin move.old later.old partition) ≡ true
     → Leaves later.old later.new partition replica → move.entry.hour + hours ≤ later.entry.hour
 
+-- ---- versions
+
+-- The rings are the same, whatever texts are published of each.
+abbrev pub IsSameBeside : RingRecord → RingRecord → Type 0
+IsSameBeside old new = record new { published = old.published } ≡ old
+
 -- ---- what is promised
 
 -- The entries lead safely from the old rings to the new ones by way of these.
@@ -139,8 +156,8 @@ pub record IsSafe (limits : Limits) (old : State) (entries : Entries) (new : Sta
   pub hours : DoNotFall entries
   -- In each rebalance at most one replica of a partition leaves a device that remains, and none of
   -- a partition that is locked.
-  pub few : (name : List ℕ) (n seed : ℕ) (entry : Entry Command Reply) →
-      slice_get entries n ≡ Some entry → IsDone name (act.Rebalance seed) entry →
+  pub few : (name : List ℕ) (n : ℕ) (entry : Entry Command Reply) →
+      slice_get entries n ≡ Some entry → HasRebalanced name entry →
       FewLeft (rings n) name entry.hour (rings (n + 1))
   -- A move makes the lock. Where a rebalance changed a seat of a partition, no later one takes a
   -- replica of it, or of what came of it, off a device that remains before as many hours have

@@ -7,8 +7,8 @@ use Rattle.ring_model.specs.Import.{after_row, after_rows}
 use Rattle.ring_model.specs.Publish.{is_published, with_published}
 use Rattle.ring_model.specs.Raise.{IsRaised}
 use Rattle.ring_model.specs.Ring.{RingRecord, changed, has_device, has_present, is_assigned}
-use Rattle.ring_model.specs.Ring.{new_ring, with_device, with_hours_passed, with_mark}
-use Rattle.ring_model.specs.Ring.{with_min_hours, with_weight}
+use Rattle.ring_model.specs.Ring.{new_ring, risen, with_device, with_hours_passed, with_mark}
+use Rattle.ring_model.specs.Ring.{with_min_hours, with_weight, without_mark}
 use Rattle.ring_words.specs.Rows.{has_place, same_place}
 use Rattle.ring_model.specs.Rings.{ring_at, with_ring}
 use Rattle.ring_place.specs.Rebalance.{IsRebalance, changed_seats}
@@ -28,6 +28,7 @@ use Rattle.ring_words.specs.declared.command.RowCause.{RowCause}
 use Rattle.ring_words.specs.declared.command.RowCause.TheVariants as row_cause
 use Rattle.ring_words.specs.declared.device.Device.{Device}
 use Rattle.ring_words.specs.declared.device.Row.{Row}
+use Rattle.ring_words.specs.declared.command.Foretold.{Foretold}
 use Rattle.ring_words.specs.declared.command.NewRing.{NewRing}
 use Rattle.ring_words.specs.declared.command.NewWeight.{NewWeight}
 use Rattle.ring_words.specs.declared.command.Reply.{Reply}
@@ -51,6 +52,13 @@ abbrev pub of_device : ℕ → RingRecord → List Cause
 of_device id ring =
     record { refused = refusal.NoDevice; stands = not (has_device id ring.devices) }
     ∷ record { refused = refusal.DeviceRemoved; stands = not (has_present id ring.devices) }
+    ∷ []
+
+-- the causes that may stand against taking the mark off a device
+abbrev pub of_mark : ℕ → RingRecord → List Cause
+of_mark id ring =
+    record { refused = refusal.NoDevice; stands = not (has_device id ring.devices) }
+    ∷ record { refused = refusal.NotMarked; stands = has_present id ring.devices }
     ∷ []
 
 -- a cause for which a row of an import is refused, and whether it stands
@@ -143,19 +151,30 @@ of_rebalance ring = record {
       nat_lt (count_by is_open ring.devices) ring.replicas;
 } ∷ []
 
--- the causes that may stand against an act on this ring, in the order in which they are looked at
-abbrev pub ring_causes : Limits → RingRecord → Act → List Cause
-ring_causes limits ring (act.Create new) = record { refused = refusal.RingExists; stands = true } ∷
-    []
-ring_causes limits ring (act.Add row) = of_addition limits row ring
-ring_causes limits ring (act.SetWeight to) = of_device to.id ring
-ring_causes limits ring (act.Remove id) = of_device id ring
-ring_causes limits ring (act.SetHours hours) = []
-ring_causes limits ring act.PretendPassed = []
-ring_causes limits ring act.RaisePower = of_power ring
-ring_causes limits ring (act.Import rows) = of_rows limits 1 ring rows
-ring_causes limits ring (act.Rebalance seed) = of_rebalance ring
-ring_causes limits ring act.Publish = of_text limits ring
+-- The causes that may stand at an hour against a rebalance that was foretold. What was told is the
+-- version that the ring would have after it, and the hour.
+abbrev pub of_foretold : ℕ → Foretold → RingRecord → List Cause
+of_foretold hour told ring = of_rebalance ring ++
+    record { refused = refusal.OtherVersion; stands = not (risen ring.version == told.version) }
+    ∷ record { refused = refusal.OtherHour; stands = not (hour == told.hour) }
+    ∷ []
+
+-- the causes that may stand at an hour against an act on this ring, in the order in which they are
+-- looked at
+abbrev pub ring_causes : Limits → ℕ → RingRecord → Act → List Cause
+ring_causes limits hour ring (act.Create new) =
+    record { refused = refusal.RingExists; stands = true } ∷ []
+ring_causes limits hour ring (act.Add row) = of_addition limits row ring
+ring_causes limits hour ring (act.SetWeight to) = of_device to.id ring
+ring_causes limits hour ring (act.Remove id) = of_device id ring
+ring_causes limits hour ring (act.Keep id) = of_mark id ring
+ring_causes limits hour ring (act.SetHours hours) = []
+ring_causes limits hour ring act.PretendPassed = []
+ring_causes limits hour ring act.RaisePower = of_power ring
+ring_causes limits hour ring (act.Import rows) = of_rows limits 1 ring rows
+ring_causes limits hour ring (act.Rebalance seed) = of_rebalance ring
+ring_causes limits hour ring (act.RebalanceAs told) = of_foretold hour told ring
+ring_causes limits hour ring act.Publish = of_text limits ring
 
 -- the causes that may stand against an act where no ring has the name: only making a ring needs
 -- none
@@ -167,19 +186,19 @@ no_ring_causes limits rings (act.Create new) = record {
 } ∷ []
 no_ring_causes limits rings other = record { refused = refusal.NoRing; stands = true } ∷ []
 
--- the causes that may stand against an act, by the ring of the name, if there is one
-abbrev pub causes : Limits → State → Option RingRecord → Act → List Cause
-causes limits rings None = no_ring_causes limits rings
-causes limits rings (Some ring) = ring_causes limits ring
+-- the causes that may stand at an hour against an act, by the ring of the name, if there is one
+abbrev pub causes : Limits → State → ℕ → Option RingRecord → Act → List Cause
+causes limits rings hour None = no_ring_causes limits rings
+causes limits rings hour (Some ring) = ring_causes limits hour ring
 
 -- the first cause that stands
 abbrev pub first_cause : List Cause → Option Refusal
 first_cause causes = option_map (λ cause. cause.refused) (find (λ cause. cause.stands) causes)
 
--- the first cause that stands against a command
-abbrev pub first_refusal : Limits → State → Command → Option Refusal
-first_refusal limits rings command = first_cause (causes limits rings (ring_at command.ring rings)
-    command.act)
+-- the first cause that stands against a command at an hour
+abbrev pub first_refusal : Limits → State → ℕ → Command → Option Refusal
+first_refusal limits rings hour command = first_cause (causes limits rings hour
+    (ring_at command.ring rings) command.act)
 
 -- WHAT A COMMAND DOES
 
@@ -207,6 +226,10 @@ SetsWeight to old answer new = (new ≡ with_weight old to.id to.weight) ×
 -- A device is marked to be removed.
 abbrev pub RemovesDevice : ℕ → RingRecord → Done → RingRecord → Type 0
 RemovesDevice id old answer new = (new ≡ with_mark old id) × (answer ≡ answer_at new deed.Remove)
+
+-- The mark is taken off a device.
+abbrev pub KeepsDevice : ℕ → RingRecord → Done → RingRecord → Type 0
+KeepsDevice id old answer new = (new ≡ without_mark old id) × (answer ≡ answer_at new deed.Keep)
 
 -- A partition that was moved stays for so many hours from now on.
 abbrev pub SetsHours : ℕ → RingRecord → Done → RingRecord → Type 0
@@ -240,6 +263,12 @@ MovesSeats hour seed old answer new =
     IsRebalance old hour new × (answer ≡ answer_at new (deed.Rebalance (ring_balance new)
     (changed_seats old new) (ring_dispersion new))) × IsSeeded old hour seed new
 
+-- The rebalance that was foretold. Told is the same.
+abbrev pub MovesAsForetold : ℕ → Foretold → RingRecord → Done → RingRecord → Type 0
+MovesAsForetold hour told old answer new =
+    IsRebalance old hour new × (answer ≡ answer_at new (deed.RebalanceAs (ring_balance new)
+    (changed_seats old new) (ring_dispersion new))) × IsSeeded old hour told.seed new
+
 -- The text of the ring as it is, under its name, is published.
 abbrev pub PublishesText : List ℕ → RingRecord → Done → RingRecord → Type 0
 PublishesText name old answer new = (new ≡ with_published old (spelling (snapshot_of name old))) ×
@@ -251,11 +280,13 @@ RingEffect name hour old (act.Create made) = λ answer new. ⊥
 RingEffect name hour old (act.Add row) = AddsDevice row old
 RingEffect name hour old (act.SetWeight to) = SetsWeight to old
 RingEffect name hour old (act.Remove id) = RemovesDevice id old
+RingEffect name hour old (act.Keep id) = KeepsDevice id old
 RingEffect name hour old (act.SetHours hours) = SetsHours hours old
 RingEffect name hour old act.PretendPassed = PretendsPassed old
 RingEffect name hour old act.RaisePower = RaisesPower old
 RingEffect name hour old (act.Import rows) = ImportsRows rows old
 RingEffect name hour old (act.Rebalance seed) = MovesSeats hour seed old
+RingEffect name hour old (act.RebalanceAs told) = MovesAsForetold hour told old
 RingEffect name hour old act.Publish = PublishesText name old
 
 -- the effect of an act where no ring has the name: only making a ring has one
@@ -272,11 +303,11 @@ Effect name hour (Some old) = RingEffect name hour old
 abbrev pub Step : Limits → State → ℕ → Command → Reply → State → Type 0
 -- refused: the first cause that stands is answered, and the rings are as they were
 Step limits rings hour command (reply.Refused refused) after =
-    (first_refusal limits rings command ≡ Some refused) × (after ≡ rings)
+    (first_refusal limits rings hour command ≡ Some refused) × (after ≡ rings)
 -- done: no cause stands, the named ring is changed by the effect, and the other rings are as they
 -- were
 Step limits rings hour command (reply.Done answer) after =
-    (first_refusal limits rings command ≡ None)
+    (first_refusal limits rings hour command ≡ None)
     × ((new : RingRecord) × Effect command.ring hour (ring_at command.ring rings) command.act answer
     new × (after ≡ with_ring rings command.ring new))
 

@@ -1,13 +1,14 @@
 //! Deciding commands.
 ghost use Rattle.std.specs.Prelude.{[], IfOk};
-ghost use Rattle.builder.specs.Step.{AddsDevice, NoRingEffect, PretendsPassed, PublishesText};
+ghost use Rattle.builder.specs.Step.{AddsDevice, KeepsDevice, NoRingEffect, PretendsPassed};
+ghost use Rattle.builder.specs.Step.{PublishesText, of_mark};
 ghost use Rattle.builder.specs.Step.{RaisesPower, RemovesDevice, RingEffect, SetsHours, SetsWeight};
 ghost use Rattle.builder.specs.Step.{Step, no_ring_causes, of_addition, of_device, of_power};
 ghost use Rattle.builder.specs.Step.{of_text, ring_causes};
 ghost use Rattle.builder.specs.Inner.Outcome.{IsFirstOr, IsOutcome};
 
 use crate::importing::import;
-use crate::rebalancing::move_seats;
+use crate::rebalancing::{move_as_foretold, move_seats};
 use ring_model::{RaiseFault, Ring, Rings};
 use ring_text::{snapshot, write_ring};
 use ring_words::{
@@ -72,6 +73,20 @@ fn remove(ring: &Ring, id: DeviceId) -> Result<Outcome, AllocError>
     Ok(Outcome::Done(Deed::Remove, marked))
 }
 
+/// Takes the mark off a device, unless there is no such device or it isn't marked.
+fn keep(ring: &Ring, id: DeviceId) -> Result<Outcome, AllocError>
+    ensures { IfOk result (IsFirstOr (of_mark id ring.now) (KeepsDevice id ring.now)) }
+{
+    if !ring.has_device(id) {
+        return Ok(Outcome::Refused(Refusal::NoDevice));
+    }
+    if ring.has_present(id) {
+        return Ok(Outcome::Refused(Refusal::NotMarked));
+    }
+    let kept = ring.without_mark(id)?;
+    Ok(Outcome::Done(Deed::Keep, kept))
+}
+
 /// Sets for how many hours a partition that was moved stays where it is.
 fn set_hours(ring: &Ring, hours: u16) -> Result<Outcome, AllocError>
     ensures { IfOk result (IsFirstOr [] (SetsHours hours ring.now)) }
@@ -131,7 +146,7 @@ fn on_ring(
     act: &Act,
     limits: &Limits,
 ) -> Result<Outcome, AllocError>
-    ensures { IfOk result (IsFirstOr (ring_causes limits.now ring.now act.now)
+    ensures { IfOk result (IsFirstOr (ring_causes limits.now hour ring.now act.now)
         (RingEffect name.now hour ring.now act.now)) }
 {
     match act {
@@ -139,12 +154,14 @@ fn on_ring(
         Act::Add(row) => add(ring, row, limits),
         Act::SetWeight(to) => set_weight(ring, to),
         Act::Remove(id) => remove(ring, *id),
+        Act::Keep(id) => keep(ring, *id),
         Act::SetHours(hours) => set_hours(ring, *hours),
         Act::PretendPassed => pretend_passed(ring),
         Act::RaisePower => raise_power(ring),
         Act::Import(rows) => import(ring, rows, limits),
         Act::Publish => publish(alloc, name, ring, limits),
         Act::Rebalance(seed) => move_seats(alloc, ring, hour, *seed),
+        Act::RebalanceAs(told) => move_as_foretold(alloc, ring, hour, told),
     }
 }
 

@@ -1,25 +1,29 @@
 //! What follows from the definitions alone.
 ghost use Rattle.std.specs.Prelude.{◌≡◌, ◌≢◌, ◌+◌, ◌<◌, ◌≤◌, ℕ, Bool, List, length, slice_get};
-ghost use Rattle.std.specs.Prelude.{All, Some, true};
+ghost use Rattle.std.specs.Prelude.{[], All, Some, true};
 ghost use Rattle.builder.specs.Life.{BeginsProperly, BookAnswers, BookCalls, BookContent};
 ghost use Rattle.builder.specs.Life.{Deliveries, IsOneLife, IsProperCall, IsSureRun, KeepsReply};
 ghost use Rattle.builder.specs.Life.{Lives, all_calls, nothing_held};
-ghost use Rattle.builder.specs.Preview.{Rebalances};
+ghost use Rattle.builder.specs.Preview.{IsAsForetold, IsDoneAsTold, Rebalances, as_foretold, foretold_of};
 ghost use Rattle.builder.specs.Safety.{AreValid, AreValidOnTheWay, BookEntry, DoNotFall, Entries};
-ghost use Rattle.builder.specs.Safety.{FewLeft, IsDone, IsProperEntry, IsSafeRun, IsWay};
+ghost use Rattle.builder.specs.Safety.{FewLeft, HasRebalanced, IsProperEntry, IsSafeRun, IsWay};
+ghost use Rattle.builder.specs.Safety.{IsDone, IsSameBeside, is_rebalance};
 ghost use Rattle.builder.specs.Safety.{LeadsSafely, LockStays};
 ghost use Rattle.builder.specs.Safety.{NeverFewerHours, NeverPretended, RestsFor};
 ghost use Rattle.builder.specs.Step.{State, Step};
+ghost use Rattle.request_book.specs.Log.{log_answers, log_deliveries};
 ghost use Rattle.request_book.specs.Run.{AnswersAlike, RepeatsAreKept, Run};
 ghost use Rattle.ring_messages.specs.Commands.{IsProperCommand};
 ghost use Rattle.ring_model.specs.Ring.{RingRecord, partition_count};
 ghost use Rattle.ring_model.specs.Rings.{ring_at};
 ghost use Rattle.ring_place.specs.Rebalance.{IsRebalance, has_changed, is_locked};
-ghost use Rattle.ring_words.specs.Limits.{long_count};
+ghost use Rattle.ring_place.specs.Seeded.{IsSeeded};
+ghost use Rattle.ring_words.specs.Limits.{greatest_long, long_count};
 ghost use Rattle.ring_words.specs.declared.request.Limits.{Limits};
 ghost use Rattle.ring_words.specs.declared.command.Command.{Command};
 ghost use Rattle.ring_words.specs.declared.command.Act.TheVariants as act;
 ghost use Rattle.ring_words.specs.declared.command.Done.{Done};
+ghost use Rattle.ring_words.specs.declared.command.Foretold.{Foretold};
 ghost use Rattle.ring_words.specs.declared.command.Reply.{Reply};
 ghost use Rattle.ring_words.specs.declared.command.Reply.TheVariants as reply;
 
@@ -44,21 +48,33 @@ pub fn valid_rings_stay_valid_in_a_run()
         → (n : ℕ) → n ≤ length entries → AreValid (rings n) }
 {}
 
-/// In each rebalance at most one replica of a partition leaves a device that remains, and none
-/// before its hours have passed. No other ring is touched.
+/// A device that was marked to be removed and is kept is as it was: where one act marks it and the
+/// next takes the mark off, the ring is the same but for its version.
+pub fn a_kept_device_is_as_it_was()
+    ensures { (limits : Limits) (rings mid after : State) (hour later : ℕ) (name : List ℕ)
+        (id : ℕ) (marks unmarks : Done) (old new : RingRecord)
+        → AreValid rings
+        → Step limits rings hour (record { ring = name; act = act.Remove id }) (reply.Done marks) mid
+        → Step limits mid later (record { ring = name; act = act.Keep id }) (reply.Done unmarks) after
+        → ring_at name rings ≡ Some old → ring_at name after ≡ Some new
+        → record new { version = old.version } ≡ old }
+{}
+
+/// In each rebalance, foretold or not, at most one replica of a partition leaves a device that
+/// remains, and none before its hours have passed. No other ring is touched.
 pub fn few_replicas_leave()
-    ensures { (limits : Limits) (rings after : State) (hour seed : ℕ) (name : List ℕ)
-        (answer : Done)
-        → Step limits rings hour (record { ring = name; act = act.Rebalance seed }) (reply.Done answer) after
-        → FewLeft rings name hour after }
+    ensures { (limits : Limits) (rings after : State) (hour : ℕ) (command : Command)
+        (answer : Done) → is_rebalance command.act ≡ true
+        → Step limits rings hour command (reply.Done answer) after
+        → FewLeft rings command.ring hour after }
 {}
 
 /// So it is in each rebalance on the way of a run.
 pub fn few_replicas_leave_in_a_run()
     ensures { (limits : Limits) (old new : State) (entries : Entries) (rings : ℕ → State)
         → IsWay limits old entries new rings
-        → (name : List ℕ) (n seed : ℕ) (entry : BookEntry)
-        → slice_get entries n ≡ Some entry → IsDone name (act.Rebalance seed) entry
+        → (name : List ℕ) (n : ℕ) (entry : BookEntry)
+        → slice_get entries n ≡ Some entry → HasRebalanced name entry
         → FewLeft (rings n) name entry.hour (rings (n + 1)) }
 {}
 
@@ -106,6 +122,53 @@ pub fn a_seed_decides_reply_and_ring()
         → Rebalances limits rings hour name seed told left
         → Rebalances limits others hour name seed other after
         → ring_at name left ≡ ring_at name after }
+{}
+
+/// Along a run a version is of one ring: where a ring has a version at a place, and the same one at a
+/// later place, it is the same ring, save for texts that were published in between. The greatest
+/// version, which doesn't rise, may be of several.
+pub fn a_version_is_one_ring()
+    ensures { (limits : Limits) (old new : State) (entries : Entries) (rings : ℕ → State)
+        → IsWay limits old entries new rings
+        → (name : List ℕ) (i j : ℕ) (first later : RingRecord)
+        → i ≤ j → j ≤ length entries
+        → ring_at name (rings i) ≡ Some first → ring_at name (rings j) ≡ Some later
+        → later.version ≡ first.version → first.version < greatest_long
+        → IsSameBeside first later }
+{}
+
+/// A rebalance that was foretold is the one that was foretold, or none. Where it is done, it does at
+/// that hour what a plain one with the same seed does: it leaves the same rings, and its reply has
+/// the same version and figures. That is the version that was told, and the hour that was told. And
+/// where a plain one at the hour that was told is done, and leaves the version that was told, so is
+/// this one.
+pub fn a_foretold_rebalance_is_that_one()
+    ensures only { (limits : Limits) (rings after : State) (hour : ℕ) (name : List ℕ)
+        (told : Foretold) (answer : Done)
+        → Step limits rings hour (foretold_of name told) (reply.Done answer) after
+        → IsAsForetold limits rings hour name told answer after }
+    ensures does { (limits : Limits) (rings after : State) (hour : ℕ) (name : List ℕ)
+        (told : Foretold) (plain : Done)
+        → Rebalances limits rings hour name told.seed (reply.Done plain) after
+        → plain.version ≡ told.version → hour ≡ told.hour
+        → Step limits rings hour (foretold_of name told) (reply.Done (as_foretold plain)) after }
+{}
+
+/// So it is in a run: a ring at one place of it would be rebalanced at an hour, with a seed, to this
+/// ring of this version, and that was foretold. Where a later entry asks for that seed, version and
+/// hour, and is done, it is done at that hour and leaves that ring, and its reply has the figures of
+/// that ring, whatever came in between: only texts may have been published. The greatest version,
+/// which doesn't rise, is left out.
+pub fn a_foretold_rebalance_is_kept()
+    ensures { (limits : Limits) (old new : State) (entries : Entries) (rings : ℕ → State)
+        → IsWay limits old entries new rings
+        → (name : List ℕ) (i j : ℕ) (first foretold : RingRecord) (told : Foretold)
+        (entry : BookEntry)
+        → i ≤ j → slice_get entries j ≡ Some entry
+        → ring_at name (rings i) ≡ Some first → IsSeeded first told.hour told.seed foretold
+        → told.version ≡ foretold.version → told.version < greatest_long
+        → IsDone name (act.RebalanceAs told) entry
+        → IsDoneAsTold name first foretold told entry (rings (j + 1)) }
 {}
 
 /// Whatever calls come, a run leads safely: on its way few replicas leave in each rebalance, and
@@ -204,4 +267,20 @@ pub fn one_list_one_book()
         → BeginsProperly old deliveries
         → IsSureRun limits limit old deliveries answers new
         → IsSureRun limits limit old deliveries others after → (answers ≡ others) × (new ≡ after) }
+{}
+
+/// The log of a life that began with an empty book gives the same book again: where its entries are
+/// delivered in their order, each at its hour, over what the life began with and under the same
+/// limits, they may be answered by the kept replies and leave what the life left; and wherever
+/// nothing fails they are answered so and leave nothing else.
+pub fn a_log_gives_the_same_book()
+    ensures may { (limits : Limits) (limit : ℕ) (old new : BookContent) (runs : List BookCalls)
+        → Lives limits limit old runs new → old.book ≡ [] → length new.book ≤ limit
+        → IsSureRun limits limit old (log_deliveries new.book) (log_answers new.book) new }
+    ensures only { (limits : Limits) (limit : ℕ) (old new after : BookContent)
+        (runs : List BookCalls) (others : BookAnswers)
+        → Lives limits limit old runs new → old.book ≡ [] → length new.book ≤ limit
+        → old.hour < long_count → AreValid old.state → All (All IsProperCall) runs
+        → IsSureRun limits limit old (log_deliveries new.book) others after
+        → (others ≡ log_answers new.book) × (after ≡ new) }
 {}

@@ -52,6 +52,10 @@ impl Machine for RingMachine {
         a.is(b)
     }
 
+    fn copy(command: &Command) -> Result<Command, AllocError> {
+        command.copy()
+    }
+
     fn is_refusal(reply: &Reply) -> bool {
         matches!(reply, Reply::Refused(_))
     }

@@ -16,3 +16,6 @@ pub mod Orders
 pub mod StepChanges
 pub mod Taking
 pub mod Asking
+pub mod Paged
+pub mod TextsRead
+pub mod Judged

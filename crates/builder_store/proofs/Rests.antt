@@ -19,6 +19,7 @@ use Rattle.builder_store.specs.Left.{AreUnopened, HoldsNoDatabase, IfConnected, 
 use Rattle.builder_store.specs.Left.{IsConnected, IsMadeOfConnection, IsOfConnection}
 use Rattle.builder_store.specs.Making.{IsFailure, IsJudgement}
 use Rattle.builder_store.specs.Opening.{IsBadStore, TellsOpenFault}
+use Rattle.builder_store.proofs.Judged.{files_of_connection}
 use Rattle.builder_store.specs.declared.fault.FileFault.{FileFault}
 use Rattle.builder_store.specs.declared.fault.FileFault.TheVariants as file
 use Rattle.builder_store.specs.declared.fault.MakeFault.{MakeFault}
@@ -76,7 +77,7 @@ failure_of_connection (making.Opening why) is = fault_of_connection why is
 pub judged_of_connection : (fault : MakeFault) → IsJudgement fault → IsMadeOfConnection fault
 judged_of_connection making.PathTaken is = is
 judged_of_connection making.Taken is = tt
-judged_of_connection (making.Opening why) is = bad_of_connection why is
+judged_of_connection (making.Opening why) is = files_of_connection why is
 
 -- files are told to be no database for one of two errors
 apart : (error why : Error) → error ≡ why → file_fault error ≡ file.NoDatabase

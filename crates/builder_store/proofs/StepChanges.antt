@@ -174,6 +174,9 @@ effect_keeps (act.SetWeight to) answer name old new hour effect =
 effect_keeps (act.Remove id) answer name old new hour effect =
     kept_as old new (ap (λ (r : RingRecord). r.power) effect.0)
     (ap (λ (r : RingRecord). r.published) effect.0)
+effect_keeps (act.Keep id) answer name old new hour effect =
+    kept_as old new (ap (λ (r : RingRecord). r.power) effect.0)
+    (ap (λ (r : RingRecord). r.published) effect.0)
 effect_keeps (act.SetHours hours) answer name old new hour effect =
     kept_as old new (ap (λ (r : RingRecord). r.power) effect.0)
     (ap (λ (r : RingRecord). r.published) effect.0)
@@ -190,6 +193,9 @@ effect_keeps (act.Import rows) answer name old new hour effect =
     kept_as old new (ap (λ (r : RingRecord). r.power) effect.0 ∙ rest.power)
     (ap (λ (r : RingRecord). r.published) effect.0 ∙ rest.published)
 effect_keeps (act.Rebalance seed) answer name old new hour effect =
+    kept_as old new (ap (λ (r : RingRecord). r.power) effect.0.after.rest)
+    (ap (λ (r : RingRecord). r.published) effect.0.after.rest)
+effect_keeps (act.RebalanceAs told) answer name old new hour effect =
     kept_as old new (ap (λ (r : RingRecord). r.power) effect.0.after.rest)
     (ap (λ (r : RingRecord). r.published) effect.0.after.rest)
 effect_keeps act.Publish answer name old new hour effect =

@@ -10,3 +10,4 @@ pub mod Leaves
 pub mod Opened
 pub mod Tables
 pub mod Sets
+pub mod Reading

@@ -2,7 +2,7 @@
 use Rattle.std.specs.Prelude.{ℕ, []}
 use Rattle.store_rows.specs.RingRows.{NamedRings}
 use Rattle.store_rows.specs.Stands.{RingContent}
-use Rattle.builder_store.specs.Opening.{IsBadStore, TellsOpenFault}
+use Rattle.builder_store.specs.Opening.{JudgesFiles, TellsOpenFault}
 use Rattle.builder_store.specs.declared.fault.MakeFault.{MakeFault}
 use Rattle.builder_store.specs.declared.fault.MakeFault.TheVariants.{Opening, PathTaken, Taken}
 
@@ -10,11 +10,11 @@ use Rattle.builder_store.specs.declared.fault.MakeFault.TheVariants.{Opening, Pa
 abbrev pub rings_alone : NamedRings → ℕ → RingContent
 rings_alone rings hour = record { state = rings; book = []; hour = hour }
 
--- The fault judges what is there: it tells that it stands for nothing.
+-- The fault judges what is there.
 abbrev pub IsJudgement : MakeFault → Type 0
 IsJudgement PathTaken = ⊥
 IsJudgement Taken = ⊥
-IsJudgement (Opening why) = IsBadStore why
+IsJudgement (Opening why) = JudgesFiles why
 
 -- The fault tells of the disk under a store over which a connection was made.
 abbrev pub IsFailure : MakeFault → Type 0

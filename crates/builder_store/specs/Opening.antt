@@ -8,12 +8,13 @@ use Rattle.sqlite.specs.Files.{AreFoundIn, HoldsDatabase}
 use Rattle.store_model.specs.Contents.{Contents}
 use Rattle.store_tables.specs.Contents.{contents_of}
 use Rattle.store_tables.specs.Store.{begun_contents}
+use Rattle.store_tables.specs.Texts.{AreTexts}
 use Rattle.store_tables.specs.Tables.{schema_of_first, table_count}
 use Rattle.builder_store.specs.declared.fault.FileFault.{FileFault}
 use Rattle.builder_store.specs.declared.fault.FileFault.TheVariants as file
 use Rattle.builder_store.specs.declared.fault.OpenFault.{OpenFault}
-use Rattle.builder_store.specs.declared.fault.OpenFault.TheVariants.{BadRows, BadTables, Damaged}
-use Rattle.builder_store.specs.declared.fault.OpenFault.TheVariants.{Store}
+use Rattle.builder_store.specs.declared.fault.OpenFault.TheVariants.{BadRows, BadTables, BadTexts}
+use Rattle.builder_store.specs.declared.fault.OpenFault.TheVariants.{Damaged, Store}
 use Rattle.store_rows.specs.Stands.{IsHoldable, RingContent, contents_for, first_contents_for}
 
 -- Tables without a row.
@@ -76,6 +77,30 @@ abbrev pub TellsOpenFault : FileFault → Type 0
 TellsOpenFault (file.Opening why) = TellsFault why
 TellsOpenFault _ = ⊥
 
+-- The fault judges what is there: it tells that its tables are none of a store, that its rows stand
+-- for nothing, or that a text in them is no UTF-8.
+abbrev pub JudgesTables : OpenFault → Type 0
+JudgesTables BadTables = ⊤
+JudgesTables BadRows = ⊤
+JudgesTables BadTexts = ⊤
+JudgesTables _ = ⊥
+
+-- The same of what files hold.
+abbrev pub JudgesFiles : FileFault → Type 0
+JudgesFiles (file.Opening why) = JudgesTables why
+JudgesFiles _ = ⊥
+
+-- The fault judges the rows of a store's tables.
+abbrev pub JudgesRows : OpenFault → Type 0
+JudgesRows BadRows = ⊤
+JudgesRows BadTexts = ⊤
+JudgesRows _ = ⊥
+
+-- The same of what files hold.
+abbrev pub JudgesFileRows : FileFault → Type 0
+JudgesFileRows (file.Opening why) = JudgesRows why
+JudgesFileRows _ = ⊥
+
 -- The fault tells that what files hold stands for nothing.
 abbrev pub IsBadStore : FileFault → Type 0
 IsBadStore (file.Opening why) = (why ≡ BadRows) ⊎ (why ≡ BadTables)
@@ -86,6 +111,14 @@ IsBadStore _ = ⊥
 abbrev pub HoldsNoStore : Image → Type 0
 HoldsNoStore image = (db : Trees) → HoldsDatabase image db → (content : RingContent)
     → IsOpenedAs db content → ⊥
+
+-- The first tables of a store are there, and a text in them is no UTF-8.
+abbrev pub HasBadTexts : Trees → Type 0
+HasBadTexts db = (made : ℕ) × AreDeclared made db × (AreTexts (begun_contents made db) → ⊥)
+
+-- So it is in the database of files that held this.
+abbrev pub HoldsBadTexts : Image → Type 0
+HoldsBadTexts image = (db : Trees) → HoldsDatabase image db → HasBadTexts db
 
 -- Of files that held this a crash leaves the trees to which they recover, or what was made of these.
 pub record IsLeftOf (Makes : Trees → Trees → Type 0) (image : Image) (db : Trees) : Type 0 where

@@ -1,14 +1,14 @@
 //! Taking a connection over.
-ghost use Rattle.std.specs.Prelude.{◌≡◌, ◌≢◌, ◌≤◌, ◌⊎◌, false, IfErr, IfOk, IsTrue};
+ghost use Rattle.std.specs.Prelude.{◌≡◌, ◌≤◌, ◌⊎◌, ◌↔◌, false, IfErr, IfOk, IsTrue};
 ghost use Rattle.sqlite_trees.specs.Tree.{Trees};
 ghost use Rattle.sqlite_trees.specs.View.{IsClean, doubt};
 ghost use Rattle.sqlite.specs.Held.{state};
 ghost use Rattle.sqlite.specs.State.{HasCleanDisk};
-ghost use Rattle.store_tables.specs.Failing.{HasFailedSince, tells_failure};
+ghost use Rattle.store_tables.specs.Failing.{HasFailedSince, is_no_text, tells_failure};
 ghost use Rattle.builder_store.specs.Inner.Faults.{opening_fault};
 ghost use Rattle.builder_store.specs.Inner.Opened.{IsFresh};
-ghost use Rattle.builder_store.specs.declared.fault.OpenFault.TheVariants.{BadRows, BadTables, NoMemory};
-ghost use Rattle.builder_store.specs.Opening.{TellsFault};
+ghost use Rattle.builder_store.specs.declared.fault.OpenFault.TheVariants.{BadTexts, NoMemory};
+ghost use Rattle.builder_store.specs.Opening.{JudgesTables, TellsFault};
 
 use crate::fault::OpenFault;
 use sqlite::{Alter, Connection, Error, ErrorCode};
@@ -77,7 +77,7 @@ pub(crate) fn take_over<S: Alter + Drop>(
 pub(crate) fn fault_of(error: &Error) -> OpenFault
     ensures which { result ≡ opening_fault error.now }
     ensures failed { TellsFault result → IsTrue (tells_failure error.now) }
-    ensures unjudged { (result ≢ BadRows) × (result ≢ BadTables) }
+    ensures unjudged { JudgesTables result → ⊥ }
 {
     match error {
         Error::SqliteFailure(ErrorCode::OutOfMemory) => OpenFault::NoMemory,
@@ -86,5 +86,17 @@ pub(crate) fn fault_of(error: &Error) -> OpenFault
             ErrorCode::SystemIoFailure | ErrorCode::DiskFull | ErrorCode::Closed,
         ) => OpenFault::Store,
         _ => OpenFault::Refused,
+    }
+}
+
+/// Why an error with which rows are read ends an opening.
+pub(crate) fn reading_fault(error: &Error) -> OpenFault
+    ensures texts { (result ≡ BadTexts) ↔ IsTrue (is_no_text error.now) }
+    ensures failed { TellsFault result → IsTrue (tells_failure error.now) }
+    ensures unjudged { JudgesTables result → result ≡ BadTexts }
+{
+    match error {
+        Error::Utf8Error(_) => OpenFault::BadTexts,
+        _ => fault_of(error),
     }
 }

@@ -6,7 +6,7 @@ ghost use Rattle.sqlite.specs.Held.{state};
 ghost use Rattle.sqlite.specs.State.{HasCleanDisk, IsLive, IsNotRun, IsUnchanged, Survives};
 ghost use Rattle.sqlite.specs.declared.error.Error.TheVariants.{InvalidQuery, SqliteFailure};
 ghost use Rattle.sqlite.specs.declared.error.ErrorCode.TheVariants.{OutOfMemory};
-ghost use Rattle.request_book.specs.Content.{entry_of};
+ghost use Rattle.request_book.specs.Content.{entries_from, entry_of};
 ghost use Rattle.request_book.specs.Keeper.{IsFound};
 ghost use Rattle.request_book.specs.declared.keeper.KeepFault.TheVariants.{NoMemory, Store};
 ghost use Rattle.store_rows.specs.Stands.{RingContent};
@@ -14,12 +14,12 @@ ghost use Rattle.builder_store.specs.Opening.{Stands};
 ghost use Rattle.builder_store.specs.Inner.Answering.{IsUnanswered};
 ghost use Rattle.builder_store.specs.Inner.Tables.{HasTables, IsSettledState};
 
-use request_book::{Found, KeepFault};
+use request_book::{Entry, Found, KeepFault};
 use ring_words::{Command, Key, Reply, SpellingFault};
 use sqlite::{Alter, Connection, Error, ErrorCode, Row};
 use std::alloc::Global;
-use store_rows::read_found;
-use store_tables::find_request;
+use store_rows::{read_entries, read_found};
+use store_tables::{find_request, requests_from};
 
 /// What is known of a connection that sees the tables outside a transaction: it sees a store, which
 /// is committed.
@@ -125,6 +125,41 @@ pub(crate) fn find<S: Alter>(
     };
     match read_found(alloc, kept, command) {
         Ok(found) => Ok(found),
+        Err(fault) => Err(unread(fault)),
+    }
+}
+
+/// The decided requests that the tables have from a place on, in the order of their decisions, and
+/// at most `most` of them.
+#[tactic(auto, using(crate::proofs::Paged::page_of_content))]
+pub(crate) fn read_page<S: Alter>(
+    alloc: Global,
+    conn: &mut Connection<S>,
+    from: u32,
+    most: u32,
+) -> Result<Vec<Entry<Command, Reply>>, KeepFault>
+    requires mode { conn.old.in_transaction ≡ false }
+    requires tables { HasCleanDisk (state S.Store conn.old) → HasTables (state S.Store conn.old) }
+    ensures mode { conn.new.in_transaction ≡ false }
+    ensures tables { HasCleanDisk (state S.Store conn.new) → result ≢ Err Store
+        → HasTables (state S.Store conn.new) }
+    ensures entries { HasCleanDisk (state S.Store conn.new) → (content : RingContent)
+        → Stands (state S.Store conn.old).committed.trees content
+        → IfOk result (λ entries. entries.items ≡ entries_from from most content.book) }
+    ensures survives { Survives (state S.Store conn.old) (state S.Store conn.new) (λ _. ⊥) }
+{
+    settle(conn);
+    let answer = requests_from(alloc, conn, from, most);
+    let rows = match answer {
+        Ok(rows) => rows,
+        Err(error) => {
+            let fault = cause(conn, &error);
+            settle(conn);
+            return Err(fault);
+        }
+    };
+    match read_entries(alloc, &rows) {
+        Ok(entries) => Ok(entries),
         Err(fault) => Err(unread(fault)),
     }
 }

@@ -9,10 +9,12 @@ pub enum OpenFault {
     Store,
     /// The disk gave back what is no page of a database: the files are damaged.
     Damaged,
-    /// What was read is no store: an answer was no row of one, or a statement was refused.
+    /// A statement was refused, which tells nothing of what is there.
     Refused,
     /// The rows stand for no rings and requests. No row was changed.
     BadRows,
+    /// A text in the rows is no UTF-8. No row was changed.
+    BadTexts,
     /// There are other tables than those of the store, or they are declared otherwise. Nothing was
     /// changed.
     BadTables,

@@ -7,7 +7,7 @@ ghost use Rattle.builder_store.specs.Standing.{Holds};
 ghost use Rattle.builder_store.specs.Inner.Tables.{HasTables, fact_prop};
 
 use crate::adopting::{Left, fault_of, take_over};
-use crate::calls::find;
+use crate::calls::{find, read_page};
 use crate::fault::{FileFault, MakeFault, OpenFault};
 use crate::making::make_ready;
 use crate::planning::keep;
@@ -70,9 +70,10 @@ impl<S: Alter + Drop> SqlKeeper<S> {
     ghost use Rattle.builder_store.specs.Keepers.{left_may_leave};
     ghost use Rattle.std.specs.Prelude.{ℕ};
     ghost use Rattle.store_rows.specs.Stands.{RingContent};
-    ghost use Rattle.builder_store.specs.Opening.{AreDeclared, IsMadeOf, IsOpenedAs, KeepsRows};
-    ghost use Rattle.builder_store.specs.Opening.{TellsFault};
+    ghost use Rattle.builder_store.specs.Opening.{AreDeclared, HasBadTexts, IsMadeOf, IsOpenedAs};
+    ghost use Rattle.builder_store.specs.Opening.{JudgesRows, KeepsRows, TellsFault};
     ghost use Rattle.builder_store.specs.declared.fault.OpenFault.TheVariants.{BadRows, BadTables};
+    ghost use Rattle.builder_store.specs.declared.fault.OpenFault.TheVariants.{BadTexts};
 
     /// Opens what the connection's last commit holds, and keeps at most `limits.numbers` requests.
     /// What the connection hasn't committed is rolled back.
@@ -90,17 +91,19 @@ impl<S: Alter + Drop> SqlKeeper<S> {
             (state S.Store k.conn).is_clean) }
         ensures found { IfOk result (λ k. HasCleanDisk (state S.Store k.conn)
             → IsOpenedAs (state S.Store conn).committed.trees (content_of_keeper k)) }
-        // Where the rows are refused, a crash leaves what it could leave before, or tables with the
-        // same rows.
-        ensures rows { IfErr result (λ e. e.0 ≡ BadRows → IsCleanLeft S.Store e.1 → (db : Trees)
+        // Where the rows or their texts are refused, a crash leaves what it could leave before, or
+        // tables with the same rows.
+        ensures rows { IfErr result (λ e. JudgesRows e.0 → IsCleanLeft S.Store e.1 → (db : Trees)
             → left_may_leave S.Store e.1 db
             → (state S.Store conn).may_leave db ⊎ KeepsRows
             (state S.Store conn).committed.trees db) }
-        // The rows are refused only where the tables stand for nothing, and the tables only where
-        // they are not declared as a store's.
+        // The rows are refused only where the tables stand for nothing, a text only where one in the
+        // tables is no UTF-8, and the tables only where they are not declared as a store's.
         ensures bad { IfErr result (λ e. e.0 ≡ BadRows → IsCleanLeft S.Store e.1
             → (content : RingContent)
             → IsOpenedAs (state S.Store conn).committed.trees content → ⊥) }
+        ensures texts { IfErr result (λ e. e.0 ≡ BadTexts → IsCleanLeft S.Store e.1
+            → HasBadTexts (state S.Store conn).committed.trees) }
         ensures missing { IfErr result (λ e. e.0 ≡ BadTables → IsCleanLeft S.Store e.1
             → (made : ℕ) → AreDeclared made (state S.Store conn).committed.trees → ⊥) }
         // The store is told to have failed or to be damaged only where its disk has failed or
@@ -319,6 +322,23 @@ impl<S: Alter> Keeper<RingMachine> for SqlKeeper<S> {
 
     fn is_full(&mut self) -> Result<bool, KeepFault> {
         Ok(self.count >= self.limit as usize)
+    }
+
+    fn entries(
+        &mut self,
+        alloc: Global,
+        from: u32,
+        most: u32,
+    ) -> Result<Vec<Entry<Command, Reply>>, KeepFault> {
+        self.last = Snapshot::of(&self.conn);
+        match read_page(alloc, &mut self.conn, from, most) {
+            Ok(entries) => Ok(entries),
+            Err(KeepFault::NoMemory) => Err(KeepFault::NoMemory),
+            Err(KeepFault::Store) => {
+                self.faults += 1;
+                Err(KeepFault::Store)
+            }
+        }
     }
 
     fn count(&self) -> usize {

@@ -1,19 +1,20 @@
 //! Opening a store.
-ghost use Rattle.std.specs.Prelude.{◌≡◌, ◌≢◌, ◌≤◌, false, Err, IfOk, OnOk};
+ghost use Rattle.std.specs.Prelude.{◌≡◌, ◌≢◌, ◌≤◌, false, Err, IfErr, IfOk, IsErrAnd, OnOk};
 ghost use Rattle.store_tables.specs.Tables.{table_count};
 ghost use Rattle.sqlite.specs.Held.{state};
 ghost use Rattle.sqlite.specs.State.{HasCleanDisk, Survives};
 ghost use Rattle.store_tables.specs.Contents.{contents_of};
 ghost use Rattle.store_tables.specs.Failing.{FailsForCause};
 ghost use Rattle.store_tables.specs.Store.{CommitsTables, HasMadeTables, begun_contents};
+ghost use Rattle.store_tables.specs.Texts.{AreTexts};
 ghost use Rattle.store_rows.specs.Judging.{IsFoundIn};
 ghost use Rattle.store_rows.specs.Stands.{RingContent};
-ghost use Rattle.builder_store.specs.Opening.{OpensAs, no_contents};
+ghost use Rattle.builder_store.specs.Opening.{JudgesRows, JudgesTables, OpensAs, no_contents};
 ghost use Rattle.builder_store.specs.Inner.Opened.{FailsOnlyFor, LeadsInStore, LeadsTo, OpensRows};
 ghost use Rattle.builder_store.specs.Inner.Tables.{HasTables, IsSettledState};
-ghost use Rattle.builder_store.specs.declared.fault.OpenFault.TheVariants.{BadRows, BadTables};
+ghost use Rattle.builder_store.specs.declared.fault.OpenFault.TheVariants.{BadRows, BadTables, BadTexts};
 
-use crate::adopting::fault_of;
+use crate::adopting::{fault_of, reading_fault};
 use crate::fault::OpenFault;
 use crate::reading::{Opened, is_empty, read_rows};
 use ring_model::Rings;
@@ -53,7 +54,7 @@ pub(crate) fn begin<S: Alter>(
     requires begun { HasCleanDisk (state S.Store conn.old)
         → HasMadeTables made (state S.Store conn.old).now }
     ensures mode { conn.new.in_transaction ≡ false }
-    ensures other { (result ≢ Err BadRows) × (result ≢ Err BadTables) }
+    ensures other { IfErr result (λ why. JudgesTables why → ⊥) }
     ensures opens { (HasCleanDisk (state S.Store conn.old) → begun_contents made
         (state S.Store conn.old).now.trees ≡ no_contents)
         → OpensRows no_contents (state S.Store conn.old) (state S.Store conn.new) result }
@@ -77,7 +78,7 @@ fn migrate<S: Alter>(conn: &mut Connection<S>, judged: Judged) -> Result<Opened,
     requires tables { HasCleanDisk (state S.Store conn.old)
         → IsSettledState (state S.Store conn.old) }
     ensures mode { conn.new.in_transaction ≡ false }
-    ensures other { (result ≢ Err BadRows) × (result ≢ Err BadTables) }
+    ensures other { IfErr result (λ why. JudgesTables why → ⊥) }
     ensures tables { HasCleanDisk (state S.Store conn.new) → OnOk result (HasTables
         (state S.Store conn.new)) }
     ensures found { HasCleanDisk (state S.Store conn.new) → (content : RingContent)
@@ -117,16 +118,18 @@ pub(crate) fn open_rows<S: Alter>(
     ensures other { result ≢ Err BadTables }
     ensures opens { OpensRows (contents_of (state S.Store conn.old).now.trees)
         (state S.Store conn.old) (state S.Store conn.new) result }
-    ensures quiet { result ≡ Err BadRows
+    ensures quiet { IsErrAnd result JudgesRows
         → Survives (state S.Store conn.old) (state S.Store conn.new) (λ _. ⊥) }
     ensures bad { result ≡ Err BadRows → HasCleanDisk (state S.Store conn.new)
         → (content : RingContent)
         → OpensAs (contents_of (state S.Store conn.old).now.trees) content → ⊥ }
+    ensures texts { result ≡ Err BadTexts → HasCleanDisk (state S.Store conn.new)
+        → AreTexts (contents_of (state S.Store conn.old).now.trees) → ⊥ }
     ensures failed { FailsOnlyFor (state S.Store conn.old) (state S.Store conn.new) result }
 {
     let rows = match read_rows(alloc, conn) {
         Ok(rows) => rows,
-        Err(error) => return Err(fault_of(&error)),
+        Err(error) => return Err(reading_fault(&error)),
     };
     if is_empty(&rows) {
         return begin(alloc, conn, TABLE_COUNT);

@@ -1,5 +1,5 @@
 //! Opening and making over memory and over the files at a path.
-ghost use Rattle.std.specs.Prelude.{◌≡◌, ◌≢◌, ◌↔◌, ◌<◌, IfErr, IfOk, None, option_map};
+ghost use Rattle.std.specs.Prelude.{◌≡◌, ◌↔◌, ◌<◌, IfErr, IfOk, None, option_map};
 ghost use Rattle.sqlite_trees.specs.Tree.{Trees};
 ghost use Rattle.sqlite.specs.Files.{file_state};
 ghost use Rattle.sqlite.specs.Held.{state};
@@ -12,13 +12,14 @@ ghost use Rattle.builder_store.specs.Left.{AreUnopened, IfConnected, IfUnconnect
 ghost use Rattle.builder_store.specs.Left.{IsConnectedAnd, IsMadeOfConnection, IsOfConnection};
 ghost use Rattle.builder_store.specs.Left.{IsUnconnected, IsUnmadeOver, IsUntouched};
 ghost use Rattle.builder_store.specs.Making.{IsFailure, IsJudgement, rings_alone};
-ghost use Rattle.builder_store.specs.Opening.{HoldsNoStore, HoldsNoTable, HoldsTables, IsBadStore};
-ghost use Rattle.builder_store.specs.Opening.{IsLeftOf, IsMadeOf, IsOpenedFrom, KeepsRows, Stands};
+ghost use Rattle.builder_store.specs.Opening.{HoldsBadTexts, HoldsNoStore, HoldsNoTable, HoldsTables};
+ghost use Rattle.builder_store.specs.Opening.{IsBadStore, IsLeftOf, IsMadeOf, IsOpenedFrom};
+ghost use Rattle.builder_store.specs.Opening.{JudgesFileRows, JudgesTables, KeepsRows, Stands};
 ghost use Rattle.builder_store.specs.Opening.{TellsFault, TellsOpenFault, nothing};
 ghost use Rattle.builder_store.specs.Inner.Begins.{IsMadeOver};
 ghost use Rattle.builder_store.specs.declared.fault.FileFault.TheVariants.{Opening};
 ghost use Rattle.builder_store.specs.declared.fault.MakeFault.TheVariants.{Taken};
-ghost use Rattle.builder_store.specs.declared.fault.OpenFault.TheVariants.{BadRows, BadTables};
+ghost use Rattle.builder_store.specs.declared.fault.OpenFault.TheVariants.{BadTexts};
 ghost use Rattle.builder_store.specs.declared.over.FilesLeft.TheVariants.{Files};
 
 use crate::fault::{FileFault, MakeFault, OpenFault};
@@ -40,7 +41,7 @@ pub fn open_memory(alloc: Global, limits: Limits) -> Result<SqlKeeper<MemStore>,
     ensures found { IfOk result (λ k. HasCleanDisk (state over_memory k.conn)
         → content_of_keeper k ≡ nothing) }
     // There is no table yet, and that stands for no rings and no request.
-    ensures good { IfErr result (λ fault. (fault ≢ BadRows) × (fault ≢ BadTables)) }
+    ensures good { IfErr result (λ fault. JudgesTables fault → ⊥) }
     // Memory has no disk that fails.
     ensures unfailed { IfErr result (λ fault. TellsFault fault → ⊥) }
 {
@@ -126,7 +127,7 @@ fn open_files<S: Start>(
 /// files were not opened.
 ///
 /// `start` stands for what the files hold: the keeper has the content for which they stand. What
-/// they hold is told as bad only where it stands for nothing.
+/// they hold is told as bad only where it stands for nothing, or has a text that is no UTF-8.
 pub fn open_from<S: Start>(
     rt: &HostRuntime,
     path: &str,
@@ -145,13 +146,15 @@ pub fn open_from<S: Start>(
         e.0)) }
     ensures bad { IfErr result (λ e. IsBadStore e.0 → IsConnectedAnd e.1 (λ conn.
         HasCleanDisk (file_state conn) → HoldsNoStore (image_at S.Start))) }
+    ensures texts { IfErr result (λ e. e.0 ≡ Opening BadTexts → IsConnectedAnd e.1 (λ conn.
+        HasCleanDisk (file_state conn) → HoldsBadTexts (image_at S.Start))) }
     // The store is told to have failed or to be damaged only where its disk failed or refused, or
     // gave back what is no page.
     ensures failed { IfErr result (λ e. TellsOpenFault e.0 → IsConnectedAnd e.1 (λ conn.
         HasCleanDisk (file_state conn) → 0 < (file_state conn).faults)) }
     // A crash after a refusal leaves what the files recovered to, or what an opening makes of it;
-    // where the rows are refused, no row of it is another.
-    ensures rows { IfErr result (λ e. e.0 ≡ Opening BadRows → IsConnectedAnd e.1 (λ conn.
+    // where the rows or their texts are refused, no row of it is another.
+    ensures rows { IfErr result (λ e. JudgesFileRows e.0 → IsConnectedAnd e.1 (λ conn.
         HasCleanDisk (file_state conn) → (db : Trees) → (file_state conn).may_leave db
         → IsLeftOf KeepsRows (image_at S.Start) db)) }
     ensures crash { IfErr result (λ e. IfConnected e.1 (λ conn. HasCleanDisk (file_state conn)

@@ -8,6 +8,7 @@ ghost use Rattle.store_tables.specs.Failing.{FailsForCause};
 ghost use Rattle.store_tables.specs.Store.{ReadsTables, SeesStore};
 ghost use Rattle.store_rows.specs.Judging.{AreRowsOf};
 ghost use Rattle.builder_store.specs.Opening.{no_contents};
+ghost use Rattle.builder_store.specs.Inner.Reading.{MeetsNoText};
 
 use ring_model::Rings;
 use ring_words::Hour;
@@ -40,6 +41,7 @@ fn read_first<S: Alter>(
         (map seat_of rows.3.items ≡ entries c.seats)) }
     ensures mode { conn.new.in_transaction ≡ false }
     ensures cause { FailsForCause (state S.Store conn.old) (state S.Store conn.new) result }
+    ensures no_text { MeetsNoText (state S.Store conn.old) (state S.Store conn.new) result }
 {
     let meta = all_rows::<MetaRow, S>(alloc, conn)?;
     let rings = all_rows::<RingRow, S>(alloc, conn)?;
@@ -69,6 +71,7 @@ fn read_rest<S: Alter>(
         (map part_of rows.3.items ≡ entries c.parts)) }
     ensures mode { conn.new.in_transaction ≡ false }
     ensures cause { FailsForCause (state S.Store conn.old) (state S.Store conn.new) result }
+    ensures no_text { MeetsNoText (state S.Store conn.old) (state S.Store conn.new) result }
 {
     let moved = all_rows::<MovedRow, S>(alloc, conn)?;
     let published = all_rows::<PublishedRow, S>(alloc, conn)?;
@@ -88,6 +91,7 @@ pub(crate) fn read_rows<S: Alter>(
         (λ c rows. AreRowsOf rows c) }
     ensures mode { conn.new.in_transaction ≡ false }
     ensures cause { FailsForCause (state S.Store conn.old) (state S.Store conn.new) result }
+    ensures no_text { MeetsNoText (state S.Store conn.old) (state S.Store conn.new) result }
 {
     let (meta, rings, devices, seats) = read_first(alloc, conn)?;
     let (moved, published, requests, parts) = read_rest(alloc, conn)?;

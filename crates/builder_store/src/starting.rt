@@ -1,15 +1,17 @@
 //! From what tables are there to what they hold.
-ghost use Rattle.std.specs.Prelude.{◌≡◌, ◌≢◌, ◌⊎◌, ◌≤◌, ℕ, false, Err, IfErr, IfOk, OnOk};
+ghost use Rattle.std.specs.Prelude.{◌≡◌, ◌≢◌, ◌⊎◌, ◌≤◌, ℕ, false, Err, IfErr, IfOk, IsErrAnd, OnOk};
 ghost use Rattle.store_tables.specs.Tables.{table_count};
 ghost use Rattle.sqlite.specs.Held.{state};
 ghost use Rattle.sqlite.specs.State.{HasCleanDisk, IsUnchanged, Survives};
 ghost use Rattle.store_tables.specs.Store.{HasMadeTables, IsStoreWith, begun_contents};
-ghost use Rattle.builder_store.specs.Opening.{AreDeclared, IsMadeOf, IsOpenedAs, KeepsRows, OpensAs};
+ghost use Rattle.store_tables.specs.Texts.{AreTexts};
+ghost use Rattle.builder_store.specs.Opening.{AreDeclared, HasBadTexts, IsMadeOf, IsOpenedAs};
+ghost use Rattle.builder_store.specs.Opening.{JudgesRows, JudgesTables, KeepsRows, OpensAs};
 ghost use Rattle.store_rows.specs.Stands.{RingContent};
 ghost use Rattle.builder_store.specs.Inner.Opened.{FailsOnlyFor, IsFresh, IsOpenedTo};
 ghost use Rattle.builder_store.specs.Inner.Opened.{LeadsInStore, LeadsTo};
 ghost use Rattle.builder_store.specs.Inner.Tables.{HasTables};
-ghost use Rattle.builder_store.specs.declared.fault.OpenFault.TheVariants.{BadRows, BadTables};
+ghost use Rattle.builder_store.specs.declared.fault.OpenFault.TheVariants.{BadRows, BadTables, BadTexts};
 
 use crate::adopting::fault_of;
 use crate::calls::ask_nothing;
@@ -36,12 +38,14 @@ fn open_begun<S: Alter>(
         (state S.Store conn.new)) }
     ensures found { HasCleanDisk (state S.Store conn.new) → IfOk result
         (LeadsTo (begun_contents made (state S.Store conn.old).now.trees) (state S.Store conn.new).committed.trees) }
-    ensures quiet { result ≡ Err BadRows → Survives (state S.Store conn.old)
+    ensures quiet { IsErrAnd result JudgesRows → Survives (state S.Store conn.old)
         (state S.Store conn.new)
         (IsStoreWith (begun_contents made (state S.Store conn.old).now.trees)) }
     ensures bad { result ≡ Err BadRows → HasCleanDisk (state S.Store conn.new)
         → (content : RingContent)
         → OpensAs (begun_contents made (state S.Store conn.old).now.trees) content → ⊥ }
+    ensures texts { result ≡ Err BadTexts → HasCleanDisk (state S.Store conn.new)
+        → AreTexts (begun_contents made (state S.Store conn.old).now.trees) → ⊥ }
     ensures other { result ≢ Err BadTables }
     ensures survives { Survives (state S.Store conn.old) (state S.Store conn.new)
         (λ trees. IsStoreWith (begun_contents made (state S.Store conn.old).now.trees) trees
@@ -69,11 +73,13 @@ fn open_tables<S: Alter>(alloc: Global, conn: &mut Connection<S>) -> Result<Open
         (state S.Store conn.new)) }
     ensures found { HasCleanDisk (state S.Store conn.new) → IfOk result
         (IsOpenedTo (state S.Store conn.old).committed.trees (state S.Store conn.new).committed.trees) }
-    ensures quiet { result ≡ Err BadRows → Survives (state S.Store conn.old)
+    ensures quiet { IsErrAnd result JudgesRows → Survives (state S.Store conn.old)
         (state S.Store conn.new)
         (KeepsRows (state S.Store conn.old).committed.trees) }
     ensures bad { result ≡ Err BadRows → HasCleanDisk (state S.Store conn.new)
         → (content : RingContent) → IsOpenedAs (state S.Store conn.old).committed.trees content → ⊥ }
+    ensures texts { result ≡ Err BadTexts → HasCleanDisk (state S.Store conn.new)
+        → HasBadTexts (state S.Store conn.old).committed.trees }
     ensures missing { result ≡ Err BadTables → HasCleanDisk (state S.Store conn.new)
         → (made : ℕ) → AreDeclared made (state S.Store conn.old).committed.trees → ⊥ }
     ensures survives { Survives (state S.Store conn.old) (state S.Store conn.new)
@@ -93,7 +99,7 @@ pub(crate) fn get_ready<S: Alter>(conn: &mut Connection<S>) -> Result<(), OpenFa
     ensures mode { conn.new.in_transaction ≡ false }
     ensures same { HasCleanDisk (state S.Store conn.new) → OnOk result (IsUnchanged
         (state S.Store conn.old) (state S.Store conn.new)) }
-    ensures other { IfErr result (λ why. (why ≢ BadRows) × (why ≢ BadTables)) }
+    ensures other { IfErr result (λ why. JudgesTables why → ⊥) }
     ensures failed { FailsOnlyFor (state S.Store conn.old) (state S.Store conn.new) result }
     ensures survives { Survives (state S.Store conn.old) (state S.Store conn.new) (λ _. ⊥) }
 {
@@ -116,11 +122,13 @@ pub(crate) fn open_ready<S: Alter>(
         (state S.Store conn.new)) }
     ensures found { HasCleanDisk (state S.Store conn.new) → IfOk result
         (IsOpenedTo (state S.Store conn.old).committed.trees (state S.Store conn.new).committed.trees) }
-    ensures quiet { result ≡ Err BadRows → Survives (state S.Store conn.old)
+    ensures quiet { IsErrAnd result JudgesRows → Survives (state S.Store conn.old)
         (state S.Store conn.new)
         (KeepsRows (state S.Store conn.old).committed.trees) }
     ensures bad { result ≡ Err BadRows → HasCleanDisk (state S.Store conn.new)
         → (content : RingContent) → IsOpenedAs (state S.Store conn.old).committed.trees content → ⊥ }
+    ensures texts { result ≡ Err BadTexts → HasCleanDisk (state S.Store conn.new)
+        → HasBadTexts (state S.Store conn.old).committed.trees }
     ensures missing { result ≡ Err BadTables → HasCleanDisk (state S.Store conn.new)
         → (made : ℕ) → AreDeclared made (state S.Store conn.old).committed.trees → ⊥ }
     ensures survives { Survives (state S.Store conn.old) (state S.Store conn.new)

@@ -4,8 +4,8 @@ use path_lookup::{HashNames, Path};
 use ring_model::Rings;
 use ring_reads::{Format, Held, Hidden, Question, Read, show};
 use ring_words::{
-    Act, Address, Command, Deed, DeviceName, Done, Hour, Limits, NewRing, NewWeight, Port, Power,
-    Refusal, Replicas, Reply, RingName, Row, Rows, Weight,
+    Act, Address, Command, Deed, DeviceName, Done, Foretold, Hour, Limits, NewRing, NewWeight,
+    Port, Power, Refusal, Replicas, Reply, RingName, Row, Rows, Weight,
 };
 use std::alloc::Global;
 use std::test::Fail;
@@ -87,15 +87,22 @@ fn filled_rings(alloc: Global) -> Result<Rings, Fail> {
 /// What is asked of the large ring, and at which hours.
 fn acts(alloc: Global) -> Result<Vec<(Hour, Act)>, Fail> {
     let weight = Weight::of(5_000).ok_or("a weight")?;
+    let foretold = Foretold {
+        seed: 9,
+        version: 266,
+        hour: 14,
+    };
     let acts = [
         (0, Act::Rebalance(7)),
         (1, Act::SetWeight(NewWeight { id: 150, weight })),
         (1, Act::Remove(200)),
+        (1, Act::Keep(200)),
+        (1, Act::Remove(201)),
         (1, Act::SetHours(12)),
         (1, Act::PretendPassed),
         (2, Act::Rebalance(8)),
         (2, Act::RaisePower),
-        (14, Act::Rebalance(9)),
+        (14, Act::RebalanceAs(foretold)),
         (14, Act::Publish),
     ];
     let mut all = Vec::new(alloc);
@@ -134,7 +141,7 @@ fn changes(alloc: Global, rings: &mut Rings, acts: Vec<(Hour, Act)>) -> Result<V
 
 /// Whether all seats were dealt, and later some moved, and all else was done.
 fn are_changes(changes: &[u32]) -> bool {
-    changes.len() == 9 && changes[0] == 40_960 && changes[5] > 0 && changes[8] == 0
+    changes.len() == 11 && changes[0] == 40_960 && changes[7] > 0 && changes[10] == 0
 }
 
 /// How many bytes a read of the large ring shows.

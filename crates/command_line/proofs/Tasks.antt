@@ -23,7 +23,7 @@ use Rattle.command_line.specs.declared.task.Shown.{Shown}
 use Rattle.command_line.specs.declared.task.Shown.TheVariants as shown
 use Rattle.command_line.specs.declared.task.Task.{Task}
 use Rattle.command_line.specs.declared.task.Task.TheVariants.{Run, Serve, Service, Loop, Import}
-use Rattle.command_line.specs.declared.task.Task.TheVariants.{Table, Show, Nodes, Export, Renew}
+use Rattle.command_line.specs.declared.task.Task.TheVariants.{Table, Show, Log, Nodes, Export, Renew}
 use Rattle.command_line.specs.declared.task.Task.TheVariants.{Found, Version}
 
 -- words that were read have nothing wrong
@@ -119,7 +119,42 @@ shows_nothing rows ring name flagged text named status set what by_show has = by
     by : (what : Shown) → shown_program what ≡ codes "show" → HasShown rows what → ⊥
     by shown.Rings by_show has = missing has.0
     by shown.Status by_show has = missing has.0
+    by shown.Metrics by_show has = missing has.0
     by (shown.Ring other) by_show has = cc (set, status, has.1)
+    by (shown.Preview other seed hour) by_show has =
+        other_word 112 115 _ _ by_show (λ e. omega (arith, e))
+    by (shown.Moves other from to each) by_show has =
+        other_word 109 115 _ _ by_show (λ e. omega (arith, e))
+
+-- and where the metrics and the status are
+pub shows_no_status : (rows : List Row) (flagged : Bool)
+    → is_flagged rows (codes "metrics") ≡ true → flagged ≡ is_flagged rows (codes "status")
+    → flagged ≡ true → (what : Shown) → shown_program what ≡ codes "show" → HasShown rows what → ⊥
+shows_no_status rows flagged metrics status set shown.Rings by_show has = cc (metrics, has.2)
+shows_no_status rows flagged metrics status set shown.Status by_show has = cc (metrics, has.2)
+shows_no_status rows flagged metrics status set shown.Metrics by_show has = cc (set, status, has.1)
+shows_no_status rows flagged metrics status set (shown.Ring name) by_show has = cc (metrics, has.2)
+shows_no_status rows flagged metrics status set (shown.Preview ring seed hour) by_show has =
+    other_word 112 115 _ _ by_show (λ e. omega (arith, e))
+shows_no_status rows flagged metrics status set (shown.Moves ring from to each) by_show has =
+    other_word 109 115 _ _ by_show (λ e. omega (arith, e))
+
+-- and where the metrics and a ring are
+pub shows_no_ring : (rows : List Row) (ring : Option (Bor Text)) (name : Bor Text)
+    → is_flagged rows (codes "metrics") ≡ true
+    → option_map (λ (t : Bor Text). t.now) ring ≡ first_of (codes "RING") rows → ring ≡ Some name
+    → (what : Shown) → shown_program what ≡ codes "show" → HasShown rows what → ⊥
+shows_no_ring rows ring name metrics text named what by_show has = by what by_show has
+  where
+    given : Some name.now ≡ first_of (codes "RING") rows
+    given = subst (λ (o : Option (Bor Text)). option_map (λ (t : Bor Text). t.now) o
+        ≡ first_of (codes "RING") rows) named text
+
+    by : (what : Shown) → shown_program what ≡ codes "show" → HasShown rows what → ⊥
+    by shown.Rings by_show has = cc (metrics, has.2)
+    by shown.Status by_show has = cc (metrics, has.2)
+    by shown.Metrics by_show has = absurd (none-some name.now (sym (given ∙ has.0)))
+    by (shown.Ring other) by_show has = cc (metrics, has.2)
     by (shown.Preview other seed hour) by_show has =
         other_word 112 115 _ _ by_show (λ e. omega (arith, e))
     by (shown.Moves other from to each) by_show has =
@@ -130,6 +165,7 @@ pub no_seed : (rows : List Row) → ((n : ℕ) → HasNumber rows (codes "seed")
     (what : Shown) → shown_program what ≡ codes "preview" → HasShown rows what → ⊥
 no_seed rows none shown.Rings is has = omega (arith, ap length is)
 no_seed rows none shown.Status is has = omega (arith, ap length is)
+no_seed rows none shown.Metrics is has = omega (arith, ap length is)
 no_seed rows none (shown.Ring name) is has = omega (arith, ap length is)
 no_seed rows none (shown.Preview ring seed hour) is has = none seed has.1
 no_seed rows none (shown.Moves ring from to each) is has =
@@ -139,6 +175,7 @@ no_seed rows none (shown.Moves ring from to each) is has =
 not_serve : (what : Shown) → shown_program what ≡ codes "serve" → ⊥
 not_serve shown.Rings is = omega (arith, ap length is)
 not_serve shown.Status is = omega (arith, ap length is)
+not_serve shown.Metrics is = omega (arith, ap length is)
 not_serve (shown.Ring name) is = omega (arith, ap length is)
 not_serve (shown.Preview ring seed hour) is = other_word 112 115 _ _ is (λ e. omega (arith, e))
 not_serve (shown.Moves ring from to each) is = other_word 109 115 _ _ is (λ e. omega (arith, e))
@@ -146,6 +183,7 @@ not_serve (shown.Moves ring from to each) is = other_word 109 115 _ _ is (λ e. 
 not_service : (what : Shown) → shown_program what ≡ codes "service" → ⊥
 not_service shown.Rings is = omega (arith, ap length is)
 not_service shown.Status is = omega (arith, ap length is)
+not_service shown.Metrics is = omega (arith, ap length is)
 not_service (shown.Ring name) is = omega (arith, ap length is)
 not_service (shown.Preview ring seed hour) is = other_word 112 115 _ _ is (λ e. omega (arith, e))
 not_service (shown.Moves ring from to each) is = other_word 109 115 _ _ is (λ e. omega (arith, e))
@@ -153,6 +191,7 @@ not_service (shown.Moves ring from to each) is = other_word 109 115 _ _ is (λ e
 not_found : (what : Shown) → shown_program what ≡ codes "found" → ⊥
 not_found shown.Rings is = other_word 115 102 _ _ is (λ e. omega (arith, e))
 not_found shown.Status is = other_word 115 102 _ _ is (λ e. omega (arith, e))
+not_found shown.Metrics is = other_word 115 102 _ _ is (λ e. omega (arith, e))
 not_found (shown.Ring name) is = other_word 115 102 _ _ is (λ e. omega (arith, e))
 not_found (shown.Preview ring seed hour) is = other_word 112 102 _ _ is (λ e. omega (arith, e))
 not_found (shown.Moves ring from to each) is = other_word 109 102 _ _ is (λ e. omega (arith, e))
@@ -174,6 +213,8 @@ no_service rows none (Import file ring caller number csv hour) is_named has =
 no_service rows none (Show file what) is_named has = not_serve what is_named
 no_service rows none (Table file ring) is_named has =
     other_word 116 115 _ _ is_named (λ e. omega (arith, e))
+no_service rows none (Log file from lines) is_named has =
+    other_word 108 115 _ _ is_named (λ e. omega (arith, e))
 no_service rows none (Nodes file ring account container object names) is_named has =
     other_word 110 115 _ _ is_named (λ e. omega (arith, e))
 no_service rows none (Export file ring version written) is_named has =
@@ -201,6 +242,8 @@ no_service_on rows none (Import file ring caller number csv hour) is_named has =
 no_service_on rows none (Show file what) is_named has = not_service what is_named
 no_service_on rows none (Table file ring) is_named has =
     other_word 116 115 _ _ is_named (λ e. omega (arith, e))
+no_service_on rows none (Log file from lines) is_named has =
+    other_word 108 115 _ _ is_named (λ e. omega (arith, e))
 no_service_on rows none (Nodes file ring account container object names) is_named has =
     other_word 110 115 _ _ is_named (λ e. omega (arith, e))
 no_service_on rows none (Export file ring version written) is_named has =
@@ -232,6 +275,8 @@ no_found rows none (Import file ring caller number csv hour) is_named has =
 no_found rows none (Show file what) is_named has = not_found what is_named
 no_found rows none (Table file ring) is_named has =
     other_word 116 102 _ _ is_named (λ e. omega (arith, e))
+no_found rows none (Log file from lines) is_named has =
+    other_word 108 102 _ _ is_named (λ e. omega (arith, e))
 no_found rows none (Nodes file ring account container object names) is_named has =
     other_word 110 102 _ _ is_named (λ e. omega (arith, e))
 no_found rows none (Export file ring version written) is_named has =
@@ -258,6 +303,8 @@ no_show rows none (Import file ring caller number csv hour) is_named has =
     other_word 105 115 _ _ is_named (λ e. omega (arith, e))
 no_show rows none (Table file ring) is_named has =
     other_word 116 115 _ _ is_named (λ e. omega (arith, e))
+no_show rows none (Log file from lines) is_named has =
+    other_word 108 115 _ _ is_named (λ e. omega (arith, e))
 no_show rows none (Nodes file ring account container object names) is_named has =
     other_word 110 115 _ _ is_named (λ e. omega (arith, e))
 no_show rows none (Export file ring version written) is_named has =
@@ -286,6 +333,8 @@ no_preview rows none (Import file ring caller number csv hour) is_named has =
     other_word 105 112 _ _ is_named (λ e. omega (arith, e))
 no_preview rows none (Table file ring) is_named has =
     other_word 116 112 _ _ is_named (λ e. omega (arith, e))
+no_preview rows none (Log file from lines) is_named has =
+    other_word 108 112 _ _ is_named (λ e. omega (arith, e))
 no_preview rows none (Nodes file ring account container object names) is_named has =
     other_word 110 112 _ _ is_named (λ e. omega (arith, e))
 no_preview rows none (Export file ring version written) is_named has =
@@ -314,6 +363,8 @@ no_moves rows none (Import file ring caller number csv hour) is_named has =
     other_word 105 109 _ _ is_named (λ e. omega (arith, e))
 no_moves rows none (Table file ring) is_named has =
     other_word 116 109 _ _ is_named (λ e. omega (arith, e))
+no_moves rows none (Log file from lines) is_named has =
+    other_word 108 109 _ _ is_named (λ e. omega (arith, e))
 no_moves rows none (Nodes file ring account container object names) is_named has =
     other_word 110 109 _ _ is_named (λ e. omega (arith, e))
 no_moves rows none (Export file ring version written) is_named has =

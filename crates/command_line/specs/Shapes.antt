@@ -75,10 +75,11 @@ import_rows = program (codes "import")
 abbrev pub table_shape : Shape
 table_shape = program (codes "table") (needed (codes "FILE") ∷ needed (codes "RING") ∷ [])
 
--- Shows the rings, a ring or the status as JSON.
+-- Shows the rings, a ring or the status as JSON, or the metrics.
 abbrev pub show_shape : Shape
 show_shape = program (codes "show")
-    (needed (codes "FILE") ∷ possible (codes "RING") ∷ flag (codes "status") ∷ [])
+    (needed (codes "FILE") ∷ possible (codes "RING") ∷ flag (codes "status") ∷
+    flag (codes "metrics") ∷ [])
 
 -- Shows what a rebalance would do.
 abbrev pub preview_shape : Shape
@@ -91,6 +92,11 @@ abbrev pub moves_shape : Shape
 moves_shape = program (codes "moves")
     (needed (codes "FILE") ∷ needed (codes "RING") ∷ needed (codes "FROM") ∷ needed (codes "TO") ∷
     flag (codes "each") ∷ [])
+
+-- Writes the decided requests.
+abbrev pub log_shape : Shape
+log_shape = program (codes "log")
+    (needed (codes "FILE") ∷ optional (codes "from") ∷ flag (codes "lines") ∷ [])
 
 -- Shows the devices of a path.
 abbrev pub nodes : Shape
@@ -123,5 +129,5 @@ abbrev pub programs : App
 programs = record {
   top = record (new_shape (codes "ringd")) { is_leaf = false; subcommand_required = true };
   subs = run ∷ serve ∷ service ∷ looping ∷ import_rows ∷ table_shape ∷ show_shape ∷ preview_shape
-      ∷ moves_shape ∷ nodes ∷ export ∷ renew ∷ found ∷ version ∷ [];
+      ∷ moves_shape ∷ log_shape ∷ nodes ∷ export ∷ renew ∷ found ∷ version ∷ [];
 }

@@ -19,7 +19,7 @@ use Rattle.command_line.specs.declared.task.Shown.{Shown}
 use Rattle.command_line.specs.declared.task.Shown.TheVariants as shown
 use Rattle.command_line.specs.declared.task.Task.{Task}
 use Rattle.command_line.specs.declared.task.Task.TheVariants.{Run, Serve, Service, Loop, Import}
-use Rattle.command_line.specs.declared.task.Task.TheVariants.{Table, Show, Nodes, Export, Renew}
+use Rattle.command_line.specs.declared.task.Task.TheVariants.{Table, Show, Log, Nodes, Export, Renew}
 use Rattle.command_line.specs.declared.task.Task.TheVariants.{Found, Version}
 
 -- ---- one argument
@@ -66,15 +66,17 @@ HasFormat rows written =
     unwrap_or (first_of (codes "format") rows) (codes "text") ≡ format_word written
 
 -- What is to be shown is named so: a ring by its name alone, the status by `--status` alone, the
--- rings by neither, a preview by the ring's name, a seed and perhaps an hour, and what moved by the
--- ring's name and two versions, each seat by `--each`.
+-- metrics by `--metrics` alone, the rings by none of these, a preview by the ring's name, a seed
+-- and perhaps an hour, and what moved by the ring's name and two versions, each seat by `--each`.
 abbrev pub HasShown : List Row → Shown → Type 0
 HasShown rows shown.Rings = (first_of (codes "RING") rows ≡ None)
-    × (is_flagged rows (codes "status") ≡ false)
+    × (is_flagged rows (codes "status") ≡ false) × (is_flagged rows (codes "metrics") ≡ false)
 HasShown rows shown.Status = (first_of (codes "RING") rows ≡ None)
-    × (is_flagged rows (codes "status") ≡ true)
+    × (is_flagged rows (codes "status") ≡ true) × (is_flagged rows (codes "metrics") ≡ false)
+HasShown rows shown.Metrics = (first_of (codes "RING") rows ≡ None)
+    × (is_flagged rows (codes "status") ≡ false) × (is_flagged rows (codes "metrics") ≡ true)
 HasShown rows (shown.Ring name) = HasText rows (codes "RING") name
-    × (is_flagged rows (codes "status") ≡ false)
+    × (is_flagged rows (codes "status") ≡ false) × (is_flagged rows (codes "metrics") ≡ false)
 HasShown rows (shown.Preview ring seed hour) = HasText rows (codes "RING") ring
     × HasNumber rows (codes "seed") 0 greatest_long seed × HasHour rows hour
 HasShown rows (shown.Moves ring from to each) = HasText rows (codes "RING") ring
@@ -85,6 +87,7 @@ HasShown rows (shown.Moves ring from to each) = HasText rows (codes "RING") ring
 abbrev pub shown_program : Shown → Text
 shown_program shown.Rings = codes "show"
 shown_program shown.Status = codes "show"
+shown_program shown.Metrics = codes "show"
 shown_program (shown.Ring name) = codes "show"
 shown_program (shown.Preview ring seed hour) = codes "preview"
 shown_program (shown.Moves ring from to each) = codes "moves"
@@ -100,6 +103,7 @@ program_of (Loop file input hour names) = codes "loop"
 program_of (Import file ring caller number csv hour) = codes "import"
 program_of (Table file ring) = codes "table"
 program_of (Show file what) = shown_program what
+program_of (Log file from lines) = codes "log"
 program_of (Nodes file ring account container object names) = codes "nodes"
 program_of (Export file ring version written) = codes "export"
 program_of (Renew file fresh) = codes "renew"
@@ -127,6 +131,8 @@ HasArguments rows (Import file ring caller number csv hour) =
 HasArguments rows (Table file ring) =
     HasText rows (codes "FILE") file × HasText rows (codes "RING") ring
 HasArguments rows (Show file what) = HasText rows (codes "FILE") file × HasShown rows what
+HasArguments rows (Log file from lines) = HasText rows (codes "FILE") file
+    × MayHaveText rows (codes "from") from × (lines ≡ is_flagged rows (codes "lines"))
 HasArguments rows (Nodes file ring account container object names) =
     HasText rows (codes "FILE") file × HasText rows (codes "RING") ring
     × HasText rows (codes "ACCOUNT") account × MayHaveText rows (codes "container") container

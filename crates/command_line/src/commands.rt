@@ -100,8 +100,13 @@ const PROGRAMS: &[Program<'static>] = &[
     },
     Program {
         name: "show",
-        about: "Shows which rings there are, a whole ring, or how much is kept, as JSON",
-        arguments: &[Needed("FILE"), Possible("RING"), Flag("status")],
+        about: "Shows which rings there are, a whole ring, how much is kept, or metrics",
+        arguments: &[
+            Needed("FILE"),
+            Possible("RING"),
+            Flag("status"),
+            Flag("metrics"),
+        ],
     },
     Program {
         name: "preview",
@@ -123,6 +128,11 @@ const PROGRAMS: &[Program<'static>] = &[
             Needed("TO"),
             Flag("each"),
         ],
+    },
+    Program {
+        name: "log",
+        about: "Writes which requests were decided, with their replies, a line each",
+        arguments: &[Needed("FILE"), Optional("from"), Flag("lines")],
     },
     Program {
         name: "nodes",

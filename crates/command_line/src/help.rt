@@ -6,8 +6,8 @@
 /// What `ringd --help` tells.
 pub(crate) static ABOUT: &str = "Keeps the rings of an object store: which disks hold each object.
 
-Every change is a numbered request. A request that is sent again, since its answer was lost, is not carried out again:
-it gets the answer that was given first.";
+Every change is a numbered request. It may be sent again, as after a lost answer: it is not done twice, and gets the answer
+that was given first.";
 
 /// What `ringd run --help` tells.
 static RUN: &str =
@@ -19,7 +19,7 @@ A request is the hour, a space, and a JSON object: who asks, the caller's number
   0 {\"caller\":\"ops\",\"number\":2,\"do\":\"add\",\"ring\":\"object\",\"region\":1,\"zone\":1,\"address\":\"10.0.0.1\",\"port\":6200,\"name\":\"d0\",\"weight\":\"100.00\"}
   1 {\"caller\":\"ops\",\"number\":3,\"do\":\"set_weight\",\"ring\":\"object\",\"id\":0,\"weight\":\"50.00\"}
 
-create makes a ring of 2 to the power of partitions, each on so many replicas. add puts a device into it, and tells the
+create makes a ring of 2^power partitions, each kept 'replicas' times. add puts a device into it, and tells the
 number under which the ring knows it. set_weight changes what share of the ring a device is to hold. These also say what
 to do, each on its ring:
 
@@ -27,20 +27,23 @@ to do, each on its ring:
                                        partition that was moved less than its hours before; seats that are empty
                                        or on a marked device are put anew at once. The seed varies which of several
                                        equally good places they get
+  {..,\"do\":\"rebalance_as\",\"seed\":1,\"version\":8,\"hour\":480002}
+                                       the rebalance that a preview told, by its seed, version and hour, or none
   {..,\"do\":\"remove\",\"id\":0}            marks a device, which leaves the ring at the next rebalance
+  {..,\"do\":\"keep\",\"id\":0}              takes the mark off again, before that rebalance
   {..,\"do\":\"set_hours\",\"min_hours\":1}  sets for how many hours a moved partition stays where it is
   {..,\"do\":\"pretend_passed\"}           lets each partition be moved as if it never had been
   {..,\"do\":\"raise_power\"}              splits each partition into two
   {..,\"do\":\"import\",\"rows\":[[1,1,\"10.0.0.1\",6200,\"d0\",\"100.00\"],[1,2,\"10.0.0.2\",6200,\"d1\",\"50.00\"]]}
-                                       adds devices by region, zone, address, port, name and weight, or sets the
-                                       weight of those that are there: all rows or none
+                                       adds devices by region, zone, address, port, name and weight, and sets the
+                                       weight of devices that the ring has: all rows or none
   {..,\"do\":\"publish\"}                  keeps the ring's text of now under its version
 
 Each is answered by a status, a space and a JSON object, before the next line is waited for. A caller that got no answer
 sends the line again: it is answered as before, and nothing is done twice. Another request takes another number. The hour
 is a whole number of hours since 1970.
 
-Seven questions change nothing, and need no number. Each is answered by what is asked for, or by a status and why there
+Eight questions change nothing, and need no number. Each is answered by what is asked for, or by a status and why there
 is none:
 
   ? rings                              which rings there are, and their versions, as a JSON object in one line
@@ -54,6 +57,8 @@ is none:
   ? preview object 1 480002            what a rebalance of the ring with seed 1 at this hour would do, as a JSON object in
                                        one line, which 'ringd preview --help' tells
   ? moves object 2 5                   what moved between two published versions of the ring, as a JSON object in one line
+  ? log 0 100                          what was decided, from this place on, at most so many entries (up to 1000), as a
+                                       JSON object in one line, which 'ringd log --help' tells
 
 After the three requests above, '? balance object' is answered by
 
@@ -75,6 +80,9 @@ Only this machine reaches it: TLS, and who may ask, are for a proxy in front of 
   POST /v1/requests                               the body is a request, as in a line of 'run' but without the hour
   POST /v1/import/RING?caller=C&number=N          the body is a CSV table of devices, imported as this request
   GET  /v1/status                                 how much is kept, as JSON
+  GET  /v1/metrics                                the figures of all of it, in the text format of Prometheus
+  GET  /v1/log?from=PLACE&most=COUNT              what was decided, from this place on, as JSON; both may be left out
+  GET  /v1/page                                   a page that shows all this in a browser
   GET  /v1/rings                                  which rings there are, as JSON
   GET  /v1/rings/RING                             the whole ring, as JSON
   GET  /v1/rings/RING/devices                     where each device stands, what it weighs, and its state
@@ -82,6 +90,7 @@ Only this machine reaches it: TLS, and who may ask, are for a proxy in front of 
   GET  /v1/rings/RING/nodes?account=A&container=C&object=O
                                                   the devices that hold a path; container and object may be left out
   GET  /v1/rings/RING/text/VERSION                the ring as it was published under this version
+  GET  /v1/rings/RING/swift/VERSION               the same as the file that Swift loads, before gzip
   GET  /v1/rings/RING/moves?from=V&to=W           what moved between two published versions, as JSON
   GET  /v1/rings/RING/preview?seed=S&hour=H       what a rebalance with this seed would do at this hour, as JSON; where it is
                                                   left out, or has passed, what it would do now
@@ -104,7 +113,8 @@ static SERVICE: &str =
 
   ringd service rings.db 8642 --host rings.example.com
 
-It does not answer what a page in a browser sends. A request is refused with 403 NotAllowed, before its body is read, where
+A browser of this machine may look at its own page, http://127.0.0.1:8642/v1/page, which only reads. It does not answer what
+another page in a browser sends. A request is refused with 403 NotAllowed, before its body is read, where
   - its Host is none of 127.0.0.1, localhost, and the names that --host gives, with a port or without. Give the name under
     which a proxy reaches it; --host may be there several times
   - it is a POST and has an Origin or a Sec-Fetch-Site, as browsers send them
@@ -134,10 +144,11 @@ The options are those of 'serve'.";
 /// What `ringd show --help` tells.
 static SHOW: &str =
     "Shows which rings there are in FILE, or the ring RING in it, or with --status how much is kept in it, as a JSON object in
-one line, on standard output.
+one line, on standard output; or with --metrics the figures of all of it, in the text format of Prometheus.
 
 Of the rings it has, by name, the name and the version of each. The status has the greatest hour that was used in FILE, how
-many numbers are kept, how many may be (limit), and how many rings there are. RING and --status are not given together.
+many numbers are kept, how many may be (limit), and how many rings there are. The metrics are these and the figures of each
+ring, its locked partitions at the hour of the clock. No two of RING, --status and --metrics are given together.
 
 A ring has its power, replicas, min_hours, version and next_id; how many seats are taken; balance and dispersion, in
 hundredths of a percent; the hour, which is the clock's or the greatest that was used in FILE, if that is greater; how many
@@ -171,6 +182,16 @@ gives or takes seats, how many.
 With --each it is a line for each such seat: its partition, its replica, and the numbers of the device that it was on and of
 the one that it is on, or - where one of the two has no such seat. Where the power was raised between, partitions and seats
 are those of the greater: both halves of a partition count that was on another device.";
+
+/// What `ringd log --help` tells.
+static LOG: &str =
+    "Writes the requests that were decided in FILE, refused ones too, in the order of first decision, on standard output: a JSON
+object in a line for each, with its place, the hour that was used, the request, the reply and its status.
+
+  ringd log rings.db --lines | ringd run --file again.db
+
+--from begins at that place; the first request has place 0. --lines writes lines that ask for the same requests again, which
+'ringd run' reads: over a new file they make the same rings and get the same replies, if FILE began without rings.";
 
 /// What `ringd export --help` tells.
 static EXPORT: &str = "Writes the ring RING as it was published under VERSION, on standard output.
@@ -217,6 +238,7 @@ pub(crate) fn told_of(program: &str) -> Option<&'static str> {
         "show" => Some(SHOW),
         "preview" => Some(PREVIEW),
         "moves" => Some(MOVES),
+        "log" => Some(LOG),
         "export" => Some(EXPORT),
         "renew" => Some(RENEW),
         "found" => Some(FOUND),
@@ -235,6 +257,7 @@ pub(crate) static FORMS: &str = "error: an argument is not of its form
                     a whole number from 0 to 65535
   --format <format> text or swift
   --status          not beside a RING
+  --metrics         beside neither of them
 
 Numbers are written in digits, without leading zeros. For more information, try '--help'.
 ";

@@ -1,5 +1,6 @@
 //! The task that the words ask for.
-ghost use Rattle.std.specs.Prelude.{◌≡◌, ◌≢◌, IfErr, IfOk, codes, map, option_map, string_bytes};
+ghost use Rattle.std.specs.Prelude.{◌≡◌, ◌≢◌, IfErr, IfOk, codes, false, map, option_map};
+ghost use Rattle.std.specs.Prelude.{string_bytes, true};
 ghost use Rattle.ring_words.specs.Limits.{greatest_long, greatest_short};
 ghost use Rattle.clap.specs.Matches.{found_of};
 ghost use Rattle.clap.specs.Values.{kind_of};
@@ -166,9 +167,26 @@ fn table<'a>(matches: &ArgMatches<'a>) -> Option<Task<'a>>
     })
 }
 
-/// What is to be shown, `None` where both a ring and the status are named.
+/// What is to be shown where the metrics are named: `None` where a ring or the status is named too.
+#[tactic(auto, using(crate::proofs::Tasks::shows_no_status, crate::proofs::Tasks::shows_no_ring))]
+fn metrics_of<'a>(matches: &ArgMatches<'a>) -> Option<Shown<'a>>
+    requires { is_flagged (rows_of (found_of matches.now)) (codes "metrics") ≡ true }
+    ensures { IsToShow (codes "show") (rows_of (found_of matches.now)) result }
+{
+    let ring = text_of(matches, "RING");
+    if is_flagged(matches, "status") {
+        return None;
+    }
+    match ring {
+        None => Some(Shown::Metrics),
+        Some(_) => None,
+    }
+}
+
+/// What is to be shown where the metrics aren't named: `None` where both a ring and the status are.
 #[tactic(auto, using(crate::proofs::Tasks::shows_nothing))]
-fn shown_of<'a>(matches: &ArgMatches<'a>) -> Option<Shown<'a>>
+fn json_of<'a>(matches: &ArgMatches<'a>) -> Option<Shown<'a>>
+    requires { is_flagged (rows_of (found_of matches.now)) (codes "metrics") ≡ false }
     ensures { IsToShow (codes "show") (rows_of (found_of matches.now)) result }
 {
     let ring = text_of(matches, "RING");
@@ -182,6 +200,17 @@ fn shown_of<'a>(matches: &ArgMatches<'a>) -> Option<Shown<'a>>
             None => Some(Shown::Rings),
             Some(name) => Some(Shown::Ring(name)),
         }
+    }
+}
+
+/// What is to be shown, `None` where two of a ring, the status and the metrics are named.
+fn shown_of<'a>(matches: &ArgMatches<'a>) -> Option<Shown<'a>>
+    ensures { IsToShow (codes "show") (rows_of (found_of matches.now)) result }
+{
+    if is_flagged(matches, "metrics") {
+        metrics_of(matches)
+    } else {
+        json_of(matches)
     }
 }
 
@@ -242,6 +271,16 @@ fn moves<'a>(matches: &ArgMatches<'a>) -> Option<Task<'a>>
     Some(Task::Show {
         file: text_of(matches, "FILE")?,
         what: moves_of(matches)?,
+    })
+}
+
+fn log<'a>(matches: &ArgMatches<'a>) -> Option<Task<'a>>
+    ensures { IsTask (codes "log") (rows_of (found_of matches.now)) result }
+{
+    Some(Task::Log {
+        file: text_of(matches, "FILE")?,
+        from: text_of(matches, "from"),
+        lines: is_flagged(matches, "lines"),
     })
 }
 
@@ -360,6 +399,7 @@ fn task_alone<'a>(name: &str, matches: &ArgMatches<'a>) -> Option<Task<'a>>
         "show" => show(matches),
         "preview" => preview(matches),
         "moves" => moves(matches),
+        "log" => log(matches),
         "nodes" => nodes(matches),
         "export" => export(matches),
         "renew" => renew(matches),

@@ -14,6 +14,8 @@ pub enum Shown<'a> {
     Rings,
     /// How much is kept.
     Status,
+    /// The metrics of all that is held, as text.
+    Metrics,
     /// The whole ring of this name, which stands as it was written.
     Ring(&'a str),
     /// What a rebalance of the ring of this name would do, at this hour or the greatest that the
@@ -81,10 +83,18 @@ pub enum Task<'a> {
         file: &'a str,
         ring: &'a str,
     },
-    /// To show the rings, the status, a whole ring, what a rebalance would do or what moved.
+    /// To show the rings, the status, the metrics, a whole ring, what a rebalance would do or what
+    /// moved.
     Show {
         file: &'a str,
         what: Shown<'a>,
+    },
+    /// To write the log of decided requests from a place on, which stands as it was written, a line
+    /// each: whole entries, or lines that ask for the same deliveries.
+    Log {
+        file: &'a str,
+        from: Option<&'a str>,
+        lines: bool,
     },
     /// To show which devices hold a path.
     Nodes {

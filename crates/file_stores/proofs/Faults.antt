@@ -20,6 +20,7 @@ store_fault (file.Opening opening.Store) = tt
 store_fault (file.Opening opening.Damaged) = tt
 store_fault (file.Opening opening.Refused) = tt
 store_fault (file.Opening opening.BadRows) = tt
+store_fault (file.Opening opening.BadTexts) = tt
 store_fault (file.Opening opening.BadTables) = tt
 
 -- and so is why none is made

@@ -11,8 +11,8 @@ use Rattle.builder_store.specs.Left.{AreUnopened, IfConnected, IfUnconnected, Is
 use Rattle.builder_store.specs.Left.{IsConnectedAnd, IsMadeOfConnection, IsOfConnection}
 use Rattle.builder_store.specs.Left.{IsUnconnected, IsUnmadeOver, IsUntouched}
 use Rattle.builder_store.specs.Making.{IsFailure, IsJudgement}
-use Rattle.builder_store.specs.Opening.{HoldsNoStore, HoldsTables, IsBadStore, IsLeftOf, IsMadeOf}
-use Rattle.builder_store.specs.Opening.{KeepsRows, Stands, TellsOpenFault}
+use Rattle.builder_store.specs.Opening.{HoldsBadTexts, HoldsNoStore, HoldsTables, IsBadStore, IsLeftOf}
+use Rattle.builder_store.specs.Opening.{IsMadeOf, JudgesFileRows, KeepsRows, Stands, TellsOpenFault}
 use Rattle.builder_store.specs.declared.fault.FileFault.{FileFault}
 use Rattle.builder_store.specs.declared.fault.FileFault.TheVariants as file
 use Rattle.builder_store.specs.declared.fault.MakeFault.{MakeFault}
@@ -23,8 +23,8 @@ use Rattle.store_rows.specs.Stands.{RingContent}
 use Rattle.programs.specs.declared.faults.ProgramFault.{ProgramFault}
 use Rattle.programs.specs.declared.faults.ProgramFault.TheVariants as fault
 
--- What is told where the store in a file isn't opened: a fault of the store where the system refused
--- or failed, and a bad store where what was read is none.
+-- What is told where the store in a file isn't opened: a bad store where what was read is none, and
+-- else a fault of the store, as where the system refused or failed.
 abbrev pub open_fault : FileFault → ProgramFault
 open_fault file.Busy = fault.StoreFault
 open_fault file.CannotOpen = fault.StoreFault
@@ -35,8 +35,9 @@ open_fault file.Store = fault.StoreFault
 open_fault (file.Opening opening.NoMemory) = fault.NoMemory
 open_fault (file.Opening opening.Store) = fault.StoreFault
 open_fault (file.Opening opening.Damaged) = fault.BadStore
-open_fault (file.Opening opening.Refused) = fault.BadStore
+open_fault (file.Opening opening.Refused) = fault.StoreFault
 open_fault (file.Opening opening.BadRows) = fault.BadStore
+open_fault (file.Opening opening.BadTexts) = fault.BadStore
 open_fault (file.Opening opening.BadTables) = fault.BadStore
 
 -- what is told where no store is made
@@ -60,10 +61,11 @@ ConnectionMetFaults left = IsConnectedAnd left (λ conn. HasCleanDisk (file_stat
 -- A store in files that held this wasn't opened, for this cause, which is told, and this is left.
 -- Nothing is left only where the files were not opened, and a connection exactly where one was made.
 -- Where none was made, that has a cause, and they are told to be no database only where they hold
--- none; and they are told to hold bad tables or rows only where they hold no store, and the store to
--- have failed or to be damaged only where their disk met a fault. A crash leaves what they recovered
--- to or what an opening makes of it, and where the rows are bad, the same rows. So it is if their disk
--- returned what was written.
+-- none; and they are told to hold bad tables or rows only where they hold no store, bad texts only
+-- where a text in a store's tables is no UTF-8, and the store to have failed or to be damaged only
+-- where their disk met a fault. A crash leaves what they recovered to or what an opening makes of it,
+-- and where the rows or their texts are bad, the same rows. So it is if their disk returned what was
+-- written.
 pub record IsNotOpened {D : Type 0} {disk : disks.Ghosts D} (image : Image) (why : ProgramFault)
     (cause : FileFault) (left : Option (FilesLeft D disk)) : Type 0 where
   pub told : why ≡ open_fault cause
@@ -72,9 +74,10 @@ pub record IsNotOpened {D : Type 0} {disk : disks.Ghosts D} (image : Image) (why
   pub unconnected : IfUnconnected left (IsUnconnected image cause)
   pub bad : IsBadStore cause → IsConnectedAnd left (λ conn.
       HasCleanDisk (file_state conn) → HoldsNoStore image)
+  pub texts : cause ≡ file.Opening opening.BadTexts → IsConnectedAnd left (λ conn.
+      HasCleanDisk (file_state conn) → HoldsBadTexts image)
   pub failed : TellsOpenFault cause → ConnectionMetFaults left
-  pub rows : cause ≡ file.Opening opening.BadRows
-      → IsConnectedAnd left (LeavesOr image KeepsRows)
+  pub rows : JudgesFileRows cause → IsConnectedAnd left (LeavesOr image KeepsRows)
   pub crash : IfConnected left (LeavesOr image IsMadeOf)
 
 -- A store of this content wasn't made in files that held this, for this cause, which is told, and

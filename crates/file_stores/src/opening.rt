@@ -41,9 +41,9 @@ pub(crate) fn open_fault(fault: FileFault) -> ProgramFault
         FileFault::Busy | FileFault::CannotOpen | FileFault::Store => ProgramFault::StoreFault,
         FileFault::NoDatabase | FileFault::Damaged => ProgramFault::BadStore,
         FileFault::NoMemory | FileFault::Opening(OpenFault::NoMemory) => ProgramFault::NoMemory,
-        FileFault::Opening(OpenFault::Store) => ProgramFault::StoreFault,
+        FileFault::Opening(OpenFault::Store | OpenFault::Refused) => ProgramFault::StoreFault,
         FileFault::Opening(
-            OpenFault::Damaged | OpenFault::Refused | OpenFault::BadRows | OpenFault::BadTables,
+            OpenFault::Damaged | OpenFault::BadRows | OpenFault::BadTexts | OpenFault::BadTables,
         ) => ProgramFault::BadStore,
     }
 }

@@ -5,15 +5,17 @@ use Rattle.std.specs.Prelude.{IfOk, MatchResult, Vec}
 use Rattle.std.specs.declared.alloc.AllocError.{AllocError}
 use Rattle.std.specs.declared.alloc.Global.{Global}
 use Rattle.http_messages.specs.Requests.{Ask}
+use Rattle.http_messages.specs.declared.answer.BodyKind.TheVariants as kind
 use Rattle.http_routes.specs.Targets.{TargetAsks}
 use Rattle.http_routes.specs.declared.target.TargetAsk.TheVariants as target
 use Rattle.ring_book.specs.Book.{Asked, Found, Keeping, Made, RingBook}
-use Rattle.ring_reads.specs.declared.reads.Question.{Question}
+use Rattle.ring_log.specs.declared.inquiry.Inquiry.{Inquiry}
 use Rattle.request_book.specs.declared.book.Fault.{Fault}
 use Rattle.request_book.specs.Call.{Deliver, Load}
 use Rattle.ring_messages.specs.declared.told.Told.{Told}
 use Rattle.ring_words.specs.declared.request.Key.{Key}
-use Rattle.http_api.specs.Http.{IsReadAnswer, MayTell, told_answer}
+use Rattle.ring_page.specs.declared.TheConstants.{PAGE}
+use Rattle.http_api.specs.Http.{IsReadAnswer, MayTell, shown_answer, told_answer}
 use Rattle.http_api.specs.Inner.Telling.{IsImportTold, IsMessageTold}
 use Rattle.http_api.specs.Inner.Answering.{HttpAnswers, HttpLoses}
 
@@ -67,7 +69,7 @@ module _ {K C : Type 0} (kept : Keeping K)
   import_answered None ring key asks made told (Ok text) is = (
     None,
     (
-      inr (inr (
+      inr (inr (inl (
         ring,
         key,
         told.1.0,
@@ -75,7 +77,7 @@ module _ {K C : Type 0} (kept : Keeping K)
         told.1.1,
         told.1.2,
         is ∙ ap (told_answer ask.is_last) told.1.3,
-      )),
+      ))),
       told.0,
     ),
     made,
@@ -104,26 +106,37 @@ module _ {K C : Type 0} (kept : Keeping K)
 module _ {K C : Type 0} (kept : Keeping K)
     (tells : C → ℕ → C → Type 0) (prefix suffix : List ℕ) (ask : Ask) (clock : C)
     (old new : RingBook kept) where
+  -- the page is an answer that leads to no call
+  pub page_answered : TargetAsks ask.target ask.method target.Page → Made kept old new None →
+      (result : Result (Vec ℕ Global) AllocError) →
+      IfOk result (λ text. text.items ≡ shown_answer ask.is_last kind.Html PAGE.now) →
+      MatchResult result
+      (λ text. HttpAnswers kept tells prefix suffix (clock, old) ask
+      text.items (clock, new))
+      (λ _. HttpLoses kept tells prefix suffix (clock, old) ask (clock, new))
+  page_answered asks made (Ok text) is = (None, (inr (inr (inr (asks, is))), refl), made)
+  page_answered asks made (Err refused) is = (None, refl, made)
+
   -- what a read shows or is told is an answer
-  pub read_answered : (question : Question) →
-      TargetAsks ask.target ask.method (target.Read question) →
+  pub read_answered : (asked : Inquiry) →
+      TargetAsks ask.target ask.method (target.Read asked) →
       (answer : Result (Unit {0}) Fault) → Made kept old new
       (Some (Load answer)) →
       (result : Result (Vec ℕ Global) AllocError) →
       IfOk result (λ text. (hour : ℕ) × MayTell tells clock hour
       × IsReadAnswer (Found kept hour old new) ask.is_last
-      prefix suffix question answer text.items) →
+      prefix suffix asked answer text.items) →
       MatchResult result
       (λ text. HttpAnswers kept tells prefix suffix (clock, old) ask
       text.items (clock, new))
       (λ _. HttpLoses kept tells prefix suffix (clock, old) ask (clock, new))
-  read_answered question asks answer made (Ok text) is = (
+  read_answered asked asks answer made (Ok text) is = (
     Some (Load answer),
-    (question, asks, is, refl),
+    (asked, asks, is, refl),
     made,
   )
-  read_answered question asks answer made (Err refused) is = (
+  read_answered asked asks answer made (Err refused) is = (
     Some (Load answer),
-    ((question, asks), refl),
+    ((asked, asks), refl),
     made,
   )

@@ -16,15 +16,17 @@ use Rattle.builder.specs.Replies.{answer_text, answer_status}
 use Rattle.csv_import.specs.Rows.{AreRows, IsWrong, records_of}
 use Rattle.csv_import.specs.declared.fault.CsvFault.{CsvFault}
 use Rattle.csv_import.specs.declared.fault.CsvFault.TheVariants as csv
-use Rattle.ring_book.specs.Book.{Asked}
+use Rattle.ring_book.specs.Book.{Asked, Finding}
 use Rattle.ring_book.specs.Reads.{ReadShows, ReadTells}
 use Rattle.ring_book.specs.Told.{told_of}
+use Rattle.ring_log.specs.declared.inquiry.Inquiry.{Inquiry}
+use Rattle.ring_log.specs.declared.inquiry.Inquiry.TheVariants as inquiry
+use Rattle.ring_reads.specs.Reads.{is_file, is_json, is_metrics}
 use Rattle.ring_reads.specs.declared.reads.Question.{Question}
-use Rattle.ring_reads.specs.Holding.{Holding}
-use Rattle.ring_reads.specs.Reads.{is_json}
 use Rattle.request_book.specs.Call.{Deliver, Load}
 use Rattle.request_book.specs.declared.book.Fault.{Fault}
 use Rattle.ring_messages.specs.declared.told.Told.{Told}
+use Rattle.ring_page.specs.declared.TheConstants.{PAGE}
 use Rattle.ring_messages.specs.declared.told.Told.TheVariants as told
 use Rattle.ring_words.specs.declared.command.Act.TheVariants as act
 use Rattle.ring_words.specs.declared.command.Command.{Command}
@@ -59,18 +61,24 @@ told_csv csv.NoMemory = told.NoMemory
 
 -- READS
 
--- what kind of text is shown of a question
-abbrev pub shown_kind : Question → BodyKind
-shown_kind asked = if is_json asked then kind.Json else kind.Text
+-- what kind of body is shown of a question
+abbrev pub question_kind : Question → BodyKind
+question_kind asked = if is_json asked then kind.Json else (if is_metrics asked then kind.Metrics else
+    (if is_file asked then kind.Bytes else kind.Text))
 
--- What a read is answered where this is the answer of the call that makes the rings ready to be
--- read: what is shown of what is found, or why nothing is shown or can be read.
-abbrev pub IsReadAnswer : (Holding → Type 0) → Bool → List ℕ → List ℕ → Question →
-    Result (Unit {0}) Fault → List ℕ → Type 0
-IsReadAnswer Finds is_last prefix suffix question answer text =
-    ((bytes : List ℕ) × ReadShows Finds prefix suffix question answer bytes
-    × (text ≡ shown_answer is_last (shown_kind question) bytes))
-    ⊎ ((t : Told) × ReadTells Finds question answer t × (text ≡ told_answer is_last t))
+-- what kind of body is shown of what is asked: a part of the log is JSON
+abbrev pub shown_kind : Inquiry → BodyKind
+shown_kind (inquiry.Held question) = question_kind question
+shown_kind (inquiry.Log from most) = kind.Json
+
+-- What a read is answered where this is the answer of the call that it leads to: what is shown of
+-- what is found, or why nothing is shown or can be read.
+abbrev pub IsReadAnswer : Finding → Bool → List ℕ → List ℕ → Inquiry → Result (Unit {0}) Fault →
+    List ℕ → Type 0
+IsReadAnswer Finds is_last prefix suffix asked answer text =
+    ((bytes : List ℕ) × ReadShows Finds prefix suffix asked answer bytes
+    × (text ≡ shown_answer is_last (shown_kind asked) bytes))
+    ⊎ ((t : Told) × ReadTells Finds asked answer t × (text ≡ told_answer is_last t))
 
 -- DELIVERIES
 
@@ -96,7 +104,7 @@ IsFaultAnswer is_last why.BadPath text = text ≡ told_answer is_last told.BadPa
 IsFaultAnswer is_last why.NoMemory text = ⊥
 
 -- The request leads to no call, and gets this text: its target asks for nothing, its body is no
--- message, or its body is no table.
+-- message, its body is no table, or it asks for the page for a browser, which is of no book.
 abbrev pub IsUncalled : Ask → List ℕ → Type 0
 IsUncalled ask text =
     ((fault : TargetFault) × TargetFails ask.target ask.method fault ×
@@ -108,6 +116,8 @@ IsUncalled ask text =
     (target.Import ring key)
     × (fault ≢ csv.NoMemory) × IsWrong (records_of ask.body) fault ×
     (text ≡ told_answer ask.is_last (told_csv fault)))
+    ⊎ (TargetAsks ask.target ask.method target.Page
+    × (text ≡ shown_answer ask.is_last kind.Html PAGE.now))
 
 -- ANSWERS TO REQUESTS
 
@@ -119,15 +129,15 @@ module _ {C : Type 0} (tells : C → ℕ → C → Type 0) (prefix suffix : List
   -- A request gets this text where this is the call that it leads to, if any: a delivery's answer,
   -- at the hour that the clock tells; what a read is told of what is found at an hour that the clock
   -- may tell now; or why it leads to no call.
-  abbrev pub IsHttpAnswer : (ℕ → Holding → Type 0) → C → Ask → Asked → List ℕ → C → Type 0
+  abbrev pub IsHttpAnswer : (ℕ → Finding) → C → Ask → Asked → List ℕ → C → Type 0
   IsHttpAnswer Finds old ask None text new = IsUncalled ask text × (new ≡ old)
   IsHttpAnswer Finds old ask (Some (Deliver delivery answer)) text new =
       AsksDelivered ask delivery × tells old delivery.hour new ×
       (text ≡ told_answer ask.is_last (told_of answer))
   IsHttpAnswer Finds old ask (Some (Load answer)) text new =
-      (question : Question) × TargetAsks ask.target ask.method (target.Read question)
+      (asked : Inquiry) × TargetAsks ask.target ask.method (target.Read asked)
       × ((hour : ℕ) × MayTell tells old hour
-      × IsReadAnswer (Finds hour) ask.is_last prefix suffix question answer text) × (new ≡ old)
+      × IsReadAnswer (Finds hour) ask.is_last prefix suffix asked answer text) × (new ≡ old)
 
   -- A request whose answer found no memory: it led to no call, or to that of its delivery or its
   -- read.
@@ -136,13 +146,13 @@ module _ {C : Type 0} (tells : C → ℕ → C → Type 0) (prefix suffix : List
   IsHttpLost old ask (Some (Deliver delivery answer)) new = AsksDelivered ask delivery ×
       tells old delivery.hour new
   IsHttpLost old ask (Some (Load answer)) new =
-      ((question : Question) × TargetAsks ask.target ask.method (target.Read question))
+      ((asked : Inquiry) × TargetAsks ask.target ask.method (target.Read asked))
       × (new ≡ old)
 
   -- What an item of a stream is given where this is the call that it leads to, if any: a request
   -- its answer, or what stands for an answer that found no memory; a request that is refused by its
   -- head its refusal, and no call.
-  abbrev pub GetsHttp : (ℕ → Holding → Type 0) → C → Item → Asked → List ℕ → C → Type 0
+  abbrev pub GetsHttp : (ℕ → Finding) → C → Item → Asked → List ℕ → C → Type 0
   GetsHttp Finds old (Calls ask) asked text new =
       IsHttpAnswer Finds old ask asked text new
       ⊎ (IsHttpLost old ask asked new × (text ≡ no_memory_answer ask.is_last))

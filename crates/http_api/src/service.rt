@@ -11,19 +11,20 @@ ghost use Rattle.http_messages.specs.declared.audience.Audience.TheVariants.{Any
 ghost use Rattle.http_stream.specs.Serving.{RequestsServedOn, RequestsStoppedOn};
 ghost use Rattle.ring_book.specs.Book.{Asked, Made};
 
-use crate::answers::{told_answer, told_csv};
+use crate::answers::{shown_answer, told_answer, told_csv};
 use crate::clock::Clock;
 use crate::reads::{ReadWay, answer_read};
 use crate::site::Site;
 use builder::{MessageFault, RingMachine, Told, read_delivery};
 use byte_streams::{CountedReader, CountedWriter, StreamFault, WholeReader};
 use csv_import::{CsvFault, read_rows};
-use http_messages::{Audience, Method, route_fault_text};
+use http_messages::{Audience, BodyKind, Method, route_fault_text};
 use http_routes::{TargetAsk, TargetFault};
 use http_stream::{Service, serve_requests};
 use path_lookup::HashNames;
 use request_book::{Book, Keeper};
 use ring_book::deliver;
+use ring_page::page;
 use ring_words::{Act, Command, Key, RingName, Rows};
 use std::alloc::{AllocError, Global};
 use std::io::{Read, Write};
@@ -137,7 +138,10 @@ impl<'s, 'n, K: Keeper<RingMachine>, C: Clock> Service for RingService<'s, 'n, K
                 let told = answer_import(alloc, clock, book, ring, key, body)?;
                 told_answer(alloc, &told, is_last)
             }
-            Ok(TargetAsk::Read(question)) => answer_read(alloc, way, &*clock, book, &question),
+            Ok(TargetAsk::Read(asked)) => answer_read(alloc, way, &*clock, book, &asked),
+            Ok(TargetAsk::Page) => {
+                shown_answer(alloc, BodyKind::Html, page().as_bytes(), is_last)
+            }
             Err(fault) => answer_fault(alloc, fault, is_last),
         }
     }
@@ -149,10 +153,12 @@ impl<'s, 'n, K: Keeper<RingMachine>, C: Clock> Service for RingService<'s, 'n, K
 ///
 /// `POST /v1/requests` delivers the message in the body; `POST /v1/import/RING?caller=C&number=N`
 /// the rows of the CSV table in the body, as one numbered import. `GET /v1/rings` reads which rings
-/// there are, `GET /v1/status` how much is kept, `GET /v1/rings/RING` a whole ring, and with
-/// `/devices`, `/balance`, `/nodes?account=A` (perhaps with `&container=C&object=O`),
-/// `/text/VERSION`, `/preview?seed=S` (perhaps with `&hour=H`) or `/moves?from=V&to=W` behind it
-/// something of it. Paths are hashed between the names of the site.
+/// there are, `GET /v1/status` how much is kept, `GET /v1/metrics` the metrics of all,
+/// `GET /v1/rings/RING` a whole ring, and with `/devices`, `/balance`, `/nodes?account=A` (perhaps
+/// with `&container=C&object=O`), `/text/VERSION`, `/swift/VERSION`, `/preview?seed=S` (perhaps with
+/// `&hour=H`) or `/moves?from=V&to=W` behind it something of it. `GET /v1/log` (perhaps with
+/// `?from=PLACE` and `most=COUNT`) reads decided requests. Paths are hashed between the names of the
+/// site.
 ///
 /// The deliveries are one run of the book, each at the hour that the clock tells then: each number
 /// is decided once, in the order of the requests, and every repeat gets its kept reply. A read is

@@ -14,7 +14,7 @@ use Rattle.http_messages.specs.declared.request.HeadFault.TheVariants.{NotAllowe
 use Rattle.http_messages.specs.declared.request.HeadFault.TheVariants.{LengthRequired}
 use Rattle.http_messages.specs.declared.answer.AnswerHead.{AnswerHead}
 use Rattle.http_messages.specs.declared.answer.BodyKind.{BodyKind}
-use Rattle.http_messages.specs.declared.answer.BodyKind.TheVariants.{Json, Text}
+use Rattle.http_messages.specs.declared.answer.BodyKind.TheVariants.{Bytes, Html, Json, Metrics, Text}
 use Rattle.http_messages.specs.declared.faults.RouteFault.{RouteFault}
 use Rattle.http_messages.specs.declared.faults.RouteFault.TheVariants.{NoRoute, WrongMethod}
 
@@ -40,6 +40,9 @@ length_line count = head_line (codes "Content-Length: ") (decimal count)
 abbrev pub kind_text : BodyKind → List ℕ
 kind_text Json = codes "application/json"
 kind_text Text = codes "text/plain"
+kind_text Metrics = codes "text/plain; version=0.0.4; charset=utf-8"
+kind_text Bytes = codes "application/octet-stream"
+kind_text Html = codes "text/html; charset=utf-8"
 
 -- the name of a method
 abbrev pub method_text : Method → List ℕ

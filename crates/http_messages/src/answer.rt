@@ -7,13 +7,19 @@ use crate::Method;
 use http::StatusCode;
 use std::alloc::{AllocError, Global};
 
-/// What kind of text a body is.
+/// What kind of body it is.
 #[derive(Clone, Copy, Debug, PartialEq, Eq)]
 pub enum BodyKind {
     /// `application/json`
     Json,
     /// `text/plain`
     Text,
+    /// `text/plain` in the text format of Prometheus
+    Metrics,
+    /// `application/octet-stream`
+    Bytes,
+    /// `text/html`
+    Html,
 }
 
 impl BodyKind {
@@ -23,6 +29,9 @@ impl BodyKind {
         match self {
             BodyKind::Json => "application/json",
             BodyKind::Text => "text/plain",
+            BodyKind::Metrics => "text/plain; version=0.0.4; charset=utf-8",
+            BodyKind::Bytes => "application/octet-stream",
+            BodyKind::Html => "text/html; charset=utf-8",
         }
     }
 }

@@ -6,3 +6,4 @@ pub mod Built
 pub mod Pairs
 pub mod Told
 pub mod Words
+pub mod LogQueries

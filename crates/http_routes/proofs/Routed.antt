@@ -19,16 +19,18 @@ use Rattle.http_routes.proofs.Parts.{part-before, part-last}
 use Rattle.http_routes.proofs.Texts.{is_plain, begins-with, piece-of, plain-text, plain-utf8}
 use Rattle.http_routes.proofs.Texts.{segment-of, takes-piece, text-before}
 use Rattle.http_routes.proofs.Texts.{text-behind, utf8-behind, utf8-cut}
-use Rattle.http_routes.specs.Inner.Table.{HasRow, RowLeadsTo, all_routes, import_row, requests_row}
-use Rattle.http_routes.specs.Inner.Table.{ring_row, rings_row, status_row, text_row, whole_row}
-use Rattle.http_routes.specs.Inner.Table.{word_row}
+use Rattle.http_routes.specs.Inner.Table.{HasRow, RowLeadsTo, all_routes, import_row, log_row}
+use Rattle.http_routes.specs.Inner.Table.{metrics_row, page_row, requests_row}
+use Rattle.http_routes.specs.Inner.Table.{ring_row, rings_row, status_row, swift_row, text_row}
+use Rattle.http_routes.specs.Inner.Table.{whole_row, word_row}
 use Rattle.http_routes.specs.Routes.{HasRoute, IsPathSegment, plain_tail, ring_path}
 use Rattle.http_routes.specs.declared.routes.Endpoint.{Endpoint}
 use Rattle.ring_reads.specs.declared.plain.Plain.TheVariants as plain
 use Rattle.http_routes.specs.declared.routes.Endpoint.TheVariants as endpoint
 use Rattle.http_routes.specs.declared.table.TableRow.{TableRow}
 use Rattle.http_routes.specs.declared.table.TableRow.TheVariants.{Requests, Import, Nodes, Text}
-use Rattle.http_routes.specs.declared.table.TableRow.TheVariants.{Ring, Rings, Status, Word}
+use Rattle.http_routes.specs.declared.table.TableRow.TheVariants.{Log, Metrics, Ring, Rings, Status}
+use Rattle.http_routes.specs.declared.table.TableRow.TheVariants.{Page, Swift, Word}
 use Rattle.ring_reads.specs.Reads.{plain_word}
 use Rattle.ring_reads.specs.declared.plain.Plain.{Plain}
 
@@ -104,6 +106,31 @@ on-status path f =
     record {
       texts = tt;
       has = (front.1 ∙ ap (λ (l : List ℕ). codes "/v1/status" ++ l) front.2, refl, refl);
+    }
+
+on-metrics : (path : List ℕ) → Follows metrics_row.0 path → IsRouted path metrics_row.1
+on-metrics path f =
+    let front = begins-with (codes "/v1/metrics") [] path (plain-text (codes "/v1/metrics") refl) f
+    in
+    record {
+      texts = tt;
+      has = (front.1 ∙ ap (λ (l : List ℕ). codes "/v1/metrics" ++ l) front.2, refl, refl);
+    }
+
+on-log : (path : List ℕ) → Follows log_row.0 path → IsRouted path log_row.1
+on-log path f =
+    let front = begins-with (codes "/v1/log") [] path (plain-text (codes "/v1/log") refl) f in
+    record {
+      texts = tt;
+      has = (front.1 ∙ ap (λ (l : List ℕ). codes "/v1/log" ++ l) front.2, refl, refl);
+    }
+
+on-page : (path : List ℕ) → Follows page_row.0 path → IsRouted path page_row.1
+on-page path f =
+    let front = begins-with (codes "/v1/page") [] path (plain-text (codes "/v1/page") refl) f in
+    record {
+      texts = tt;
+      has = (front.1 ∙ ap (λ (l : List ℕ). codes "/v1/page" ++ l) front.2, refl, refl);
     }
 
 -- the path of a ring
@@ -234,6 +261,61 @@ on-text path text utf8 f =
           (refl, segment-of ring is utf8, segment-of version also valid);
     }
 
+swift_parts : (ring version : List ℕ) → IsFree ring
+    → parts ((codes "/v1/rings/" ++ ring) ++ codes "/swift/" ++ version) swift_row.1
+    ≡ (codes "ring", ring) ∷ (codes "version", version) ∷ []
+swift_parts ring version free =
+    let path : List ℕ = (codes "/v1/rings/" ++ ring) ++ codes "/swift/" ++ version in
+    let cut : path ≡ (codes "/v1/rings/" ++ ring) ++ (codes "/swift/" ++ version) =
+    append_assoc (codes "/v1/rings/" ++ ring) (codes "/swift/") version in
+    let long : length path ≡ length (codes "/v1/rings/" ++ ring) + length
+    (codes "/swift/" ++ version) =
+    ap (λ (l : List ℕ). length l) cut
+    ∙ length-append (codes "/v1/rings/" ++ ring) (codes "/swift/" ++ version) in
+    let fore : length (codes "/v1/rings/" ++ ring) ≡ 0 + 10 + length ring = omega arith in
+    part-before swift_row.0 swift_row.1.text path (11, 15) ((24, 31) ∷ []) 0 0 (codes "/v1/rings/")
+    (codes "/swift/" ++ 256 ∷ []) ring (codes "swift/" ++ version)
+    (plain-text (codes "/v1/rings/") refl) free refl
+    (omega arith) (omega arith) refl (cut ∙ ring_front ring (codes "/swift/" ++ version))
+    ∙ ap (λ (l : List (List ℕ × List ℕ)). (codes "ring", ring) ∷ l)
+    (part-last swift_row.0 swift_row.1.text path (24, 31) 11 (0 + 10 + length ring) (codes "/swift/")
+    version
+    (plain-text (codes "/swift/") refl) (omega arith) (omega (arith, long, fore)) refl
+    (ap (λ (l : List ℕ). drop (0 + 10 + length ring) l) cut
+    ∙ drop_at (codes "/v1/rings/" ++ ring) (codes "/swift/" ++ version) (0 + 10 + length ring) fore))
+
+on-swift : (path : List ℕ) → IsText path → IsUtf8 path → Follows swift_row.0 path
+    → IsRouted path swift_row.1
+on-swift path text utf8 f =
+    let cut = ring-cut (codes "swift/" ++ 256 ∷ []) path text utf8 f in
+    let front = begins-with (codes "swift/") (256 ∷ []) cut.1 (plain-text (codes "swift/") refl) cut.7
+    in
+    let whole : IsText (codes "swift/" ++ front.0) = subst IsText front.1 cut.6 in
+    let piece = takes-piece [] front.0 (text-behind (codes "swift/") front.0 whole) front.2 in
+    let rest : cut.1 ≡ codes "swift/" ++ piece.0 =
+    front.1 ∙ ap (λ (l : List ℕ). codes "swift/" ++ l) (piece.2
+    ∙ ap (λ (l : List ℕ). piece.0 ++ l) piece.4 ∙ append-nil piece.0) in
+    let is : path ≡ (codes "/v1/rings/" ++ cut.0) ++ codes "/swift/" ++ piece.0 =
+    cut.2 ∙ ap (λ (l : List ℕ). (codes "/v1/rings/" ++ cut.0) ++ 47 ∷ l) rest
+    ∙ sym (append_assoc (codes "/v1/rings/" ++ cut.0) (codes "/swift/") piece.0) in
+    let version : IsUtf8 piece.0 = utf8-behind (codes "/swift/") piece.0
+    (subst IsUtf8 (ap (λ (l : List ℕ). 47 ∷ l) rest) cut.5) (plain-utf8 (codes "/swift/") refl) in
+    subst (λ (p : List ℕ). IsRouted p swift_row.1) (sym is)
+    (made cut.0 piece.0 cut.3 cut.4 piece.3 version)
+  where
+    made : (ring version : List ℕ) → IsPiece ring → IsUtf8 ring → IsPiece version → IsUtf8 version
+        → IsRouted ((codes "/v1/rings/" ++ ring) ++ codes "/swift/" ++ version) swift_row.1
+    made ring version is utf8 also valid = record {
+      texts = subst AllText (sym (swift_parts ring version is.1))
+          (plain-utf8 (codes "ring") refl, utf8, (plain-utf8 (codes "version") refl, valid, tt));
+      has = subst (λ (pairs : List (List ℕ × List ℕ)).
+          HasRow ((codes "/v1/rings/" ++ ring) ++ codes "/swift/" ++ version) Swift
+          (part_named (codes "ring") pairs) (part_named (codes "version") pairs)
+          (part_named (codes "word") pairs))
+          (sym (swift_parts ring version is.1))
+          (refl, segment-of ring is utf8, segment-of version also valid);
+    }
+
 word_parts : (ring word : List ℕ) → IsFree ring
     → parts ((codes "/v1/rings/" ++ ring) ++ 47 ∷ word) word_row.1
     ≡ (codes "ring", ring) ∷ (codes "word", word) ∷ []
@@ -321,16 +403,24 @@ found-routed path row text utf8 found = by (seek-found 0 all_routes path row fou
   where
     by : IsFound row all_routes path → IsRouted path row
     by (inl f) = by_row path _ row f.0 (on-import path text utf8 f.1)
-    by (inr (inl f)) = by_row path _ row f.0 (on-requests path f.1)
-    by (inr (inr (inl f))) = by_row path _ row f.0
+    by (inr (inl f)) = by_row path _ row f.0 (on-log path f.1)
+    by (inr (inr (inl f))) = by_row path _ row f.0 (on-metrics path f.1)
+    by (inr (inr (inr (inl f)))) = by_row path _ row f.0 (on-page path f.1)
+    by (inr (inr (inr (inr (inl f))))) = by_row path _ row f.0 (on-requests path f.1)
+    by (inr (inr (inr (inr (inr (inl f)))))) = by_row path _ row f.0
         (on-ring (codes "nodes") Nodes path refl text utf8 refl
         (λ ring is. (refl, is, refl)) f.1)
-    by (inr (inr (inr (inl f)))) = by_row path _ row f.0 (on-text path text utf8 f.1)
-    by (inr (inr (inr (inr (inl f))))) = by_row path _ row f.0 (on-word path text utf8 f.1)
-    by (inr (inr (inr (inr (inr (inl f)))))) = by_row path _ row f.0 (on-whole path text utf8 f.1)
-    by (inr (inr (inr (inr (inr (inr (inl f))))))) = by_row path _ row f.0 (on-rings path f.1)
-    by (inr (inr (inr (inr (inr (inr (inr (inl f)))))))) = by_row path _ row f.0 (on-status path f.1)
-    by (inr (inr (inr (inr (inr (inr (inr (inr f)))))))) = absurd f
+    by (inr (inr (inr (inr (inr (inr (inl f))))))) = by_row path _ row f.0 (on-swift path text utf8 f.1)
+    by (inr (inr (inr (inr (inr (inr (inr (inl f)))))))) = by_row path _ row f.0 (on-text path text utf8 f.1)
+    by (inr (inr (inr (inr (inr (inr (inr (inr (inl f))))))))) =
+        by_row path _ row f.0 (on-word path text utf8 f.1)
+    by (inr (inr (inr (inr (inr (inr (inr (inr (inr (inl f)))))))))) =
+        by_row path _ row f.0 (on-whole path text utf8 f.1)
+    by (inr (inr (inr (inr (inr (inr (inr (inr (inr (inr (inl f))))))))))) =
+        by_row path _ row f.0 (on-rings path f.1)
+    by (inr (inr (inr (inr (inr (inr (inr (inr (inr (inr (inr (inl f)))))))))))) =
+        by_row path _ row f.0 (on-status path f.1)
+    by (inr (inr (inr (inr (inr (inr (inr (inr (inr (inr (inr (inr f)))))))))))) = absurd f
 
 -- a plain read shows the whole ring, or doesn't
 is_whole : (asked : Plain) → (asked ≡ plain.Ring) ⊎ (asked ≢ plain.Ring)
@@ -350,8 +440,12 @@ leads-to path Requests endpoint.Requests ring version word leads h = h
 leads-to path Import endpoint.Import ring version word leads h = h
 leads-to path Nodes endpoint.Nodes ring version word leads h = h
 leads-to path Text endpoint.Text ring version word leads h = h
+leads-to path Swift endpoint.Swift ring version word leads h = h
 leads-to path Rings endpoint.Rings ring version word leads h = h
 leads-to path Status endpoint.Status ring version word leads h = h
+leads-to path Metrics endpoint.Metrics ring version word leads h = h
+leads-to path Log endpoint.Log ring version word leads h = h
+leads-to path Page endpoint.Page ring version word leads h = h
 leads-to path Ring (endpoint.Word asked) ring version word leads h = (
   h.0 ∙ sym (append-nil (ring_path ring)) ∙ ap (λ p. ring_path ring ++ plain_tail p) (sym leads),
   h.1,
@@ -386,7 +480,8 @@ IsThere path at = (row : Row) × (first all_routes path ≡ Some row)
 
 -- the rows of a ring that go on behind its name
 abbrev further_rows : RowsOf Row
-further_rows = (codes "/text/" ++ 256 ∷ [], text_row.1) ∷ (47 ∷ 256 ∷ [], word_row.1) ∷ []
+further_rows = (codes "/swift/" ++ 256 ∷ [], swift_row.1) ∷ (codes "/text/" ++ 256 ∷ [], text_row.1)
+    ∷ (47 ∷ 256 ∷ [], word_row.1) ∷ []
 
 abbrev ring_rows : RowsOf Row
 ring_rows = (codes "/nodes", (ring_row (codes "/nodes") Nodes).1) ∷ further_rows
@@ -403,7 +498,7 @@ found_in_ring path ring rest row text is named found =
     ap (λ (l : List ℕ). first all_routes l) whole
     ∙ bytes-first (codes "/v1/rings/") all_routes (ring ++ 47 ∷ rest) row
     (between-first (codes "/nodes") (ring_row (codes "/nodes") Nodes).1 further_rows whole_row.1
-    ring rest row (piece-of ring named) bytes (refl, (refl, (refl, tt))) found)
+    ring rest row (piece-of ring named) bytes (refl, (refl, (refl, (refl, tt)))) found)
 
 -- a path that ends behind the ring's name has the row of the whole ring
 found_whole : (path ring : List ℕ) → IsText path → path ≡ codes "/v1/rings/" ++ ring
@@ -412,7 +507,8 @@ found_whole path ring text is named =
     let bytes : IsText ring = text-behind (codes "/v1/rings/") ring (subst IsText is text) in
     ap (λ (l : List ℕ). first all_routes l) is
     ∙ bytes-first (codes "/v1/rings/") all_routes ring whole_row.1
-    (end-first ring_rows whole_row.1 ring (piece-of ring named) bytes (refl, (refl, (refl, tt))))
+    (end-first ring_rows whole_row.1 ring (piece-of ring named) bytes
+    (refl, (refl, (refl, (refl, tt)))))
 
 row-ends : (row : Row) → first (([], row) ∷ []) [] ≡ Some row
 unfolding matchit_on_literals
@@ -475,6 +571,24 @@ there path endpoint.Status ring version text h = (
       ∙ bytes-first (codes "/v1/status") all_routes [] status_row.1 (row-ends status_row.1),
   tt,
 )
+there path endpoint.Metrics ring version text h = (
+  metrics_row.1,
+  ap (λ (l : List ℕ). first all_routes l) h.0
+      ∙ bytes-first (codes "/v1/metrics") all_routes [] metrics_row.1 (row-ends metrics_row.1),
+  tt,
+)
+there path endpoint.Page ring version text h = (
+  page_row.1,
+  ap (λ (l : List ℕ). first all_routes l) h.0
+      ∙ bytes-first (codes "/v1/page") all_routes [] page_row.1 (row-ends page_row.1),
+  tt,
+)
+there path endpoint.Log ring version text h = (
+  log_row.1,
+  ap (λ (l : List ℕ). first all_routes l) h.0
+      ∙ bytes-first (codes "/v1/log") all_routes [] log_row.1 (row-ends log_row.1),
+  tt,
+)
 there path (endpoint.Word asked) ring version text h = elim (is_whole asked) [
   | inl whole ↦
       let is : path ≡ codes "/v1/rings/" ++ ring =
@@ -504,6 +618,17 @@ there path endpoint.Text ring version text h =
       found_in_ring path ring (codes "text/" ++ version) text_row.1 text is h.1
           (bytes-first (codes "/text/") ring_rows version text_row.1
           (last-first text_row.1 version (piece-of version h.2) bytes)),
+      tt,
+    )
+there path endpoint.Swift ring version text h =
+    let is : path ≡ (codes "/v1/rings/" ++ ring) ++ (codes "/swift/" ++ version) =
+    h.0 ∙ append_assoc (codes "/v1/rings/" ++ ring) (codes "/swift/") version in
+    let bytes : IsText version = text-behind (codes "/swift/") version
+    (text-behind (codes "/v1/rings/" ++ ring) (codes "/swift/" ++ version) (subst IsText is text)) in (
+      swift_row.1,
+      found_in_ring path ring (codes "swift/" ++ version) swift_row.1 text is h.1
+          (bytes-first (codes "/swift/") ring_rows version swift_row.1
+          (last-first swift_row.1 version (piece-of version h.2) bytes)),
       tt,
     )
 there path endpoint.Preview ring version text h = (
@@ -555,6 +680,12 @@ routed-utf8 path endpoint.Rings ring version h = subst IsUtf8 (sym h.0)
     (plain-utf8 (codes "/v1/rings") refl)
 routed-utf8 path endpoint.Status ring version h = subst IsUtf8 (sym h.0)
     (plain-utf8 (codes "/v1/status") refl)
+routed-utf8 path endpoint.Metrics ring version h = subst IsUtf8 (sym h.0)
+    (plain-utf8 (codes "/v1/metrics") refl)
+routed-utf8 path endpoint.Page ring version h = subst IsUtf8 (sym h.0)
+    (plain-utf8 (codes "/v1/page") refl)
+routed-utf8 path endpoint.Log ring version h = subst IsUtf8 (sym h.0)
+    (plain-utf8 (codes "/v1/log") refl)
 routed-utf8 path (endpoint.Word asked) ring version h = subst IsUtf8 (sym h.0)
     (in-ring ring (plain_tail asked) h.1 (tail-utf8 asked))
 routed-utf8 path endpoint.Nodes ring version h = subst IsUtf8 (sym h.0)
@@ -562,6 +693,9 @@ routed-utf8 path endpoint.Nodes ring version h = subst IsUtf8 (sym h.0)
 routed-utf8 path endpoint.Text ring version h = subst IsUtf8 (sym h.0)
     (IsUtf8-append ((codes "/v1/rings/" ++ ring) ++ codes "/text/") version
     (in-ring ring (codes "/text/") h.1 (plain-utf8 (codes "/text/") refl)) h.2.2)
+routed-utf8 path endpoint.Swift ring version h = subst IsUtf8 (sym h.0)
+    (IsUtf8-append ((codes "/v1/rings/" ++ ring) ++ codes "/swift/") version
+    (in-ring ring (codes "/swift/") h.1 (plain-utf8 (codes "/swift/") refl)) h.2.2)
 routed-utf8 path endpoint.Preview ring version h = subst IsUtf8 (sym h.0)
     (in-ring ring (codes "/preview") h.1 (plain-utf8 (codes "/preview") refl))
 routed-utf8 path endpoint.Moves ring version h = subst IsUtf8 (sym h.0)

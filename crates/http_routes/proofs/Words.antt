@@ -32,15 +32,20 @@ no_word word none unseen unmoved endpoint.Preview leads = unseen leads
 no_word word none unseen unmoved endpoint.Moves leads = unmoved leads
 no_word word none unseen unmoved at leads = leads
 
--- an endpoint that is none of the three without a ring is of a ring
+-- an endpoint that is none of the six without a ring is of a ring
 pub of_ring : (at : Endpoint) → (at ≡ endpoint.Requests → ⊥) → (at ≡ endpoint.Rings → ⊥) →
-    (at ≡ endpoint.Status → ⊥) → IsOfRing at
-of_ring endpoint.Requests no_requests no_rings no_status = no_requests refl
-of_ring endpoint.Rings no_requests no_rings no_status = no_rings refl
-of_ring endpoint.Status no_requests no_rings no_status = no_status refl
-of_ring endpoint.Import no_requests no_rings no_status = tt
-of_ring (endpoint.Word asked) no_requests no_rings no_status = tt
-of_ring endpoint.Nodes no_requests no_rings no_status = tt
-of_ring endpoint.Text no_requests no_rings no_status = tt
-of_ring endpoint.Preview no_requests no_rings no_status = tt
-of_ring endpoint.Moves no_requests no_rings no_status = tt
+    (at ≡ endpoint.Status → ⊥) → (at ≡ endpoint.Metrics → ⊥) → (at ≡ endpoint.Log → ⊥) →
+    (at ≡ endpoint.Page → ⊥) → IsOfRing at
+of_ring endpoint.Requests no_requests no_rings no_status no_metrics no_log no_page = no_requests refl
+of_ring endpoint.Rings no_requests no_rings no_status no_metrics no_log no_page = no_rings refl
+of_ring endpoint.Status no_requests no_rings no_status no_metrics no_log no_page = no_status refl
+of_ring endpoint.Metrics no_requests no_rings no_status no_metrics no_log no_page = no_metrics refl
+of_ring endpoint.Log no_requests no_rings no_status no_metrics no_log no_page = no_log refl
+of_ring endpoint.Page no_requests no_rings no_status no_metrics no_log no_page = no_page refl
+of_ring endpoint.Import no_requests no_rings no_status no_metrics no_log no_page = tt
+of_ring (endpoint.Word asked) no_requests no_rings no_status no_metrics no_log no_page = tt
+of_ring endpoint.Nodes no_requests no_rings no_status no_metrics no_log no_page = tt
+of_ring endpoint.Text no_requests no_rings no_status no_metrics no_log no_page = tt
+of_ring endpoint.Swift no_requests no_rings no_status no_metrics no_log no_page = tt
+of_ring endpoint.Preview no_requests no_rings no_status no_metrics no_log no_page = tt
+of_ring endpoint.Moves no_requests no_rings no_status no_metrics no_log no_page = tt

@@ -11,6 +11,7 @@ use Rattle.ring_words.specs.Spelling.{SpellsNumber}
 use Rattle.ring_words.specs.Texts.{is_label}
 use Rattle.ring_words.specs.declared.request.Key.{Key}
 use Rattle.path_lookup.specs.Names.{PathNames}
+use Rattle.ring_log.specs.Inquiries.{most_told}
 
 -- the pairs of a query, each a name and a value, decoded; bytes that are no UTF-8 stand as U+FFFD
 abbrev pub pairs_of : List ℕ → List (List ℕ × List ℕ)
@@ -59,3 +60,15 @@ pub record IsMovesQuery (pairs : List (List ℕ × List ℕ)) (from to : ℕ) : 
   pub to_once : values_of_pairs (codes "to") pairs ≡ to_text ∷ []
   pub to_spelled : SpellsNumber to_text 0 greatest_long to
   pub nothing_else : length pairs ≡ 2
+
+-- The query of a part of the log: a place and how many entries, at most once each, and nothing else.
+-- Without a place it begins at 0, and without a number it asks for 100.
+pub record IsLogQuery (pairs : List (List ℕ × List ℕ)) (from most : ℕ) : Type 0 where
+  pub from_text : Option (List ℕ)
+  pub most_text : Option (List ℕ)
+  pub from_once : values_of_pairs (codes "from") pairs ≡ option_to_list from_text
+  pub from_spelled : SpellsNumber (unwrap_or from_text (codes "0")) 0 greatest_long from
+  pub most_once : values_of_pairs (codes "most") pairs ≡ option_to_list most_text
+  pub most_spelled : SpellsNumber (unwrap_or most_text (codes "100")) 1 most_told most
+  pub nothing_else : length pairs
+      ≡ length (option_to_list from_text) + length (option_to_list most_text)

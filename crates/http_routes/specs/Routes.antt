@@ -7,8 +7,8 @@ use Rattle.ring_reads.specs.Reads.{plain_word}
 use Rattle.ring_reads.specs.declared.plain.Plain.{Plain}
 use Rattle.ring_reads.specs.declared.plain.Plain.TheVariants as plain
 use Rattle.http_routes.specs.declared.routes.Endpoint.TheVariants.{Requests, Import, Word, Nodes}
-use Rattle.http_routes.specs.declared.routes.Endpoint.TheVariants.{Moves, Preview, Rings}
-use Rattle.http_routes.specs.declared.routes.Endpoint.TheVariants.{Status, Text}
+use Rattle.http_routes.specs.declared.routes.Endpoint.TheVariants.{Log, Metrics, Moves, Preview}
+use Rattle.http_routes.specs.declared.routes.Endpoint.TheVariants.{Page, Rings, Status, Swift, Text}
 
 -- the method that an endpoint has
 abbrev pub endpoint_method : Endpoint → Method
@@ -16,21 +16,29 @@ endpoint_method Requests = Post
 endpoint_method Import = Post
 endpoint_method Rings = Get
 endpoint_method Status = Get
+endpoint_method Metrics = Get
 endpoint_method (Word asked) = Get
 endpoint_method Nodes = Get
 endpoint_method Text = Get
+endpoint_method Swift = Get
 endpoint_method Preview = Get
 endpoint_method Moves = Get
+endpoint_method Log = Get
+endpoint_method Page = Get
 
 -- The endpoint is of a ring, which its route names.
 abbrev pub IsOfRing : Endpoint → Type 0
 IsOfRing Requests = ⊥
 IsOfRing Rings = ⊥
 IsOfRing Status = ⊥
+IsOfRing Log = ⊥
+IsOfRing Metrics = ⊥
+IsOfRing Page = ⊥
 IsOfRing Import = ⊤
 IsOfRing (Word asked) = ⊤
 IsOfRing Nodes = ⊤
 IsOfRing Text = ⊤
+IsOfRing Swift = ⊤
 IsOfRing Preview = ⊤
 IsOfRing Moves = ⊤
 
@@ -56,12 +64,18 @@ HasRoute path Import ring version = (path ≡ codes "/v1/import/" ++ ring) × Is
     (version ≡ [])
 HasRoute path Rings ring version = (path ≡ codes "/v1/rings") × (ring ≡ []) × (version ≡ [])
 HasRoute path Status ring version = (path ≡ codes "/v1/status") × (ring ≡ []) × (version ≡ [])
+HasRoute path Log ring version = (path ≡ codes "/v1/log") × (ring ≡ []) × (version ≡ [])
+HasRoute path Metrics ring version = (path ≡ codes "/v1/metrics") × (ring ≡ []) × (version ≡ [])
+HasRoute path Page ring version = (path ≡ codes "/v1/page") × (ring ≡ []) × (version ≡ [])
 HasRoute path (Word asked) ring version = (path ≡ ring_path ring ++ plain_tail asked) ×
     IsPathSegment ring × (version ≡ [])
 HasRoute path Nodes ring version = (path ≡ ring_path ring ++ codes "/nodes") × IsPathSegment ring ×
     (version ≡ [])
 HasRoute path Text ring version =
     (path ≡ ring_path ring ++ codes "/text/" ++ version) × IsPathSegment ring ×
+    IsPathSegment version
+HasRoute path Swift ring version =
+    (path ≡ ring_path ring ++ codes "/swift/" ++ version) × IsPathSegment ring ×
     IsPathSegment version
 HasRoute path Preview ring version = (path ≡ ring_path ring ++ codes "/preview") ×
     IsPathSegment ring × (version ≡ [])

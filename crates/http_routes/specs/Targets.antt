@@ -5,7 +5,8 @@ use Rattle.std.specs.Prelude.{position, take, unwrap_or}
 use Rattle.http_messages.specs.declared.faults.RouteFault.TheVariants.{NoRoute, WrongMethod}
 use Rattle.http_messages.specs.declared.request.Method.{Method}
 use Rattle.http_messages.specs.declared.request.Method.TheVariants as method
-use Rattle.ring_reads.specs.declared.reads.Question.{Question}
+use Rattle.ring_log.specs.declared.inquiry.Inquiry.{Inquiry}
+use Rattle.ring_log.specs.declared.inquiry.Inquiry.TheVariants as inquiry
 use Rattle.ring_reads.specs.declared.reads.Question.TheVariants as question
 use Rattle.ring_reads.specs.declared.reads.Read.{Read as RingRead}
 use Rattle.path_lookup.specs.Names.{PathNames, is_path}
@@ -15,14 +16,14 @@ use Rattle.ring_words.specs.declared.request.Key.{Key}
 use Rattle.http_routes.specs.declared.routes.Endpoint.{Endpoint}
 use Rattle.http_routes.specs.declared.routes.Endpoint.TheVariants as endpoint
 use Rattle.http_routes.specs.declared.target.TargetAsk.{TargetAsk}
-use Rattle.http_routes.specs.declared.target.TargetAsk.TheVariants.{Deliver, Import, Read}
+use Rattle.http_routes.specs.declared.target.TargetAsk.TheVariants.{Deliver, Import, Page, Read}
 use Rattle.ring_reads.specs.declared.reads.Format.TheVariants as format
 use Rattle.ring_reads.specs.declared.reads.Read.TheVariants.{Plain, Tables, Nodes, Published}
 use Rattle.ring_reads.specs.declared.reads.Read.TheVariants.{EachMove, Moves, Preview}
 use Rattle.http_routes.specs.declared.target.TargetFault.{TargetFault}
 use Rattle.http_routes.specs.declared.target.TargetFault.TheVariants as fault
-use Rattle.http_routes.specs.Queries.{pairs_of, IsImportQuery, IsMovesQuery, IsPathQuery}
-use Rattle.http_routes.specs.Queries.{IsPreviewQuery}
+use Rattle.http_routes.specs.Queries.{pairs_of, IsImportQuery, IsLogQuery, IsMovesQuery}
+use Rattle.http_routes.specs.Queries.{IsPathQuery, IsPreviewQuery}
 use Rattle.http_routes.specs.Routes.{endpoint_method, HasRoute, IsOfRing}
 
 -- where the first question mark of a target is, or its end
@@ -44,7 +45,9 @@ ReadsRing path query ring Tables = ⊥
 ReadsRing path query ring (Nodes names) =
     HasRoute path endpoint.Nodes ring [] × IsPathQuery (pairs_of query) names ×
     (is_path names ≡ true)
-ReadsRing path query ring (Published version format.Swift) = ⊥
+ReadsRing path query ring (Published version format.Swift) =
+    (segment : List ℕ) × HasRoute path endpoint.Swift ring segment ×
+    SpellsNumber segment 0 greatest_long version
 ReadsRing path query ring (Published version format.Text) =
     (segment : List ℕ) × HasRoute path endpoint.Text ring segment ×
     SpellsNumber segment 0 greatest_long version
@@ -55,11 +58,14 @@ ReadsRing path query ring (Moves from to) =
 ReadsRing path query ring (EachMove from to) = ⊥
 
 -- The path and the query ask that this is read. The name of a ring is of its form.
-abbrev pub AsksRead : List ℕ → List ℕ → Question → Type 0
-AsksRead path query question.Rings = HasRoute path endpoint.Rings [] []
-AsksRead path query question.Status = HasRoute path endpoint.Status [] []
-AsksRead path query (question.Ring ring what) = IsTrue (is_label ring) × ReadsRing path query ring
-    what
+abbrev pub AsksRead : List ℕ → List ℕ → Inquiry → Type 0
+AsksRead path query (inquiry.Held question.Rings) = HasRoute path endpoint.Rings [] []
+AsksRead path query (inquiry.Held question.Status) = HasRoute path endpoint.Status [] []
+AsksRead path query (inquiry.Held question.Metrics) = HasRoute path endpoint.Metrics [] []
+AsksRead path query (inquiry.Held (question.Ring ring what)) =
+    IsTrue (is_label ring) × ReadsRing path query ring what
+AsksRead path query (inquiry.Log from most) =
+    HasRoute path endpoint.Log [] [] × IsLogQuery (pairs_of query) from most
 
 -- The target asks for this by this method. The names of rings and the numbers are of their forms.
 abbrev pub TargetAsks : List ℕ → Method → TargetAsk → Type 0
@@ -71,6 +77,7 @@ TargetAsks target by (Import ring key) =
     × IsImportQuery (pairs_of (target_query target)) key
 TargetAsks target by (Read asked) =
     (by ≡ method.Get) × AsksRead (target_path target) (target_query target) asked
+TargetAsks target by Page = (by ≡ method.Get) × HasRoute (target_path target) endpoint.Page [] []
 
 -- What stands in a route is not of its form: the ring's name, the version, or the query of an
 -- import, of a preview or of what moved.
@@ -79,10 +86,18 @@ IsMalformed at ring version query =
     (IsTrue (is_label ring) → ⊥)
     ⊎ ((at ≡ endpoint.Import) × ((key : Key) → IsImportQuery (pairs_of query) key → ⊥))
     ⊎ ((at ≡ endpoint.Text) × ((number : ℕ) → SpellsNumber version 0 greatest_long number → ⊥))
+    ⊎ ((at ≡ endpoint.Swift) × ((number : ℕ) → SpellsNumber version 0 greatest_long number → ⊥))
     ⊎ ((at ≡ endpoint.Preview)
     × ((said : ℕ × ℕ) → IsPreviewQuery (pairs_of query) said.0 said.1 → ⊥))
     ⊎ ((at ≡ endpoint.Moves)
     × ((said : ℕ × ℕ) → IsMovesQuery (pairs_of query) said.0 said.1 → ⊥))
+
+-- What stands behind the path of a route is not of its form: in a route of a ring as above, in that
+-- of the log its query.
+abbrev pub IsUnreadable : Endpoint → List ℕ → List ℕ → List ℕ → Type 0
+IsUnreadable at ring version query =
+    (IsOfRing at × IsMalformed at ring version query)
+    ⊎ ((at ≡ endpoint.Log) × ((said : ℕ × ℕ) → IsLogQuery (pairs_of query) said.0 said.1 → ⊥))
 
 -- The target asks by this method for nothing, for this reason. Want of memory says nothing.
 abbrev pub TargetFails : List ℕ → Method → TargetFault → Type 0
@@ -95,7 +110,7 @@ TargetFails target by (fault.Route (WrongMethod other)) =
 TargetFails target by fault.Unreadable =
     (at : Endpoint) × (ring : List ℕ) × (version : List ℕ) × HasRoute (target_path target) at ring
     version
-    × (by ≡ endpoint_method at) × IsOfRing at × IsMalformed at ring version (target_query target)
+    × (by ≡ endpoint_method at) × IsUnreadable at ring version (target_query target)
 TargetFails target by fault.BadPath =
     (ring : List ℕ) × HasRoute (target_path target) endpoint.Nodes ring [] × (by ≡ method.Get) ×
     IsTrue (is_label ring)

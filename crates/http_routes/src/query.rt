@@ -1,12 +1,16 @@
 //! Queries.
-ghost use Rattle.std.specs.Prelude.{◌≡◌, ℕ, List, [], ◌∷◌, ◌≤◌, IfOk, length, map, string_bytes};
+ghost use Rattle.std.specs.Prelude.{◌≡◌, ◌≢◌, ℕ, List, [], ◌∷◌, ◌≤◌, IfErr, IfOk, OnOk, Option};
+ghost use Rattle.std.specs.Prelude.{length, map, string_bytes};
+ghost use Rattle.std.specs.Option.{option_to_list};
 ghost use Rattle.http_routes.specs.Queries.{pairs_of, values_of_pairs, IsImportQuery, IsPathQuery};
-ghost use Rattle.http_routes.specs.Queries.{IsMovesQuery, IsPreviewQuery};
-ghost use Rattle.http_routes.specs.Inner.Pairs.{IsValueFound, ReadsPath, decoded, pair_text};
+ghost use Rattle.http_routes.specs.Queries.{IsLogQuery, IsMovesQuery, IsPreviewQuery};
+ghost use Rattle.http_routes.specs.Inner.Pairs.{IsValueFound, IsValueOr, ReadsPath, decoded};
+ghost use Rattle.http_routes.specs.Inner.Pairs.{pair_text};
 ghost use Rattle.ring_words.specs.Spelling.{Reads};
 
 use form_urlencoded::{decode, raw_pairs};
 use path_lookup::{Path, PathFault};
+use ring_log::read_size;
 use ring_words::{Caller, Hour, Key, SpellingFault, read_name, read_number};
 use std::alloc::{AllocError, Global};
 
@@ -58,6 +62,38 @@ fn find<'q>(pairs: &'q [Pair], name: &str) -> ValueFound<'q>
         }
     }
     found
+}
+
+/// The value of the pair of this name, or another where there is none, and how many such pairs there
+/// are. Bad exactly where there are several.
+fn value_or<'q>(
+    pairs: &'q [Pair],
+    name: &str,
+    other: &'q str,
+) -> Result<(&'q str, usize), SpellingFault>
+    ensures found { IfOk result (λ x. IsValueOr name.now other.now (map pair_text pairs.now) x.0.now
+        x.1) }
+    ensures few { IfOk result (λ x. x.1 ≤ 1) }
+    ensures several { IfErr result (λ fault. (text : Option (List ℕ)) →
+        values_of_pairs name.now (map pair_text pairs.now) ≡ option_to_list text → ⊥) }
+{
+    match find(pairs, name) {
+        ValueFound::Missing => Ok((other, 0)),
+        ValueFound::One(value) => Ok((value, 1)),
+        ValueFound::Several => Err(SpellingFault::Bad),
+    }
+}
+
+/// That there are so many pairs. Bad exactly where there are more or fewer.
+fn are_all(pairs: &[Pair], count: usize) -> Result<(), SpellingFault>
+    ensures all { OnOk result (length pairs.now ≡ count) }
+    ensures others { IfErr result (λ fault. length pairs.now ≢ count) }
+{
+    if pairs.len() == count {
+        Ok(())
+    } else {
+        Err(SpellingFault::Bad)
+    }
 }
 
 /// The key that the query of an import says. Bad exactly where it is no such query.
@@ -154,4 +190,18 @@ pub fn read_versions(alloc: Global, query: &[u8]) -> Result<(u32, u32), Spelling
     let from = read_number(from, u32::MAX)?;
     let to = read_number(to, u32::MAX)?;
     Ok((from, to))
+}
+
+/// From which place on how many entries of the log a query asks for: from 0 on where it says no place,
+/// and 100 where it says no number. Bad exactly where it is no such query.
+pub fn read_part(alloc: Global, query: &[u8]) -> Result<(u32, u32), SpellingFault>
+    ensures { Reads (λ x. IsLogQuery (pairs_of query.now) x.0 x.1) result }
+{
+    let pairs = read_pairs(alloc, query)?;
+    let (from, places) = value_or(&pairs, "from", "0")?;
+    let (most, sizes) = value_or(&pairs, "most", "100")?;
+    are_all(&pairs, places + sizes)?;
+    let place = read_number(from, u32::MAX)?;
+    let size = read_size(most)?;
+    Ok((place, size))
 }

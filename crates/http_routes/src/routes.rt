@@ -16,16 +16,24 @@ pub enum Endpoint {
     Rings,
     /// How much is kept.
     Status,
+    /// The metrics of all that is held.
+    Metrics,
     /// What a word alone asks of a ring.
     Word(Plain),
     /// The nodes of a path in a ring.
     Nodes,
     /// A published text of a ring.
     Text,
+    /// A published ring as Swift's ring file.
+    Swift,
     /// What a rebalance of a ring would do.
     Preview,
     /// What moved between two published versions of a ring.
     Moves,
+    /// A part of the log.
+    Log,
+    /// The page for a browser.
+    Page,
 }
 
 impl Endpoint {
@@ -37,11 +45,15 @@ impl Endpoint {
             Endpoint::Requests | Endpoint::Import => Method::Post,
             Endpoint::Rings
             | Endpoint::Status
+            | Endpoint::Metrics
             | Endpoint::Word(_)
             | Endpoint::Nodes
             | Endpoint::Text
+            | Endpoint::Swift
             | Endpoint::Preview
-            | Endpoint::Moves => Method::Get,
+            | Endpoint::Moves
+            | Endpoint::Log
+            | Endpoint::Page => Method::Get,
         }
     }
 }

@@ -21,6 +21,8 @@ enum TableRow {
     Nodes,
     /// A published text of a ring.
     Text,
+    /// A published ring as Swift's ring file.
+    Swift,
     /// A whole ring.
     Ring,
     /// What another word asks of a ring.
@@ -29,6 +31,12 @@ enum TableRow {
     Rings,
     /// How much is kept.
     Status,
+    /// A part of the log.
+    Log,
+    /// The metrics of all that is held.
+    Metrics,
+    /// The page for a browser.
+    Page,
 }
 
 /// The routes over HTTP, as a router holds them.
@@ -62,7 +70,11 @@ fn add_all(router: &mut Router<TableRow>) -> Result<(), AllocError>
     add(router, "/v1/rings/{ring}/{word}", TableRow::Word)?;
     add(router, "/v1/rings/{ring}", TableRow::Ring)?;
     add(router, "/v1/rings", TableRow::Rings)?;
-    add(router, "/v1/status", TableRow::Status)
+    add(router, "/v1/status", TableRow::Status)?;
+    add(router, "/v1/metrics", TableRow::Metrics)?;
+    add(router, "/v1/rings/{ring}/swift/{version}", TableRow::Swift)?;
+    add(router, "/v1/log", TableRow::Log)?;
+    add(router, "/v1/page", TableRow::Page)
 }
 
 /// Where the row of words leads for this one. `None` exactly where it is none of a preview, of what
@@ -94,9 +106,13 @@ fn endpoint_of(row: TableRow, word: &str) -> Option<Endpoint>
         TableRow::Import => Some(Endpoint::Import),
         TableRow::Nodes => Some(Endpoint::Nodes),
         TableRow::Text => Some(Endpoint::Text),
+        TableRow::Swift => Some(Endpoint::Swift),
         TableRow::Ring => Some(Endpoint::Word(Plain::Ring)),
         TableRow::Rings => Some(Endpoint::Rings),
         TableRow::Status => Some(Endpoint::Status),
+        TableRow::Log => Some(Endpoint::Log),
+        TableRow::Metrics => Some(Endpoint::Metrics),
+        TableRow::Page => Some(Endpoint::Page),
         TableRow::Word => endpoint_of_word(word),
     }
 }

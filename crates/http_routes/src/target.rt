@@ -1,14 +1,16 @@
 //! What a target asks for.
 ghost use Rattle.std.specs.Prelude.{◌≡◌, ◌==◌, MatchResult, position};
 ghost use Rattle.http_routes.specs.Targets.{TargetAsks, TargetFails, target_path, target_query};
-ghost use Rattle.http_routes.specs.Inner.Routing.{RouteAsks, RouteFails};
+ghost use Rattle.http_routes.specs.Inner.Routing.{LogAsks, LogFails, RingRouteFails, RouteAsks};
+ghost use Rattle.http_routes.specs.Inner.Routing.{RouteFails};
 ghost use Rattle.http_routes.specs.Routes.{IsOfRing};
 
-use crate::query::{read_key, read_path, read_seed, read_versions};
+use crate::query::{read_key, read_part, read_path, read_seed, read_versions};
 use crate::routes::{Endpoint, FoundRoute};
 use crate::table::Routes;
 use http_messages::{Method, RouteFault};
 use path_lookup::PathFault;
+use ring_log::Inquiry;
 use ring_reads::{Format, Question, Read};
 use ring_words::{Key, RingName, SpellingFault, read_name, read_number};
 use std::alloc::Global;
@@ -21,7 +23,9 @@ pub enum TargetAsk {
     /// That the table in the body is imported into a ring.
     Import(RingName, Key),
     /// That this is read.
-    Read(Question),
+    Read(Inquiry),
+    /// The page for a browser.
+    Page,
 }
 
 /// Why a target asks for nothing.
@@ -29,7 +33,7 @@ pub enum TargetAsk {
 pub enum TargetFault {
     /// It has no route, or has it by the other method.
     Route(RouteFault),
-    /// A name or a number in it is not of its form, or the query of an import is none.
+    /// A name or a number in it is not of its form, or its query is none of its route.
     Unreadable,
     /// The query of a lookup names no path.
     BadPath,
@@ -90,30 +94,53 @@ fn read_ring_route(
     requires { IsOfRing found.endpoint }
     ensures { MatchResult result (RouteAsks found.entry.endpoint found.entry.ring.now
         found.entry.version.now query.now)
-        (RouteFails found.entry.endpoint found.entry.ring.now found.entry.version.now query.now) }
+        (RingRouteFails found.entry.endpoint found.entry.ring.now found.entry.version.now
+        query.now) }
 {
     let ring: RingName = read_name(alloc, found.ring)?;
     match found.endpoint {
         Endpoint::Import => Ok(TargetAsk::Import(ring, read_key(alloc, query)?)),
-        Endpoint::Word(plain) => Ok(TargetAsk::Read(Question::Ring(ring, Read::Plain(plain)))),
+        Endpoint::Word(plain) => {
+            let word = Read::Plain(plain);
+            Ok(TargetAsk::Read(Inquiry::Held(Question::Ring(ring, word))))
+        }
         Endpoint::Nodes => {
             let path = read_path(alloc, query)?;
-            Ok(TargetAsk::Read(Question::Ring(ring, Read::Nodes(path))))
+            let nodes = Read::Nodes(path);
+            Ok(TargetAsk::Read(Inquiry::Held(Question::Ring(ring, nodes))))
         }
         Endpoint::Text => {
             let version = read_number(found.version, u32::MAX)?;
             let text = Read::Published(version, Format::Text);
-            Ok(TargetAsk::Read(Question::Ring(ring, text)))
+            Ok(TargetAsk::Read(Inquiry::Held(Question::Ring(ring, text))))
+        }
+        Endpoint::Swift => {
+            let version = read_number(found.version, u32::MAX)?;
+            let file = Read::Published(version, Format::Swift);
+            Ok(TargetAsk::Read(Inquiry::Held(Question::Ring(ring, file))))
         }
         Endpoint::Preview => {
             let (seed, hour) = read_seed(alloc, query)?;
-            Ok(TargetAsk::Read(Question::Ring(ring, Read::Preview(seed, hour))))
+            let preview = Read::Preview(seed, hour);
+            Ok(TargetAsk::Read(Inquiry::Held(Question::Ring(ring, preview))))
         }
         Endpoint::Moves => {
             let (from, to) = read_versions(alloc, query)?;
-            Ok(TargetAsk::Read(Question::Ring(ring, Read::Moves(from, to))))
+            let moves = Read::Moves(from, to);
+            Ok(TargetAsk::Read(Inquiry::Held(Question::Ring(ring, moves))))
         }
         _ => unreachable!(),
+    }
+}
+
+/// What the query of the log asks for.
+fn read_log_route(alloc: Global, query: &[u8]) -> Result<TargetAsk, TargetFault>
+    ensures { MatchResult result (LogAsks query.now) (LogFails query.now) }
+{
+    match read_part(alloc, query) {
+        Ok((from, most)) => Ok(TargetAsk::Read(Inquiry::Log(from, most))),
+        Err(SpellingFault::Bad) => Err(TargetFault::Unreadable),
+        Err(SpellingFault::NoMemory) => Err(TargetFault::NoMemory),
     }
 }
 
@@ -125,8 +152,11 @@ fn read_route(alloc: Global, found: FoundRoute<'_>, query: &[u8]) -> Result<Targ
 {
     match found.endpoint {
         Endpoint::Requests => Ok(TargetAsk::Deliver),
-        Endpoint::Rings => Ok(TargetAsk::Read(Question::Rings)),
-        Endpoint::Status => Ok(TargetAsk::Read(Question::Status)),
+        Endpoint::Rings => Ok(TargetAsk::Read(Inquiry::Held(Question::Rings))),
+        Endpoint::Status => Ok(TargetAsk::Read(Inquiry::Held(Question::Status))),
+        Endpoint::Metrics => Ok(TargetAsk::Read(Inquiry::Held(Question::Metrics))),
+        Endpoint::Log => read_log_route(alloc, query),
+        Endpoint::Page => Ok(TargetAsk::Page),
         _ => read_ring_route(alloc, found, query),
     }
 }

@@ -1,12 +1,7 @@
 //! Streams that no client should send.
-use crate::serving::{CREATED, LOST, NO_RING, Sent, Step, Told, session};
+use crate::serving::{CREATED, LOST, NO_RING, Sent, Step, Told, UNREADABLE, session};
 use std::alloc::{AllocError, Global};
 use std::test::Fail;
-
-const UNREADABLE: Told<'_> = Told::Json(
-    "400 Bad Request",
-    "{\"fault\":\"Unreadable\",\"rule\":20}",
-);
 
 const BAD_PATH: Told<'_> = Told::Json("400 Bad Request", "{\"refused\":\"BadPath\",\"rule\":30}");
 
@@ -244,9 +239,11 @@ fn an_account_of_257_bytes_is_refused(rt: HostRuntime) -> Result<(), Fail> {
 }
 
 /// Segments are taken as they stand, and empty ones are none.
-static SEGMENTS: [Step<'_>; 21] = [
+static SEGMENTS: [Step<'_>; 30] = [
     (Sent::Get("/v1/rings/object/text/01"), UNREADABLE),
     (Sent::Get("/v1/rings/object/text/4294967296"), UNREADABLE),
+    (Sent::Get("/v1/rings/object/swift/01"), UNREADABLE),
+    (Sent::Get("/v1/rings/object/swift/4294967296"), UNREADABLE),
     (Sent::Get("/v1/rings/%6Fbject/devices"), UNREADABLE),
     (Sent::Get("/v1/rings/Object/balance"), UNREADABLE),
     (Sent::Get("/v1/rings/Object"), UNREADABLE),
@@ -260,8 +257,15 @@ static SEGMENTS: [Step<'_>; 21] = [
     (Sent::Get("/v1/status/"), LOST),
     (Sent::Get("/v1/statu"), LOST),
     (Sent::Get("/v1/status%3F"), LOST),
+    (Sent::Get("/v1/Metrics"), LOST),
+    (Sent::Get("/v1/metrics/tiny"), LOST),
+    (Sent::Get("/v1/metrics%3F"), LOST),
     (Sent::Get("/v1/rings/object/devices/"), LOST),
     (Sent::Get("/v1/rings/object/text/"), LOST),
+    (Sent::Get("/v1/rings/object/swift/"), LOST),
+    (Sent::Get("/v1/rings/object/swift"), LOST),
+    (Sent::Get("/v1/rings/object/Swift/1"), LOST),
+    (Sent::Get("/v1/rings/object/swift/1/2"), LOST),
     (Sent::Get("/v1/rings/a/b/devices"), LOST),
     (Sent::Get("/v1%2Frequests"), LOST),
     (Sent::Get("/V1/requests"), LOST),

@@ -1,5 +1,8 @@
 //! Rings that are read, and tables that are imported.
-use crate::serving::{LOST, NO_RING, RingBook, Sent, Step, Told, are_steps, open, session};
+use crate::serving::{
+    LOST, NO_RING, RingBook, Sent, Step, Told, UNREADABLE, are_steps, open, session,
+};
+use ring_page::PAGE;
 use ring_words::Limits;
 use std::alloc::Global;
 use std::test::Fail;
@@ -156,6 +159,72 @@ fn a_published_text_and_its_nodes_are_read(rt: HostRuntime) -> Result<(), Fail> 
     Ok(())
 }
 
+/// The device of `tiny`, under a name with which the JSON of Swift's file has 256 bytes: then all of
+/// the file is ASCII.
+const NAMED_DISK: Step<'_> = (
+    Sent::Message(
+        "{\"address\":\"10.0.0.1\",\"caller\":\"ops\",\"do\":\"add\",\"name\":\"disk0\",\"number\":2,\"port\":6200,\"region\":1,\"ring\":\"tiny\",\"weight\":\"100.00\",\"zone\":1}",
+    ),
+    Told::Json("200 OK", "{\"done\":\"add\",\"id\":0,\"version\":1}"),
+);
+
+/// The ring `tiny` as the file that Swift loads. What is refused of its text is refused of this too,
+/// in the same order: a ring of no form, a version of none, no such ring, no such version.
+static SWIFT_READS: [Step<'_>; 6] = [
+    (
+        Sent::Get("/v1/rings/tiny/swift/2"),
+        Told::Bytes(
+            "HTTP/1.1 200 OK\r\nContent-Type: application/octet-stream\r\nContent-Length: 270\r\n\r\nR1NG\0\x01\0\0\x01\0{\"byteorder\": \"little\", \"devs\": [{\"device\": \"disk0\", \"id\": 0, \"ip\": \"10.0.0.1\", \"meta\": \"\", \"port\": 6200, \"region\": 1, \"replication_ip\": \"10.0.0.1\", \"replication_port\": 6200, \"weight\": 100.0, \"zone\": 1}], \"part_shift\": 31, \"replica_count\": 1, \"version\": 2}\0\0\0\0",
+        ),
+    ),
+    (
+        Sent::Get("/v1/rings/tiny/swift/1"),
+        Told::Json(
+            "422 Unprocessable Entity",
+            "{\"refused\":\"NoVersion\",\"rule\":32}",
+        ),
+    ),
+    (Sent::Get("/v1/rings/none/swift/2"), NO_RING),
+    (Sent::Get("/v1/rings/none/swift/02"), UNREADABLE),
+    (Sent::Get("/v1/rings/Tiny/swift/2"), UNREADABLE),
+    (
+        Sent::Post("/v1/rings/Tiny/swift/02", ""),
+        Told::Bytes(
+            "HTTP/1.1 405 Method Not Allowed\r\nContent-Type: application/json\r\nContent-Length: 36\r\nAllow: GET\r\n\r\n{\"fault\":\"WrongMethod\",\"status\":405}",
+        ),
+    ),
+];
+
+#[test]
+fn a_published_ring_is_read_as_the_file_that_swift_loads(rt: HostRuntime) -> Result<(), Fail> {
+    let steps = [TINY[0], NAMED_DISK, TINY[2], TINY[3]];
+    assert!(rt; session_after(rt.alloc(), &steps, &SWIFT_READS)?);
+    Ok(())
+}
+
+#[test]
+fn the_page_is_told_as_it_stands(rt: HostRuntime) -> Result<(), Fail> {
+    let alloc = rt.alloc();
+    let length = PAGE.len();
+    let want = format!(in alloc;
+        "HTTP/1.1 200 OK\r\nContent-Type: text/html; charset=utf-8\r\nContent-Length: {length}\r\n\r\n{PAGE}"
+    )?;
+    let steps = [
+        (Sent::Get("/v1/page"), Told::Bytes(&want)),
+        (Sent::Get("/v1/page?more=1"), Told::Bytes(&want)),
+        (Sent::Get("/v1/page/"), LOST),
+        (Sent::Get("/v1/pages"), LOST),
+        (
+            Sent::Post("/v1/page", ""),
+            Told::Bytes(
+                "HTTP/1.1 405 Method Not Allowed\r\nContent-Type: application/json\r\nContent-Length: 36\r\nAllow: GET\r\n\r\n{\"fault\":\"WrongMethod\",\"status\":405}",
+            ),
+        ),
+    ];
+    assert!(rt; session(alloc, &steps)?);
+    Ok(())
+}
+
 #[test]
 fn a_ring_that_is_not_there_is_not_read(rt: HostRuntime) -> Result<(), Fail> {
     let read = [(Sent::Get("/v1/rings/object/devices"), NO_RING)];
@@ -267,7 +336,7 @@ fn previews_are_read(rt: HostRuntime) -> Result<(), Fail> {
 }
 
 /// What moved between versions of the ring `tiny`, of which one is published.
-static MOVES: [Step<'_>; 8] = [
+static MOVES: [Step<'_>; 12] = [
     (
         Sent::Get("/v1/rings/tiny/moves?from=2&to=2"),
         Told::Json(
@@ -291,6 +360,16 @@ static MOVES: [Step<'_>; 8] = [
         UNREADABLE,
     ),
     (Sent::Get("/v1/rings/tiny/moves?from=2&from=2"), UNREADABLE),
+    (Sent::Get("/v1/rings/tiny/moves?from=02&to=2"), UNREADABLE),
+    (
+        Sent::Get("/v1/rings/tiny/moves?from=2&to=4294967296"),
+        UNREADABLE,
+    ),
+    (
+        Sent::Get("/v1/rings/tiny/moves?from=2&to=2&to=2"),
+        UNREADABLE,
+    ),
+    (Sent::Get("/v1/rings/tiny/moves/2"), LOST),
 ];
 
 #[test]
@@ -358,10 +437,165 @@ static EMPTY_STORE: [Step<'_>; 2] = [
     ),
 ];
 
+/// The metrics of the ring `tiny` and its four numbers.
+static METRICS: [Step<'_>; 4] = [
+    (
+        Sent::Get("/v1/metrics"),
+        Told::Bytes(concat!(
+            "HTTP/1.1 200 OK\r\nContent-Type: text/plain; version=0.0.4; charset=utf-8\r\nContent-Length: 2133\r\n\r\n",
+            "# HELP ringd_numbers_kept Numbers of callers that are kept.\n",
+            "# TYPE ringd_numbers_kept gauge\n",
+            "ringd_numbers_kept 4\n",
+            "# HELP ringd_numbers_limit Most numbers that may be kept.\n",
+            "# TYPE ringd_numbers_limit gauge\n",
+            "ringd_numbers_limit 100000\n",
+            "# HELP ringd_greatest_hour Greatest hour decided at, in hours since 1970.\n",
+            "# TYPE ringd_greatest_hour gauge\n",
+            "ringd_greatest_hour 0\n",
+            "# HELP ringd_ring_version Version of the ring.\n",
+            "# TYPE ringd_ring_version gauge\n",
+            "ringd_ring_version{ring=\"tiny\"} 2\n",
+            "# HELP ringd_ring_partitions Partitions of the ring.\n",
+            "# TYPE ringd_ring_partitions gauge\n",
+            "ringd_ring_partitions{ring=\"tiny\"} 2\n",
+            "# HELP ringd_ring_replicas Replicas of each partition.\n",
+            "# TYPE ringd_ring_replicas gauge\n",
+            "ringd_ring_replicas{ring=\"tiny\"} 1\n",
+            "# HELP ringd_ring_balance_percent How far the worst device is from its share, in percent of it.\n",
+            "# TYPE ringd_ring_balance_percent gauge\n",
+            "ringd_ring_balance_percent{ring=\"tiny\"} 0.00\n",
+            "# HELP ringd_ring_dispersion_percent Partitions that could stand farther apart, in percent of all.\n",
+            "# TYPE ringd_ring_dispersion_percent gauge\n",
+            "ringd_ring_dispersion_percent{ring=\"tiny\"} 0.00\n",
+            "# HELP ringd_ring_locked_partitions Partitions that a rebalance now would leave where they are.\n",
+            "# TYPE ringd_ring_locked_partitions gauge\n",
+            "ringd_ring_locked_partitions{ring=\"tiny\"} 0\n",
+            "# HELP ringd_ring_locked_hours Hours until no partition is locked.\n",
+            "# TYPE ringd_ring_locked_hours gauge\n",
+            "ringd_ring_locked_hours{ring=\"tiny\"} 0\n",
+            "# HELP ringd_ring_published_versions Published versions of the ring.\n",
+            "# TYPE ringd_ring_published_versions gauge\n",
+            "ringd_ring_published_versions{ring=\"tiny\"} 1\n",
+            "# HELP ringd_ring_published_limit Most versions that may be published.\n",
+            "# TYPE ringd_ring_published_limit gauge\n",
+            "ringd_ring_published_limit{ring=\"tiny\"} 1000\n",
+            "# HELP ringd_ring_misplaced_seats Seats that devices have above those that they want.\n",
+            "# TYPE ringd_ring_misplaced_seats gauge\n",
+            "ringd_ring_misplaced_seats{ring=\"tiny\"} 0\n",
+            "# HELP ringd_ring_devices Devices of the ring by state.\n",
+            "# TYPE ringd_ring_devices gauge\n",
+            "ringd_ring_devices{ring=\"tiny\",state=\"open\"} 1\n",
+            "ringd_ring_devices{ring=\"tiny\",state=\"drained\"} 0\n",
+            "ringd_ring_devices{ring=\"tiny\",state=\"removed\"} 0\n",
+        )),
+    ),
+    (Sent::Get("/v1/metrics/"), LOST),
+    (Sent::Get("/v1/metric"), LOST),
+    (
+        Sent::Post("/v1/metrics", ""),
+        Told::Bytes(
+            "HTTP/1.1 405 Method Not Allowed\r\nContent-Type: application/json\r\nContent-Length: 36\r\nAllow: GET\r\n\r\n{\"fault\":\"WrongMethod\",\"status\":405}",
+        ),
+    ),
+];
+
+/// Those where there is nothing. A query is passed over, as one of the rings is.
+static NO_METRICS: [Step<'_>; 1] = [(
+    Sent::Get("/v1/metrics?ring=tiny"),
+    Told::Bytes(concat!(
+        "HTTP/1.1 200 OK\r\nContent-Type: text/plain; version=0.0.4; charset=utf-8\r\nContent-Length: 1572\r\n\r\n",
+        "# HELP ringd_numbers_kept Numbers of callers that are kept.\n",
+        "# TYPE ringd_numbers_kept gauge\n",
+        "ringd_numbers_kept 0\n",
+        "# HELP ringd_numbers_limit Most numbers that may be kept.\n",
+        "# TYPE ringd_numbers_limit gauge\n",
+        "ringd_numbers_limit 100000\n",
+        "# HELP ringd_greatest_hour Greatest hour decided at, in hours since 1970.\n",
+        "# TYPE ringd_greatest_hour gauge\n",
+        "ringd_greatest_hour 0\n",
+        "# HELP ringd_ring_version Version of the ring.\n",
+        "# TYPE ringd_ring_version gauge\n",
+        "# HELP ringd_ring_partitions Partitions of the ring.\n",
+        "# TYPE ringd_ring_partitions gauge\n",
+        "# HELP ringd_ring_replicas Replicas of each partition.\n",
+        "# TYPE ringd_ring_replicas gauge\n",
+        "# HELP ringd_ring_balance_percent How far the worst device is from its share, in percent of it.\n",
+        "# TYPE ringd_ring_balance_percent gauge\n",
+        "# HELP ringd_ring_dispersion_percent Partitions that could stand farther apart, in percent of all.\n",
+        "# TYPE ringd_ring_dispersion_percent gauge\n",
+        "# HELP ringd_ring_locked_partitions Partitions that a rebalance now would leave where they are.\n",
+        "# TYPE ringd_ring_locked_partitions gauge\n",
+        "# HELP ringd_ring_locked_hours Hours until no partition is locked.\n",
+        "# TYPE ringd_ring_locked_hours gauge\n",
+        "# HELP ringd_ring_published_versions Published versions of the ring.\n",
+        "# TYPE ringd_ring_published_versions gauge\n",
+        "# HELP ringd_ring_published_limit Most versions that may be published.\n",
+        "# TYPE ringd_ring_published_limit gauge\n",
+        "# HELP ringd_ring_misplaced_seats Seats that devices have above those that they want.\n",
+        "# TYPE ringd_ring_misplaced_seats gauge\n",
+        "# HELP ringd_ring_devices Devices of the ring by state.\n",
+        "# TYPE ringd_ring_devices gauge\n",
+    )),
+)];
+
+#[test]
+fn the_metrics_are_read(rt: HostRuntime) -> Result<(), Fail> {
+    assert!(rt; session_after(rt.alloc(), &TINY, &METRICS)?);
+    assert!(rt; session(rt.alloc(), &NO_METRICS)?);
+    Ok(())
+}
+
 #[test]
 fn the_rings_and_the_status_are_read(rt: HostRuntime) -> Result<(), Fail> {
     assert!(rt; session_after(rt.alloc(), &TINY, &STORE)?);
     assert!(rt; session(rt.alloc(), &EMPTY_STORE)?);
+    Ok(())
+}
+
+/// Reads of the log of the ring `tiny`.
+static LOG: [Step<'_>; 13] = [
+    (
+        Sent::Get("/v1/log?from=2&most=1"),
+        Told::Json(
+            "200 OK",
+            "{\"log\":[{\"hour\":0,\"place\":2,\"reply\":{\"balance\":0,\"changed\":2,\"dispersion\":0,\"done\":\"rebalance\",\"version\":2},\"request\":{\"caller\":\"ops\",\"do\":\"rebalance\",\"number\":3,\"ring\":\"tiny\",\"seed\":7},\"status\":200}]}",
+        ),
+    ),
+    (
+        Sent::Get("/v1/log?from=3"),
+        Told::Json(
+            "200 OK",
+            "{\"log\":[{\"hour\":0,\"place\":3,\"reply\":{\"done\":\"publish\",\"version\":2},\"request\":{\"caller\":\"ops\",\"do\":\"publish\",\"number\":4,\"ring\":\"tiny\"},\"status\":200}]}",
+        ),
+    ),
+    (
+        Sent::Get("/v1/log?most=1000&from=4"),
+        Told::Json("200 OK", "{\"log\":[]}"),
+    ),
+    (Sent::Get("/v1/log?most=0"), UNREADABLE),
+    (Sent::Get("/v1/log?most=1001"), UNREADABLE),
+    (Sent::Get("/v1/log?from=1&from=1"), UNREADABLE),
+    (Sent::Get("/v1/log?place=1"), UNREADABLE),
+    (
+        Sent::Post("/v1/log", ""),
+        Told::Bytes(
+            "HTTP/1.1 405 Method Not Allowed\r\nContent-Type: application/json\r\nContent-Length: 36\r\nAllow: GET\r\n\r\n{\"fault\":\"WrongMethod\",\"status\":405}",
+        ),
+    ),
+    (Sent::Get("/v1/log?from=01"), UNREADABLE),
+    (Sent::Get("/v1/log?from=4294967296"), UNREADABLE),
+    (Sent::Get("/v1/log?most=01"), UNREADABLE),
+    (Sent::Get("/v1/log?most="), UNREADABLE),
+    (Sent::Get("/v1/log/"), LOST),
+];
+
+/// The log where there is nothing.
+static NO_LOG: [Step<'_>; 1] = [(Sent::Get("/v1/log"), Told::Json("200 OK", "{\"log\":[]}"))];
+
+#[test]
+fn the_log_is_read(rt: HostRuntime) -> Result<(), Fail> {
+    assert!(rt; session_after(rt.alloc(), &TINY, &LOG)?);
+    assert!(rt; session(rt.alloc(), &NO_LOG)?);
     Ok(())
 }
 
@@ -468,11 +702,6 @@ fn a_table_that_is_not_read_is_not_decided(rt: HostRuntime) -> Result<(), Fail> 
 }
 
 const HEADER: &str = "region,zone,address,port,name,weight\n";
-
-const UNREADABLE: Told<'_> = Told::Json(
-    "400 Bad Request",
-    "{\"fault\":\"Unreadable\",\"rule\":20}",
-);
 
 /// Imports whose target names no caller and number of their forms.
 static BAD_TARGETS: [Step<'_>; 8] = [

@@ -169,6 +169,12 @@ pub fn session(alloc: Global, steps: &[Step<'_>]) -> Result<bool, Fail> {
 /// What has no route.
 pub const LOST: Told<'_> = Told::Json("404 Not Found", "{\"fault\":\"NoRoute\",\"status\":404}");
 
+/// What is said of what is not of its form.
+pub const UNREADABLE: Told<'_> = Told::Json(
+    "400 Bad Request",
+    "{\"fault\":\"Unreadable\",\"rule\":20}",
+);
+
 /// What is said of a ring that is not there.
 pub const NO_RING: Told<'_> = Told::Json(
     "422 Unprocessable Entity",

@@ -17,12 +17,15 @@ use Rattle.ring_words.specs.Limits.{long_count}
 use Rattle.ring_words.specs.Texts.{is_digit, is_label, is_label_byte, is_lower}
 use Rattle.ring_words.specs.declared.command.Command.{Command}
 use Rattle.ring_words.specs.declared.request.Delivery.{Delivery}
-use Rattle.ring_words.specs.Spelling.{Reads, SpellsName}
+use Rattle.ring_words.specs.Spelling.{Reads, SpellsName, SpellsNumber}
 use Rattle.ring_words.specs.declared.spelling.SpellingFault.{SpellingFault}
 use Rattle.ring_words.specs.declared.spelling.SpellingFault.TheVariants.{Bad, NoMemory}
 use Rattle.ring_words.proofs.Decimals.{separated_parts}
 use Rattle.ring_messages.specs.Message.{IsMessage}
 use Rattle.ring_words.proofs.Decimals.{IsCut, Splits}
+use Rattle.ring_log.specs.Inquiries.{most_told}
+use Rattle.ring_log.specs.declared.inquiry.Inquiry.{Inquiry}
+use Rattle.ring_log.specs.declared.inquiry.Inquiry.TheVariants as inquiry
 use Rattle.ring_reads.specs.Reads.{plain_word}
 use Rattle.ring_reads.specs.declared.plain.Plain.{Plain}
 use Rattle.ring_reads.specs.declared.plain.Plain.TheVariants.{Devices, Balance, Ring}
@@ -30,8 +33,8 @@ use Rattle.ring_reads.specs.declared.reads.Question.{Question}
 use Rattle.ring_reads.specs.declared.reads.Question.TheVariants as question
 use Rattle.ring_reads.specs.declared.reads.Read.{Read}
 use Rattle.ring_reads.specs.declared.reads.Read.TheVariants as read
-use Rattle.line_api.specs.Lines.{AreTwoNumbers, AskOfRing, AskPlain, AskQuestion, Asks, AsksQuestion}
-use Rattle.line_api.specs.Lines.{IsNumbered, NamesNumbers}
+use Rattle.line_api.specs.Lines.{AreTwoNumbers, AskInquiry, AskOfRing, AskPlain, AskQuestion, Asks}
+use Rattle.line_api.specs.Lines.{AsksInquiry, AsksPart, IsNumbered, NamesNumbers}
 
 -- a line that asks for something is text
 pub asks_text : (line : List ℕ) (x : Delivery Command) → Asks line x → IsUtf8 line
@@ -157,22 +160,42 @@ of_ring_text words name (read.Moves from to) asks =
     (numbered_text asks.0 name from to asks.2))
 of_ring_text words name (read.EachMove from to) asks = absurd asks
 
-words_text : (words : List ℕ) (asked : Question) → AskQuestion words asked → IsUtf8 words
-words_text words question.Rings is = subst (λ (t : List ℕ). IsUtf8 t) (sym is)
+held_text : (words : List ℕ) (asked : Question) → AskQuestion words asked → IsUtf8 words
+held_text words question.Rings is = subst (λ (t : List ℕ). IsUtf8 t) (sym is)
     (IsUtf8-from_ascii (codes "rings") (label_bytes (codes "rings") refl))
-words_text words question.Status is = subst (λ (t : List ℕ). IsUtf8 t) (sym is)
+held_text words question.Status is = subst (λ (t : List ℕ). IsUtf8 t) (sym is)
     (IsUtf8-from_ascii (codes "status") (label_bytes (codes "status") refl))
-words_text words (question.Ring name what) asks = of_ring_text words name what asks
+held_text words question.Metrics asks = absurd asks
+held_text words (question.Ring name what) asks = of_ring_text words name what asks
+
+-- and so are words that ask for a part of the log
+part_text : (text : List ℕ) (from most : ℕ) → AsksPart text from most → IsUtf8 text
+part_text text from most asks =
+    let small : most < long_count = omega (arith, asks.spelled.below) in
+    let size : IsUtf8 asks.size = subst (λ (t : List ℕ). IsUtf8 t) (sym asks.spelled.is)
+    (number_text most small) in
+    subst (λ (t : List ℕ). IsUtf8 t) (sym asks.is) (IsUtf8-append (decimal from) (32 ∷ asks.size)
+    (number_text from asks.fits) (space_text asks.size size))
+
+words_text : (words : List ℕ) (asked : Inquiry) → AskInquiry words asked → IsUtf8 words
+words_text words (inquiry.Held question) asks = held_text words question asks
+words_text words (inquiry.Log from most) asks =
+    subst (λ (t : List ℕ). IsUtf8 t) (sym asks.1)
+    (IsUtf8-append (codes "log ") asks.0
+    (IsUtf8-append (codes "log") (32 ∷ [])
+    (IsUtf8-from_ascii (codes "log") (label_bytes (codes "log") refl))
+    (IsUtf8-from_ascii (32 ∷ []) (IsAscii-cons 32 [] (lit< tt) IsAscii-nil)))
+    (part_text asks.0 from most asks.2))
 
 -- the words of a question stand behind its question mark
-behind_mark : (line rest : List ℕ) (asked : Question) → line ≡ codes "? " ++ rest →
-    (asks : AsksQuestion line asked) → asks.words ≡ rest
+behind_mark : (line rest : List ℕ) (asked : Inquiry) → line ≡ codes "? " ++ rest →
+    (asks : AsksInquiry line asked) → asks.words ≡ rest
 behind_mark line rest asked is asks = append_cancel_left (codes "? ") asks.words rest
     (sym asks.is ∙ is)
 
 -- what stands behind the question mark is text
-pub question_text : (line rest : List ℕ) (asked : Question) → line ≡ codes "? " ++ rest →
-    AsksQuestion line asked → IsUtf8 rest
+pub question_text : (line rest : List ℕ) (asked : Inquiry) → line ≡ codes "? " ++ rest →
+    AsksInquiry line asked → IsUtf8 rest
 question_text line rest asked is asks =
     subst (λ (t : List ℕ). IsUtf8 t) (behind_mark line rest asked is asks)
     (words_text asks.words asked asks.asks)
@@ -188,6 +211,7 @@ ask_nothing words Bad no_rings no_status none = by
     by : (asked : Question) → AskQuestion words asked → ⊥
     by question.Rings asks = no_rings asks
     by question.Status asks = no_status asks
+    by question.Metrics asks = asks
     by (question.Ring name what) asks = none (name, what) asks
 
 -- ---- a name and two numbers
@@ -317,11 +341,90 @@ nothing_alone words Bad unseen unmoved none = λ x. by x.0 x.1
     by name (read.Moves from to) asks = unmoved asks.0 asks.1
     by name (read.EachMove from to) asks = asks
 
+-- ---- a part of the log
+
+-- where what stands behind the place is no such number, the text asks for no part
+pub no_size : (text size : List ℕ) (from : ℕ) (fault : SpellingFault) → from < long_count →
+    text ≡ decimal from ++ 32 ∷ size → Reads (SpellsNumber size 1 most_told) (Err fault) →
+    Reads (λ (x : ℕ × ℕ). AsksPart text x.0 x.1) (Err fault)
+no_size text size from NoMemory fits is none = tt
+no_size text size from Bad fits is none = λ x asks.
+    let parts = separated_parts 32 text from x.0 size asks.size (lit< tt) fits asks.fits is asks.is
+    in
+    none x.1 (subst (λ (t : List ℕ). SpellsNumber t 1 most_told x.1) (sym parts.1) asks.spelled)
+
+-- a plain read and a part of the log have different words in front
+log_word : (plain : Plain) (rest text : List ℕ) → asked_text plain rest ≡ codes "log " ++ text → ⊥
+log_word Devices rest text is =
+    let clash : ◌≡◌ {A = ℕ} 100 108 = ap (λ (t : List ℕ). get_or t 0 0) is in omega (arith, clash)
+log_word Balance rest text is =
+    let clash : ◌≡◌ {A = ℕ} 98 108 = ap (λ (t : List ℕ). get_or t 0 0) is in omega (arith, clash)
+log_word Ring rest text is =
+    let clash : ◌≡◌ {A = ℕ} 114 108 = ap (λ (t : List ℕ). get_or t 0 0) is in omega (arith, clash)
+
+-- and so have a preview, what moved, the rings and the status
+log_preview : (rest text : List ℕ) → codes "preview " ++ rest ≡ codes "log " ++ text → ⊥
+log_preview rest text is =
+    let clash : ◌≡◌ {A = ℕ} 112 108 = ap (λ (t : List ℕ). get_or t 0 0) is in omega (arith, clash)
+
+log_moves : (rest text : List ℕ) → codes "moves " ++ rest ≡ codes "log " ++ text → ⊥
+log_moves rest text is =
+    let clash : ◌≡◌ {A = ℕ} 109 108 = ap (λ (t : List ℕ). get_or t 0 0) is in omega (arith, clash)
+
+log_rings : (text : List ℕ) → codes "rings" ≡ codes "log " ++ text → ⊥
+log_rings text is =
+    let clash : ◌≡◌ {A = ℕ} 114 108 = ap (λ (t : List ℕ). get_or t 0 0) is in omega (arith, clash)
+
+log_status : (text : List ℕ) → codes "status" ≡ codes "log " ++ text → ⊥
+log_status text is =
+    let clash : ◌≡◌ {A = ℕ} 115 108 = ap (λ (t : List ℕ). get_or t 0 0) is in omega (arith, clash)
+
+log_of_ring : (words text name : List ℕ) (what : Read) → words ≡ codes "log " ++ text →
+    AskOfRing words name what → ⊥
+log_of_ring words text name (read.Plain plain) is asks = log_word plain name text (sym asks.is ∙ is)
+log_of_ring words text name read.Tables is asks = asks
+log_of_ring words text name (read.Nodes path) is asks = asks
+log_of_ring words text name (read.Published version written) is asks = asks
+log_of_ring words text name (read.Preview seed hour) is asks =
+    log_preview asks.0 text (sym asks.1 ∙ is)
+log_of_ring words text name (read.Moves from to) is asks = log_moves asks.0 text (sym asks.1 ∙ is)
+log_of_ring words text name (read.EachMove from to) is asks = asks
+
+log_held : (words text : List ℕ) (asked : Question) → words ≡ codes "log " ++ text →
+    AskQuestion words asked → ⊥
+log_held words text question.Rings is asks = log_rings text (sym asks ∙ is)
+log_held words text question.Status is asks = log_status text (sym asks ∙ is)
+log_held words text question.Metrics is asks = absurd asks
+log_held words text (question.Ring name what) is asks = log_of_ring words text name what is asks
+
+-- where what stands behind the word asks for no part, the words ask nothing
+pub no_log : (words text : List ℕ) (fault : SpellingFault) → words ≡ codes "log " ++ text →
+    Reads (λ (x : ℕ × ℕ). AsksPart text x.0 x.1) (Err fault) → Reads (AskInquiry words) (Err fault)
+no_log words text NoMemory is none = tt
+no_log words text Bad is none = by
+  where
+    by : (asked : Inquiry) → AskInquiry words asked → ⊥
+    by (inquiry.Held question) asks = log_held words text question is asks
+    by (inquiry.Log from most) asks = none (from, most)
+        (subst (λ (t : List ℕ). AsksPart t from most)
+        (append_cancel_left (codes "log ") asks.0 text (sym asks.1 ∙ is)) asks.2)
+
+-- words that ask for no part of the log, and nothing of what is held, ask nothing
+pub nothing_held : (words : List ℕ) (fault : SpellingFault) →
+    ((text : List ℕ) → words ≡ codes "log " ++ text → ⊥) →
+    Reads (AskQuestion words) (Err fault) → Reads (AskInquiry words) (Err fault)
+nothing_held words NoMemory no_part none = tt
+nothing_held words Bad no_part none = by
+  where
+    by : (asked : Inquiry) → AskInquiry words asked → ⊥
+    by (inquiry.Held question) asks = none question asks
+    by (inquiry.Log from most) asks = no_part asks.0 asks.1
+
 -- what is read of the words is read of the line
-pub line_reads : (line words : List ℕ) (result : Result Question SpellingFault) →
-    line ≡ codes "? " ++ words → Reads (AskQuestion words) result →
-    Reads (AsksQuestion line) result
+pub line_reads : (line words : List ℕ) (result : Result Inquiry SpellingFault) →
+    line ≡ codes "? " ++ words → Reads (AskInquiry words) result →
+    Reads (AsksInquiry line) result
 line_reads line words (Ok asked) is reads = record { words = words; is = is; asks = reads }
 line_reads line words (Err NoMemory) is reads = tt
 line_reads line words (Err Bad) is none = λ asked asks. none asked
-    (subst (λ (w : List ℕ). AskQuestion w asked) (behind_mark line words asked is asks) asks.asks)
+    (subst (λ (w : List ℕ). AskInquiry w asked) (behind_mark line words asked is asks) asks.asks)

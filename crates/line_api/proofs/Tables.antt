@@ -6,19 +6,23 @@ use Rattle.ring_model.specs.Ring.{RingRecord}
 use Rattle.ring_words.specs.Texts.{hundredths_text}
 use Rattle.ring_share.specs.Figures.{ring_balance, ring_dispersion}
 use Rattle.request_book.specs.declared.book.Fault.{Fault}
+use Rattle.ring_book.specs.Book.{Finding}
 use Rattle.ring_book.specs.Reads.{ReadShows}
+use Rattle.ring_log.specs.Inquiries.{AsksText, written_for}
+use Rattle.ring_log.specs.declared.inquiry.Inquiry.{Inquiry}
+use Rattle.ring_log.specs.declared.inquiry.Inquiry.TheVariants as inquiry
 use Rattle.ring_reads.specs.Holding.{Holding, hour_now}
-use Rattle.ring_reads.specs.Reads.{IsPlainText, IsText, written_as}
+use Rattle.ring_reads.specs.Reads.{IsPlainText, IsText, Shows, written_as}
 use Rattle.ring_reads.specs.declared.plain.Plain.{Plain}
 use Rattle.ring_reads.specs.declared.plain.Plain.TheVariants.{Devices, Balance, Ring}
 use Rattle.ring_reads.specs.declared.reads.Question.{Question}
 use Rattle.ring_reads.specs.declared.reads.Question.TheVariants as question
 use Rattle.ring_reads.specs.declared.reads.Read.TheVariants as read
-use Rattle.ring_reads.specs.Layout.{Columns, cells, row, table}
-use Rattle.ring_reads.specs.Tables.{balance_columns, balance_table, balance_texts, balance_titles}
-use Rattle.ring_reads.specs.Tables.{device_columns, device_table, device_texts, device_titles}
-use Rattle.ring_reads.specs.Tables.{figures_line}
-use Rattle.line_api.specs.Lines.{AsksQuestion}
+use Rattle.ring_tables.specs.Layout.{Columns, cells, row, table}
+use Rattle.ring_tables.specs.Tables.{balance_columns, balance_table, balance_texts, balance_titles}
+use Rattle.ring_tables.specs.Tables.{device_columns, device_table, device_texts, device_titles}
+use Rattle.ring_tables.specs.Tables.{figures_line}
+use Rattle.line_api.specs.Lines.{AskQuestion, AsksInquiry}
 
 -- a text ends with a line feed
 abbrev pub IsEnded : List ℕ → Type 0
@@ -69,37 +73,51 @@ plain_ends Devices name ring hour text is = device_table_ends ring text is
 plain_ends Balance name ring hour text is = balance_table_ends ring is.0 text is.2
 plain_ends Ring name ring hour text is = (text, refl)
 
+-- what is written of a question ends with a line feed
+held_ends : (prefix suffix words : List ℕ) (asked : Question) → AskQuestion words asked →
+    (held : Holding) (bytes : List ℕ) → Shows prefix suffix held asked bytes →
+    IsEnded (written_as asked bytes)
+held_ends prefix suffix words question.Rings asks held bytes shows = (bytes, refl)
+held_ends prefix suffix words question.Status asks held bytes shows = (bytes, refl)
+held_ends prefix suffix words question.Metrics asks held bytes shows = absurd asks
+held_ends prefix suffix words (question.Ring name (read.Plain plain)) asks held bytes shows =
+    plain_ends plain name shows.0 (hour_now held) bytes shows.2
+held_ends prefix suffix words (question.Ring name read.Tables) asks held bytes shows = absurd asks
+held_ends prefix suffix words (question.Ring name (read.Nodes path)) asks held bytes shows =
+    absurd asks
+held_ends prefix suffix words (question.Ring name (read.Published version written)) asks held bytes
+    shows = absurd asks
+held_ends prefix suffix words (question.Ring name (read.Preview seed hour)) asks held bytes shows =
+    (bytes, refl)
+held_ends prefix suffix words (question.Ring name (read.Moves from to)) asks held bytes shows =
+    (bytes, refl)
+held_ends prefix suffix words (question.Ring name (read.EachMove from to)) asks held bytes shows =
+    absurd asks
+
 -- what is written of what a line asks for ends with a line feed
-pub shown_ends : (Finds : Holding → Type 0) (prefix suffix line : List ℕ) (asked : Question) →
-    AsksQuestion line asked → (answer : Result (Unit {0}) Fault) (bytes : List ℕ) →
-    ReadShows Finds prefix suffix asked answer bytes → IsEnded (written_as asked bytes)
-shown_ends Finds prefix suffix line question.Rings asks answer bytes shows = (bytes, refl)
-shown_ends Finds prefix suffix line question.Status asks answer bytes shows = (bytes, refl)
-shown_ends Finds prefix suffix line (question.Ring name (read.Plain plain)) asks (Ok ready) bytes
-    shows = plain_ends plain name shows.2.0 (hour_now shows.0) bytes shows.2.2
-shown_ends Finds prefix suffix line (question.Ring name (read.Plain plain)) asks (Err fault) bytes
-    shows = absurd shows
-shown_ends Finds prefix suffix line (question.Ring name read.Tables) asks answer bytes shows =
-    absurd asks.asks
-shown_ends Finds prefix suffix line (question.Ring name (read.Nodes path)) asks answer bytes shows =
-    absurd asks.asks
-shown_ends Finds prefix suffix line (question.Ring name (read.Published version written)) asks answer
-    bytes shows = absurd asks.asks
-shown_ends Finds prefix suffix line (question.Ring name (read.Preview seed hour)) asks answer bytes
-    shows = (bytes, refl)
-shown_ends Finds prefix suffix line (question.Ring name (read.Moves from to)) asks answer bytes
-    shows = (bytes, refl)
-shown_ends Finds prefix suffix line (question.Ring name (read.EachMove from to)) asks answer bytes
-    shows = absurd asks.asks
+pub shown_ends : (Finds : Finding) (prefix suffix line : List ℕ) (asked : Inquiry) →
+    AsksInquiry line asked → (answer : Result (Unit {0}) Fault) (bytes : List ℕ) →
+    ReadShows Finds prefix suffix asked answer bytes → IsEnded (written_for asked bytes)
+shown_ends Finds prefix suffix line (inquiry.Held question) asks (Ok ready) bytes shows =
+    held_ends prefix suffix asks.words question asks.asks shows.0 bytes shows.2
+shown_ends Finds prefix suffix line (inquiry.Held question) asks (Err fault) bytes shows =
+    absurd shows
+shown_ends Finds prefix suffix line (inquiry.Log from most) asks answer bytes shows = (bytes, refl)
+
+-- what is shown of a question is text
+held_text : (words : List ℕ) (asked : Question) → AskQuestion words asked → IsText asked
+held_text words question.Rings asks = tt
+held_text words question.Status asks = tt
+held_text words question.Metrics asks = absurd asks
+held_text words (question.Ring name (read.Plain plain)) asks = tt
+held_text words (question.Ring name read.Tables) asks = absurd asks
+held_text words (question.Ring name (read.Nodes path)) asks = absurd asks
+held_text words (question.Ring name (read.Published version written)) asks = absurd asks
+held_text words (question.Ring name (read.Preview seed hour)) asks = tt
+held_text words (question.Ring name (read.Moves from to)) asks = tt
+held_text words (question.Ring name (read.EachMove from to)) asks = absurd asks
 
 -- what is shown of what a line asks for is text
-pub is_text : (line : List ℕ) (asked : Question) → AsksQuestion line asked → IsText asked
-is_text line question.Rings asks = tt
-is_text line question.Status asks = tt
-is_text line (question.Ring name (read.Plain plain)) asks = tt
-is_text line (question.Ring name read.Tables) asks = absurd asks.asks
-is_text line (question.Ring name (read.Nodes path)) asks = absurd asks.asks
-is_text line (question.Ring name (read.Published version written)) asks = absurd asks.asks
-is_text line (question.Ring name (read.Preview seed hour)) asks = tt
-is_text line (question.Ring name (read.Moves from to)) asks = tt
-is_text line (question.Ring name (read.EachMove from to)) asks = tt
+pub is_text : (line : List ℕ) (asked : Inquiry) → AsksInquiry line asked → AsksText asked
+is_text line (inquiry.Held question) asks = held_text asks.words question asks.asks
+is_text line (inquiry.Log from most) asks = tt

@@ -3,17 +3,20 @@ use Rattle.std.specs.Prelude.{◌≡◌, ◌⊎◌, ℕ, ◌<◌, ◌≤◌, ◌
 use Rattle.std.specs.Prelude.{Some, None, Result, ⊤, codes, decimal, length}
 use Rattle.ring_words.specs.Limits.{long_count}
 use Rattle.line_stream.specs.Lines.{longest_line}
+use Rattle.ring_words.specs.Spelling.{SpellsNumber}
 use Rattle.ring_words.specs.Texts.{is_label}
 use Rattle.ring_words.specs.declared.command.Command.{Command}
 use Rattle.ring_words.specs.declared.request.Delivery.{Delivery}
-use Rattle.ring_reads.specs.Holding.{Holding}
-use Rattle.ring_reads.specs.Reads.{plain_word, written_as}
+use Rattle.ring_log.specs.Inquiries.{most_told, written_for}
+use Rattle.ring_log.specs.declared.inquiry.Inquiry.{Inquiry}
+use Rattle.ring_log.specs.declared.inquiry.Inquiry.TheVariants as inquiry
+use Rattle.ring_reads.specs.Reads.{plain_word}
 use Rattle.ring_reads.specs.declared.plain.Plain.{Plain}
 use Rattle.ring_reads.specs.declared.reads.Question.{Question}
 use Rattle.ring_reads.specs.declared.reads.Question.TheVariants as question
 use Rattle.ring_reads.specs.declared.reads.Read.{Read}
 use Rattle.ring_reads.specs.declared.reads.Read.TheVariants as read
-use Rattle.ring_book.specs.Book.{Asked}
+use Rattle.ring_book.specs.Book.{Asked, Finding}
 use Rattle.ring_book.specs.Reads.{ReadShows, ReadTells}
 use Rattle.ring_book.specs.Told.{told_of}
 use Rattle.request_book.specs.declared.book.Fault.{Fault}
@@ -72,22 +75,38 @@ AskOfRing words name (read.Moves from to) =
     (text : List ℕ) × (words ≡ codes "moves " ++ text) × NamesNumbers text name from to
 AskOfRing words name (read.EachMove from to) = ⊥
 
--- The words ask this: for the rings, for the status, or for something of a ring.
+-- The words ask this: for the rings, for the status, or for something of a ring. None asks for the
+-- metrics.
 abbrev pub AskQuestion : List ℕ → Question → Type 0
 AskQuestion words question.Rings = words ≡ codes "rings"
 AskQuestion words question.Status = words ≡ codes "status"
+AskQuestion words question.Metrics = ⊥
 AskQuestion words (question.Ring name what) = AskOfRing words name what
 
--- The line is this question: a question mark, a space, and words that ask it.
-pub record AsksQuestion (line : List ℕ) (asked : Question) : Type 0 where
+-- The text is a place in decimal, a space, and how many entries of a log are asked for.
+pub record AsksPart (text : List ℕ) (from most : ℕ) : Type 0 where
+  pub size : List ℕ
+  pub is : text ≡ decimal from ++ 32 ∷ size
+  pub fits : from < long_count
+  pub spelled : SpellsNumber size 1 most_told most
+
+-- The words ask this of a book: something of what it holds; or, by `log` in front of a place and of
+-- how many, the entries of its log from that place on.
+abbrev pub AskInquiry : List ℕ → Inquiry → Type 0
+AskInquiry words (inquiry.Held question) = AskQuestion words question
+AskInquiry words (inquiry.Log from most) =
+    (text : List ℕ) × (words ≡ codes "log " ++ text) × AsksPart text from most
+
+-- The line asks this: a question mark, a space, and words that ask it.
+pub record AsksInquiry (line : List ℕ) (asked : Inquiry) : Type 0 where
   pub words : List ℕ
   pub is : line ≡ codes "? " ++ words
-  pub asks : AskQuestion words asked
+  pub asks : AskInquiry words asked
 
 -- the line asks for this, a delivery or what is shown
 abbrev pub AsksFor : List ℕ → Request → Type 0
 AsksFor line (request.Delivery delivery) = Asks line delivery
-AsksFor line (request.Question asked) = AsksQuestion line asked
+AsksFor line (request.Inquiry asked) = AsksInquiry line asked
 
 -- WHAT IT IS ANSWERED
 
@@ -95,36 +114,36 @@ AsksFor line (request.Question asked) = AsksQuestion line asked
 abbrev pub answer_line : Told → List ℕ
 answer_line t = decimal (answer_status t) ++ 32 ∷ answer_text t
 
--- What a question is told where this is the answer of the call that makes the rings ready to be
--- read: what is written of what is shown of what is found, without the line feed at its end, or why
--- nothing is shown or can be read.
-abbrev pub IsTold : (Holding → Type 0) → Question → Result (Unit {0}) Fault → List ℕ → Type 0
+-- What an inquiry is told where this is the answer of the call that it leads to: what is written of
+-- what is shown of what is found, without the line feed at its end, or why nothing is shown or can be
+-- read.
+abbrev pub IsTold : Finding → Inquiry → Result (Unit {0}) Fault → List ℕ → Type 0
 IsTold Finds asked answer text =
     ((bytes : List ℕ) × ReadShows Finds [] [] asked answer bytes
-    × (text ++ 10 ∷ [] ≡ written_as asked bytes))
+    × (text ++ 10 ∷ [] ≡ written_for asked bytes))
     ⊎ ((t : Told) × ReadTells Finds asked answer t × (text ≡ answer_line t))
 
 -- A line gets this text where this is the call that it leads to, if any: a delivery's answer, what
--- a question is told of what is found, or that it is unreadable.
-abbrev pub IsAnswer : (Holding → Type 0) → List ℕ → Asked → List ℕ → Type 0
+-- an inquiry is told of what is found, or that it is unreadable.
+abbrev pub IsAnswer : Finding → List ℕ → Asked → List ℕ → Type 0
 IsAnswer Finds line None text = ((request : Request) → AsksFor line request → ⊥) ×
     (text ≡ answer_line told.Unreadable)
 IsAnswer Finds line (Some (Deliver delivery answer)) text = Asks line delivery ×
     (text ≡ answer_line (told_of answer))
-IsAnswer Finds line (Some (Load answer)) text = (asked : Question) × AsksQuestion line asked ×
+IsAnswer Finds line (Some (Load answer)) text = (asked : Inquiry) × AsksInquiry line asked ×
     IsTold Finds asked answer text
 
 -- A line whose answer found no memory: it led to no call, or to that of its delivery or its
--- question.
+-- inquiry.
 abbrev pub IsLost : List ℕ → Asked → Type 0
 IsLost line None = ⊤
 IsLost line (Some (Deliver delivery answer)) = Asks line delivery
-IsLost line (Some (Load answer)) = (asked : Question) × AsksQuestion line asked
+IsLost line (Some (Load answer)) = (asked : Inquiry) × AsksInquiry line asked
 
 -- What a line is given where this is the call that it leads to, if any: its answer, or what stands
 -- for an answer that found no memory. A line of more than `longest_line` bytes is unreadable and
 -- leads to no call.
-abbrev pub Gets : (Holding → Type 0) → List ℕ → Asked → List ℕ → Type 0
+abbrev pub Gets : Finding → List ℕ → Asked → List ℕ → Type 0
 Gets Finds line asked text =
     ((length line ≤ longest_line) × (IsAnswer Finds line asked text ⊎
     (IsLost line asked × (text ≡ answer_line told.NoMemory))))

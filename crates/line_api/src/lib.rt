@@ -5,6 +5,7 @@
 //! of the book, in `specs/Served.antt`.
 #![tactic(auto)]
 
+pub mod laws;
 mod lines;
 mod questions;
 

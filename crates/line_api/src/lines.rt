@@ -7,11 +7,11 @@ ghost use Rattle.builder.specs.Safety.{IsSafeRun};
 ghost use Rattle.byte_streams.specs.Counted.{FailsWithCause, LeavesFlushed, reader_of};
 ghost use Rattle.request_book.specs.Call.{Load};
 ghost use Rattle.request_book.specs.declared.book.Fault.{Fault};
-ghost use Rattle.line_api.specs.Lines.{Asks, AsksFor, AsksQuestion, IsTold, answer_line};
+ghost use Rattle.line_api.specs.Lines.{Asks, AsksFor, AsksInquiry, IsTold, answer_line};
 ghost use Rattle.line_api.specs.Served.{ServesLines};
 ghost use Rattle.line_api.specs.Inner.Answering.{Answers, Loses};
 ghost use Rattle.ring_book.specs.Book.{Found, Made};
-ghost use Rattle.ring_reads.specs.Reads.{written_as};
+ghost use Rattle.ring_log.specs.Inquiries.{written_for};
 ghost use Rattle.line_stream.specs.Serving.{LinesServedOn, LinesStoppedOn};
 ghost use Rattle.ring_messages.specs.declared.told.Told.TheVariants as told;
 
@@ -22,7 +22,7 @@ use line_stream::{Handler, serve_lines};
 use path_lookup::HashNames;
 use request_book::{Book, Keeper};
 use ring_book::{deliver, read};
-use ring_reads::Question;
+use ring_log::Inquiry;
 use ring_words::{Command, Delivery, Hour, parse_decimal_up_to};
 use std::alloc::{AllocError, Global};
 use std::io::{Read, Write};
@@ -35,7 +35,7 @@ enum Request {
     /// That a delivery is made.
     Delivery(Delivery<Command>),
     /// That something is shown.
-    Question(Question),
+    Inquiry(Inquiry),
 }
 
 /// The delivery that a line asks for: its hour, a space, and a message. Unreadable exactly where it
@@ -58,7 +58,7 @@ fn read_request(alloc: Global, line: &[u8]) -> Result<Request, MessageFault>
     ensures { Reads (AsksFor line.now) result }
 {
     match read_question(alloc, line) {
-        Ok(question) => Ok(Request::Question(question)),
+        Ok(asked) => Ok(Request::Inquiry(asked)),
         Err(MessageFault::NoMemory) => Err(MessageFault::NoMemory),
         Err(MessageFault::Bad) => Ok(Request::Delivery(read_line(alloc, line)?)),
     }
@@ -83,15 +83,15 @@ fn unended(text: String) -> String
     text
 }
 
-/// Bytes that are shown of a question, as an answer, which has no line feed at its end.
-fn shown_text(question: &Question, bytes: Vec<u8>) -> String
+/// Bytes that are shown of what is asked, as an answer, which has no line feed at its end.
+fn shown_text(asked: &Inquiry, bytes: Vec<u8>) -> String
     requires utf8 { IsUtf8 bytes.items }
     requires ended { (front : List ℕ)
-        × (written_as question.now bytes.items ≡ front ++ 10 ∷ []) }
-    ensures { string_bytes result ++ 10 ∷ [] ≡ written_as question.now bytes.items }
+        × (written_for asked.now bytes.items ≡ front ++ 10 ∷ []) }
+    ensures { string_bytes result ++ 10 ∷ [] ≡ written_for asked.now bytes.items }
 {
     match String::from_utf8(bytes) {
-        Ok(text) if question.is_json() => text,
+        Ok(text) if asked.is_json() => text,
         Ok(text) => unended(text),
         Err(_) => unreachable!(),
     }
@@ -100,24 +100,24 @@ fn shown_text(question: &Question, bytes: Vec<u8>) -> String
 /// Lines tell the hours of deliveries, and none of a clock.
 const NO_CLOCK: Hour = 0;
 
-/// Answers a question, which is that of a line, from what a book holds.
+/// Answers what a line asks of a book.
 fn show<K: Keeper<RingMachine>>(
     alloc: Global,
     book: &mut Book<RingMachine, K>,
-    question: &Question,
+    asked: &Inquiry,
 ) -> Result<String, AllocError>
-    requires { (line : List ℕ) × AsksQuestion line question.now }
+    requires { (line : List ℕ) × AsksInquiry line asked.now }
     ensures { (answer : Result (Unit {0}) Fault)
         × Made K.Keeper book.old book.new (Some (Load answer))
         × IfOk result (λ text. IsTold (Found K.Keeper 0 book.old book.new)
-        question.now answer (string_bytes text)) }
+        asked.now answer (string_bytes text)) }
 {
     let no_names = HashNames {
         prefix: b"",
         suffix: b"",
     };
-    match read(alloc, book, NO_CLOCK, no_names, question) {
-        Ok(bytes) => Ok(shown_text(question, bytes)),
+    match read(alloc, book, NO_CLOCK, no_names, asked) {
+        Ok(bytes) => Ok(shown_text(asked, bytes)),
         Err(told) => answer_text(alloc, &told),
     }
 }
@@ -148,7 +148,7 @@ impl<K: Keeper<RingMachine>> Handler for RingLines<K> {
                 let Delivery { hour, key, command } = delivery;
                 answer_text(alloc, &deliver(book, hour, key, command))
             }
-            Ok(Request::Question(question)) => show(alloc, book, &question),
+            Ok(Request::Inquiry(asked)) => show(alloc, book, &asked),
             Err(MessageFault::Bad) => answer_text(alloc, &Told::Unreadable),
             Err(MessageFault::NoMemory) => Err(AllocError),
         }
@@ -168,9 +168,10 @@ impl<K: Keeper<RingMachine>> Handler for RingLines<K> {
 /// command; it is answered by a status, a space and the answer. Or it is a question: `? rings` for
 /// which rings there are, `? status` for how much is kept, `? WORD RING`, where the word alone asks
 /// for something of the ring, as `devices`, `balance` and `ring` do, `? preview RING SEED HOUR` for
-/// what a rebalance would do, or `? moves RING FROM TO` for what moved between two published
-/// versions. It is answered by what is shown, or by a status, a space and why nothing is. What came
-/// is answered and flushed before the reader is asked for more.
+/// what a rebalance would do, `? moves RING FROM TO` for what moved between two published versions,
+/// or `? log PLACE COUNT` for the decided requests from a place on. It is answered by what is shown,
+/// or by a status, a space and why nothing is. What came is answered and flushed before the reader is
+/// asked for more.
 ///
 /// The deliveries are one run of the book: each number is decided once, in the order of the lines,
 /// and every repeat gets its kept reply. A question is answered from what the deliveries of the lines

@@ -1,13 +1,15 @@
-//! Questions: lines that ask for the rings, for the status, or for something of a ring.
+//! Questions: lines that ask for the rings, for the status, for something of a ring, or for a part of
+//! the log.
 ghost use Rattle.std.specs.Prelude.{◌≡◌, ◌++◌, ◌∷◌, ℕ, List, IfSome, IfNone, IsTrue, codes};
 ghost use Rattle.ring_words.specs.Spelling.{Reads};
 ghost use Rattle.ring_words.specs.Texts.{is_label};
 ghost use Rattle.ring_reads.specs.Reads.{plain_word};
 ghost use Rattle.ring_reads.specs.declared.plain.Plain.{Plain as PlainModel};
-ghost use Rattle.line_api.specs.Lines.{AreTwoNumbers, AskOfRing, AskPlain, AskQuestion};
-ghost use Rattle.line_api.specs.Lines.{AsksQuestion, IsNumbered, NamesNumbers};
+ghost use Rattle.line_api.specs.Lines.{AreTwoNumbers, AskInquiry, AskOfRing, AskPlain, AskQuestion};
+ghost use Rattle.line_api.specs.Lines.{AsksInquiry, AsksPart, IsNumbered, NamesNumbers};
 
 use builder::MessageFault;
+use ring_log::{Inquiry, read_size};
 use ring_reads::{Plain, Question, Read};
 use ring_words::{NameFault, RingName, parse_decimal, parse_decimal_up_to, read_name};
 use std::alloc::Global;
@@ -152,9 +154,55 @@ fn read_words(alloc: Global, words: &str) -> Result<Question, MessageFault>
     }
 }
 
-/// The question that a line is. Unreadable exactly where it is none.
-pub fn read_question(alloc: Global, line: &[u8]) -> Result<Question, MessageFault>
-    ensures { Reads (AsksQuestion line.now) result }
+/// From which place on how many entries of a log a text asks for. Unreadable exactly where it asks
+/// for none.
+fn log_part(text: &str) -> Result<(u32, u32), MessageFault>
+    ensures { Reads (λ x. AsksPart text.now x.0 x.1) result }
+{
+    let Some((from, size)) = parse_decimal_up_to(text, ' ') else {
+        return Err(MessageFault::Bad);
+    };
+    match read_size(size) {
+        Ok(most) => Ok((from, most)),
+        Err(fault) => Err(fault),
+    }
+}
+
+/// The part of the log that words ask for, of which this stands behind the first word.
+fn read_log(words: &str, text: &str) -> Result<Inquiry, MessageFault>
+    requires { words.now ≡ codes "log " ++ text.now }
+    ensures { Reads (AskInquiry words.now) result }
+{
+    match log_part(text) {
+        Ok((from, most)) => Ok(Inquiry::Log(from, most)),
+        Err(fault) => Err(fault),
+    }
+}
+
+/// What words that ask for no part of the log ask of what is held.
+fn read_held(alloc: Global, words: &str) -> Result<Inquiry, MessageFault>
+    requires { (text : List ℕ) → words.now ≡ codes "log " ++ text → ⊥ }
+    ensures { Reads (AskInquiry words.now) result }
+{
+    match read_words(alloc, words) {
+        Ok(question) => Ok(Inquiry::Held(question)),
+        Err(fault) => Err(fault),
+    }
+}
+
+/// What words ask of a book. Unreadable exactly where they ask nothing.
+fn read_inquiry(alloc: Global, words: &str) -> Result<Inquiry, MessageFault>
+    ensures { Reads (AskInquiry words.now) result }
+{
+    match behind(words, "log ") {
+        Some(text) => read_log(words, text),
+        None => read_held(alloc, words),
+    }
+}
+
+/// What a line that is a question asks. Unreadable exactly where it is none.
+pub fn read_question(alloc: Global, line: &[u8]) -> Result<Inquiry, MessageFault>
+    ensures { Reads (AsksInquiry line.now) result }
 {
     let Some(text) = line.strip_prefix(b"? ") else {
         return Err(MessageFault::Bad);
@@ -162,5 +210,5 @@ pub fn read_question(alloc: Global, line: &[u8]) -> Result<Question, MessageFaul
     let Ok(words) = str::from_utf8(text) else {
         return Err(MessageFault::Bad);
     };
-    read_words(alloc, words)
+    read_inquiry(alloc, words)
 }

@@ -27,7 +27,7 @@ fn told(alloc: Global, line: &str) -> Result<String, AllocError> {
 }
 
 /// What the words of a line ask for.
-static ASKED: [(&str, &str); 31] = [
+static ASKED: [(&str, &str); 35] = [
     ("run", "Run { file: None }"),
     ("run --file F", "Run { file: Some(\"F\") }"),
     ("table F object", "Table { file: \"F\", ring: \"object\" }"),
@@ -42,6 +42,8 @@ static ASKED: [(&str, &str); 31] = [
     ),
     ("show F --status", "Show { file: \"F\", what: Status }"),
     ("show --status F", "Show { file: \"F\", what: Status }"),
+    ("show F --metrics", "Show { file: \"F\", what: Metrics }"),
+    ("show --metrics F", "Show { file: \"F\", what: Metrics }"),
     (
         "preview F object --seed 7",
         "Show { file: \"F\", what: Preview { ring: \"object\", seed: 7, hour: None } }",
@@ -57,6 +59,11 @@ static ASKED: [(&str, &str); 31] = [
     (
         "moves F --each object 2 05",
         "Show { file: \"F\", what: Moves { ring: \"object\", from: \"2\", to: \"05\", each: true } }",
+    ),
+    ("log F", "Log { file: \"F\", from: None, lines: false }"),
+    (
+        "log --lines F --from 03",
+        "Log { file: \"F\", from: Some(\"03\"), lines: true }",
     ),
     ("renew F G", "Renew { file: \"F\", new: \"G\" }"),
     ("version", "Version"),
@@ -167,7 +174,7 @@ static NOT_OF_ITS_FORM: [&str; 29] = [
     "export F object 7 --format json",
 ];
 
-static OTHER_WORDS: [&str; 64] = [
+static OTHER_WORDS: [&str; 73] = [
     "",
     "ran",
     "Run",
@@ -182,6 +189,11 @@ static OTHER_WORDS: [&str; 64] = [
     "show F object --status",
     "show --status F object",
     "show F --status --status",
+    "show --metrics",
+    "show F object --metrics",
+    "show F --status --metrics",
+    "show F object --metrics --status",
+    "show F --metrics --metrics",
     "preview F object",
     "preview F object 7",
     "preview F --seed 7",
@@ -192,6 +204,10 @@ static OTHER_WORDS: [&str; 64] = [
     "moves F object 2 5 7",
     "moves F object 2 5 --each --each",
     "moves F object 2 5 --each=yes",
+    "log",
+    "log F 3",
+    "log F --from",
+    "log F --lines --lines",
     "nodes F tiny",
     "export F object",
     "export F object 7 swift",

@@ -168,6 +168,8 @@ shown_failed memory stores Begins Ends remaining contents reader writer later Ho
     after Refuses IsUnmade (task.Export file ring version written) showing why (inr work) =
     inr (refl, work.0, work.1)
 shown_failed memory stores Begins Ends remaining contents reader writer later Holds IsUnread before
+    after Refuses IsUnmade (task.Log file from lines) showing why (inr work) = absurd showing
+shown_failed memory stores Begins Ends remaining contents reader writer later Holds IsUnread before
     after Refuses IsUnmade (task.Run file) showing why (inr work) = absurd showing
 shown_failed memory stores Begins Ends remaining contents reader writer later Holds IsUnread before
     after Refuses IsUnmade (task.Serve file port count given names) showing why (inr work) =

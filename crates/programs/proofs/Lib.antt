@@ -7,5 +7,6 @@ pub mod Renewals
 pub mod Runs
 pub mod Services
 pub mod Telling
+pub mod Logs
 pub mod Lives
 pub mod ProgramLives

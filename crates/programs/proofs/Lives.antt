@@ -22,6 +22,7 @@ use Rattle.byte_streams.specs.declared.counted.CountedWriter.{CountedWriter}
 use Rattle.byte_streams.specs.declared.fault.StreamFault.{StreamFault}
 use Rattle.byte_streams.specs.declared.fault.StreamFault.TheVariants as stream
 use Rattle.builder.specs.Life.{IsProperCall, Lives}
+use Rattle.builder.specs.Safety.{Entries}
 use Rattle.builder.specs.Step.{State, Step}
 use Rattle.builder.specs.declared.machine.RingMachine.{RingMachine}
 use Rattle.command_line.specs.declared.task.Task.{Task}
@@ -65,6 +66,7 @@ use Rattle.programs.specs.Calls.{fewer_calls, import_calls, line_calls, loop_cal
 use Rattle.programs.specs.Calls.{port_calls, run_calls, serve_calls, service_calls, stops_calls}
 use Rattle.programs.specs.Calls.{stopped_calls, stopped_loop_calls, told_calls, undelivered_calls}
 use Rattle.programs.specs.Calls.{unimported_calls, until_calls, untold_calls, work_calls}
+use Rattle.programs.specs.Logging.{FailsToLogStore, IsLogged, LogsStore}
 use Rattle.programs.specs.Performed.{EndsBy, EndsSo, FailsSo, FailsToDo, FailsToShowStore}
 use Rattle.programs.specs.Performed.{ImportsFile, ShowsStore, texts_given}
 use Rattle.programs.specs.Founding.{AreNoRings, FailsToFound, IsMissing, found_fault}
@@ -169,6 +171,10 @@ module _ {K : Type 0} (g : Keeping K) (Begins Ends : K → Type 0) where
     pub asked_run : (Tells : Holding → Type 0) → IsAsked g Begins Ends Tells
         → IsOneRun g Begins Ends []
     asked_run Tells a = still_run a.keeper a.later a.opened a.left a.stays_sound a.stays
+
+    pub log_run : (Tells : Entries → Type 0) → IsLogged g Begins Ends Tells
+        → IsOneRun g Begins Ends []
+    log_run Tells a = still_run a.keeper a.later a.opened a.left a.stays_sound a.stays
 
     pub read_run : (IsSo : State → ℕ → Type 0) → IsRead g Begins Ends IsSo
         → IsOneRun g Begins Ends []
@@ -409,6 +415,12 @@ module _ {K W : Type 0} (stores : Keeping K) (Begins : K → Type 0)
   shown_run prefix suffix Asks s = whole_run (asked_run stores Begins (IsClosedWhole stores Ends) none
       _ s.2.1)
 
+  -- of one that wrote a log
+  logged_run : (word : Option (Bor (List ℕ))) (lines : Bool)
+      → LogsStore stores Begins Ends contents writer later word lines
+      → IsOneRun stores Begins (IsClosed Ends) []
+  logged_run word lines l = whole_run (log_run stores Begins (IsClosedWhole stores Ends) none _ l.2.1)
+
   -- of one that read a store
   renewed_run : (IsSo : State → ℕ → Type 0)
       → IsRead stores Begins (IsClosedWhole stores Ends) IsSo → IsOneRun stores Begins (IsClosed Ends) []
@@ -544,6 +556,24 @@ module _ {K W : Type 0} (stores : Keeping K) (Begins : K → Type 0)
         ]
       ]
 
+      -- of one that failed to write a log
+      log_failed : (word : Option (Bor (List ℕ))) (lines : Bool) (why : ProgramFault)
+          → OpensOne before after
+          → FailsToLogStore stores Begins Ends contents writer later Refuses word lines why
+          → OpensOnce why []
+      log_failed word lines why one f = elim f.2 [
+        | inl refused ↦ inl ((refused.0, refused.1), one)
+        | inr rest ↦ elim rest [
+          | inl failed ↦ inr (failed_run failed.0 (log_run stores Begins
+              (WasClosedAfter stores Ends failed.0) none _ failed.2.1))
+          | inr others ↦ elim others [
+            | inl closed ↦ inr (unclosed_run why (log_run stores Begins (FailedToClose Ends why) none
+                _ closed.1.1))
+            | inr unwritten ↦ inr (log_run stores Begins (WasClosed Ends) none _ unwritten.1.1)
+          ]
+        ]
+      ]
+
       old_unread : (why : ProgramFault) → OpensOne before after
           → FailsToRead stores Begins Ends Refuses why → OpensOnce why []
       old_unread why one (inl refused) = inl (refused, one)
@@ -655,6 +685,8 @@ module _ {M K R W : Type 0} (memory : Keeping M) (stores : Keeping K)
         writer later [] [] (AsksShown (task.Table file ring)) all.1
     done_once (task.Show file what) all = shown_run stores (Begins file.now) Ends none more contents
         writer later [] [] (AsksShown (task.Show file what)) all.1
+    done_once (task.Log file from lines) all = logged_run stores (Begins file.now) Ends none more
+        contents writer later from lines all.1
     done_once (task.Nodes file ring account container object names) all = shown_run stores
         (Begins file.now) Ends none more contents writer later names.prefix.now names.suffix.now
         (AsksShown (task.Nodes file ring account container object names)) all.1
@@ -684,6 +716,7 @@ module _ {M K R W : Type 0} (memory : Keeping M) (stores : Keeping K)
     refused_once (task.Loop file input given names) all = absurd all
     refused_once (task.Table file ring) all = absurd all
     refused_once (task.Show file what) all = absurd all
+    refused_once (task.Log file from lines) all = absurd all
     refused_once (task.Nodes file ring account container object names) all = absurd all
     refused_once (task.Export file ring version written) all = absurd all
     refused_once (task.Renew file fresh) all = absurd all
@@ -741,6 +774,8 @@ module _ {M K R W : Type 0} (memory : Keeping M) (stores : Keeping K)
     work_failed (task.Show file what) why all = at_opening (show_failed stores (Begins file.now) Ends
         none more contents writer later before after (Refuses file.now) [] [] (AsksShown (task.Show file what)) why
         all.2 all.1)
+    work_failed (task.Log file from lines) why all = at_opening (log_failed stores (Begins file.now)
+        Ends none more contents writer later before after (Refuses file.now) from lines why all.2 all.1)
     work_failed (task.Nodes file ring account container object names) why all = at_opening (show_failed
         stores (Begins file.now) Ends none more contents writer later before after (Refuses file.now)
         names.prefix.now names.suffix.now

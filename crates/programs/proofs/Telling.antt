@@ -61,6 +61,7 @@ fault_statuses (task.Loop file input given names) why = inl refl
 fault_statuses (task.Import file ring caller number csv given) why = inl refl
 fault_statuses (task.Table file ring) why = inl refl
 fault_statuses (task.Show file what) why = inl refl
+fault_statuses (task.Log file from lines) why = inl refl
 fault_statuses (task.Nodes file ring account container object names) why = inl refl
 fault_statuses (task.Export file ring version written) why = inl refl
 fault_statuses (task.Renew file fresh) why = inl refl
@@ -164,6 +165,7 @@ module _ {M K R W E : Type 0} (memory : Keeping M) (stores : Keeping K)
   tells_nothing (task.Import file ring caller number csv given) none why (inr work) = (inr work, refl)
   tells_nothing (task.Table file ring) none why (inr work) = (inr work, refl)
   tells_nothing (task.Show file what) none why (inr work) = (inr work, refl)
+  tells_nothing (task.Log file from lines) none why (inr work) = (inr work, refl)
   tells_nothing (task.Nodes file ring account container object names) none why (inr work) =
       (inr work, refl)
   tells_nothing (task.Export file ring version written) none why (inr work) = (inr work, refl)

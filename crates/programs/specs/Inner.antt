@@ -2,6 +2,7 @@
 pub mod Asked
 pub mod Forms
 pub mod Founding
+pub mod Pages
 pub mod Showing
 pub mod Tellings
 pub mod Until

@@ -7,6 +7,7 @@ pub mod Serving
 pub mod Service
 pub mod Importing
 pub mod Showing
+pub mod Logging
 pub mod Renewing
 pub mod Founding
 pub mod Version

@@ -56,6 +56,7 @@ store_of (task.Loop file input given names) = Some file.now
 store_of (task.Import file ring caller number csv given) = Some file.now
 store_of (task.Table file ring) = Some file.now
 store_of (task.Show file what) = Some file.now
+store_of (task.Log file from lines) = Some file.now
 store_of (task.Nodes file ring account container object names) = Some file.now
 store_of (task.Export file ring version written) = Some file.now
 store_of (task.Renew file fresh) = Some file.now

@@ -44,6 +44,7 @@ store_named (task.Loop file input given names) why = file.now
 store_named (task.Import file ring caller number csv given) why = file.now
 store_named (task.Table file ring) why = file.now
 store_named (task.Show file what) why = file.now
+store_named (task.Log file from lines) why = file.now
 store_named (task.Nodes file ring account container object names) why = file.now
 store_named (task.Export file ring version written) why = file.now
 store_named (task.Renew file fresh) why = named_of_two fresh.now (Some file.now) why

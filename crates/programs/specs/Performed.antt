@@ -18,6 +18,7 @@ use Rattle.builder.specs.Step.{State}
 use Rattle.programs.specs.Left.{Closes, FailsToMake, GivesNoText, GivesText, MakesStore}
 use Rattle.programs.specs.Left.{RefusesToOpen}
 use Rattle.programs.specs.Founding.{FailsToFound, Founds, IsThere, founding_lines}
+use Rattle.programs.specs.Logging.{FailsToLogStore, LogsStore}
 use Rattle.programs.specs.Renewing.{FailsToRenew, Renews}
 use Rattle.programs.specs.Running.{AnswersLines, FailsLines, StopsLines}
 use Rattle.programs.specs.Service.{StopsOnMachine, fault_status, machine_lines}
@@ -133,6 +134,9 @@ module _ {M K R W : Type 0} (memory : Keeping M) (stores : Keeping K)
           × ShowsStore stores (Begins file.now) Ends contents writer later [] []
           (AsksShown (task.Show file what))
           × OpensOne before after
+      EndsSo (task.Log file from lines) Done = (late_reader ≡ reader)
+          × LogsStore stores (Begins file.now) Ends contents writer later from lines
+          × OpensOne before after
       EndsSo (task.Export file ring version written) Done = (late_reader ≡ reader)
           × ShowsStore stores (Begins file.now) Ends contents writer later [] []
           (AsksShown (task.Export file ring version written))
@@ -182,6 +186,10 @@ module _ {M K R W : Type 0} (memory : Keeping M) (stores : Keeping K)
       FailsToDo (task.Show file what) why = (late_reader ≡ reader)
           × FailsToShowStore stores (Begins file.now) Ends contents writer later (Refuses file.now) [] []
           (AsksShown (task.Show file what)) why
+          × OpensOne before after
+      FailsToDo (task.Log file from lines) why = (late_reader ≡ reader)
+          × FailsToLogStore stores (Begins file.now) Ends contents writer later (Refuses file.now) from
+          lines why
           × OpensOne before after
       FailsToDo (task.Export file ring version written) why = (late_reader ≡ reader)
           × FailsToShowStore stores (Begins file.now) Ends contents writer later (Refuses file.now) [] []

@@ -1,6 +1,6 @@
 -- What the programs `table`, `show`, `preview`, `moves`, `nodes` and `export` show.
-use Rattle.std.specs.Prelude.{◌≡◌, ◌≢◌, ◌⊎◌, ⊤, ℕ, Bool, List, [], ◌∷◌, ◌++◌, Option, true}
-use Rattle.std.specs.Prelude.{if◌then◌else◌, unwrap_or}
+use Rattle.std.specs.Prelude.{◌≡◌, ◌≢◌, ◌⊎◌, ◌==◌, ⊤, ℕ, Bool, List, [], ◌∷◌, ◌++◌, Option, true}
+use Rattle.std.specs.Prelude.{if◌then◌else◌, None, Some, unwrap_or}
 use Rattle.ring_words.specs.Limits.{greatest_long}
 use Rattle.std.specs.Borrow.{Bor}
 use Rattle.std.specs.Option.{option_map}
@@ -30,6 +30,7 @@ use Rattle.request_book.specs.declared.keeper.KeepFault.{KeepFault}
 use Rattle.programs.specs.Begun.{Closing, FailedToClose, IsCloseFault, IsClosedWhole, IsStoreFault}
 use Rattle.programs.specs.Begun.{WasClosed, WasClosedAfter}
 use Rattle.programs.specs.Faults.{keep_fault}
+use Rattle.programs.specs.Serving.{TellsHour}
 use Rattle.programs.specs.declared.faults.ProgramFault.{ProgramFault}
 use Rattle.programs.specs.declared.faults.ProgramFault.TheVariants as fault
 use Rattle.ring_book.specs.Book.{Keeping, holding}
@@ -45,6 +46,7 @@ names_given account container object = names_of account.now (option_map (λ t. t
 abbrev pub AsksOfRing : List ℕ → (Read → Type 0) → Question → Type 0
 AsksOfRing word Is asking.Rings = ⊥
 AsksOfRing word Is asking.Status = ⊥
+AsksOfRing word Is asking.Metrics = ⊥
 AsksOfRing word Is (asking.Ring name what) = SpellsName is_label word name × Is what
 
 -- What `table` asks of the ring of this name.
@@ -71,11 +73,12 @@ AsksMoves name one other each question = AsksOfRing name (λ what. (from : ℕ)
     × SpellsNumber one 0 greatest_long from × ((to : ℕ) × SpellsNumber other 0 greatest_long to
     × (what ≡ moves_read from to each))) question
 
--- What `show` asks: for the rings, for the status, or for a ring; and what `preview` and `moves`
--- ask.
+-- What `show` asks: for the rings, for the status, for the metrics, or for a ring; and what
+-- `preview` and `moves` ask.
 abbrev pub AsksToShow : Shown → Question → Type 0
 AsksToShow shown.Rings question = question ≡ asking.Rings
 AsksToShow shown.Status question = question ≡ asking.Status
+AsksToShow shown.Metrics question = question ≡ asking.Metrics
 AsksToShow (shown.Ring name) question = AsksRing name.now question
 AsksToShow (shown.Preview ring seed hour) question = AsksPreview ring.now seed hour question
 AsksToShow (shown.Moves ring from to each) question =
@@ -109,10 +112,16 @@ IsNoName word = (name : List ℕ) → SpellsName is_label word name → ⊥
 abbrev pub IsNoNumber : List ℕ → Type 0
 IsNoNumber word = (number : ℕ) → SpellsNumber word 0 greatest_long number → ⊥
 
+-- A word is given that spells no place of a log.
+abbrev pub HasNoPlace : Option (Bor (List ℕ)) → Type 0
+HasNoPlace None = ⊥
+HasNoPlace (Some word) = IsNoNumber word.now
+
 -- The ring that is to be shown has no name that is spelt so, or a version is no number.
 abbrev pub HasNoName : Shown → Type 0
 HasNoName shown.Rings = ⊥
 HasNoName shown.Status = ⊥
+HasNoName shown.Metrics = ⊥
 HasNoName (shown.Ring name) = IsNoName name.now
 HasNoName (shown.Preview ring seed hour) = IsNoName ring.now
 HasNoName (shown.Moves ring from to each) = IsNoName ring.now ⊎ IsNoNumber from.now
@@ -131,6 +140,7 @@ abbrev pub HasBadWord : Task → Type 0
 HasBadWord (task.Table file ring) = IsNoName ring.now
 HasBadWord (task.Show file what) = HasNoName what
 HasBadWord (task.Export file ring version written) = IsNoName ring.now ⊎ IsNoNumber version.now
+HasBadWord (task.Log file from lines) = HasNoPlace from
 HasBadWord (task.Nodes file ring account container object names) = IsNoName ring.now
 HasBadWord (task.Import file ring caller number csv hour) = IsNoName ring.now ⊎ IsNoName caller.now
     ⊎ IsNoNumber number.now
@@ -160,6 +170,16 @@ ShowsAs prefix suffix question text held = (bytes : List ℕ)
     × Shows prefix suffix held question bytes
     × (text ≡ written_as question bytes)
 
+-- the hour that a question names in place of the clock's: that of a preview, where it isn't 0
+abbrev pub named_hour : Question → Option ℕ
+named_hour (asking.Ring name (Preview seed hour)) = if hour == 0 then None else Some hour
+named_hour other = None
+
+-- So it is, and the clock is the machine's, or was given the hour that the question names.
+abbrev pub ShowsNow : List ℕ → List ℕ → Question → List ℕ → Holding → Type 0
+ShowsNow prefix suffix question text held = TellsHour (named_hour question) held.clock
+    × ShowsAs prefix suffix question text held
+
 -- The fault tells why nothing is shown of a question where this is held.
 abbrev pub HidesAs : Question → ProgramFault → Holding → Type 0
 HidesAs question why held = (cause : Hidden) × Hides held question cause
@@ -183,7 +203,7 @@ module _ {K : Type 0} (g : Keeping K) (Begins Ends : K → Type 0) where
       (prefix suffix : List ℕ) where
     -- What is shown of it of a question was written and flushed.
     abbrev pub ShowsRead : Question → Type 0
-    ShowsRead question = (text : List ℕ) × IsAsked (ShowsAs prefix suffix question text)
+    ShowsRead question = (text : List ℕ) × IsAsked (ShowsNow prefix suffix question text)
         × Appends (contents (writer_of writer)) (contents (writer_of later)) text
         × (write_faults later ≡ write_faults writer) × IsFlushed later
 
@@ -195,7 +215,7 @@ module _ {K : Type 0} (g : Keeping K) (Begins : K → Type 0) (Ends : K → Clos
   ShowsNothing prefix suffix question why = ((cause : KeepFault) × (why ≡ keep_fault cause)
       × IsAsked g Begins (WasClosedAfter g Ends cause) (λ held. ⊤))
       ⊎ (IsCloseFault why × ((text : List ℕ)
-      × IsAsked g Begins (FailedToClose Ends why) (ShowsAs prefix suffix question text)))
+      × IsAsked g Begins (FailedToClose Ends why) (ShowsNow prefix suffix question text)))
       ⊎ IsAsked g Begins (WasClosed Ends) (λ held. HidesAs question why held)
 
   module _ {W : Type 0} (contents : W → Option (List ℕ)) (writer later : CountedWriter W)
@@ -208,6 +228,6 @@ module _ {K : Type 0} (g : Keeping K) (Begins : K → Type 0) (Ends : K → Clos
         (Refuses why × IsStoreFault why × (later ≡ writer))
         ⊎ (ShowsNothing prefix suffix question why × (later ≡ writer))
         ⊎ ((why ≡ fault.WriteFailed) × ((text : List ℕ)
-        × IsAsked g Begins (IsClosedWhole g Ends) (ShowsAs prefix suffix question text)
+        × IsAsked g Begins (IsClosedWhole g Ends) (ShowsNow prefix suffix question text)
         × WritesBeginning (contents (writer_of writer)) (contents (writer_of later)) text
         × (write_faults later ≡ one_more (write_faults writer))))

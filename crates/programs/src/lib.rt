@@ -16,6 +16,7 @@ mod hours;
 mod importing;
 pub mod laws;
 mod lines;
+mod logging;
 mod meanings;
 mod performing;
 mod renewing;

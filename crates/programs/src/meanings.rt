@@ -111,6 +111,7 @@ fn store_named<'a>(task: &Task<'a>, fault: ProgramFault) -> &'a str
         | Task::Import { file, .. }
         | Task::Table { file, .. }
         | Task::Show { file, .. }
+        | Task::Log { file, .. }
         | Task::Nodes { file, .. }
         | Task::Export { file, .. } => *file,
         Task::Run { file: Some(file) } => *file,

@@ -19,6 +19,7 @@ use crate::founding::{FoundAsk, found_store};
 use crate::hours::new_clock;
 use crate::importing::{ImportAsk, ask_import, import_table};
 use crate::lines::{MemoryKeeper, run_over_memory, run_over_store};
+use crate::logging::write_log;
 use crate::meanings::tell_meaning;
 use crate::renewing::renew_store;
 use crate::service::{ServiceAsk, is_lasting, serve_programs};
@@ -233,6 +234,10 @@ fn perform_task<S: Stores, R: Read, W: Write>(
         }
         Task::Table { .. } | Task::Show { .. } | Task::Nodes { .. } | Task::Export { .. } => {
             show_task(rt, task, writer, stores)
+        }
+        Task::Log { file, from, lines } => {
+            write_log(rt, *file, *from, *lines, writer, stores)?;
+            Ok(Ending::Done)
         }
         Task::Renew { file, new } => {
             renew_store(rt, *file, *new, stores)?;

@@ -11,7 +11,8 @@ ghost use Rattle.programs.specs.Showing.{AsksRing};
 ghost use Rattle.programs.specs.Showing.{AsksTables};
 ghost use Rattle.programs.specs.Showing.{AsksToShow, FailsToShow, HasNoName, HidesAs, ShowsNothing};
 ghost use Rattle.programs.specs.Showing.{IsAsked, IsFormFault, IsNoName, IsNoNumber, ShowsAs};
-ghost use Rattle.programs.specs.Showing.{ShowsRead};
+ghost use Rattle.programs.specs.Serving.{TellsHour};
+ghost use Rattle.programs.specs.Showing.{ShowsNow, ShowsRead, named_hour};
 ghost use Rattle.programs.specs.Showing.{hidden_fault, moves_read, names_given};
 ghost use Rattle.programs.specs.Left.{Closes, RefusesToOpen};
 ghost use Rattle.ring_book.specs.Book.{holding};
@@ -99,6 +100,7 @@ pub(crate) fn ask_shown(alloc: Global, what: Shown<'_>) -> Result<Question, Prog
     match what {
         Shown::Rings => Ok(Question::Rings),
         Shown::Status => Ok(Question::Status),
+        Shown::Metrics => Ok(Question::Metrics),
         Shown::Ring(ring) => ask_ring(alloc, ring),
         Shown::Preview { ring, seed, hour } => ask_preview(alloc, ring, seed, hour),
         Shown::Moves {
@@ -247,6 +249,16 @@ fn kept_bytes<K: Keeper<RingMachine>>(
     shown_bytes(alloc, names, &held_by(&*keeper, hour, clock), question)
 }
 
+/// The hour that a question names in place of the clock's: that of a preview, where it isn't 0.
+fn named_hour(question: &Question) -> Option<Hour>
+    ensures { result ≡ named_hour question.now }
+{
+    match question {
+        Question::Ring(_, Read::Preview(_, hour)) if *hour != 0 => Some(*hour),
+        _ => None,
+    }
+}
+
 /// What is shown of what a keeper holds at the hour of the clock, and the keeper as it is then.
 fn told_bytes<K: Keeper<RingMachine>>(
     alloc: Global,
@@ -255,9 +267,10 @@ fn told_bytes<K: Keeper<RingMachine>>(
     names: HashNames<'_>,
     question: &Question,
 ) -> (Result<Vec<u8>, ProgramFault>, K)
-    requires { K.fault_count keeper ≡ 0 }
+    requires clock { TellsHour (named_hour question.now) clock }
+    requires faults { K.fault_count keeper ≡ 0 }
     ensures shown { IfOk result.0 (λ bytes. IsAsked K.Keeper (λ k. k ≡ keeper) (λ k. k ≡ result.1)
-        (ShowsAs names.entry.prefix.now names.entry.suffix.now question.now bytes.items)) }
+        (ShowsNow names.entry.prefix.now names.entry.suffix.now question.now bytes.items)) }
     ensures fault { let Asked = IsAsked K.Keeper (λ k. k ≡ keeper) (λ k. k ≡ result.1) in
         IfErr result.0 (λ why. ((cause : KeepFault) × (why ≡ keep_fault cause)
         × HasFailedBy K.Keeper cause result.1 × Asked (λ held. ⊤))
@@ -269,7 +282,8 @@ fn told_bytes<K: Keeper<RingMachine>>(
     (bytes, keeper)
 }
 
-/// What is shown of a store, at the hour of the machine. The store is closed then.
+/// What is shown of a store, at the hour that the question names, or that of the machine. The store is
+/// closed then.
 fn store_bytes<S: Stores>(
     rt: &HostRuntime,
     file: &str,
@@ -279,14 +293,15 @@ fn store_bytes<S: Stores>(
 ) -> Result<Vec<u8>, ProgramFault>
     ensures opened { OpensOne (S.openings stores.old) (S.openings stores.new) }
     ensures shown { IfOk result (λ bytes. IsAsked S.Kept.Keeper (S.begins file.now) (IsClosedWhole
-        S.Kept.Keeper (Closes S.Stores)) (ShowsAs names.entry.prefix.now names.entry.suffix.now
+        S.Kept.Keeper (Closes S.Stores)) (ShowsNow names.entry.prefix.now names.entry.suffix.now
         question.now bytes.items)) }
     ensures fault { IfErr result (λ why. (RefusesToOpen S.Stores file.now why × IsStoreFault why)
         ⊎ ShowsNothing S.Kept.Keeper (S.begins file.now) (Closes S.Stores) names.entry.prefix.now
         names.entry.suffix.now question.now why) }
 {
     let keeper = open_store(rt, file, stores)?;
-    let (bytes, keeper) = told_bytes(rt.alloc(), keeper, hour_of(rt, None), names, question);
+    let clock = hour_of(rt, named_hour(question));
+    let (bytes, keeper) = told_bytes(rt.alloc(), keeper, clock, names, question);
     let closed = close_store::<S>(keeper);
     let bytes = bytes?;
     closed?;

@@ -6,3 +6,5 @@ pub mod Places
 pub mod Fronts
 pub mod FirstCalls
 pub mod Settles
+pub mod Pages
+pub mod Log

@@ -7,14 +7,16 @@ use Rattle.request_book.specs.declared.book.Fault.{Fault}
 use Rattle.request_book.specs.declared.book.Fault.TheVariants.{BookFull, Closed, NoMemory}
 use Rattle.request_book.specs.declared.book.Fault.TheVariants.{NumberReused, StoreFault}
 
--- A call with its answer: of a delivery, or of the state to be read between deliveries.
+-- A call with its answer: of a delivery, or of the state or of entries to be read between
+-- deliveries.
 pub data Call (C R : Type 0) : Type 0 where
   Deliver : Delivery C → Result R Fault → Call C R
   Load : Result (Unit {0}) Fault → Call C R
 
--- the answer of the call that makes the state ready, without the hour that it tells
-abbrev pub ready : Result ℕ Fault → Result (Unit {0}) Fault
-ready (Ok hour) = Ok tt
+-- the answer of a call that changes nothing, without what it tells: the hour of the one that makes
+-- the state ready, the entries of the one that reads them
+abbrev pub ready : {A : Type 0} → Result A Fault → Result (Unit {0}) Fault
+ready (Ok told) = Ok tt
 ready (Err fault) = Err fault
 
 -- the deliveries of a list, each with its answer

@@ -3,6 +3,7 @@ pub mod Call
 pub mod Called
 pub mod Content
 pub mod Keeper
+pub mod Log
 pub mod Made
 pub mod Once
 pub mod Run

@@ -5,12 +5,13 @@ ghost use Rattle.request_book.specs.Book.{Parts};
 ghost use Rattle.request_book.specs.Call.{ClosesAfterFault, Deliver, FaultsTold, Load, calls_of};
 ghost use Rattle.request_book.specs.Call.{ready};
 ghost use Rattle.request_book.specs.Called.{Called};
-ghost use Rattle.request_book.specs.Content.{entry_of};
+ghost use Rattle.request_book.specs.Content.{entries_from, entry_of};
 ghost use Rattle.request_book.specs.Inner.Deciding.{MayDecide};
 ghost use Rattle.request_book.specs.Keeper.{CrashLeaves, HasCause, LeavesOnly};
 ghost use Rattle.request_book.specs.Made.{Makes};
 ghost use Rattle.request_book.specs.Run.{AnswersAlike, Run};
 
+use crate::entry::Entry;
 use crate::keeper::{Found, KeepFault, Keeper};
 use crate::machine::Machine;
 use ring_words::{Delivery, Hour, Key};
@@ -250,6 +251,35 @@ impl<M: Machine, K: Keeper<M>> Book<M, K> {
         ensures { K.sound self.now.keeper → result.now ≡ (K.content self.now.keeper).state }
     {
         self.keeper.state()
+    }
+
+    /// The entries of the book from a place on, by rising place, and at most `most` of them: each
+    /// request that was decided with the hour that it was decided at and its reply. The place of an
+    /// entry is how many were decided before it. The content stays. Faults are as those of `load`.
+    #[tactic(auto, using(crate::proofs::Runs::run_one))]
+    pub fn entries(
+        &mut self,
+        from: u32,
+        most: u32,
+    ) -> Result<Vec<Entry<M::Command, M::Reply>>, Fault>
+        ensures entries { K.sound self.new.keeper → IfOk result (λ entries. entries.items ≡
+            entries_from from most (K.content self.old.keeper).book) }
+        ensures run { K.sound self.new.keeper →
+            Run (M.step self.old.machine) (K.limit self.old.keeper) (nat_lt 0 (K.fault_count self.old.keeper))
+            (K.content self.old.keeper) (Load (ready result) ∷ []) (K.content self.new.keeper) }
+        ensures made { Makes M.step K.content K.sound K.limit K.fault_count K.may_leave self.old
+            self.new
+            (Load (ready result)) }
+        ensures content { K.sound self.new.keeper → K.content self.new.keeper ≡ K.content
+            self.old.keeper }
+        ensures left { K.sound self.new.keeper → K.fault_count self.old.keeper ≡ 0 →
+            LeavesOnly (K.may_leave self.new.keeper) (K.content self.old.keeper) }
+    {
+        if self.is_closed() {
+            return Err(Fault::Closed);
+        }
+        let entries = self.keeper.entries(self.alloc, from, most)?;
+        Ok(entries)
     }
 
     /// How many requests it has decided, each with its reply. It touches nothing.

@@ -1,13 +1,29 @@
 //! The entries of a book in memory, in the order of the decisions, each found by its key.
-ghost use Rattle.std.specs.Prelude.{◌++◌, ◌≡◌, ◌∷◌, [], None, OnErr, OnOk, length};
+ghost use Rattle.std.specs.Prelude.{◌++◌, ◌≡◌, ◌∷◌, [], None, OnErr, OnOk, drop, length, take};
 ghost use Rattle.std.specs.Option.{option_copied};
-ghost use Rattle.request_book.specs.Content.{entry_of};
+ghost use Rattle.request_book.specs.Content.{entries_from, entry_of};
 
 use crate::entry::Entry;
 use ring_words::Key;
 use std::alloc::{AllocError, Global};
 use std::collections::BTreeMap;
 use std::marker::Model;
+
+/// The first ones, at most so many.
+#[tactic(auto, using(crate::proofs::Pages::first_are))]
+fn first_of<T>(list: &[T], most: usize) -> &[T]
+    ensures { result.now ≡ take most list.now }
+{
+    &list[..list.len().min(most)]
+}
+
+/// Those behind the first so many.
+#[tactic(auto, using(crate::proofs::Pages::others_are))]
+fn behind<T>(list: &[T], count: usize) -> &[T]
+    ensures { result.now ≡ drop count list.now }
+{
+    &list[list.len().min(count)..]
+}
 
 /// The entries of a book, no two of one key. Contracts see them in their order.
 #[derive(Drop)]
@@ -55,6 +71,13 @@ impl<C, R> Entries<C, R> {
             Some(place) => Some(&self.list[*place]),
             None => None,
         }
+    }
+
+    /// Those from a place on, at most so many.
+    pub(crate) fn page(&self, from: usize, most: usize) -> &[Entry<C, R>]
+        ensures { result.now ≡ entries_from from most self.now }
+    {
+        first_of(behind(self.list.as_slice(), from), most)
     }
 
     /// Adds an entry of a new key at the end.

@@ -1,13 +1,14 @@
 //! What keeps the state, the decided requests and the greatest hour.
 ghost use Rattle.std.specs.Prelude.{◌≡◌, ◌≤◌, ◌<◌, ◌↔◌, None, IfOk, IsTrue, OnOk, Option, length};
 ghost use Rattle.std.specs.Prelude.{ℕ};
-ghost use Rattle.request_book.specs.Content.{Content, entry_of};
+ghost use Rattle.request_book.specs.Content.{Content, entries_from, entry_of};
 ghost use Rattle.request_book.specs.declared.keeper.KeepFault.TheVariants.{NoMemory};
 ghost use Rattle.request_book.specs.Keeper.{Commits, CrashLeaves, HasCause, IsFound, LeavesOnly};
 
+use crate::entry::Entry;
 use crate::machine::Machine;
 use ring_words::{Hour, Key};
-use std::alloc::AllocError;
+use std::alloc::{AllocError, Global};
 
 /// What a look finds of a key and a command.
 #[derive(Clone, Copy, Debug)]
@@ -83,6 +84,24 @@ pub trait Keeper<M: Machine> {
         requires { fault_count self.old ≡ 0 }
         ensures full { sound self.new → IfOk result (λ full. IsTrue full ↔
             (limit self.old ≤ length (content self.old).book)) }
+        ensures content { sound self.new → content self.new ≡ content self.old }
+        ensures left { sound self.new → LeavesOnly (may_leave self.new) (content self.old) }
+        ensures sound { sound self.new → sound self.old }
+        ensures limit { limit self.new ≡ limit self.old }
+        ensures cause { HasCause (fault_count self.old) (fault_count self.new) result };
+
+    /// The entries of the book from a place on, by rising place, and at most `most` of them. The
+    /// place of an entry is how many were decided before it. They are made in the allocator's
+    /// memory. The content stays.
+    fn entries(
+        &mut self,
+        alloc: Global,
+        from: u32,
+        most: u32,
+    ) -> Result<Vec<Entry<M::Command, M::Reply>>, KeepFault>
+        requires { fault_count self.old ≡ 0 }
+        ensures entries { sound self.new → IfOk result (λ entries. entries.items ≡
+            entries_from from most (content self.old).book) }
         ensures content { sound self.new → content self.new ≡ content self.old }
         ensures left { sound self.new → LeavesOnly (may_leave self.new) (content self.old) }
         ensures sound { sound self.new → sound self.old }

@@ -1,11 +1,13 @@
 //! What follows from the definitions alone.
-ghost use Rattle.std.specs.Prelude.{[], Bool, List, ℕ};
+ghost use Rattle.std.specs.Prelude.{◌+◌, ◌≡◌, ◌≤◌, [], Bool, List, None, false, length, ℕ};
 ghost use Rattle.request_book.specs.Book.{Parts};
-ghost use Rattle.request_book.specs.Call.{Call};
+ghost use Rattle.request_book.specs.Call.{Call, calls_of, failed};
 ghost use Rattle.request_book.specs.Called.{RunsGoOn};
-ghost use Rattle.request_book.specs.Content.{Content};
+ghost use Rattle.request_book.specs.Content.{Content, entries_from};
 ghost use Rattle.request_book.specs.Front.{CallsGoOn, CallsMade};
-ghost use Rattle.request_book.specs.Run.{AnswersAlike, RepeatsAreKept, Run};
+ghost use Rattle.request_book.specs.Log.{log_answers, log_deliveries};
+ghost use Rattle.request_book.specs.Once.{once};
+ghost use Rattle.request_book.specs.Run.{AnswersAlike, RepeatsAreKept, Run, kept};
 
 use crate::keeper::Keeper;
 use crate::machine::Machine;
@@ -26,6 +28,29 @@ pub fn replies_are_alike<M: Machine>()
     ensures alike { (machine : M) (limit : ℕ) (closed : Bool) (old new : Content M.State M.Command
         M.Reply) (calls : List (Call M.Command M.Reply)) → Run (M.step machine) limit closed old
         calls new → AnswersAlike calls }
+{}
+
+/// The log is the run: where the store failed in no call, the entries behind those that a run found
+/// are the deliveries that it decided, each once, in the order of first decision, at the hours that
+/// were used and with the replies that were given. So is each page of them.
+pub fn the_log_is_the_run<M: Machine>()
+    ensures { (machine : M) (limit : ℕ) (closed : Bool) (old new : Content M.State M.Command
+        M.Reply) (calls : List (Call M.Command M.Reply)) (place most : ℕ)
+        → Run (M.step machine) limit closed old calls new → failed calls ≡ None
+        → entries_from (length old.book + place) most new.book
+        ≡ entries_from place most (kept old.hour (once old.book calls)) }
+{}
+
+/// The log of a run that began with an empty book can be run again: its entries as deliveries, over
+/// what the run began with and under the same limit, may be answered by the kept replies, and leave
+/// the state, the book and the hour that the run left.
+pub fn a_log_can_be_run_again<M: Machine>()
+    ensures { (machine : M) (limit : ℕ) (closed : Bool) (old new : Content M.State M.Command
+        M.Reply) (calls : List (Call M.Command M.Reply))
+        → Run (M.step machine) limit closed old calls new → failed calls ≡ None
+        → old.book ≡ [] → length new.book ≤ limit
+        → Run (M.step machine) limit false old
+        (calls_of (log_deliveries new.book) (log_answers new.book)) new }
 {}
 
 /// No call leaves the book as it is, and the calls so far and one more are one run: so all calls of

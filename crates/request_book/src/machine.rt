@@ -45,6 +45,10 @@ pub trait Machine {
     fn same(a: &Self::Command, b: &Self::Command) -> bool
         ensures { IsTrue result ↔ (a.now ≡ b.now) };
 
+    /// The same command, in memory of its own.
+    fn copy(command: &Self::Command) -> Result<Self::Command, AllocError>
+        ensures { IfOk result (λ copy. copy ≡ command.now) };
+
     /// Whether a reply says that the command was refused.
     fn is_refusal(reply: &Self::Reply) -> bool
         ensures { result ≡ refuses reply.now };

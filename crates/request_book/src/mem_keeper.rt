@@ -1,7 +1,7 @@
 //! A keeper in memory.
-ghost use Rattle.std.specs.Prelude.{◌≡◌, [], Some, refl, ℕ};
+ghost use Rattle.std.specs.Prelude.{◌≡◌, [], IfOk, Some, refl, ℕ};
 ghost use Rattle.std.specs.Option.{option_copied};
-ghost use Rattle.request_book.specs.Content.{Content, entry_of};
+ghost use Rattle.request_book.specs.Content.{Content, entries_from, entry_of};
 ghost use Rattle.request_book.specs.Inner.Only.{is_only};
 
 use crate::entries::Entries;
@@ -9,8 +9,38 @@ use crate::entry::Entry;
 use crate::keeper::{Found, KeepFault, Keeper};
 use crate::machine::Machine;
 use ring_words::{Hour, Key, Limits};
-use std::alloc::Global;
+use std::alloc::{AllocError, Global};
 use std::marker::Model;
+
+/// The same entry, in memory of its own.
+fn copy_entry<M: Machine>(
+    entry: &Entry<M::Command, M::Reply>,
+) -> Result<Entry<M::Command, M::Reply>, AllocError>
+    ensures { IfOk result (λ copy. copy ≡ entry.now) }
+{
+    let key = entry.key.clone()?;
+    let command = M::copy(&entry.command)?;
+    Ok(Entry {
+        key,
+        hour: entry.hour,
+        command,
+        reply: entry.reply,
+    })
+}
+
+/// The same entries, in memory of their own.
+fn copy_entries<M: Machine>(
+    alloc: Global,
+    entries: &[Entry<M::Command, M::Reply>],
+) -> Result<Vec<Entry<M::Command, M::Reply>>, AllocError>
+    ensures { IfOk result (λ copies. copies.items ≡ entries.now) }
+{
+    let mut copies = Vec::new(alloc);
+    'copies: for entry in entries {
+        copies.push(copy_entry::<M>(entry)?)?;
+    }
+    Ok(copies)
+}
 
 /// A state beside its book, in memory. Contracts see its content, and the number of entries that it
 /// may have.
@@ -77,6 +107,16 @@ impl<M: Machine> Keeper<M> for MemKeeper<M::State, M::Command, M::Reply> {
 
     fn is_full(&mut self) -> Result<bool, KeepFault> {
         Ok(self.entries.len() >= self.limit as usize)
+    }
+
+    fn entries(
+        &mut self,
+        alloc: Global,
+        from: u32,
+        most: u32,
+    ) -> Result<Vec<Entry<M::Command, M::Reply>>, KeepFault> {
+        let page = self.entries.page(from as usize, most as usize);
+        Ok(copy_entries::<M>(alloc, page)?)
     }
 
     fn count(&self) -> usize {

@@ -128,6 +128,59 @@ fn each_number_is_decided_once(rt: HostRuntime) -> Result<(), Fail> {
     Ok(())
 }
 
+/// An hour that was decided at, a number, the change under it and its reply.
+type Kept = (Hour, u32, Change, Counted);
+
+/// Whether a page of a book's entries is this. Where memory is refused once, it asks again.
+fn has_page<K: Keeper<Counter>>(
+    book: &mut Book<Counter, K>,
+    from: u32,
+    most: u32,
+    page: &[Kept],
+) -> bool {
+    let entries = match book.entries(from, most) {
+        Err(Fault::NoMemory) => book.entries(from, most),
+        first => first,
+    };
+    match entries {
+        Ok(entries) => {
+            entries.len() == page.len()
+                && entries.iter().zip(page).all(|(entry, kept)| {
+                    (entry.hour, entry.key.number, entry.command, entry.reply) == *kept
+                })
+        }
+        Err(_) => false,
+    }
+}
+
+#[test]
+fn entries_are_told_by_place(rt: HostRuntime) -> Result<(), Fail> {
+    let alloc = rt.alloc();
+    let rows = [
+        (3, 9, Change::Add(7), done(3, 7)),
+        // Neither a repeat nor a number that was used has an entry of its own.
+        (9, 9, Change::Add(7), done(3, 7)),
+        (9, 9, Change::Reset, Err(Fault::NumberReused)),
+        (2, 2, Change::Add(1), done(3, 8)),
+        (6, 3, Change::Add(5), past_bound(6)),
+        (1, 1, Change::Reset, done(6, 0)),
+    ];
+    let log = [
+        (3, 9, Change::Add(7), Counted::Done { hour: 3, count: 7 }),
+        (3, 2, Change::Add(1), Counted::Done { hour: 3, count: 8 }),
+        (6, 3, Change::Add(5), Counted::PastBound { hour: 6 }),
+        (6, 1, Change::Reset, Counted::Done { hour: 6, count: 0 }),
+    ];
+    let mut book = open(alloc, 6);
+    assert_eq!(rt; other_answer(alloc, &mut book, &rows)?, None);
+    assert!(rt; has_page(&mut book, 0, 100, &log));
+    assert!(rt; has_page(&mut book, 1, 2, &log[1..3]));
+    assert!(rt; has_page(&mut book, 3, 2, &log[3..]));
+    assert!(rt; has_page(&mut book, 4, 2, &[]));
+    assert!(rt; has_page(&mut book, 0, 0, &[]));
+    Ok(())
+}
+
 /// A book whose store fails in the call of its keeper that comes after so many.
 fn open_flaky(alloc: Global, calls: u64, keeps_last: bool) -> Book<Counter, Flaky<Memory>> {
     let machine = Counter { bound: 10 };
@@ -190,6 +243,16 @@ fn a_failed_read_closes_the_book(rt: HostRuntime) -> Result<(), Fail> {
     let mut book = open_flaky(alloc, 0, false);
     assert!(rt; book.load() == Err(Fault::StoreFault));
     assert!(rt; is_closed(alloc, &mut book)?);
+    Ok(())
+}
+
+#[test]
+fn a_failed_page_closes_the_book(rt: HostRuntime) -> Result<(), Fail> {
+    let alloc = rt.alloc();
+    let mut book = open_flaky(alloc, 0, false);
+    assert!(rt; matches!(book.entries(0, 1), Err(Fault::StoreFault)));
+    assert!(rt; is_closed(alloc, &mut book)?);
+    assert!(rt; matches!(book.entries(0, 1), Err(Fault::Closed)));
     Ok(())
 }
 

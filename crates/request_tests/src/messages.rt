@@ -1,7 +1,7 @@
 //! Messages, commands and replies: worked texts, each read and written, and hostile ones.
 use ring_messages::{
-    MessageFault, NO_MEMORY_TEXT, Told, command_text, no_memory, read_command, read_delivery,
-    read_reply, reply_text, status_of, told_text,
+    MessageFault, NO_MEMORY_TEXT, Told, command_text, message_text, no_memory, read_command,
+    read_delivery, read_reply, reply_text, status_of, told_text,
 };
 use ring_words::{Deed, Done, Refusal, Reply, RowCause};
 use serde_json::Value;
@@ -480,7 +480,7 @@ fn faults_of_paths_and_tables_have_a_text_and_a_status(rt: HostRuntime) -> Resul
 }
 
 /// Messages of commands that make no device, and the texts of these commands.
-static WITHOUT_A_DEVICE: [(&str, &str); 6] = [
+static WITHOUT_A_DEVICE: [(&str, &str); 8] = [
     (
         "{\"caller\":\"ann\",\"number\":1,\"ring\":\"object\",\"do\":\"remove\",\"id\":65535}",
         "{\"do\":\"remove\",\"id\":65535,\"ring\":\"object\"}",
@@ -505,11 +505,62 @@ static WITHOUT_A_DEVICE: [(&str, &str); 6] = [
         "{\"caller\":\"ann\",\"number\":6,\"seed\":4294967295,\"ring\":\"object\",\"do\":\"rebalance\"}",
         "{\"do\":\"rebalance\",\"ring\":\"object\",\"seed\":4294967295}",
     ),
+    (
+        "{\"caller\":\"ann\",\"number\":7,\"ring\":\"object\",\"do\":\"keep\",\"id\":65535}",
+        "{\"do\":\"keep\",\"id\":65535,\"ring\":\"object\"}",
+    ),
+    (
+        "{\"caller\":\"ann\",\"number\":8,\"version\":8,\"seed\":5,\"ring\":\"object\",\"do\":\"rebalance_as\",\"hour\":480000}",
+        "{\"do\":\"rebalance_as\",\"hour\":480000,\"ring\":\"object\",\"seed\":5,\"version\":8}",
+    ),
 ];
 
 #[test]
 fn commands_without_a_device_are_read_and_written(rt: HostRuntime) -> Result<(), Fail> {
     check_messages(rt.alloc(), &WITHOUT_A_DEVICE)
+}
+
+/// Messages that ask for a rebalance as it was foretold, and lack a part, or have one of another form.
+static BAD_FORETOLD: [&str; 5] = [
+    "{\"caller\":\"ann\",\"number\":8,\"ring\":\"object\",\"do\":\"rebalance_as\",\"seed\":5,\"version\":8}",
+    "{\"caller\":\"ann\",\"number\":8,\"ring\":\"object\",\"do\":\"rebalance_as\",\"hour\":480000,\"seed\":5}",
+    "{\"caller\":\"ann\",\"number\":8,\"ring\":\"object\",\"do\":\"rebalance_as\",\"hour\":480000,\"version\":8}",
+    "{\"caller\":\"ann\",\"number\":8,\"ring\":\"object\",\"do\":\"rebalance_as\",\"hour\":4294967296,\"seed\":5,\"version\":8}",
+    "{\"caller\":\"ann\",\"number\":8,\"ring\":\"object\",\"do\":\"rebalance\",\"hour\":480000,\"seed\":5,\"version\":8}",
+];
+
+#[test]
+fn a_foretold_rebalance_names_seed_version_and_hour(rt: HostRuntime) -> Result<(), Fail> {
+    let alloc = rt.alloc();
+    for text in &BAD_FORETOLD {
+        if is_read(read_delivery(alloc, text.as_bytes()))? {
+            return Err(Fail::new(format_args!("{text}")));
+        }
+    }
+    Ok(())
+}
+
+/// Texts of requests, in which the members of a message stand in byte order of their keys.
+static REQUESTS: [&str; 3] = [
+    "{\"caller\":\"ann\",\"do\":\"rebalance_as\",\"hour\":480000,\"number\":8,\"ring\":\"object\",\"seed\":5,\"version\":8}",
+    "{\"address\":\"10.0.0.1\",\"caller\":\"ann\",\"do\":\"add\",\"name\":\"d1\",\"number\":4294967295,\"port\":6200,\"region\":1,\"ring\":\"object\",\"weight\":\"1.00\",\"zone\":2}",
+    "{\"caller\":\"b\",\"do\":\"publish\",\"number\":0,\"ring\":\"object\"}",
+];
+
+/// Fails at the first text that, read as a message, isn't the text of what was read.
+fn check_requests(alloc: Global, texts: &[&str]) -> Result<(), Fail> {
+    for text in texts {
+        let (key, command) = read_delivery(alloc, text.as_bytes())?;
+        if message_text(alloc, &key, &command)?.as_str() != *text {
+            return Err(Fail::new(format_args!("{text}")));
+        }
+    }
+    Ok(())
+}
+
+#[test]
+fn a_request_is_written_as_its_message(rt: HostRuntime) -> Result<(), Fail> {
+    check_requests(rt.alloc(), &REQUESTS)
 }
 
 /// Whether a message is read that imports what this text spells.
@@ -562,7 +613,7 @@ fn rows_are_read_and_written(rt: HostRuntime) -> Result<(), Fail> {
 }
 
 /// Replies to the other commands, and their texts.
-static EVERY_COMMAND: [(Reply, &str); 7] = [
+static EVERY_COMMAND: [(Reply, &str); 9] = [
     (
         Reply::Done(Done {
             version: 7,
@@ -619,6 +670,24 @@ static EVERY_COMMAND: [(Reply, &str); 7] = [
         }),
         "{\"added\":1,\"done\":\"import\",\"reweighted\":18446744073709551615,\"version\":7}",
     ),
+    (
+        Reply::Done(Done {
+            version: 7,
+            deed: Deed::Keep,
+        }),
+        "{\"done\":\"keep\",\"version\":7}",
+    ),
+    (
+        Reply::Done(Done {
+            version: 8,
+            deed: Deed::RebalanceAs {
+                balance: 12345,
+                changed: 4294967295,
+                dispersion: 1,
+            },
+        }),
+        "{\"balance\":12345,\"changed\":4294967295,\"dispersion\":1,\"done\":\"rebalance_as\",\"version\":8}",
+    ),
 ];
 
 #[test]
@@ -627,7 +696,7 @@ fn replies_of_every_command_are_written_and_read_back(rt: HostRuntime) -> Result
 }
 
 /// Further refusals and their texts.
-static LATER_REFUSALS: [(Reply, &str); 4] = [
+static LATER_REFUSALS: [(Reply, &str); 7] = [
     (
         Reply::Refused(Refusal::TooFewDevices),
         "{\"refused\":\"TooFewDevices\",\"rule\":9}",
@@ -643,6 +712,18 @@ static LATER_REFUSALS: [(Reply, &str); 4] = [
     (
         Reply::Refused(Refusal::PowerLimit),
         "{\"refused\":\"PowerLimit\",\"rule\":14}",
+    ),
+    (
+        Reply::Refused(Refusal::NotMarked),
+        "{\"refused\":\"NotMarked\",\"rule\":15}",
+    ),
+    (
+        Reply::Refused(Refusal::OtherVersion),
+        "{\"refused\":\"OtherVersion\",\"rule\":16}",
+    ),
+    (
+        Reply::Refused(Refusal::OtherHour),
+        "{\"refused\":\"OtherHour\",\"rule\":17}",
     ),
 ];
 

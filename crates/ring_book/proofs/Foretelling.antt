@@ -1,7 +1,9 @@
 -- What is told of a rebalance before it is done is what it does.
 use Rattle.std.proofs.Common.{◌≡◌, ◌≢◌, ◌∙◌, ℕ, List, Some, ap, inl, inr, max, refl, sym}
-use Rattle.builder.specs.Preview.{Rebalances}
+use Rattle.builder.specs.Preview.{Rebalances, asked_as}
 use Rattle.builder.specs.Step.{MovesSeats, State}
+use Rattle.builder.proofs.Foretold.{gives_foretold, is_as_told}
+use Rattle.builder.proofs.Kept.{kept_to}
 use Rattle.builder.proofs.Previews.{gives_ring, refused_few, refused_missing}
 use Rattle.ring_messages.specs.declared.told.Told.TheVariants as told
 use Rattle.ring_model.specs.Ring.{RingRecord}
@@ -17,8 +19,31 @@ use Rattle.ring_reads.specs.declared.reads.Read.TheVariants as read
 use Rattle.ring_words.specs.declared.request.Limits.{Limits}
 use Rattle.ring_words.specs.declared.command.Reply.{Reply}
 use Rattle.ring_words.specs.declared.command.Reply.TheVariants as reply
-use Rattle.ring_book.specs.Foretold.{Foretells}
+use Rattle.ring_book.specs.Foretold.{Binds, Foretells}
 use Rattle.ring_book.specs.Told.{told_hidden}
+
+-- a text of a preview binds the rebalances that ask for what it tells
+pub bound : (limits : Limits) (held : Holding) (prefix suffix name text : List ℕ) (seed asked : ℕ) →
+    Shows prefix suffix held (question.Ring name (read.Preview seed asked)) text →
+    Binds limits name (max (hour_now held) asked) seed held.rings text
+bound limits held prefix suffix name text seed asked shown =
+    let hour = max (hour_now held) asked in
+    let old : RingRecord = shown.0 in
+    let seen : IsPreviewJson name old (max (hour_now held) asked) seed text = shown.2 in
+    record {
+      old = old;
+      new = seen.new;
+      was = shown.1;
+      told = seen.tells;
+      done = λ rings after answer is step. gives_foretold limits rings after hour name seed answer old
+          seen.new is seen.enough seen.seeded step;
+      only = λ rings after at answer step.
+          let is = is_as_told limits rings after at name (asked_as hour seed seen.new) answer step in
+          (is.hour_told, is.version);
+      kept = λ begin end entries rings way i j entry less there was below done.
+          kept_to limits begin end entries rings way name i j old seen.new
+          (asked_as hour seed seen.new) entry less there was seen.seeded refl below done;
+    }
 
 pub foretold : (limits : Limits) (held : Holding) (rings after : State)
     (prefix suffix name text : List ℕ) (seed asked : ℕ) (answer : Reply) →

@@ -2,11 +2,15 @@
 use Rattle.std.proofs.Common.{◌≡◌, ◌∙◌, ℕ, List, Result, Ok, Err, ap, sym}
 use Rattle.std.specs.Prelude.{MatchResult}
 use Rattle.builder.specs.Life.{BookContent}
+use Rattle.builder.specs.Safety.{Entries}
+use Rattle.ring_log.specs.Log.{log_json}
+use Rattle.ring_log.specs.declared.inquiry.Inquiry.TheVariants as inquiry
 use Rattle.ring_messages.specs.declared.told.Told.{Told}
+use Rattle.ring_messages.specs.declared.told.Told.TheVariants as told
 use Rattle.ring_reads.specs.Holding.{Holding}
 use Rattle.ring_reads.specs.Reads.{Shows}
 use Rattle.ring_reads.specs.declared.reads.Question.{Question}
-use Rattle.ring_book.specs.Book.{Keeping, holding, holding_with}
+use Rattle.ring_book.specs.Book.{Finding, Keeping, holding, holding_with}
 use Rattle.ring_book.specs.Reads.{IsReadAs, TellsHidden}
 
 -- what is held in every part alike is the same
@@ -29,13 +33,22 @@ still_held kept clock keeper later content limit =
     ∙ ap (λ (most : ℕ). holding_with (kept.content keeper) most clock) limit
 
 -- what is read of what was found is read as it is to be
-pub read_as : (Finds : Holding → Type 0) (prefix suffix : List ℕ) (question : Question)
-    (held : Holding) {A : Type 0} (result : Result A Told) (bytes_of : A → List ℕ) → Finds held →
+pub read_as : (Finds : Finding) (prefix suffix : List ℕ) (question : Question)
+    (held : Holding) {A : Type 0} (result : Result A Told) (bytes_of : A → List ℕ) →
+    Finds.held held →
     MatchResult result (λ shown. Shows prefix suffix held question (bytes_of shown))
     (TellsHidden held question) →
-    IsReadAs Finds prefix suffix question (Ok tt) result bytes_of
+    IsReadAs Finds prefix suffix (inquiry.Held question) (Ok tt) result bytes_of
 read_as Finds prefix suffix question held (Ok shown) bytes_of found shows = (held, found, shows)
 read_as Finds prefix suffix question held (Err told) bytes_of found tells = (held, found, tells)
+
+-- what is read of the entries that were found is read as it is to be
+pub log_as : (Finds : Finding) (prefix suffix : List ℕ) (from most : ℕ) (page : Entries)
+    {A : Type 0} (result : Result A Told) (bytes_of : A → List ℕ) → Finds.log from most page →
+    MatchResult result (λ shown. bytes_of shown ≡ log_json from page) (λ t. t ≡ told.NoMemory) →
+    IsReadAs Finds prefix suffix (inquiry.Log from most) (Ok tt) result bytes_of
+log_as Finds prefix suffix from most page (Ok shown) bytes_of found shows = (page, found, shows)
+log_as Finds prefix suffix from most page (Err t) bytes_of found tells = tells
 
 -- what is found of a keeper that was asked for its hour, and then made ready, is what it held
 pub found_held : {K : Type 0} (kept : Keeping K) (keeper mid later : K) (found : Holding)

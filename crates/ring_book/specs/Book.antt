@@ -1,10 +1,12 @@
 -- What a book of rings is asked, and what each call makes of it.
 use Rattle.std.specs.Prelude.{◌≡◌, ℕ, Option, Result, Some, length}
 use Rattle.builder.specs.Life.{BookContent, IsProperDelivery}
+use Rattle.builder.specs.Safety.{Entries}
 use Rattle.builder.specs.Step.{State, Step}
 use Rattle.builder.specs.declared.machine.RingMachine.{RingMachine}
 use Rattle.request_book.specs.Book.{Parts}
 use Rattle.request_book.specs.Call.{Call, Deliver}
+use Rattle.request_book.specs.Content.{entries_from}
 use Rattle.request_book.specs.Front.{CallMade}
 use Rattle.request_book.specs.declared.book.Fault.{Fault}
 use Rattle.request_book.specs.declared.keeper.Keeper.{Ghosts}
@@ -37,6 +39,11 @@ Keeping K = Ghosts K RingMachine State Command Reply
 abbrev pub Asked : Type 0
 Asked = Option (Call Command Reply)
 
+-- what a call finds: what is held, and, from a place on and at most so many, entries of the log
+pub record Finding : Type 1 where
+  pub held : Holding → Type 0
+  pub log : ℕ → ℕ → Entries → Type 0
+
 module _ {K : Type 0} (kept : Keeping K) where
   -- a book of the builder
   abbrev pub RingBook : Type 0
@@ -52,9 +59,13 @@ module _ {K : Type 0} (kept : Keeping K) where
   holding clock keeper = holding_with (kept.content keeper) (kept.limit keeper) clock
 
   -- Where one book becomes the other, a call finds this at this hour of the clock: what the first
-  -- holds.
-  abbrev pub Found : ℕ → RingBook → RingBook → Holding → Type 0
-  Found clock old new held = kept.sound new.keeper → held ≡ holding clock old.keeper
+  -- holds, and its entries from a place on.
+  abbrev pub Found : ℕ → RingBook → RingBook → Finding
+  Found clock old new = record {
+    held = λ held. kept.sound new.keeper → held ≡ holding clock old.keeper;
+    log = λ from most page. kept.sound new.keeper
+        → page ≡ entries_from from most (kept.content old.keeper).book;
+  }
 
   -- A delivery gets an answer that is told so, and one book becomes the other. Its command is such as
   -- there are, and its hour has 32 bits.

@@ -2,7 +2,7 @@
 ghost use Rattle.std.specs.Prelude.{◌≡◌, ◌≢◌, ℕ, List, max};
 ghost use Rattle.builder.specs.Preview.{Rebalances};
 ghost use Rattle.builder.specs.Step.{State};
-ghost use Rattle.ring_book.specs.Foretold.{Foretells};
+ghost use Rattle.ring_book.specs.Foretold.{Binds, Foretells};
 ghost use Rattle.ring_book.specs.Told.{told_hidden};
 ghost use Rattle.ring_messages.specs.declared.told.Told.TheVariants as told;
 ghost use Rattle.ring_model.specs.Rings.{ring_at};
@@ -33,4 +33,15 @@ pub fn a_preview_is_the_rebalance()
         → Hides held (question.Ring name (read.Preview seed asked)) why → why ≢ NoMemory
         → Rebalances limits rings (max (hour_now held) asked) name seed answer after
         → told_hidden why ≡ told.Reply answer }
+{}
+
+/// A rebalance can be held to its preview. Where it asks for the seed, the version and the hour that
+/// a preview told, it is the rebalance that was told, or it is refused and changes nothing. It is
+/// that one at that hour as long as the ring is as it was; and wherever it is done later in a run,
+/// the ring that it leaves and the figures of its reply are those of which the preview tells.
+pub fn a_rebalance_is_held_to_its_preview()
+    ensures { (limits : Limits) (held : Holding) (prefix suffix name text : List ℕ)
+        (seed asked : ℕ)
+        → Shows prefix suffix held (question.Ring name (read.Preview seed asked)) text
+        → Binds limits name (max (hour_now held) asked) seed held.rings text }
 {}

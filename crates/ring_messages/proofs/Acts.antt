@@ -2,10 +2,11 @@
 use Rattle.std.proofs.Common.{◌≡◌, ℕ, ap, ◌∙◌}
 use Rattle.serde_json.specs.Data.{Data}
 use Rattle.ring_words.specs.declared.device.Row.{Row}
+use Rattle.ring_words.specs.declared.command.Foretold.{Foretold}
 use Rattle.ring_words.specs.declared.command.NewRing.{NewRing}
 use Rattle.ring_words.specs.declared.command.NewWeight.{NewWeight}
 use Rattle.ring_words.specs.declared.command.Act.{Act}
-use Rattle.ring_words.specs.declared.command.Act.TheVariants.{Create, Add, SetWeight}
+use Rattle.ring_words.specs.declared.command.Act.TheVariants.{Create, Add, RebalanceAs, SetWeight}
 use Rattle.ring_words.specs.Kinds.{act_kind}
 use Rattle.ring_messages.specs.Commands.{act_fields}
 use Rattle.ring_messages.specs.Inner.Says.{SaysAct}
@@ -31,6 +32,15 @@ equal_new_weights : (w v : NewWeight) → w.id ≡ v.id → w.weight ≡ v.weigh
 equal_new_weights w v a b =
     ap (λ (x : ℕ). new_weight x w.weight) a ∙ ap (λ (x : ℕ). new_weight v.id x) b
 
+abbrev foretold : ℕ → ℕ → ℕ → Foretold
+foretold s v h = record { seed = s; version = v; hour = h }
+
+equal_foretold : (s t : Foretold) → s.seed ≡ t.seed → s.version ≡ t.version → s.hour ≡ t.hour
+    → s ≡ t
+equal_foretold s t a b c = ap (λ (x : ℕ). foretold x s.version s.hour) a
+    ∙ ap (λ (x : ℕ). foretold t.seed x s.hour) b
+    ∙ ap (λ (x : ℕ). foretold t.seed t.version x) c
+
 abbrev act_values : Act → Values
 act_values a = values (act_fields a)
 
@@ -42,6 +52,9 @@ same_row r q e = equal_rows r q (cc) (cc) (cc) (cc) (cc) (cc)
 
 same_new_weight : (w v : NewWeight) → act_values (SetWeight w) ≡ act_values (SetWeight v) → w ≡ v
 same_new_weight w v e = equal_new_weights w v (cc) (cc)
+
+same_foretold : (s t : Foretold) → act_values (RebalanceAs s) ≡ act_values (RebalanceAs t) → s ≡ t
+same_foretold s t e = equal_foretold s t (cc) (cc) (cc)
 
 -- ---- acts of one command. An act that holds no record needs no line here.
 
@@ -55,6 +68,7 @@ same_values : (a b : Act) → act_kind a ≡ act_kind b → act_values a ≡ act
 same_values (Create s) (Create t) is e = ap Create (same_new_ring s t e)
 same_values (Add r) (Add q) is e = ap Add (same_row r q e)
 same_values (SetWeight w) (SetWeight v) is e = ap SetWeight (same_new_weight w v e)
+same_values (RebalanceAs s) (RebalanceAs t) is e = ap RebalanceAs (same_foretold s t e)
 same_values a (Create t) is e = cc
 same_values a b is e = cc
 

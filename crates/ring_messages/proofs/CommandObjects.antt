@@ -50,7 +50,7 @@ pub count_is : (ring : List ℕ) (a : Act)
 count_is ring (Create n) = refl
 count_is ring other = refl
 
-short : (a : Act) → are_short (act_fields a) ≡ true
+pub short : (a : Act) → are_short (act_fields a) ≡ true
 short (Create n) = refl
 short other = refl
 
@@ -70,7 +70,7 @@ pub record Apart (a : Act) : Type 0 where
   pub fields : AreApart (act_fields a)
 
 -- what holds of the word, the ring and each field holds of each member
-each_of : (P : List ℕ → Data → Type 0) (ring : List ℕ) (a : Act)
+pub each_of : (P : List ℕ → Data → Type 0) (ring : List ℕ) (a : Act)
     → P (codes "do") (string (act_word a))
     → P (codes "ring") (string ring) → EachMember P (members (act_fields a))
     → EachMember P (members_of (act_data ring a))

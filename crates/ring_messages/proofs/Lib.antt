@@ -11,5 +11,6 @@ pub mod Putting
 pub mod OneText
 pub mod CommandObjects
 pub mod Messages
+pub mod Keyed
 pub mod Dones
 pub mod ReplyObjects

@@ -8,6 +8,7 @@ use Rattle.ring_words.specs.declared.command.Command.{Command}
 use Rattle.ring_words.specs.declared.command.Act.{Act}
 use Rattle.ring_words.specs.declared.command.Act.TheVariants.{Create, Add, SetWeight, Remove}
 use Rattle.ring_words.specs.declared.command.Act.TheVariants.{SetHours, Import, Rebalance}
+use Rattle.ring_words.specs.declared.command.Act.TheVariants.{Keep, RebalanceAs}
 use Rattle.ring_words.specs.Kinds.{act_kind}
 use Rattle.ring_messages.specs.Words.{kind_word}
 use Rattle.ring_messages.specs.Fields.{Fields, within, device_name, address, weight, rows, members}
@@ -31,8 +32,13 @@ act_fields (Add r) =
 act_fields (SetWeight w) =
     (codes "id", within 0 greatest_short w.id) ∷ (codes "weight", weight w.weight) ∷ []
 act_fields (Remove id) = (codes "id", within 0 greatest_short id) ∷ []
+act_fields (Keep id) = (codes "id", within 0 greatest_short id) ∷ []
 act_fields (SetHours hours) = (codes "min_hours", within 0 greatest_short hours) ∷ []
 act_fields (Rebalance seed) = (codes "seed", within 0 greatest_long seed) ∷ []
+act_fields (RebalanceAs told) =
+    (codes "hour", within 0 greatest_long told.hour)
+    ∷ (codes "seed", within 0 greatest_long told.seed)
+    ∷ (codes "version", within 0 greatest_long told.version) ∷ []
 act_fields (Import rs) = (codes "rows", rows rs) ∷ []
 act_fields other = []
 

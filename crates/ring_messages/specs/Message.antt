@@ -1,14 +1,16 @@
 -- Which bytes are a message, and of which key and command.
 use Rattle.std.specs.Prelude.{◌≡◌, ◌≢◌, ℕ, ◌+◌, List, Some, codes, IsUtf8}
 use Rattle.ring_words.specs.Limits.{greatest_long}
-use Rattle.serde_json.specs.Data.{Data, null, boolean, number, string, array, object}
+use Rattle.serde_json.specs.Data.{Data, null, boolean, number, string, array, object, Members, put}
 use Rattle.serde_json.specs.Events.{members_len}
 use Rattle.serde_json.specs.Find.{get}
 use Rattle.serde_json.specs.Read.{read}
+use Rattle.serde_json.specs.Written.{compact_text}
 use Rattle.ring_words.specs.Texts.{is_label}
 use Rattle.ring_words.specs.declared.request.Key.{Key}
 use Rattle.ring_words.specs.declared.command.Command.{Command}
 use Rattle.ring_messages.specs.Commands.{command_data, IsProperCommand}
+use Rattle.ring_messages.specs.Fields.{whole}
 use Rattle.ring_messages.specs.Reads.{IsNumber, IsName}
 
 -- How many members an object has; what is no object has none.
@@ -36,3 +38,23 @@ pub record IsMessage (bytes : List ℕ) (k : Key) (c : Command) : Type 0 where
   pub value : Data
   pub is : read bytes ≡ Some value
   pub delivery : IsDelivery value k c
+
+-- WHAT IS WRITTEN OF A MESSAGE
+
+-- The members with who asks and by which number put among them.
+abbrev pub keyed_members : Key → Members → Members
+keyed_members k ms =
+    put (codes "caller") (string k.caller) (put (codes "number") (whole k.number) ms)
+
+-- The object with who asks and by which number among its members. What is no object stays.
+abbrev pub with_key : Key → Data → Data
+with_key k (object ms) = object (keyed_members k ms)
+with_key k other = other
+
+-- What is written of a request: the command's object, and in it who asks and by which number.
+abbrev pub message_data : Key → Command → Data
+message_data k c = with_key k (command_data c)
+
+-- The text of it, in compact JSON, its keys in byte order.
+abbrev pub message_text : Key → Command → List ℕ
+message_text k c = compact_text (message_data k c)

@@ -5,7 +5,7 @@ use Rattle.serde_json.specs.Data.{Data, string, object, no_members, member, put}
 use Rattle.serde_json.specs.Written.{compact_text}
 use Rattle.ring_words.specs.declared.command.Done.{Done}
 use Rattle.ring_words.specs.declared.command.Deed.{Deed}
-use Rattle.ring_words.specs.declared.command.Deed.TheVariants.{Add, Import, Rebalance}
+use Rattle.ring_words.specs.declared.command.Deed.TheVariants.{Add, Import, Rebalance, RebalanceAs}
 use Rattle.ring_words.specs.Kinds.{deed_kind}
 use Rattle.ring_messages.specs.Words.{kind_word}
 use Rattle.ring_words.specs.declared.command.Refusal.{Refusal}
@@ -15,6 +15,8 @@ use Rattle.ring_words.specs.declared.command.Refusal.TheVariants.{DeviceRemoved,
 use Rattle.ring_words.specs.declared.command.Refusal.TheVariants.{IdsUsedUp, TooFewDevices}
 use Rattle.ring_words.specs.declared.command.Refusal.TheVariants.{NotAssigned, TooManyVersions}
 use Rattle.ring_words.specs.declared.command.Refusal.TheVariants.{RowRefused, PowerLimit}
+use Rattle.ring_words.specs.declared.command.Refusal.TheVariants.{NotMarked, OtherVersion}
+use Rattle.ring_words.specs.declared.command.Refusal.TheVariants.{OtherHour}
 use Rattle.ring_words.specs.declared.command.RowCause.{RowCause}
 use Rattle.ring_words.specs.declared.command.RowCause.TheVariants as cause
 use Rattle.ring_words.specs.declared.command.Reply.{Reply}
@@ -31,13 +33,18 @@ done_word x = kind_word (deed_kind x.deed)
 abbrev pub version_field : ℕ → List ℕ × Field
 version_field version = (codes "version", within 0 greatest_long version)
 
--- What is told of what was done, beside the ring's version.
-abbrev pub deed_fields : Deed → Fields
-deed_fields (Add id) = (codes "id", within 0 greatest_short id) ∷ []
-deed_fields (Rebalance balance changed dispersion) =
+-- The figures of a rebalance.
+abbrev pub figures : ℕ → ℕ → ℕ → Fields
+figures balance changed dispersion =
     (codes "balance", within 0 greatest_long balance)
     ∷ (codes "changed", within 0 greatest_long changed)
     ∷ (codes "dispersion", within 0 greatest_long dispersion) ∷ []
+
+-- What is told of what was done, beside the ring's version.
+abbrev pub deed_fields : Deed → Fields
+deed_fields (Add id) = (codes "id", within 0 greatest_short id) ∷ []
+deed_fields (Rebalance balance changed dispersion) = figures balance changed dispersion
+deed_fields (RebalanceAs balance changed dispersion) = figures balance changed dispersion
 deed_fields (Import added reweighted) =
     (codes "added", within 0 18446744073709551615 added)
     ∷ (codes "reweighted", within 0 18446744073709551615 reweighted) ∷ []
@@ -70,6 +77,9 @@ refusal_name TooFewDevices = codes "TooFewDevices"
 refusal_name NotAssigned = codes "NotAssigned"
 refusal_name TooManyVersions = codes "TooManyVersions"
 refusal_name PowerLimit = codes "PowerLimit"
+refusal_name NotMarked = codes "NotMarked"
+refusal_name OtherVersion = codes "OtherVersion"
+refusal_name OtherHour = codes "OtherHour"
 
 -- The number of the rule that a refusal is by.
 abbrev pub refusal_rule : Refusal → ℕ
@@ -86,6 +96,9 @@ refusal_rule TooFewDevices = 9
 refusal_rule NotAssigned = 10
 refusal_rule TooManyVersions = 11
 refusal_rule PowerLimit = 14
+refusal_rule NotMarked = 15
+refusal_rule OtherVersion = 16
+refusal_rule OtherHour = 17
 
 -- The number of the rule that a row is refused by.
 abbrev pub cause_rule : RowCause → ℕ

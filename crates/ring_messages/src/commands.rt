@@ -18,7 +18,7 @@ use crate::objects::{members, object};
 use crate::parts::{self, bounded, number16, number32};
 use crate::rows::{device, import, row_is_proper, rows_are_proper, rows_value};
 use crate::words::{kind_at, word_of};
-use ring_words::{Act, Command, DeviceId, Kind, NewRing, NewWeight, RingName, Row, Rows};
+use ring_words::{Act, Command, DeviceId, Foretold, Kind, NewRing, NewWeight, RingName, Row, Rows};
 use serde_json::{Value, put};
 use std::alloc::{AllocError, Global};
 
@@ -117,7 +117,8 @@ fn set_weight_value(
     set_weight_of_text(alloc, word, ring, to, weight.as_str())
 }
 
-fn remove_value<'a>(
+/// A command that says nothing but a device.
+fn device_value<'a>(
     alloc: Global,
     word: &'a str,
     ring: &'a RingName,
@@ -194,6 +195,27 @@ fn rebalance_value<'a>(
     )
 }
 
+fn rebalance_as_value<'a>(
+    alloc: Global,
+    word: &'a str,
+    ring: &'a RingName,
+    told: &'a Foretold,
+) -> Result<Value, AllocError>
+    ensures { IfOk result (λ v. view v ≡ command_object word.now ring.now
+        (act_fields (act.RebalanceAs told.now))) }
+{
+    object(
+        alloc,
+        &[
+            ("do", Text(word)),
+            ("hour", Number(told.hour.into())),
+            ("ring", Text(ring.as_str())),
+            ("seed", Number(told.seed.into())),
+            ("version", Number(told.version.into())),
+        ],
+    )
+}
+
 /// The object of a command.
 pub(crate) fn command_value(alloc: Global, command: &Command) -> Result<Value, AllocError>
     ensures { IfOk result (λ v. view v ≡ command_data command.now) }
@@ -204,9 +226,10 @@ pub(crate) fn command_value(alloc: Global, command: &Command) -> Result<Value, A
         Act::Create(new) => create_value(alloc, word, ring, new),
         Act::Add(row) => add_value(alloc, word, ring, row),
         Act::SetWeight(to) => set_weight_value(alloc, word, ring, to),
-        Act::Remove(id) => remove_value(alloc, word, ring, *id),
+        Act::Remove(id) | Act::Keep(id) => device_value(alloc, word, ring, *id),
         Act::SetHours(hours) => set_hours_value(alloc, word, ring, *hours),
         Act::Rebalance(seed) => rebalance_value(alloc, word, ring, *seed),
+        Act::RebalanceAs(told) => rebalance_as_value(alloc, word, ring, told),
         Act::Import(rows) => import_value(alloc, word, ring, rows),
         Act::PretendPassed | Act::RaisePower | Act::Publish => plain_value(alloc, word, ring),
     }
@@ -239,6 +262,16 @@ fn new_weight(value: &Value) -> Result<NewWeight, MessageFault>
     })
 }
 
+fn foretold(value: &Value) -> Result<Foretold, MessageFault>
+    ensures { Reads (λ told. HasFields (view value.now) (act_fields (act.RebalanceAs told))) result }
+{
+    Ok(Foretold {
+        hour: number32(value.get("hour"))?,
+        seed: number32(value.get("seed"))?,
+        version: number32(value.get("version"))?,
+    })
+}
+
 /// What an object with this command's word under the key `do` asks for.
 fn act_of(alloc: Global, value: &Value, kind: Kind) -> Result<Act, MessageFault>
     requires word { get (codes "do") (view value.now) ≡ Some (string (kind_word kind)) }
@@ -249,11 +282,13 @@ fn act_of(alloc: Global, value: &Value, kind: Kind) -> Result<Act, MessageFault>
         Kind::Add => Ok(Act::Add(device(alloc, value)?)),
         Kind::SetWeight => Ok(Act::SetWeight(new_weight(value)?)),
         Kind::Remove => Ok(Act::Remove(number16(value.get("id"))?)),
+        Kind::Keep => Ok(Act::Keep(number16(value.get("id"))?)),
         Kind::SetHours => Ok(Act::SetHours(number16(value.get("min_hours"))?)),
         Kind::PretendPassed => Ok(Act::PretendPassed),
         Kind::RaisePower => Ok(Act::RaisePower),
         Kind::Publish => Ok(Act::Publish),
         Kind::Rebalance => Ok(Act::Rebalance(number32(value.get("seed"))?)),
+        Kind::RebalanceAs => Ok(Act::RebalanceAs(foretold(value)?)),
         Kind::Import => Ok(Act::Import(import(alloc, value)?)),
     }
 }
@@ -283,6 +318,14 @@ fn new_weight_is_proper(to: &NewWeight)
     let _weight = to.weight.hundredths();
 }
 
+fn foretold_is_proper(told: &Foretold)
+    ensures { IsProperAct (act.RebalanceAs told.now) }
+{
+    let _seed = told.seed;
+    let _version = told.version;
+    let _hour = told.hour;
+}
+
 #[tactic(auto, using(crate::proofs::RowLists::all_by_recursion))]
 fn act_is_proper(act: &Act)
     ensures { IsProperAct act.now }
@@ -291,12 +334,13 @@ fn act_is_proper(act: &Act)
         Act::Create(new) => new_ring_is_proper(new),
         Act::Add(row) => row_is_proper(row),
         Act::SetWeight(to) => new_weight_is_proper(to),
-        Act::Remove(number) | Act::SetHours(number) => {
+        Act::Remove(number) | Act::Keep(number) | Act::SetHours(number) => {
             let _number = *number;
         }
         Act::Rebalance(seed) => {
             let _seed = *seed;
         }
+        Act::RebalanceAs(told) => foretold_is_proper(told),
         Act::PretendPassed | Act::RaisePower | Act::Publish => {}
         Act::Import(rows) => rows_are_proper(rows.as_slice()),
     }

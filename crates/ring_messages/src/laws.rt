@@ -1,9 +1,11 @@
 //! What follows of messages and texts.
-ghost use Rattle.std.specs.Prelude.{◌≡◌, ℕ, List};
+ghost use Rattle.std.specs.Prelude.{◌≡◌, ◌≤◌, ℕ, IsTrue, IsUtf8, List};
+ghost use Rattle.ring_words.specs.Limits.{greatest_long};
+ghost use Rattle.ring_words.specs.Texts.{is_label};
 ghost use Rattle.ring_words.specs.declared.command.Command.{Command};
 ghost use Rattle.ring_words.specs.declared.command.Reply.{Reply};
 ghost use Rattle.ring_words.specs.declared.request.Key.{Key};
-ghost use Rattle.ring_messages.specs.Message.{IsMessage};
+ghost use Rattle.ring_messages.specs.Message.{IsMessage, message_text};
 ghost use Rattle.ring_messages.specs.Commands.{canonical, IsProperCommand};
 ghost use Rattle.ring_messages.specs.Replies.{reply_text, IsProperReply};
 
@@ -24,4 +26,10 @@ pub fn one_message()
     ensures { (bytes : List ℕ) (k j : Key) (c d : Command)
         → IsMessage bytes k c → IsMessage bytes j d
         → (k ≡ j) × (c ≡ d) }
+{}
+
+/// What is written of a request is a message of its key and its command.
+pub fn a_message_is_read_back()
+    ensures { (k : Key) (c : Command) → IsTrue (is_label k.caller) → k.number ≤ greatest_long
+        → IsProperCommand c → IsUtf8 (message_text k c) → IsMessage (message_text k c) k c }
 {}

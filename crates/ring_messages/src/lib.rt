@@ -14,14 +14,16 @@ mod replies;
 mod rows;
 mod told;
 mod words;
+mod written;
 
 pub use commands::{command_is_proper, command_text};
-pub use laws::{one_message, one_reply, one_text};
+pub use laws::{a_message_is_read_back, one_message, one_reply, one_text};
 pub use objects::{Scalar, members, object};
 pub use read::{read_command, read_delivery};
-pub use replies::{read_reply, reply_is_proper, reply_text};
+pub use replies::{read_reply, reply_is_proper, reply_text, reply_value};
 use ring_words::SpellingFault;
 pub use told::{NO_MEMORY_TEXT, Told, no_memory, status_of, told_text};
+pub use written::{message_text, message_value};
 
 /// Why bytes aren't read as a message, a command or a reply: Bad where they are none, or want of
 /// memory.

@@ -26,7 +26,7 @@ fn scalar_value(alloc: Global, scalar: &Scalar<'_>) -> Result<Value, AllocError>
     }
 }
 
-fn put_member(
+pub(crate) fn put_member(
     map: &mut Map<String, Value>,
     alloc: Global,
     member: &(&str, Scalar<'_>),

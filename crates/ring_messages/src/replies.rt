@@ -103,6 +103,11 @@ fn done_value(alloc: Global, done: Done) -> Result<Value, AllocError>
             balance,
             changed,
             dispersion,
+        }
+        | Deed::RebalanceAs {
+            balance,
+            changed,
+            dispersion,
         } => rebalanced_value(alloc, word, balance, changed, dispersion, version),
         Deed::Import { added, reweighted } => {
             imported_value(alloc, word, added, reweighted, version)
@@ -162,10 +167,14 @@ fn refusal_value(alloc: Global, refusal: Refusal) -> Result<Value, AllocError>
         Refusal::NotAssigned => refused_value(alloc, "NotAssigned", 10),
         Refusal::TooManyVersions => refused_value(alloc, "TooManyVersions", 11),
         Refusal::PowerLimit => refused_value(alloc, "PowerLimit", 14),
+        Refusal::NotMarked => refused_value(alloc, "NotMarked", 15),
+        Refusal::OtherVersion => refused_value(alloc, "OtherVersion", 16),
+        Refusal::OtherHour => refused_value(alloc, "OtherHour", 17),
     }
 }
 
-pub(crate) fn reply_value(alloc: Global, reply: Reply) -> Result<Value, AllocError>
+/// The object of a reply.
+pub fn reply_value(alloc: Global, reply: Reply) -> Result<Value, AllocError>
     ensures { IfOk result (λ v. view v ≡ reply_data reply) }
 {
     match reply {
@@ -210,6 +219,9 @@ fn refusal_by(rule: u64) -> Option<Refusal>
         10 => Some(Refusal::NotAssigned),
         11 => Some(Refusal::TooManyVersions),
         14 => Some(Refusal::PowerLimit),
+        15 => Some(Refusal::NotMarked),
+        16 => Some(Refusal::OtherVersion),
+        17 => Some(Refusal::OtherHour),
         _ => None,
     }
 }
@@ -285,6 +297,11 @@ fn done_is_proper(done: &Done)
             let _id = id;
         }
         Deed::Rebalance {
+            balance,
+            changed,
+            dispersion,
+        }
+        | Deed::RebalanceAs {
             balance,
             changed,
             dispersion,

@@ -24,12 +24,14 @@ pub(crate) fn word_of(kind: Kind) -> &'static str
         Kind::Add => "add",
         Kind::SetWeight => "set_weight",
         Kind::Remove => "remove",
+        Kind::Keep => "keep",
         Kind::SetHours => "set_hours",
         Kind::PretendPassed => "pretend_passed",
         Kind::RaisePower => "raise_power",
         Kind::Import => "import",
         Kind::Publish => "publish",
         Kind::Rebalance => "rebalance",
+        Kind::RebalanceAs => "rebalance_as",
     }
 }
 
@@ -43,12 +45,14 @@ fn kind_of(word: &str) -> Option<Kind>
         "add" => Some(Kind::Add),
         "set_weight" => Some(Kind::SetWeight),
         "remove" => Some(Kind::Remove),
+        "keep" => Some(Kind::Keep),
         "set_hours" => Some(Kind::SetHours),
         "pretend_passed" => Some(Kind::PretendPassed),
         "raise_power" => Some(Kind::RaisePower),
         "import" => Some(Kind::Import),
         "publish" => Some(Kind::Publish),
         "rebalance" => Some(Kind::Rebalance),
+        "rebalance_as" => Some(Kind::RebalanceAs),
         _ => None,
     }
 }
@@ -77,11 +81,17 @@ pub(crate) fn deed_of(value: &Value, kind: Kind) -> Result<Deed, MessageFault>
         }),
         Kind::SetWeight => Ok(Deed::SetWeight),
         Kind::Remove => Ok(Deed::Remove),
+        Kind::Keep => Ok(Deed::Keep),
         Kind::SetHours => Ok(Deed::SetHours),
         Kind::PretendPassed => Ok(Deed::PretendPassed),
         Kind::RaisePower => Ok(Deed::RaisePower),
         Kind::Publish => Ok(Deed::Publish),
         Kind::Rebalance => Ok(Deed::Rebalance {
+            balance: number32(value.get("balance"))?,
+            changed: number32(value.get("changed"))?,
+            dispersion: number32(value.get("dispersion"))?,
+        }),
+        Kind::RebalanceAs => Ok(Deed::RebalanceAs {
             balance: number32(value.get("balance"))?,
             changed: number32(value.get("changed"))?,
             dispersion: number32(value.get("dispersion"))?,

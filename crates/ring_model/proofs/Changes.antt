@@ -11,7 +11,7 @@ use Rattle.std.proofs.lemmas.List.{get_or_at, map-append, get_or-map}
 use Rattle.std.proofs.lemmas.List.Folds.{list_any-append}
 use Rattle.std.proofs.lemmas.List.Elements.{All-push, All-weaker, All-map}
 use Rattle.std.proofs.lemmas.List.Quantifiers.{all_pairs_push}
-use Rattle.ring_model.specs.Ring.{RingRecord, has_device, risen, reweighed, marked, added, changed}
+use Rattle.ring_model.specs.Ring.{RingRecord, has_device, risen, reweighed, marked_as, added, changed}
 use Rattle.ring_model.specs.Ring.{partition_count}
 use Rattle.ring_words.specs.Rows.{IsProperRow, has_place, same_place}
 use Rattle.ring_words.specs.Texts.{greatest_weight}
@@ -203,23 +203,24 @@ reweighed_by_keeps row proper = (
   λ d old. weighed_if-proper (same_place d.row row) row.weight d proper.weight old,
 )
 
--- a marked device where a test says so
-abbrev marked_if : Bool → Device → Device
-marked_if b d = cond b (record d { removed = true }) d
+-- a device that is marked, or is not, where a test says so
+abbrev marked_if : Bool → Bool → Device → Device
+marked_if removed b d = cond b (record d { removed = removed }) d
 
-marked_if-row : (b : Bool) (d : Device) → (marked_if b d).row ≡ d.row
-marked_if-row true d = refl
-marked_if-row false d = refl
+marked_if-row : (removed b : Bool) (d : Device) → (marked_if removed b d).row ≡ d.row
+marked_if-row removed true d = refl
+marked_if-row removed false d = refl
 
-marked_if-id : (b : Bool) (d : Device) → (marked_if b d).id ≡ d.id
-marked_if-id true d = refl
-marked_if-id false d = refl
+marked_if-id : (removed b : Bool) (d : Device) → (marked_if removed b d).id ≡ d.id
+marked_if-id removed true d = refl
+marked_if-id removed false d = refl
 
-pub marked_keeps : (id : ℕ) → Keeps (marked id)
-marked_keeps id = (
-  λ d. marked_if-id (d.id == id) d,
-  λ a b. ap₂ same_place (marked_if-row (a.id == id) a) (marked_if-row (b.id == id) b),
-  λ d proper. rw (marked_if-row (d.id == id) d) proper,
+pub marked_keeps : (removed : Bool) (id : ℕ) → Keeps (marked_as removed id)
+marked_keeps removed id = (
+  λ d. marked_if-id removed (d.id == id) d,
+  λ a b. ap₂ same_place (marked_if-row removed (a.id == id) a)
+      (marked_if-row removed (b.id == id) b),
+  λ d proper. rw (marked_if-row removed (d.id == id) d) proper,
 )
 
 -- what a vector holds after each of its elements was written

@@ -101,13 +101,25 @@ with_weight ring id weight = changed (record ring {
   devices = map (reweighed id weight) ring.devices;
 })
 
+-- the device, marked to be removed or not if it has this number
+abbrev pub marked_as : Bool → ℕ → Device → Device
+marked_as removed id device = if device.id == id then record device { removed = removed } else device
+
 -- the device, marked to be removed if it has this number
 abbrev pub marked : ℕ → Device → Device
-marked id device = if device.id == id then record device { removed = true } else device
+marked id device = marked_as true id device
+
+-- the device, marked no more if it has this number
+abbrev pub unmarked : ℕ → Device → Device
+unmarked id device = marked_as false id device
 
 -- the ring with the device of this number marked to be removed
 abbrev pub with_mark : RingRecord → ℕ → RingRecord
 with_mark ring id = changed (record ring { devices = map (marked id) ring.devices })
+
+-- the ring with the mark taken off the device of this number
+abbrev pub without_mark : RingRecord → ℕ → RingRecord
+without_mark ring id = changed (record ring { devices = map (unmarked id) ring.devices })
 
 -- the ring where a moved partition stays for so many hours
 abbrev pub with_min_hours : RingRecord → ℕ → RingRecord

@@ -1,6 +1,6 @@
 //! Devices that are changed where they stand in their ring.
 ghost use Rattle.std.specs.Prelude.{◌≡◌, map};
-ghost use Rattle.ring_model.specs.Ring.{marked, reweighed};
+ghost use Rattle.ring_model.specs.Ring.{marked_as, reweighed};
 ghost use Rattle.ring_model.specs.Import.{reweighed_by};
 ghost use Rattle.ring_words.specs.declared.device.Device.{Device};
 
@@ -27,19 +27,21 @@ impl Alteration for NewWeight {
     }
 }
 
-/// The device of this number is marked to be removed.
+/// The device of this number is marked to be removed, or is so no more.
 #[derive(Clone, Copy)]
 pub(crate) struct Mark {
     /// The number of the device.
     pub(crate) id: DeviceId,
+    /// Whether it is marked from now on.
+    pub(crate) removed: bool,
 }
 
 impl Alteration for Mark {
-    ghost altered = { λ mark device. marked mark.id device };
+    ghost altered = { λ mark device. marked_as mark.removed mark.id device };
 
     fn alter(&self, device: &mut Device) {
         if device.id == self.id {
-            device.removed = true;
+            device.removed = self.removed;
         }
     }
 }

@@ -84,7 +84,7 @@ impl Ring {
     ghost use Rattle.ring_model.specs.Ring.{RingRecord, new_ring, seat, moved_at, is_assigned};
     ghost use Rattle.ring_model.specs.Ring.{published_at, partition_count, has_device, has_present};
     ghost use Rattle.ring_model.specs.Ring.{with_device, with_weight, with_mark, with_min_hours};
-    ghost use Rattle.ring_model.specs.Ring.{with_hours_passed};
+    ghost use Rattle.ring_model.specs.Ring.{with_hours_passed, without_mark};
     ghost use Rattle.ring_model.specs.Reseat.{reseated};
     ghost use Rattle.ring_words.specs.Rows.{has_place};
     ghost use Rattle.ring_model.specs.Parts.{record_of, texts_of};
@@ -176,7 +176,19 @@ impl Ring {
         ensures { IfOk result (λ ring. ring ≡ with_mark self.now id) }
     {
         let mut parts = self.parts.copy()?;
-        alter_all(&mut parts.devices, &Mark { id });
+        alter_all(&mut parts.devices, &Mark { id, removed: true });
+        parts.version = risen(parts.version);
+        Ok(Ring { parts })
+    }
+
+    /// The ring with the mark taken off a device, which is marked. The version rises.
+    pub fn without_mark(&self, id: DeviceId) -> Result<Ring, AllocError>
+        requires there { has_device id self.now.devices ≡ true }
+        requires marked { has_present id self.now.devices ≡ false }
+        ensures { IfOk result (λ ring. ring ≡ without_mark self.now id) }
+    {
+        let mut parts = self.parts.copy()?;
+        alter_all(&mut parts.devices, &Mark { id, removed: false });
         parts.version = risen(parts.version);
         Ok(Ring { parts })
     }

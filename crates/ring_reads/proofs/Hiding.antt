@@ -14,6 +14,7 @@ pub no_memory_hides : (prefix suffix : List ℕ) (held : Holding) (asked : Quest
     (bytes : List ℕ) → Shows prefix suffix held asked bytes → Hides held asked NoMemory
 no_memory_hides prefix suffix held question.Rings bytes shown = refl
 no_memory_hides prefix suffix held question.Status bytes shown = refl
+no_memory_hides prefix suffix held question.Metrics bytes shown = refl
 no_memory_hides prefix suffix held (question.Ring name what) bytes shown =
     inr (shown.0, shown.1, tt)
 

@@ -1,7 +1,4 @@
-pub mod Padding
-pub mod RowByRow
 pub mod NodeLemmas
-pub mod Resting
 pub mod RingData
 pub mod StoreData
 pub mod Moving

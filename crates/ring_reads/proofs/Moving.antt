@@ -16,7 +16,7 @@ use Rattle.ring_place.specs.Rebalance.{differs}
 use Rattle.ring_words.specs.declared.device.Device.{Device}
 use Rattle.ring_reads.specs.Moves.{stays_on}
 use Rattle.ring_reads.specs.Preview.{device_moves, preview_data}
-use Rattle.ring_reads.proofs.RowByRow.{pair_below}
+use Rattle.ring_tables.proofs.Lists.{pair_below}
 
 -- two seats are compared
 pub differs_is : (a b : Option ℕ) → not (option_eq eqb a b) ≡ differs a b

@@ -1,10 +1,10 @@
 -- Seats that differ, one after another, and what is told of them.
 use Rattle.std.proofs.Common.{◌≡◌, ℕ, ◌+◌, ◌<◌, ◌≤◌, ◌∙◌, Bool, true, false, List, [], ◌∷◌, ◌++◌}
-use Rattle.std.proofs.Common.{get_or, length, map, take, ap, arith, append_assoc, refl, sym}
+use Rattle.std.proofs.Common.{length, map, ap, arith, append_assoc, refl, sym}
 use Rattle.std.specs.Prelude.{filter, nat_lt}
 use Rattle.std.specs.List.{flat_map, range_with_len}
 use Rattle.std.proofs.lemmas.Bool.{le-ltb, lt-ltb}
-use Rattle.std.proofs.lemmas.List.{flat_map_more, length-append, map-append, take_more}
+use Rattle.std.proofs.lemmas.List.{flat_map_more, length-append, map-append}
 use Rattle.std.proofs.lemmas.List.Elements.{filter-append}
 use Rattle.std.proofs.lemmas.List.FromFn.{filter_of_map_range_with_len_more}
 use Rattle.std.proofs.lemmas.List.FromFn.{map-range_with_len_more}
@@ -53,15 +53,6 @@ pub parts_more : {X : Type 0} (f : ℕ → List X) (n : ℕ) (before after : Lis
 parts_more {X} f n before after so_far more =
     more ∙ ap (λ (xs : List X). xs ++ f n) so_far ∙ flat_map_more f [] (range_with_len 0 n) n
     ∙ ap (flat_map f) (sym (one_further n))
-
--- the parts of one more element
-pub next_part : {X : Type 0} (f : X → List ℕ) (xs : List X) (i : ℕ) (d : X)
-    (before after : List ℕ) → i < length xs → before ≡ flat_map f (take i xs) →
-    after ≡ before ++ f (get_or xs i d) → after ≡ flat_map f (take (i + 1) xs)
-next_part {X} f xs i d before after lt so_far more =
-    more ∙ ap (λ (text : List ℕ). text ++ f (get_or xs i d)) so_far
-    ∙ flat_map_more f [] (take i xs) (get_or xs i d)
-    ∙ ap (flat_map f) (sym (take_more xs i d lt))
 
 -- four words, a space behind each but the last
 pub four_words : (t0 t1 t2 t3 t4 a b c d : List ℕ) → t1 ≡ t0 ++ (a ++ 32 ∷ []) →

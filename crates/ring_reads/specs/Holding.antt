@@ -1,5 +1,6 @@
 -- What a read finds.
 use Rattle.std.specs.Prelude.{ℕ, List, max}
+use Rattle.ring_metrics.specs.declared.metrics.StoreFigures.{StoreFigures}
 use Rattle.ring_model.specs.Ring.{RingRecord}
 use Rattle.ring_reads.specs.declared.held.Held.{Held}
 
@@ -27,3 +28,7 @@ holding_of held = record {
 -- decided at
 abbrev pub hour_now : Holding → ℕ
 hour_now held = max held.hour held.clock
+
+-- how much is held
+abbrev pub figures_of : Holding → StoreFigures
+figures_of held = record { kept = held.kept; limit = held.limit; hour = held.hour }

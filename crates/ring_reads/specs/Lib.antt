@@ -1,7 +1,4 @@
-pub mod Layout
-pub mod Tables
 pub mod Nodes
-pub mod Locks
 pub mod RingJson
 pub mod Moves
 pub mod Preview

@@ -12,7 +12,7 @@ use Rattle.ring_place.specs.Seeded.{IsSeeded}
 use Rattle.ring_share.specs.Figures.{ring_balance, ring_dispersion}
 use Rattle.ring_share.specs.Room.{have}
 use Rattle.ring_share.specs.Want.{AreWanted, is_open}
-use Rattle.ring_reads.specs.Locks.{locked_count}
+use Rattle.ring_metrics.specs.Locks.{locked_count}
 use Rattle.ring_reads.specs.Moves.{changed_partitions, staying_seats}
 
 -- What is told of the device of a number that wants so many seats, has so many before and so many

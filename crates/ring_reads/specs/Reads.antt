@@ -3,15 +3,16 @@ use Rattle.std.specs.Prelude.{◌≡◌, ◌<◌, ◌⊎◌, ⊤, ℕ, Bool, tru
 use Rattle.std.specs.Prelude.{◌++◌, Some, None, codes, count_by, max}
 use Rattle.path_lookup.specs.Names.{PathNames}
 use Rattle.path_lookup.specs.Nodes.{AreNodes, partition_of, path_hash}
+use Rattle.ring_metrics.specs.Metrics.{IsMetrics}
 use Rattle.ring_model.specs.Ring.{RingRecord, is_assigned, published_at}
 use Rattle.ring_model.specs.Rings.{ring_at}
-use Rattle.ring_reads.specs.Holding.{Holding, hour_now}
+use Rattle.ring_reads.specs.Holding.{Holding, figures_of, hour_now}
 use Rattle.ring_reads.specs.Nodes.{nodes_json}
 use Rattle.ring_reads.specs.MovesJson.{AreMoveLines, IsMovesJson}
 use Rattle.ring_reads.specs.Preview.{IsPreviewJson}
 use Rattle.ring_reads.specs.RingJson.{IsRingJson}
 use Rattle.ring_reads.specs.StoreJson.{rings_json, status_json}
-use Rattle.ring_reads.specs.Tables.{balance_table, device_table}
+use Rattle.ring_tables.specs.Tables.{balance_table, device_table}
 use Rattle.ring_reads.specs.declared.plain.Plain.{Plain}
 use Rattle.ring_reads.specs.declared.plain.Plain.TheVariants.{Devices, Balance, Ring}
 use Rattle.ring_reads.specs.declared.reads.Format.TheVariants as format
@@ -103,6 +104,17 @@ is_json_read (read.Preview seed asked) = true
 is_json_read (read.Moves from to) = true
 is_json_read (read.EachMove from to) = false
 
+-- whether what a ring shows of it is a file of Swift's
+abbrev pub is_file_read : Read → Bool
+is_file_read (read.Plain plain) = false
+is_file_read read.Tables = false
+is_file_read (read.Nodes path) = false
+is_file_read (read.Published version format.Text) = false
+is_file_read (read.Published version format.Swift) = true
+is_file_read (read.Preview seed asked) = false
+is_file_read (read.Moves from to) = false
+is_file_read (read.EachMove from to) = false
+
 -- This is why a version of a ring isn't read: it isn't published, or its text is that of no ring.
 -- Want of memory says nothing.
 abbrev pub IsVersionUnread : RingRecord → ℕ → Hidden → Type 0
@@ -135,15 +147,18 @@ IsHidden ring _ _ = ⊥
 abbrev pub Shows : List ℕ → List ℕ → Holding → Question → List ℕ → Type 0
 Shows prefix suffix held question.Rings text = text ≡ rings_json held.rings
 Shows prefix suffix held question.Status text = text ≡ status_json held
+Shows prefix suffix held question.Metrics text =
+    IsMetrics (figures_of held) held.rings (hour_now held) text
 Shows prefix suffix held (question.Ring name what) text = (ring : RingRecord)
     × (ring_at name held.rings ≡ Some ring)
     × IsShown prefix suffix name ring (hour_now held) what text
 
 -- This is why nothing is shown of it: there is no ring of the name, or that one doesn't show it. The
--- rings and the status are hidden by want of memory alone.
+-- rings, the status and the metrics are hidden by want of memory alone.
 abbrev pub Hides : Holding → Question → Hidden → Type 0
 Hides held question.Rings why = why ≡ NoMemory
 Hides held question.Status why = why ≡ NoMemory
+Hides held question.Metrics why = why ≡ NoMemory
 Hides held (question.Ring name what) why = ((why ≡ NoRing) × (ring_at name held.rings ≡ None))
     ⊎ ((ring : RingRecord) × (ring_at name held.rings ≡ Some ring) × IsHidden ring what why)
 
@@ -151,13 +166,29 @@ Hides held (question.Ring name what) why = ((why ≡ NoRing) × (ring_at name he
 abbrev pub IsText : Question → Type 0
 IsText question.Rings = ⊤
 IsText question.Status = ⊤
+IsText question.Metrics = ⊤
 IsText (question.Ring name what) = IsTextRead what
 
 -- whether what is shown of it is JSON, which has no line feed at its end
 abbrev pub is_json : Question → Bool
 is_json question.Rings = true
 is_json question.Status = true
+is_json question.Metrics = false
 is_json (question.Ring name what) = is_json_read what
+
+-- whether it asks for the metrics
+abbrev pub is_metrics : Question → Bool
+is_metrics question.Rings = false
+is_metrics question.Status = false
+is_metrics question.Metrics = true
+is_metrics (question.Ring name what) = false
+
+-- whether what is shown of it is a file of Swift's, which is no text
+abbrev pub is_file : Question → Bool
+is_file question.Rings = false
+is_file question.Status = false
+is_file question.Metrics = false
+is_file (question.Ring name what) = is_file_read what
 
 -- what is written of a question of which these bytes are shown: JSON as a line, all else as it is
 abbrev pub written_as : Question → List ℕ → List ℕ

@@ -11,8 +11,8 @@ use Rattle.ring_model.specs.Ring.{RingRecord}
 use Rattle.ring_share.specs.Figures.{ring_balance, ring_dispersion}
 use Rattle.ring_share.specs.Room.{have}
 use Rattle.ring_share.specs.Want.{AreWanted}
-use Rattle.ring_reads.specs.Locks.{IsRest, locked_count}
-use Rattle.ring_reads.specs.Tables.{state_text}
+use Rattle.ring_metrics.specs.Locks.{IsRest, locked_count}
+use Rattle.ring_tables.specs.Tables.{state_text}
 
 -- what is told of a device that wants and has so many seats
 abbrev pub device_data : Device → ℕ → ℕ → Data

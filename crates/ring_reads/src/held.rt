@@ -1,7 +1,8 @@
 //! What a read finds.
 ghost use Rattle.std.specs.Prelude.{◌≡◌};
-ghost use Rattle.ring_reads.specs.Holding.{holding_of, hour_now};
+ghost use Rattle.ring_reads.specs.Holding.{figures_of, holding_of, hour_now};
 
+use ring_metrics::StoreFigures;
 use ring_model::Rings;
 use ring_words::Hour;
 
@@ -27,5 +28,16 @@ impl<'a> Held<'a> {
         ensures { result ≡ hour_now (holding_of self.now) }
     {
         self.hour.max(self.clock)
+    }
+
+    /// How much is held.
+    pub fn figures(&self) -> StoreFigures
+        ensures { result ≡ figures_of (holding_of self.now) }
+    {
+        StoreFigures {
+            kept: self.kept,
+            limit: self.limit,
+            hour: self.hour,
+        }
     }
 }

@@ -1,17 +1,14 @@
-//! What is read of rings: which there are and how much is kept, as JSON; of a ring its tables for
-//! operators, the whole of it, the nodes of a path, the preview of a rebalance and what moved
-//! between two published versions as JSON, and published texts.
+//! What is read of rings: which there are and how much is kept, as JSON; the metrics of all, in the
+//! text format of Prometheus; of a ring its tables for operators, the whole of it, the nodes of a
+//! path, the preview of a rebalance and what moved between two published versions as JSON, and
+//! published texts.
 //!
 //! A front reads what is asked in its own words, and clothes what is shown; what that is, and why
-//! nothing is shown, stands here alone. The layout of the tables is this project's own. The
-//! definitions that contracts cite stand in `specs/`, and `docs/definitions.md` lists them.
+//! nothing is shown, stands here alone. The definitions that contracts cite stand in `specs/`, and
+//! `docs/definitions.md` lists them.
 #![tactic(auto)]
 
-mod balances;
-mod cells;
-mod devices;
 mod held;
-mod locks;
 mod moves;
 mod moves_text;
 mod nodes;
@@ -22,8 +19,6 @@ mod seat_moves;
 mod whole_ring;
 mod whole_store;
 
-pub use balances::balance_table;
-pub use devices::device_table;
 pub use held::Held;
 pub use plain::Plain;
 pub use reads::{Format, Hidden, Question, Read, show};

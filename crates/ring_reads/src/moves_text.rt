@@ -10,10 +10,10 @@ ghost use Rattle.ring_reads.specs.MovesJson.{mover_data, movers_data, moves_data
 ghost use Rattle.ring_reads.specs.SeatMoves.{given_seats, is_mover, move_line, move_lines};
 ghost use Rattle.ring_reads.specs.SeatMoves.{moved_partitions, seat_moves, seat_word, taken_seats};
 
-use crate::cells::push_decimal;
 use crate::seat_moves::{Move, Moves, given_seats, moves_between, taken_seats};
 use ring_messages::Scalar::{Number, Text};
 use ring_messages::{members, object};
+use ring_tables::push_decimal;
 use ring_text::Snapshot;
 use ring_words::{Device, DeviceId, MOST_IDS, RingName};
 use serde_json::{Map, Value, put};

@@ -3,10 +3,9 @@ ghost use Rattle.std.specs.Prelude.{◌≡◌, IfOk, IfSome, IfNone, string_byte
 ghost use Rattle.ring_reads.specs.Reads.{IsPlainText, plain_word};
 ghost use Rattle.ring_reads.specs.declared.plain.Plain.{Plain as PlainModel};
 
-use crate::balances::balance_table;
-use crate::devices::device_table;
 use crate::whole_ring::ring_json;
 use ring_model::Ring;
+use ring_tables::{balance_table, device_table};
 use ring_words::{Hour, RingName};
 use std::alloc::{AllocError, Global};
 

@@ -8,10 +8,10 @@ ghost use Rattle.ring_share.specs.Want.{AreWanted, is_open};
 ghost use Rattle.ring_reads.specs.Preview.{IsPreviewJson, device_moves, devices_moves, moving_data};
 ghost use Rattle.ring_reads.specs.Preview.{preview_data, preview_figures};
 
-use crate::locks::locked_count;
 use crate::moves::{changed_partitions, staying_seats};
 use ring_messages::Scalar::{Number, Text};
 use ring_messages::{members, object};
+use ring_metrics::locked_count;
 use ring_model::Ring;
 use ring_place::Rebalanced;
 use ring_share::{balance, dispersion, have, wanted};

@@ -1,6 +1,7 @@
 //! What is read of rings.
 ghost use Rattle.std.specs.Prelude.{◌≡◌, ◌⊎◌, ℕ, IfErr, IfOk, IsUtf8, List, max, string_bytes};
-ghost use Rattle.ring_reads.specs.Holding.{holding_of};
+ghost use Rattle.ring_metrics.specs.Metrics.{IsMetrics};
+ghost use Rattle.ring_reads.specs.Holding.{figures_of, holding_of, hour_now};
 ghost use Rattle.ring_reads.specs.MovesJson.{AreMoveLines, IsMovesJson, WasPublished};
 ghost use Rattle.ring_reads.specs.Preview.{IsPreviewJson};
 ghost use Rattle.ring_reads.specs.Reads.{AreTables, Hides, IsHidden, IsShown, IsSwiftFileOf, Shows};
@@ -9,8 +10,6 @@ ghost use Rattle.ring_reads.specs.Reads.{TellsNodes};
 ghost use Rattle.ring_reads.specs.declared.reads.Hidden.TheVariants.{BadText, NoMemory};
 ghost use Rattle.ring_reads.specs.declared.reads.Read.TheVariants as read;
 
-use crate::balances::balance_table;
-use crate::devices::device_table;
 use crate::held::Held;
 use crate::moves_text::{move_lines, moves_json};
 use crate::nodes::nodes_text;
@@ -18,8 +17,10 @@ use crate::plain::Plain;
 use crate::preview::preview_json;
 use crate::whole_store::{rings_json, status_json};
 use path_lookup::{HashNames, NodesFault, Path, hash_path, nodes, partition_of};
+use ring_metrics::metrics_text;
 use ring_model::Ring;
 use ring_place::{PlaceError, rebalance};
+use ring_tables::{balance_table, device_table};
 use ring_text::{Snapshot, read_ring};
 use ring_words::{Hour, RingName, SpellingFault};
 use std::alloc::{AllocError, Global};
@@ -57,7 +58,7 @@ pub enum Read {
 
 impl Read {
     ghost use Rattle.std.specs.Prelude.{◌≡◌};
-    ghost use Rattle.ring_reads.specs.Reads.{is_json_read};
+    ghost use Rattle.ring_reads.specs.Reads.{is_file_read, is_json_read};
 
     /// Whether what is shown of it is JSON, which has no line feed at its end.
     fn is_json(&self) -> bool
@@ -68,6 +69,13 @@ impl Read {
             Read::Plain(Plain::Ring) | Read::Nodes(_) | Read::Preview(..) | Read::Moves(..)
         )
     }
+
+    /// Whether what is shown of it is a file of Swift's.
+    fn is_file(&self) -> bool
+        ensures { result ≡ is_file_read self.now }
+    {
+        matches!(self, Read::Published(_, Format::Swift))
+    }
 }
 
 /// What is read.
@@ -77,13 +85,15 @@ pub enum Question {
     Rings,
     /// How much is kept, as JSON without a line feed.
     Status,
+    /// The metrics of all that is held, in the text format of Prometheus.
+    Metrics,
     /// This of the ring of a name.
     Ring(RingName, Read),
 }
 
 impl Question {
     ghost use Rattle.std.specs.Prelude.{◌≡◌};
-    ghost use Rattle.ring_reads.specs.Reads.{is_json};
+    ghost use Rattle.ring_reads.specs.Reads.{is_file, is_json, is_metrics};
 
     /// Whether what is shown of it is JSON, which has no line feed at its end.
     pub fn is_json(&self) -> bool
@@ -91,7 +101,25 @@ impl Question {
     {
         match self {
             Question::Rings | Question::Status => true,
+            Question::Metrics => false,
             Question::Ring(_, what) => what.is_json(),
+        }
+    }
+
+    /// Whether it asks for the metrics.
+    pub fn is_metrics(&self) -> bool
+        ensures { result ≡ is_metrics self.now }
+    {
+        matches!(self, Question::Metrics)
+    }
+
+    /// Whether what is shown of it is a file of Swift's, which is no text.
+    pub fn is_file(&self) -> bool
+        ensures { result ≡ is_file self.now }
+    {
+        match self {
+            Question::Rings | Question::Status | Question::Metrics => false,
+            Question::Ring(_, what) => what.is_file(),
         }
     }
 }
@@ -320,6 +348,14 @@ fn named_bytes(
     }
 }
 
+/// The metrics of all that is held, at the hour at which a request would be decided now.
+fn held_metrics(alloc: Global, held: &Held<'_>) -> Result<String, AllocError>
+    ensures { IfOk result (λ text. IsMetrics (figures_of (holding_of held.now))
+        (holding_of held.now).rings (hour_now (holding_of held.now)) (string_bytes text)) }
+{
+    metrics_text(alloc, &held.figures(), held.rings, held.hour_now())
+}
+
 /// What is shown of a question where this is held. Paths are hashed between names.
 pub fn show(
     alloc: Global,
@@ -335,6 +371,7 @@ pub fn show(
     match question {
         Question::Rings => Ok(rings_json(alloc, held.rings)?.into_bytes()),
         Question::Status => Ok(status_json(alloc, held)?.into_bytes()),
+        Question::Metrics => Ok(held_metrics(alloc, held)?.into_bytes()),
         Question::Ring(name, what) => named_bytes(alloc, names, held, name, what),
     }
 }

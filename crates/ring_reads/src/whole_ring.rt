@@ -7,12 +7,12 @@ ghost use Rattle.ring_share.specs.Want.{AreWanted};
 ghost use Rattle.ring_reads.specs.RingJson.{IsRingJson, device_data, devices_data, ring_data};
 ghost use Rattle.ring_reads.specs.RingJson.{ring_figures, versions_data};
 
-use crate::devices::state_text;
-use crate::locks::{locked_count, rest};
 use ring_messages::Scalar::{Number, Text};
 use ring_messages::{members, object};
+use ring_metrics::{locked_count, rest};
 use ring_model::Ring;
 use ring_share::{balance, counts_of, dispersion, wanted};
+use ring_tables::state_text;
 use ring_words::{Device, Hour, RingName};
 use serde_json::{Map, Value, put};
 use std::alloc::{AllocError, Global};

@@ -213,7 +213,7 @@ const BAD_FIELDS: [Told; 14] = [
         Err(CsvFault::BadField(1, 5)),
     ),
     (
-        "a weight with one digit behind the point",
+        "a weight with one digit after the point",
         NAMES,
         b"1,1,10.0.0.1,6200,d0,50.0",
         Err(CsvFault::BadField(1, 6)),

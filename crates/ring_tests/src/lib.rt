@@ -10,6 +10,8 @@ mod fixtures;
 #[cfg(test)]
 mod founding;
 #[cfg(test)]
+mod metrics;
+#[cfg(test)]
 mod model;
 #[cfg(test)]
 mod moves;

@@ -5,7 +5,8 @@ use crate::fixtures::{
     RingRow, WITHOUT_DEVICES, device, ring, spelled_ring, with_ring,
 };
 use ring_model::{Ring, Rings};
-use ring_reads::{Held, balance_table, device_table, ring_json, rings_json, status_json};
+use ring_reads::{Held, ring_json, rings_json, status_json};
+use ring_tables::{balance_table, device_table};
 use ring_words::{Address, Device, DeviceName, Hour, Port, RingName};
 use std::alloc::Global;
 use std::test::Fail;

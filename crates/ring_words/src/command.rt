@@ -1,12 +1,14 @@
 //! What is asked of the builder, and what it replies.
-ghost use Rattle.std.specs.Prelude.{◌≡◌, ◌↔◌, IsTrue};
+ghost use Rattle.std.specs.Prelude.{◌≡◌, ◌↔◌, IfOk, IsTrue};
 ghost use Rattle.ring_words.specs.Kinds.{act_kind, deed_kind};
 
 use crate::bounded::{Power, Replicas};
 use crate::device::{DeviceId, Row};
 use crate::name::RingName;
+use crate::request::Hour;
 use crate::rows::Rows;
 use crate::weight::Weight;
+use std::alloc::AllocError;
 
 /// What a new ring is made with.
 #[derive(Clone, Copy, Debug, PartialEq, Eq)]
@@ -28,6 +30,17 @@ pub struct NewWeight {
     pub weight: Weight,
 }
 
+/// A rebalance that was foretold by a preview: it is to be this one or none.
+#[derive(Clone, Copy, Debug, PartialEq, Eq)]
+pub struct Foretold {
+    /// The seed that it was foretold for.
+    pub seed: u32,
+    /// The version that the ring is to have after it.
+    pub version: u32,
+    /// The hour at which it is to be decided.
+    pub hour: Hour,
+}
+
 /// Which of the commands it is, whatever it is given.
 #[derive(Clone, Copy, Debug, PartialEq, Eq)]
 pub enum Kind {
@@ -35,12 +48,14 @@ pub enum Kind {
     Add,
     SetWeight,
     Remove,
+    Keep,
     SetHours,
     PretendPassed,
     RaisePower,
     Import,
     Publish,
     Rebalance,
+    RebalanceAs,
 }
 
 /// What a command does to its ring.
@@ -54,6 +69,8 @@ pub enum Act {
     SetWeight(NewWeight),
     /// Marks the device of this number to be removed.
     Remove(DeviceId),
+    /// Takes the mark off the device of this number, so that it stays.
+    Keep(DeviceId),
     /// Sets for how many hours a partition that was moved stays where it is.
     SetHours(u16),
     /// Lets each partition be moved as if it never had been.
@@ -67,6 +84,8 @@ pub enum Act {
     /// Moves seats to where they should be. The seed varies which of several equally good rings it
     /// gives.
     Rebalance(u32),
+    /// Moves seats as a preview foretold, or not at all.
+    RebalanceAs(Foretold),
 }
 
 impl Act {
@@ -79,12 +98,34 @@ impl Act {
             Act::Add(_) => Kind::Add,
             Act::SetWeight(_) => Kind::SetWeight,
             Act::Remove(_) => Kind::Remove,
+            Act::Keep(_) => Kind::Keep,
             Act::SetHours(_) => Kind::SetHours,
             Act::PretendPassed => Kind::PretendPassed,
             Act::RaisePower => Kind::RaisePower,
             Act::Import(_) => Kind::Import,
             Act::Publish => Kind::Publish,
             Act::Rebalance(_) => Kind::Rebalance,
+            Act::RebalanceAs(_) => Kind::RebalanceAs,
+        }
+    }
+
+    /// The same act, in memory of its own.
+    fn copy(&self) -> Result<Act, AllocError>
+        ensures { IfOk result (λ copy. copy ≡ self.now) }
+    {
+        match self {
+            Act::Create(new) => Ok(Act::Create(*new)),
+            Act::Add(row) => Ok(Act::Add(row.copy()?)),
+            Act::SetWeight(to) => Ok(Act::SetWeight(*to)),
+            Act::Remove(id) => Ok(Act::Remove(*id)),
+            Act::Keep(id) => Ok(Act::Keep(*id)),
+            Act::SetHours(hours) => Ok(Act::SetHours(*hours)),
+            Act::PretendPassed => Ok(Act::PretendPassed),
+            Act::RaisePower => Ok(Act::RaisePower),
+            Act::Import(rows) => Ok(Act::Import(rows.copy()?)),
+            Act::Publish => Ok(Act::Publish),
+            Act::Rebalance(seed) => Ok(Act::Rebalance(*seed)),
+            Act::RebalanceAs(told) => Ok(Act::RebalanceAs(*told)),
         }
     }
 
@@ -97,12 +138,14 @@ impl Act {
             Act::Add(row) => matches!(other, Act::Add(also) if also == row),
             Act::SetWeight(to) => matches!(other, Act::SetWeight(also) if also == to),
             Act::Remove(id) => matches!(other, Act::Remove(also) if also == id),
+            Act::Keep(id) => matches!(other, Act::Keep(also) if also == id),
             Act::SetHours(hours) => matches!(other, Act::SetHours(also) if also == hours),
             Act::PretendPassed => matches!(other, Act::PretendPassed),
             Act::RaisePower => matches!(other, Act::RaisePower),
             Act::Import(rows) => matches!(other, Act::Import(also) if also.is(rows)),
             Act::Publish => matches!(other, Act::Publish),
             Act::Rebalance(seed) => matches!(other, Act::Rebalance(also) if also == seed),
+            Act::RebalanceAs(told) => matches!(other, Act::RebalanceAs(also) if also == told),
         }
     }
 }
@@ -117,6 +160,16 @@ pub struct Command {
 }
 
 impl Command {
+    /// The same command, in memory of its own.
+    pub fn copy(&self) -> Result<Command, AllocError>
+        ensures { IfOk result (λ copy. copy ≡ self.now) }
+    {
+        Ok(Command {
+            ring: self.ring.clone()?,
+            act: self.act.copy()?,
+        })
+    }
+
     /// Whether two commands are one, however they were spelt.
     pub fn is(&self, other: &Command) -> bool
         ensures { IsTrue result ↔ (self.now ≡ other.now) }
@@ -138,6 +191,8 @@ pub enum Deed {
     SetWeight,
     /// The device is marked to be removed.
     Remove,
+    /// The device is marked no more.
+    Keep,
     /// The hours are set.
     SetHours,
     /// No partition counts as moved.
@@ -158,6 +213,12 @@ pub enum Deed {
         changed: u32,
         dispersion: u32,
     },
+    /// So they are as it was foretold, with the same figures.
+    RebalanceAs {
+        balance: u32,
+        changed: u32,
+        dispersion: u32,
+    },
 }
 
 impl Deed {
@@ -170,12 +231,14 @@ impl Deed {
             Deed::Add { .. } => Kind::Add,
             Deed::SetWeight => Kind::SetWeight,
             Deed::Remove => Kind::Remove,
+            Deed::Keep => Kind::Keep,
             Deed::SetHours => Kind::SetHours,
             Deed::PretendPassed => Kind::PretendPassed,
             Deed::RaisePower => Kind::RaisePower,
             Deed::Import { .. } => Kind::Import,
             Deed::Publish => Kind::Publish,
             Deed::Rebalance { .. } => Kind::Rebalance,
+            Deed::RebalanceAs { .. } => Kind::RebalanceAs,
         }
     }
 }
@@ -231,6 +294,12 @@ pub enum Refusal {
     RowRefused { row: u64, cause: RowCause },
     /// The ring has the greatest power.
     PowerLimit,
+    /// The device isn't marked to be removed.
+    NotMarked,
+    /// The ring would get another version than the one that was foretold.
+    OtherVersion,
+    /// It would be decided at another hour than the one that was foretold.
+    OtherHour,
 }
 
 /// The answer to a command that was decided.

@@ -1,11 +1,12 @@
 //! Devices.
-ghost use Rattle.std.specs.Prelude.{◌≡◌};
+ghost use Rattle.std.specs.Prelude.{◌≡◌, IfOk};
 ghost use Rattle.ring_words.specs.Rows.{has_place, same_place};
 
 use crate::address::Address;
 use crate::bounded::Port;
 use crate::name::DeviceName;
 use crate::weight::Weight;
+use std::alloc::AllocError;
 
 /// The number of a device in its ring. Numbers are given in order from 0 and never used again.
 pub type DeviceId = u16;
@@ -39,6 +40,14 @@ pub struct Device {
 }
 
 impl Row {
+    /// The same row. Its name shares the text.
+    pub(crate) fn copy(&self) -> Result<Row, AllocError>
+        ensures { IfOk result (λ copy. copy ≡ self.now) }
+    {
+        let row = self.clone()?;
+        Ok(row)
+    }
+
     /// Whether the two have the same address, port and name.
     pub fn is_at_place_of(&self, other: &Row) -> bool
         ensures { result ≡ same_place self.now other.now }

@@ -17,7 +17,9 @@ mod weight;
 
 pub use address::Address;
 pub use bounded::{Bounded, GREATEST_POWER, MOST_REPLICAS, Port, Power, Replicas, partition_count};
-pub use command::{Act, Command, Deed, Done, Kind, NewRing, NewWeight, Refusal, Reply, RowCause};
+pub use command::{
+    Act, Command, Deed, Done, Foretold, Kind, NewRing, NewWeight, Refusal, Reply, RowCause,
+};
 pub use decimal::{parse_decimal, parse_decimal_up_to};
 pub use device::{Device, DeviceId, Row};
 pub use name::{

@@ -1,11 +1,12 @@
 //! The rows of an import.
-ghost use Rattle.std.specs.Prelude.{◌≡◌, ◌↔◌, IsTrue};
+ghost use Rattle.std.specs.Prelude.{◌≡◌, ◌↔◌, IfOk, IsTrue};
 ghost use Rattle.std.specs.Cmp.Lexicographic.{pointwise};
 ghost use Rattle.std.specs.Cmp.{partial_equiv_from_equiv};
 ghost use Rattle.ring_words.specs.Rows.{is_same_row};
 ghost use Rattle.ring_words.specs.Inner.SameRows.{rows_equiv};
 
 use crate::device::Row;
+use std::alloc::AllocError;
 use std::marker::Model;
 
 /// The rows of an import. Contracts see their list.
@@ -37,6 +38,14 @@ impl Rows {
         ensures { IsTrue result ↔ (self.now ≡ other.now) }
     {
         self == other
+    }
+
+    /// The same rows, in memory of their own.
+    pub(crate) fn copy(&self) -> Result<Rows, AllocError>
+        ensures { IfOk result (λ copy. copy ≡ self.now) }
+    {
+        let rows = self.rows.clone()?;
+        Ok(Rows { rows })
     }
 
     /// The rows, in their order.

@@ -1,3 +1,4 @@
 pub mod Entries
 pub mod Contents
 pub mod Changes
+pub mod Pages

@@ -123,7 +123,7 @@ apart_rows b n (x ∷ es) all = (
   apart_rows b (n + 1) es all.1,
 )
 
-book_distinct : (n : ℕ) (book : List DecidedRequest) → AllPairs Apart book →
+pub book_distinct : (n : ℕ) (book : List DecidedRequest) → AllPairs Apart book →
     IsDistinct (eq_by_cmp rows.name_number_cmp) (map (λ (e : rows.NameNumber × rows.Request). e.0)
     (map request_entry (enumerate_from n book)))
 unfolding IsDistinct

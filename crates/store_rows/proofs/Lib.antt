@@ -26,3 +26,4 @@ pub mod NewParts
 pub mod AtName
 pub mod FirstRings
 pub mod OneStore
+pub mod BookPages

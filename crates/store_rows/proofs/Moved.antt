@@ -94,13 +94,13 @@ module _ {K V : Type 0} {R : K → K → Ordering} (o : IsTotalOrder R) (exact :
 
 -- ---- the rows of a book, by their places
 
-abbrev Named : Type 0
+abbrev pub Named : Type 0
 Named = rows.NameNumber × rows.Request
 
-abbrev placed : Named → ℤ × Named
+abbrev pub placed : Named → ℤ × Named
 placed e = (e.1.place, e)
 
-unplaced : (es : List Named) → map (λ (x : ℤ × Named). x.1) (map placed es) ≡ es
+pub unplaced : (es : List Named) → map (λ (x : ℤ × Named). x.1) (map placed es) ≡ es
 unplaced [] = refl
 unplaced (e ∷ es) = ap (λ xs. e ∷ xs) (unplaced es)
 
@@ -110,7 +110,7 @@ places_below m n [] h = refl
 places_below m n (b ∷ bs) h = and_from _ _ (ap is_lt (int_less m n h)) (places_below m (n + 1) bs
     (omega arith))
 
-book_up : (n : ℕ) (book : List DecidedRequest) → is_sorted int_cmp (map placed (map request_entry
+pub book_up : (n : ℕ) (book : List DecidedRequest) → is_sorted int_cmp (map placed (map request_entry
     (enumerate_from n book))) ≡ true
 book_up n [] = refl
 book_up n (b ∷ bs) = and_from _ _ (places_below n (n + 1) bs (omega arith)) (book_up (n + 1) bs)

@@ -104,7 +104,7 @@ module _ (one_text : (c d : Command) → IsProperCommand c → IsProperCommand d
     canonical c ≡ canonical d → c ≡ d)
     (one_reply : (r s : Reply) → IsProperReply r → IsProperReply s → reply_text r ≡ reply_text s →
     r ≡ s) where
-  one_request : (i j : ℕ) (x y : DecidedRequest) → IsDecision x → IsDecision y →
+  pub one_request : (i j : ℕ) (x y : DecidedRequest) → IsDecision x → IsDecision y →
       key_of_request x.key ≡ key_of_request y.key →
       (request_entry (i, x)).1 ≡ (request_entry (j, y)).1 → (i ≡ j) × (x ≡ y)
   one_request i j x y p q named row =

@@ -17,7 +17,7 @@ use std::alloc::Global;
 use store_model::RequestRow;
 
 /// The decided request of a row, which is the `place`-th from 0.
-fn read_request(
+pub(crate) fn read_request(
     alloc: Global,
     row: &RequestRow,
     place: u32,

@@ -26,4 +26,4 @@ mod written;
 
 pub use change::Change;
 pub use judging::{Judged, StoreRows, judge};
-pub use requests::{DecidedRows, decided_rows, meta_row, read_found};
+pub use requests::{DecidedRows, decided_rows, meta_row, read_entries, read_found};

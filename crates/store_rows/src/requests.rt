@@ -1,20 +1,23 @@
 //! The rows of decided requests.
-ghost use Rattle.std.specs.Prelude.{◌≡◌, ◌<◌, ◌≤◌, ◌↔◌, IfOk, IsErrOf, IsTrue, None, length};
-ghost use Rattle.ring_words.specs.Limits.{most_numbers};
+ghost use Rattle.std.specs.Prelude.{◌≡◌, ◌<◌, ◌≤◌, ◌↔◌, IfOk, IsErrOf, IsTrue, None, length, map};
+ghost use Rattle.std.specs.Prelude.{pos, ℕ};
+ghost use Rattle.ring_words.specs.Limits.{long_count, most_numbers};
 ghost use Rattle.std.specs.Option.{option_map};
-ghost use Rattle.std.specs.FinMap.{get};
-ghost use Rattle.request_book.specs.Content.{entry_of};
+ghost use Rattle.std.specs.FinMap.{entries, get};
+ghost use Rattle.request_book.specs.Content.{entries_from, entry_of};
 ghost use Rattle.request_book.specs.Keeper.{IsFound};
 ghost use Rattle.ring_words.specs.declared.request.Key.{Key};
 ghost use Rattle.ring_words.specs.declared.spelling.SpellingFault.TheVariants.{Bad};
 ghost use Rattle.ring_messages.specs.Commands.{canonical};
 ghost use Rattle.store_model.specs.Changes.{with_decided};
-ghost use Rattle.store_model.specs.Contents.{kept_of};
+ghost use Rattle.store_model.specs.Contents.{kept_of, request_of};
+ghost use Rattle.store_model.specs.Pages.{IsPage};
 ghost use Rattle.store_rows.specs.Judging.{meta_now};
 ghost use Rattle.store_rows.specs.Stands.{IsHoldable, RingContent, contents_for, gained};
 ghost use Rattle.store_rows.specs.Stands.{key_of_request};
 
-use request_book::Found;
+use crate::row_reading::read_each;
+use request_book::{Entry, Found};
 use ring_messages::{
     command_is_proper, command_text, one_reply, one_text, read_reply, reply_is_proper, reply_text,
 };
@@ -112,4 +115,22 @@ pub fn read_found(
         Ok(reply) => Ok(Found::Same(reply)),
         Err(fault) => Err(fault),
     }
+}
+
+/// The decided requests of rows, in the order of the rows. Never Bad where they are the rows from a
+/// place on of a table that stands for a book.
+pub fn read_entries(
+    alloc: Global,
+    rows: &[RequestRow],
+) -> Result<Vec<Entry<Command, Reply>>, SpellingFault>
+    ensures entries { (content : RingContent) (from most : ℕ) → IsHoldable content
+        → from < long_count
+        → IsPage (pos from) most (entries (contents_for content).requests) (map request_of rows.now)
+        → IfOk result (λ found. found.items ≡ entries_from from most content.book) }
+    ensures good { (content : RingContent) (from most : ℕ) → IsHoldable content
+        → from < long_count
+        → IsPage (pos from) most (entries (contents_for content).requests) (map request_of rows.now)
+        → IsErrOf result SpellingFault.Bad → ⊥ }
+{
+    read_each(alloc, rows)
 }

@@ -3,11 +3,14 @@ ghost use Rattle.std.specs.Prelude.{map, ℕ, List};
 ghost use Rattle.std.specs.List.{AllZip};
 ghost use Rattle.store_rows.specs.Inner.Found.{ReadsRow};
 
+use crate::books::read_request;
 use crate::numbers::{bounded, mark, number16, number32, weight};
-use ring_words::{Device, DeviceId, Row, SpellingFault, read_address, read_name};
+use request_book::Entry;
+use ring_messages::{one_reply, one_text};
+use ring_words::{Command, Device, DeviceId, Reply, Row, SpellingFault, read_address, read_name};
 use std::alloc::Global;
 use std::rc::RcStr;
-use store_model::{DeviceRow, PublishedRow, SeatRow};
+use store_model::{DeviceRow, PublishedRow, RequestRow, SeatRow};
 
 /// A row that stands for one thing.
 pub(crate) trait Readable {
@@ -89,6 +92,26 @@ impl Readable for SeatRow {
 
     fn read(&self, _alloc: Global) -> Result<DeviceId, SpellingFault> {
         number16(self.device)
+    }
+}
+
+impl Readable for RequestRow {
+    ghost use Rattle.store_rows.specs.Inner.Found.{StandsForRequest};
+    ghost use Rattle.store_rows.specs.Stands.{DecidedRequest};
+
+    type Thing = Entry<Command, Reply>;
+
+    ghost Value = { DecidedRequest };
+
+    ghost value = { λ entry. entry };
+
+    ghost stands = { StandsForRequest };
+
+    fn read(&self, alloc: Global) -> Result<Entry<Command, Reply>, SpellingFault> {
+        one_text();
+        one_reply();
+        let place = number32(self.place)?;
+        read_request(alloc, self, place)
     }
 }
 

@@ -9,4 +9,5 @@ pub mod Writing
 pub mod Inside
 pub mod Refusals
 pub mod Failing
+pub mod TextRows
 pub mod PlainSchemas

@@ -107,3 +107,16 @@ reads_listed sql l listed it old new sees survives result rows_of seen shown sam
     same ok read (λ rows store h. it.shows old.now rows store (reads_all _ old.now rows it.plain
     (reads_as sql [] old new store_schema (lives_in old.now store).schema_is _ refl it.plain
     it.of_tables rows h)))
+
+-- what the query showed of each row is that of an entry of the table
+pub seen_listed : {K V : Type 0} (sql : List ℕ) (l : Layout K V) (listed : Contents → List (K × V))
+    → Lists sql l listed → (old new : State) → SeesStore old
+    → Survives old new (CommitsShowing sql [] old) → (seen shown : List Row) → seen ≡ shown
+    → (HasCleanDisk new → Shown sql [] old new shown) → HasCleanDisk new
+    → map (shown_as l) seen ≡ listed (contents_of old.now.trees)
+seen_listed sql l listed it old new sees survives seen shown same ok clean =
+    let store = sees (omega (arith, survives.clean, clean)) in
+    ap (map (shown_as l)) same
+    ∙ it.shows old.now shown store (reads_all _ old.now shown it.plain
+    (reads_as sql [] old new store_schema (lives_in old.now store).schema_is _ refl it.plain
+    it.of_tables shown (ok clean)))

@@ -1,4 +1,4 @@
--- A statement that is refused is not told as a failure of the disk.
+-- A statement that is refused is told neither as a failure of the disk nor as a text that is none.
 use Rattle.std.proofs.Common.{◌≡◌, ◌⊎◌, ℕ, ℤ, Bool, true, false, List, [], ◌∷◌, Option, Some, None, Err, refl, subst, inl, inr, slice_get, is_some}
 use Rattle.std.specs.Option.{option_to_list}
 use Rattle.std.specs.Prelude.{MatchBool, option_map}
@@ -33,19 +33,24 @@ use Rattle.sqlite.specs.declared.run.Mode.{Mode}
 use Rattle.sqlite.specs.Effect.{Database, IsNoText, RefusesQuery, RefusesSource, RefusesToAlter, RefusesToRead, alter_error, edit_error}
 use Rattle.sqlite.specs.Rows.{Part, Gives, Refuses, Then, Queried, Sourced, Edited, Written, Task, CounterIn, Counter, CountsIn, Counts, counting, Updates, Deletes, Inserts, Puts, Clears, Resolves, Meets, Upserts, Judged, Tries, TriesEach, InsertsOr}
 use Rattle.sqlite.specs.Does.{Tally, AtPlace, Tested, MakesTable, MakesSequence, MakesIndex, MakesView, Leaves, Counted, Defines, Shows, Returns, Concludes, WritesRows, OnRows, Empties, UncountsIn, Drops, HoldWithout, OnTable, Redefines, Does}
-use Rattle.store_tables.specs.Failing.{tells_failure}
+use Rattle.std.specs.Prelude.{◌||◌}
+use Rattle.store_tables.specs.Failing.{is_no_text, tells_failure}
 
--- no error with which the part is refused tells of a failure
+-- the error tells of the disk, or of a text
+abbrev pub tells : Error → Bool
+tells e = tells_failure e || is_no_text e
+
+-- no error with which the part is refused tells of the disk or of a text
 pub record Spares {A : Type 0} (P : Part A) : Type 0 where
-  pub spared : (e : Error) → P (Err (Some e)) → tells_failure e ≡ false
+  pub spared : (e : Error) → P (Err (Some e)) → tells e ≡ false
 
 gives : {A : Type 0} (a : A) → Spares (Gives a)
 gives a = record { spared = λ e h. absurd (let k = h in cc) }
 
-pub is_spared : (e f : Error) → e ≡ f → tells_failure f ≡ false → tells_failure e ≡ false
+pub is_spared : (e f : Error) → e ≡ f → tells f ≡ false → tells e ≡ false
 is_spared e f same never = rw same never
 
-refuses : {A : Type 0} (f : Error) → tells_failure f ≡ false → Spares {A = A} (Refuses f)
+refuses : {A : Type 0} (f : Error) → tells f ≡ false → Spares {A = A} (Refuses f)
 refuses f never = record { spared = λ e h. is_spared e f (let k = h in cc) never }
 
 then : {A B : Type 0} (First : Part A) (Next : A → Part B) → Spares First → ((a : A) → Spares (Next a)) → Spares (Then First Next)
@@ -56,27 +61,27 @@ then First Next first next = record {
   ];
 }
 
-either : {A : Type 0} (b : Bool) (P Q : Part A) → Spares P → Spares Q → (e : Error) → MatchBool b (P (Err (Some e))) (Q (Err (Some e))) → tells_failure e ≡ false
+either : {A : Type 0} (b : Bool) (P Q : Part A) → Spares P → Spares Q → (e : Error) → MatchBool b (P (Err (Some e))) (Q (Err (Some e))) → tells e ≡ false
 either true P Q p q e h = p.spared e h
 either false P Q p q e h = q.spared e h
 
 -- ---- the rows of a table
 
-edit_spared : (r : Refusal) → tells_failure (edit_error r) ≡ false
+edit_spared : (r : Refusal) → tells (edit_error r) ≡ false
 edit_spared (rule.Violates it) = refl
 edit_spared rule.Mismatch = refl
 edit_spared rule.BadReference = refl
 edit_spared rule.NoRowid = refl
 edit_spared rule.TooDeep = refl
 
-named : (e : Error) (r : Option Refusal) → Some e ≡ option_map edit_error r → tells_failure e ≡ false
+named : (e : Error) (r : Option Refusal) → Some e ≡ option_map edit_error r → tells e ≡ false
 named e None h = absurd (let k = h in cc)
 named e (Some r) h = is_spared e (edit_error r) (let k = h in cc) (edit_spared r)
 
 edited : (schema : Schema) (keys : Keys) (db : Trees) (edit : Edit) → Spares (Edited schema keys db edit)
 edited schema keys db edit = record { spared = λ e h. named e h.0 h.2 }
 
-refused_query : (limit : Option ℕ) (db : Database) (p : Program) (params : Row) (e : Error) → RefusesQuery limit db p params e → tells_failure e ≡ false
+refused_query : (limit : Option ℕ) (db : Database) (p : Program) (params : Row) (e : Error) → RefusesQuery limit db p params e → tells e ≡ false
 refused_query limit db p params e (inl h) = is_spared e _ h.0 refl
 refused_query limit db p params e (inr (inl h)) = is_spared e _ h.0 refl
 refused_query limit db p params e (inr (inr h)) = is_spared e _ h.0 refl
@@ -84,7 +89,7 @@ refused_query limit db p params e (inr (inr h)) = is_spared e _ h.0 refl
 queried : (limit : Option ℕ) (db : Database) (p : Program) (params : Row) → Spares (Queried limit db p params)
 queried limit db p params = record { spared = λ e h. refused_query limit db p params e h }
 
-unsourced : (limit : Option ℕ) (db : Database) (params : Row) (from : Source) (e : Error) → RefusesSource limit db params from e → tells_failure e ≡ false
+unsourced : (limit : Option ℕ) (db : Database) (params : Row) (from : Source) (e : Error) → RefusesSource limit db params from e → tells e ≡ false
 unsourced limit db params (Values terms width) e (inl h) = is_spared e _ h.0 refl
 unsourced limit db params (Values terms width) e (inr h) = is_spared e _ h.0 refl
 unsourced limit db params (Query q) e h = refused_query limit db q params e h
@@ -165,7 +170,7 @@ module _ (task : Task) where
 tested : (mode : Mode) (Holds : Among → Type 0) → Spares (Tested mode Holds)
 tested mode Holds = record { spared = λ e h. is_spared e (SqliteFailure (code.ConstraintViolation ForeignKey)) (let k = h.1 in cc) refl }
 
-alter_spared : (r : alter.Refusal) → tells_failure (alter_error r) ≡ false
+alter_spared : (r : alter.Refusal) → tells (alter_error r) ≡ false
 alter_spared (why.Invalid it) = refl
 alter_spared why.NameTaken = refl
 alter_spared why.BadName = refl
@@ -174,10 +179,10 @@ alter_spared why.BadText = refl
 alter_spared why.TooBig = refl
 alter_spared (why.Violates it) = refl
 
-altered : (Is : alter.Refusal → Type 0) (e : Error) → RefusesToAlter Is e → tells_failure e ≡ false
+altered : (Is : alter.Refusal → Type 0) (e : Error) → RefusesToAlter Is e → tells e ≡ false
 altered Is e h = is_spared e _ h.2 (alter_spared h.0)
 
-unmade : (text : List ℕ) (Is : alter.Refusal → Type 0) (e : Error) → IsNoText text e ⊎ RefusesToAlter Is e → tells_failure e ≡ false
+unmade : (text : List ℕ) (Is : alter.Refusal → Type 0) (e : Error) → IsNoText text e ⊎ RefusesToAlter Is e → tells e ≡ false
 unmade text Is e (inl h) = is_spared e _ h.1 refl
 unmade text Is e (inr h) = altered Is e h
 
@@ -200,7 +205,7 @@ at_place P so (Some x) = so x
 counted : (limit : Option ℕ) (rows : List Row) → Spares (Counted limit rows)
 counted limit rows = record { spared = λ e h. is_spared e (SqliteFailure code.OperationInterrupted) (let k = h.1 in cc) refl }
 
-leaves : (schema : Schema) (db : Trees) (Refused : Error → Type 0) → ((e : Error) → Refused e → tells_failure e ≡ false) → Spares (Leaves schema db Refused)
+leaves : (schema : Schema) (db : Trees) (Refused : Error → Type 0) → ((e : Error) → Refused e → tells e ≡ false) → Spares (Leaves schema db Refused)
 leaves schema db Refused so = record { spared = so }
 
 defines : (mode : Mode) (Makes : Part Database) → Spares Makes → Spares (Defines mode Makes)
@@ -256,7 +261,7 @@ module _ (limit : Option ℕ) (mode : Mode) (params : Row) (db : Database) where
   redefines text (command.DropView at) = at_place _ (λ view. defines mode _ (leaves _ db.trees _ (λ e h. is_spared e _ h.1 refl))) (slice_get db.schema.views at)
   redefines text _ = refuses InvalidQuery refl
 
-  defined : (text : List ℕ) (returning : Option Returning) (it : Command) (e : Error) → MatchBool (is_some returning) (Refuses {A = Tally × Database} InvalidQuery (Err (Some e))) (Redefines limit mode params db text it (Err (Some e))) → tells_failure e ≡ false
+  defined : (text : List ℕ) (returning : Option Returning) (it : Command) (e : Error) → MatchBool (is_some returning) (Refuses {A = Tally × Database} InvalidQuery (Err (Some e))) (Redefines limit mode params db text it (Err (Some e))) → tells e ≡ false
   defined text returning it e h = either (is_some returning) (Refuses InvalidQuery) (Redefines limit mode params db text it) (refuses InvalidQuery refl) (redefines text it) e h
 
   -- whatever the command is
@@ -268,7 +273,7 @@ module _ (limit : Option ℕ) (mode : Mode) (params : Row) (db : Database) where
   does text returning it = record { spared = λ e h. defined text returning it e h }
 
 -- what a query is refused with
-pub reads : (limit : Option ℕ) (it : Command) (db : Database) (params : Row) (e : Error) → RefusesToRead limit it db params e → tells_failure e ≡ false
+pub reads : (limit : Option ℕ) (it : Command) (db : Database) (params : Row) (e : Error) → RefusesToRead limit it db params e → tells e ≡ false
 reads limit (command.Select q names) db params e h = refused_query limit db q params e h
 reads limit (command.Rows values width names) db params e h = is_spared e _ h.0 refl
 reads limit _ db params e h = is_spared e _ h refl

@@ -3,3 +3,4 @@ pub mod Keys
 pub mod Facts
 pub mod Lists
 pub mod Texts
+pub mod Placed

@@ -3,7 +3,7 @@ use Rattle.std.specs.Prelude.{◌≡◌, ◌⊎◌, ℕ, Bool, true, false, IfEr
 use Rattle.sqlite_disk.specs.Disk.{MoreFaults}
 use Rattle.sqlite.specs.State.{HasCleanDisk, State}
 use Rattle.sqlite.specs.declared.error.Error.{Error}
-use Rattle.sqlite.specs.declared.error.Error.TheVariants.{SqliteFailure}
+use Rattle.sqlite.specs.declared.error.Error.TheVariants.{SqliteFailure, Utf8Error}
 use Rattle.sqlite.specs.declared.error.ErrorCode.TheVariants as code
 
 -- The error tells that the disk failed or refused, or that it did so before and the connection is
@@ -14,6 +14,11 @@ tells_failure (SqliteFailure code.DatabaseCorrupt) = true
 tells_failure (SqliteFailure code.DiskFull) = true
 tells_failure (SqliteFailure code.Closed) = true
 tells_failure _ = false
+
+-- The error tells that what was read as a text is no UTF-8.
+abbrev pub is_no_text : Error → Bool
+is_no_text (Utf8Error column) = true
+is_no_text _ = false
 
 -- The disk has failed or refused since then, where it has done so this often by now; or the
 -- connection was shut before.

@@ -4,4 +4,5 @@ pub mod Entries
 pub mod Contents
 pub mod Store
 pub mod Failing
+pub mod Texts
 pub mod Inner

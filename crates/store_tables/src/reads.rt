@@ -1,10 +1,15 @@
 //! The statements that read.
 
-ghost use Rattle.std.specs.Prelude.{◌≡◌, false, pos, map, option_map, slice_get, IfErr, IfOk};
+ghost use Rattle.std.specs.Prelude.{◌≡◌, false, pos, map, option_map, slice_get, string_bytes, All};
+ghost use Rattle.std.specs.Prelude.{IfErr, IfOk, IsTrue, IsUtf8};
 ghost use Rattle.std.specs.FinMap.{get};
 ghost use Rattle.sqlite.specs.Held.{state};
+ghost use Rattle.sqlite.specs.State.{HasCleanDisk};
+ghost use Rattle.sqlite_value.specs.Order.{bytes, column};
+ghost use Rattle.sqlite_value.specs.declared.value.Value.TheVariants.{Blob, Int, Text};
 ghost use Rattle.store_model.specs.Contents.{kept_of};
-ghost use Rattle.store_tables.specs.Failing.{FailsForCause, tells_failure};
+ghost use Rattle.store_tables.specs.Contents.{contents_of};
+ghost use Rattle.store_tables.specs.Failing.{FailsForCause, is_no_text, tells_failure};
 ghost use Rattle.store_tables.specs.Inner.Told.{told};
 ghost use Rattle.store_tables.specs.Inner.Shown.{Lists, shown_as};
 ghost use Rattle.store_tables.specs.Store.{ReadsTables, SeesStore};
@@ -15,6 +20,33 @@ use std::rc::RcStr;
 use store_model::{
     DeviceRow, KeptRequest, MetaRow, MovedRow, PartRow, PublishedRow, RequestRow, RingRow, SeatRow,
 };
+
+/// The text in a column. What is no UTF-8 is refused with `Utf8Error`.
+fn text_in(row: &Row, at: usize) -> Result<String, Error>
+    ensures text { IfOk result (λ text. column row.now at ≡ Text (string_bytes text)) }
+    ensures unfailed { IfErr result (λ e. tells_failure e ≡ false) }
+    ensures no_text { IfErr result (λ e. IsTrue (is_no_text e) → IsUtf8 (bytes (column row.now at)) → ⊥) }
+{
+    row.get(at)
+}
+
+/// The number in a column.
+fn number_in(row: &Row, at: usize) -> Result<i64, Error>
+    ensures number { IfOk result (λ number. column row.now at ≡ Int number) }
+    ensures unfailed { IfErr result (λ e. tells_failure e ≡ false) }
+    ensures no_text { IfErr result (λ e. is_no_text e ≡ false) }
+{
+    row.get(at)
+}
+
+/// The bytes in a column.
+fn bytes_in(row: &Row, at: usize) -> Result<Vec<u8>, Error>
+    ensures bytes { IfOk result (λ found. column row.now at ≡ Blob found.items) }
+    ensures unfailed { IfErr result (λ e. tells_failure e ≡ false) }
+    ensures no_text { IfErr result (λ e. is_no_text e ≡ false) }
+{
+    row.get(at)
+}
 
 /// A row of a table that a statement lists whole.
 pub trait Listed: Sized {
@@ -37,6 +69,9 @@ pub trait Listed: Sized {
     /// The entries of the table, by rising key.
     ghost listed: { Contents → List (Key × Value) };
 
+    /// The texts of an entry are UTF-8.
+    ghost are_texts: { Key × Value → Type 0 };
+
     /// The statement that lists the table.
     fn query() -> &'static str
         ensures { Lists result.now layout listed };
@@ -44,12 +79,14 @@ pub trait Listed: Sized {
     /// The row, from its columns.
     fn read(alloc: Global, row: &Row) -> Result<Self, Error>
         ensures entry { IfOk result (λ it. shown_as layout row.now ≡ entry it) }
-        ensures unfailed { IfErr result (λ e. tells_failure e ≡ false) };
+        ensures unfailed { IfErr result (λ e. tells_failure e ≡ false) }
+        ensures no_text { IfErr result (λ e. IsTrue (is_no_text e) → are_texts
+            (shown_as layout row.now) → ⊥) };
 }
 
 // All rows of `meta`, by rising key.
 impl Listed for MetaRow {
-    ghost use Rattle.std.specs.Prelude.{ℤ};
+    ghost use Rattle.std.specs.Prelude.{ℤ, ⊤};
     ghost use Rattle.std.specs.FinMap.{entries};
     ghost use Rattle.store_model.specs.Contents.{meta_of};
     ghost use Rattle.store_model.specs.Entries.{Meta};
@@ -65,15 +102,17 @@ impl Listed for MetaRow {
 
     ghost listed = { λ c. entries c.meta };
 
+    ghost are_texts = { λ _. ⊤ };
+
     fn query() -> &'static str {
         "SELECT * FROM meta ORDER BY one"
     }
 
     fn read(_alloc: Global, row: &Row) -> Result<MetaRow, Error> {
         Ok(MetaRow {
-            one: row.get(0)?,
-            schema: row.get(1)?,
-            hour: row.get(2)?,
+            one: number_in(row, 0)?,
+            schema: number_in(row, 1)?,
+            hour: number_in(row, 2)?,
         })
     }
 }
@@ -85,6 +124,7 @@ impl Listed for RingRow {
     ghost use Rattle.store_model.specs.Contents.{ring_of};
     ghost use Rattle.store_model.specs.Entries.{Ring};
     ghost use Rattle.store_tables.specs.Entries.{ring_rows};
+    ghost use Rattle.store_tables.specs.Texts.{AreRingTexts};
 
     ghost Key = { List ℕ };
 
@@ -96,18 +136,20 @@ impl Listed for RingRow {
 
     ghost listed = { λ c. entries c.rings };
 
+    ghost are_texts = { AreRingTexts };
+
     fn query() -> &'static str {
         "SELECT * FROM ring ORDER BY name"
     }
 
     fn read(_alloc: Global, row: &Row) -> Result<RingRow, Error> {
         Ok(RingRow {
-            name: row.get(0)?,
-            power: row.get(1)?,
-            replicas: row.get(2)?,
-            min_hours: row.get(3)?,
-            next_id: row.get(4)?,
-            version: row.get(5)?,
+            name: text_in(row, 0)?,
+            power: number_in(row, 1)?,
+            replicas: number_in(row, 2)?,
+            min_hours: number_in(row, 3)?,
+            next_id: number_in(row, 4)?,
+            version: number_in(row, 5)?,
         })
     }
 }
@@ -118,6 +160,7 @@ impl Listed for DeviceRow {
     ghost use Rattle.store_model.specs.Contents.{device_of};
     ghost use Rattle.store_model.specs.Entries.{NameNumber, Device};
     ghost use Rattle.store_tables.specs.Entries.{device_rows};
+    ghost use Rattle.store_tables.specs.Texts.{AreDeviceTexts};
 
     ghost Key = { NameNumber };
 
@@ -129,21 +172,23 @@ impl Listed for DeviceRow {
 
     ghost listed = { λ c. entries c.devices };
 
+    ghost are_texts = { AreDeviceTexts };
+
     fn query() -> &'static str {
         "SELECT * FROM device ORDER BY ring, id"
     }
 
     fn read(_alloc: Global, row: &Row) -> Result<DeviceRow, Error> {
         Ok(DeviceRow {
-            ring: row.get(0)?,
-            id: row.get(1)?,
-            region: row.get(2)?,
-            zone: row.get(3)?,
-            address: row.get(4)?,
-            port: row.get(5)?,
-            name: row.get(6)?,
-            weight: row.get(7)?,
-            removed: row.get(8)?,
+            ring: text_in(row, 0)?,
+            id: number_in(row, 1)?,
+            region: number_in(row, 2)?,
+            zone: number_in(row, 3)?,
+            address: text_in(row, 4)?,
+            port: number_in(row, 5)?,
+            name: text_in(row, 6)?,
+            weight: number_in(row, 7)?,
+            removed: number_in(row, 8)?,
         })
     }
 }
@@ -155,6 +200,7 @@ impl Listed for SeatRow {
     ghost use Rattle.store_model.specs.Contents.{seat_of};
     ghost use Rattle.store_model.specs.Entries.{SeatKey};
     ghost use Rattle.store_tables.specs.Entries.{seat_rows};
+    ghost use Rattle.store_tables.specs.Texts.{AreSeatTexts};
 
     ghost Key = { SeatKey };
 
@@ -166,16 +212,18 @@ impl Listed for SeatRow {
 
     ghost listed = { λ c. entries c.seats };
 
+    ghost are_texts = { AreSeatTexts };
+
     fn query() -> &'static str {
         "SELECT * FROM seat ORDER BY ring, part, replica"
     }
 
     fn read(_alloc: Global, row: &Row) -> Result<SeatRow, Error> {
         Ok(SeatRow {
-            ring: row.get(0)?,
-            part: row.get(1)?,
-            replica: row.get(2)?,
-            device: row.get(3)?,
+            ring: text_in(row, 0)?,
+            part: number_in(row, 1)?,
+            replica: number_in(row, 2)?,
+            device: number_in(row, 3)?,
         })
     }
 }
@@ -187,6 +235,7 @@ impl Listed for MovedRow {
     ghost use Rattle.store_model.specs.Contents.{moved_of};
     ghost use Rattle.store_model.specs.Entries.{NameNumber};
     ghost use Rattle.store_tables.specs.Entries.{moved_rows};
+    ghost use Rattle.store_tables.specs.Texts.{AreMovedTexts};
 
     ghost Key = { NameNumber };
 
@@ -198,15 +247,17 @@ impl Listed for MovedRow {
 
     ghost listed = { λ c. entries c.moved };
 
+    ghost are_texts = { AreMovedTexts };
+
     fn query() -> &'static str {
         "SELECT * FROM moved ORDER BY ring, part"
     }
 
     fn read(_alloc: Global, row: &Row) -> Result<MovedRow, Error> {
         Ok(MovedRow {
-            ring: row.get(0)?,
-            part: row.get(1)?,
-            hour: row.get(2)?,
+            ring: text_in(row, 0)?,
+            part: number_in(row, 1)?,
+            hour: number_in(row, 2)?,
         })
     }
 }
@@ -218,6 +269,7 @@ impl Listed for PublishedRow {
     ghost use Rattle.store_model.specs.Contents.{published_of};
     ghost use Rattle.store_model.specs.Entries.{NameNumber};
     ghost use Rattle.store_tables.specs.Entries.{published_rows};
+    ghost use Rattle.store_tables.specs.Texts.{ArePublishedTexts};
 
     ghost Key = { NameNumber };
 
@@ -229,15 +281,17 @@ impl Listed for PublishedRow {
 
     ghost listed = { λ c. entries c.published };
 
+    ghost are_texts = { ArePublishedTexts };
+
     fn query() -> &'static str {
         "SELECT * FROM published ORDER BY ring, version"
     }
 
     fn read(alloc: Global, row: &Row) -> Result<PublishedRow, Error> {
-        let body: String = row.get(2)?;
+        let body: String = text_in(row, 2)?;
         Ok(PublishedRow {
-            ring: row.get(0)?,
-            version: row.get(1)?,
+            ring: text_in(row, 0)?,
+            version: number_in(row, 1)?,
             body: RcStr::from_str(alloc, body.as_str())?,
         })
     }
@@ -249,6 +303,7 @@ impl Listed for RequestRow {
     ghost use Rattle.store_model.specs.Contents.{request_of};
     ghost use Rattle.store_model.specs.Entries.{NameNumber, Request};
     ghost use Rattle.store_tables.specs.Entries.{request_rows};
+    ghost use Rattle.store_tables.specs.Texts.{AreRequestTexts};
 
     ghost Key = { NameNumber };
 
@@ -260,18 +315,20 @@ impl Listed for RequestRow {
 
     ghost listed = { λ c. entries c.requests };
 
+    ghost are_texts = { AreRequestTexts };
+
     fn query() -> &'static str {
         "SELECT * FROM request ORDER BY caller, number"
     }
 
     fn read(_alloc: Global, row: &Row) -> Result<RequestRow, Error> {
         Ok(RequestRow {
-            caller: row.get(0)?,
-            number: row.get(1)?,
-            place: row.get(2)?,
-            hour: row.get(3)?,
-            command: row.get(4)?,
-            reply: row.get(5)?,
+            caller: text_in(row, 0)?,
+            number: number_in(row, 1)?,
+            place: number_in(row, 2)?,
+            hour: number_in(row, 3)?,
+            command: text_in(row, 4)?,
+            reply: text_in(row, 5)?,
         })
     }
 }
@@ -282,6 +339,7 @@ impl Listed for PartRow {
     ghost use Rattle.store_model.specs.Contents.{part_of};
     ghost use Rattle.store_model.specs.Entries.{NameNumber, Part};
     ghost use Rattle.store_tables.specs.Entries.{part_rows};
+    ghost use Rattle.store_tables.specs.Texts.{ArePartTexts};
 
     ghost Key = { NameNumber };
 
@@ -293,24 +351,28 @@ impl Listed for PartRow {
 
     ghost listed = { λ c. entries c.parts };
 
+    ghost are_texts = { ArePartTexts };
+
     fn query() -> &'static str {
         "SELECT * FROM part ORDER BY ring, part"
     }
 
     fn read(_alloc: Global, row: &Row) -> Result<PartRow, Error> {
         Ok(PartRow {
-            ring: row.get(0)?,
-            part: row.get(1)?,
-            devices: row.get(2)?,
-            hour: row.get(3)?,
+            ring: text_in(row, 0)?,
+            part: number_in(row, 1)?,
+            devices: bytes_in(row, 2)?,
+            hour: number_in(row, 3)?,
         })
     }
 }
 
 /// Rows of a table, each from its columns. What was shown of a row is let go once it is read, so
 /// that no text is held twice.
-fn rows_in<T: Listed + Drop>(alloc: Global, shown: Vec<Row>) -> Result<Vec<T>, Error>
+pub(crate) fn rows_in<T: Listed + Drop>(alloc: Global, shown: Vec<Row>) -> Result<Vec<T>, Error>
     ensures unfailed { IfErr result (λ e. tells_failure e ≡ false) }
+    ensures no_text { IfErr result (λ e. IsTrue (is_no_text e)
+        → All T.are_texts (map (shown_as T.layout) shown.items) → ⊥) }
     ensures rows { IfOk result (λ rows. map T.entry rows.items ≡ map (shown_as T.layout)
         shown.items) }
 {
@@ -331,6 +393,8 @@ pub fn all_rows<T: Listed + Drop, S: Alter>(
         (λ c rows. map T.entry rows.items ≡ T.listed c) }
     ensures mode { conn.old.in_transaction ≡ false → conn.new.in_transaction ≡ false }
     ensures cause { FailsForCause (state S.Store conn.old) (state S.Store conn.new) result }
+    ensures no_text { HasCleanDisk (state S.Store conn.new) → IfErr result (λ e. IsTrue (is_no_text e)
+        → All T.are_texts (T.listed (contents_of (state S.Store conn.old).now.trees)) → ⊥) }
 {
     let shown = conn.query_all(T::query(), &[])?;
     rows_in(alloc, shown)

@@ -71,7 +71,7 @@ pub(crate) trait Replaces {
 
     /// Writes it over the row with its key, and tells how many rows that were: 1, or 0, and then
     /// nothing changed. No clause says that a 0 means that there is none: where one is there, the
-    /// next statement writes over it.
+    /// next statement writes over it or is refused, and then nothing is done.
     fn set<S: Alter>(&self, tx: &mut Transaction<'_, S>) -> Result<usize, Error>
         requires { SeesStore (state S.Store tx.old.conn.now) }
         ensures same_reference { tx.new.conn.ghost_name ≡ tx.old.conn.ghost_name }

@@ -13,6 +13,7 @@ use builder_store::{OpenFault, SqlKeeper, open_memory};
 use deeds::Run;
 use files::{in_files, new_files, with_new_log};
 use request_book::{Book, Fault, Keeper};
+use ring_log::{LogForm, entries_text};
 use ring_words::Limits;
 use sqlite::{Alter, Connection};
 use std::alloc::{AllocError, Global};
@@ -146,6 +147,34 @@ fn runs_in_memory(alloc: Global, limits: Limits, rows: &[&[WorkedRow<'_>]]) -> R
 fn the_worked_rows_are_answered_over_memory(rt: HostRuntime) -> Result<(), Fail> {
     for run in RUNS {
         assert!(rt; runs_in_memory(rt.alloc(), Limits::full(), run)?);
+    }
+    Ok(())
+}
+
+/// What rows leave of a log over memory, a line each, read so many entries at a time.
+fn log_by(alloc: Global, rows: &[&[WorkedRow<'_>]], most: u32) -> Result<String, Fail> {
+    let limits = Limits::full();
+    let mut book = Book::open(alloc, RingMachine { limits }, open_memory(alloc, limits)?);
+    deliver(alloc, &mut book, rows)?;
+    let mut text = String::new(alloc);
+    let mut from: u32 = 0;
+    for _page in 0..100 {
+        let Ok(entries) = book.entries(from, most) else {
+            return Err(Fail::from("no log"));
+        };
+        text.push_str(entries_text(alloc, LogForm::Deliveries, from, &entries)?.as_str())?;
+        from = from.saturating_add(most);
+    }
+    Ok(text)
+}
+
+#[test]
+fn a_log_is_the_same_by_pages_of_any_size(rt: HostRuntime) -> Result<(), Fail> {
+    let whole = log_by(rt.alloc(), &[&FIRST], 1000)?;
+    assert!(rt; !whole.is_empty());
+    for most in [1, 2, 3] {
+        let by_pages = log_by(rt.alloc(), &[&FIRST], most)?;
+        assert!(rt; by_pages.as_str() == whole.as_str());
     }
     Ok(())
 }

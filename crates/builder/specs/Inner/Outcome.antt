@@ -18,5 +18,5 @@ IsFirstOr causes effect (outcome.Done what new) =
 -- what a command comes to
 abbrev pub IsOutcome : Limits → State → ℕ → Command → Outcome → Type 0
 IsOutcome limits rings hour command =
-    IsFirstOr (causes limits rings (ring_at command.ring rings) command.act)
+    IsFirstOr (causes limits rings hour (ring_at command.ring rings) command.act)
     (Effect command.ring hour (ring_at command.ring rings) command.act)

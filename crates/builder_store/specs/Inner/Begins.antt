@@ -15,14 +15,14 @@ use Rattle.store_rows.specs.RingRows.{NamedRings}
 use Rattle.builder_store.specs.Keepers.{content_of_keeper}
 use Rattle.builder_store.specs.Left.{IsMadeOfConnection}
 use Rattle.builder_store.specs.Making.{IsFailure, IsJudgement, rings_alone}
-use Rattle.builder_store.specs.Opening.{AreDeclared, IsMadeOf, IsOpenedAs, KeepsRows, Stands}
-use Rattle.builder_store.specs.Opening.{TellsFault}
+use Rattle.builder_store.specs.Opening.{AreDeclared, HasBadTexts, IsMadeOf, IsOpenedAs, JudgesRows}
+use Rattle.builder_store.specs.Opening.{KeepsRows, Stands, TellsFault}
 use Rattle.builder_store.specs.Standing.{StandsAlone}
 use Rattle.builder_store.specs.Inner.Opened.{IsFresh}
 use Rattle.builder_store.specs.declared.fault.MakeFault.{MakeFault}
 use Rattle.builder_store.specs.declared.fault.MakeFault.TheVariants.{Taken}
 use Rattle.builder_store.specs.declared.fault.OpenFault.{OpenFault}
-use Rattle.builder_store.specs.declared.fault.OpenFault.TheVariants.{BadRows, BadTables}
+use Rattle.builder_store.specs.declared.fault.OpenFault.TheVariants.{BadRows, BadTables, BadTexts}
 use Rattle.builder_store.specs.declared.keeper.SqlKeeper.{SqlKeeper}
 use Rattle.store_rows.specs.Stands.{RingContent}
 
@@ -50,11 +50,14 @@ module _ {S : Type 0} (g : Ghosts S) where
         (content_of_keeper k)
 
   -- The connection wasn't opened, for this fault, and is left so: rows are refused only where the
-  -- tables stand for nothing, and tables only where they are not declared as a store's.
+  -- tables stand for nothing, texts only where one is no UTF-8, and tables only where they are not
+  -- declared as a store's.
   pub record IsRefused (conn : Held S) (why : OpenFault) (left : Held S) : Type 0 where
     pub clean : doubt (state g conn).is_clean ≤ doubt (state g left).is_clean
     pub rows : why ≡ BadRows → HasCleanDisk (state g left) → (content : RingContent)
         → IsOpenedAs (state g conn).committed.trees content → ⊥
+    pub texts : why ≡ BadTexts → HasCleanDisk (state g left)
+        → HasBadTexts (state g conn).committed.trees
     pub tables : why ≡ BadTables → HasCleanDisk (state g left) → (made : ℕ)
         → AreDeclared made (state g conn).committed.trees → ⊥
     -- The store is told to have failed or to be damaged only where its disk met a fault.
@@ -62,7 +65,7 @@ module _ {S : Type 0} (g : Ghosts S) where
         → MoreFaults (state g conn).faults (state g left).faults
     -- A crash leaves what was committed, or what the opening made of it; where the rows are refused,
     -- no row of it is another.
-    pub kept : why ≡ BadRows → HasCleanDisk (state g left) → (db : Trees)
+    pub kept : JudgesRows why → HasCleanDisk (state g left) → (db : Trees)
         → (state g left).may_leave db
         → (db ≡ (state g conn).committed.trees) ⊎ KeepsRows (state g conn).committed.trees db
     pub crash : HasCleanDisk (state g left) → (db : Trees) → (state g left).may_leave db

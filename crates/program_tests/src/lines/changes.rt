@@ -184,7 +184,7 @@ static RAISED: [Line<'_>; 4] = [
 ];
 
 /// Every command asks for its ring.
-static WITHOUT_A_RING: [Line<'_>; 5] = [
+static WITHOUT_A_RING: [Line<'_>; 7] = [
     (
         "0 {\"caller\":\"ops\",\"do\":\"remove\",\"id\":0,\"number\":1,\"ring\":\"none\"}",
         NO_RING,
@@ -203,6 +203,14 @@ static WITHOUT_A_RING: [Line<'_>; 5] = [
     ),
     (
         "0 {\"caller\":\"ops\",\"do\":\"import\",\"number\":5,\"ring\":\"none\",\"rows\":[]}",
+        NO_RING,
+    ),
+    (
+        "0 {\"caller\":\"ops\",\"do\":\"keep\",\"id\":0,\"number\":6,\"ring\":\"none\"}",
+        NO_RING,
+    ),
+    (
+        "0 {\"caller\":\"ops\",\"do\":\"rebalance_as\",\"hour\":0,\"number\":7,\"ring\":\"none\",\"seed\":1,\"version\":1}",
         NO_RING,
     ),
 ];

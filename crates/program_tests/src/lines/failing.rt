@@ -2,9 +2,10 @@
 ghost use Rattle.std.specs.Prelude.{◌≡◌, cond, false, true};
 
 use builder::RingMachine;
-use request_book::{Found, KeepFault, Keeper};
+use request_book::{Entry, Found, KeepFault, Keeper};
 use ring_model::Rings;
 use ring_words::{Command, Hour, Key, Reply};
+use std::alloc::Global;
 
 /// A keeper over another one. Its store fails once its state was made ready so often.
 #[derive(Drop)]
@@ -58,6 +59,15 @@ impl<K: Keeper<RingMachine>> Keeper<RingMachine> for Failing<K> {
 
     fn is_full(&mut self) -> Result<bool, KeepFault> {
         self.kept.is_full()
+    }
+
+    fn entries(
+        &mut self,
+        alloc: Global,
+        from: u32,
+        most: u32,
+    ) -> Result<Vec<Entry<Command, Reply>>, KeepFault> {
+        self.kept.entries(alloc, from, most)
     }
 
     fn count(&self) -> usize {

@@ -1,5 +1,5 @@
 //! Questions for the rings and the status, for the tables of a ring, for the whole of it, for
-//! previews and for what moved.
+//! previews, for what moved, and for the log.
 use super::changes::{BEFORE, Line, NO_RING, runs, runs_behind};
 use super::failing::Failing;
 use super::{Memory, UNREADABLE, answers, ask, ask_again, open};
@@ -14,7 +14,7 @@ use std::test::Fail;
 /// The lines that make a ring and ask for its tables, named by what they show, and their answers.
 type Shown<'a> = (&'a str, &'a str, &'a str);
 
-static BALANCED: [Shown<'_>; 7] = [
+static BALANCED: [Shown<'_>; 8] = [
     (
         "wants_and_balances_are_shown",
         "0 {\"caller\":\"ops\",\"do\":\"create\",\"min_hours\":24,\"number\":1,\"power\":3,\"replicas\":2,\"ring\":\"object\"}
@@ -95,6 +95,27 @@ balance 0.00 dispersion 0.00 version 0\n",
 200 {\"done\":\"set_hours\",\"version\":1}
 {\"rings\":[{\"ring\":\"disks\",\"version\":0},{\"ring\":\"object\",\"version\":1}]}
 {\"hour\":9,\"kept\":4,\"limit\":100000,\"rings\":2}\n",
+    ),
+    (
+        "the_log_has_each_decided_request_once_with_its_hour_its_place_and_its_reply",
+        "? log 0 10
+5 {\"caller\":\"ops\",\"do\":\"create\",\"min_hours\":24,\"number\":1,\"power\":1,\"replicas\":1,\"ring\":\"object\"}
+6 {\"number\":2,\"ring\":\"object\",\"caller\":\"ops\",\"do\":\"create\",\"min_hours\":24,\"power\":1,\"replicas\":1}
+3 {\"caller\":\"app\",\"do\":\"set_hours\",\"min_hours\":1,\"number\":4294967295,\"ring\":\"object\"}
+9 {\"caller\":\"ops\",\"do\":\"create\",\"min_hours\":24,\"number\":1,\"power\":1,\"replicas\":1,\"ring\":\"object\"}
+? log 0 1000
+? log 1 1
+? log 3 5
+? log 4294967295 1000",
+        "{\"log\":[]}
+200 {\"done\":\"create\",\"version\":0}
+422 {\"refused\":\"RingExists\",\"rule\":2}
+200 {\"done\":\"set_hours\",\"version\":1}
+200 {\"done\":\"create\",\"version\":0}
+{\"log\":[{\"hour\":5,\"place\":0,\"reply\":{\"done\":\"create\",\"version\":0},\"request\":{\"caller\":\"ops\",\"do\":\"create\",\"min_hours\":24,\"number\":1,\"power\":1,\"replicas\":1,\"ring\":\"object\"},\"status\":200},{\"hour\":6,\"place\":1,\"reply\":{\"refused\":\"RingExists\",\"rule\":2},\"request\":{\"caller\":\"ops\",\"do\":\"create\",\"min_hours\":24,\"number\":2,\"power\":1,\"replicas\":1,\"ring\":\"object\"},\"status\":422},{\"hour\":6,\"place\":2,\"reply\":{\"done\":\"set_hours\",\"version\":1},\"request\":{\"caller\":\"app\",\"do\":\"set_hours\",\"min_hours\":1,\"number\":4294967295,\"ring\":\"object\"},\"status\":200}]}
+{\"log\":[{\"hour\":6,\"place\":1,\"reply\":{\"refused\":\"RingExists\",\"rule\":2},\"request\":{\"caller\":\"ops\",\"do\":\"create\",\"min_hours\":24,\"number\":2,\"power\":1,\"replicas\":1,\"ring\":\"object\"},\"status\":422}]}
+{\"log\":[]}
+{\"log\":[]}\n",
     ),
     (
         "a_preview_is_of_no_earlier_hour_and_tells_what_a_rebalance_then_does",
@@ -219,7 +240,7 @@ fn a_ring_that_is_not_there_has_no_table(rt: HostRuntime) -> Result<(), Fail> {
     Ok(())
 }
 
-static NO_QUESTIONS: [&str; 57] = [
+static NO_QUESTIONS: [&str; 67] = [
     "?",
     "? ",
     "? devices",
@@ -257,6 +278,8 @@ static NO_QUESTIONS: [&str; 57] = [
     "? status\r",
     "? statu",
     "? status status",
+    "? metrics",
+    "? metrics object",
     "? preview object",
     "? preview object 1",
     "? preview object 1 ",
@@ -277,6 +300,14 @@ static NO_QUESTIONS: [&str; 57] = [
     "? moves object 1 02",
     "? moves Object 1 2",
     "? move object 1 2",
+    "? log",
+    "? log 0",
+    "? log 0 0",
+    "? log 0 1001",
+    "? log 00 1",
+    "? log 0 1 ",
+    "? log 4294967296 1",
+    "? Log 0 1",
 ];
 
 #[test]
@@ -329,15 +360,47 @@ static FAILED_AT_ONCE: &str = "503 {\"fault\":\"StoreFault\",\"rule\":24}
 503 {\"fault\":\"Closed\",\"rule\":25}
 ";
 
+/// A ring, and each question of a book that fails at the third.
+static CLOSING_READS: &str =
+    "0 {\"caller\":\"ops\",\"do\":\"create\",\"min_hours\":24,\"number\":1,\"power\":2,\"replicas\":1,\"ring\":\"object\"}
+? rings
+? rings
+? rings
+? status
+? ring object
+? ring none
+? preview object 1 0
+? moves object 1 1
+? log 0 1
+? log 0 0
+? moves object 1 01
+";
+
+/// What they are answered: a question that is none is so of a closed book too.
+static FAILED_AT_A_READ: &str = "200 {\"done\":\"create\",\"version\":0}
+{\"rings\":[{\"ring\":\"object\",\"version\":0}]}
+503 {\"fault\":\"StoreFault\",\"rule\":24}
+503 {\"fault\":\"Closed\",\"rule\":25}
+503 {\"fault\":\"Closed\",\"rule\":25}
+503 {\"fault\":\"Closed\",\"rule\":25}
+503 {\"fault\":\"Closed\",\"rule\":25}
+503 {\"fault\":\"Closed\",\"rule\":25}
+503 {\"fault\":\"Closed\",\"rule\":25}
+503 {\"fault\":\"Closed\",\"rule\":25}
+400 {\"fault\":\"Unreadable\",\"rule\":20}
+400 {\"fault\":\"Unreadable\",\"rule\":20}
+";
+
 /// Whether the lines are answered so whose book fails once it was made ready so often.
-fn closes(alloc: Global, loads: u32, want: &str) -> Result<bool, Fail> {
-    Ok(failing(alloc, loads, CLOSING.as_bytes())?.as_slice() == want.as_bytes())
+fn closes(alloc: Global, loads: u32, lines: &str, want: &str) -> Result<bool, Fail> {
+    Ok(failing(alloc, loads, lines.as_bytes())?.as_slice() == want.as_bytes())
 }
 
 #[test]
 fn a_closed_book_answers_no_question(rt: HostRuntime) -> Result<(), Fail> {
-    assert!(rt; closes(rt.alloc(), 2, FAILED_AT_A_QUESTION)?);
-    assert!(rt; closes(rt.alloc(), 0, FAILED_AT_ONCE)?);
+    assert!(rt; closes(rt.alloc(), 2, CLOSING, FAILED_AT_A_QUESTION)?);
+    assert!(rt; closes(rt.alloc(), 0, CLOSING, FAILED_AT_ONCE)?);
+    assert!(rt; closes(rt.alloc(), 2, CLOSING_READS, FAILED_AT_A_READ)?);
     Ok(())
 }
 
@@ -356,7 +419,7 @@ fn are_given(
     Ok(true)
 }
 
-static SHOWN: [Line<'_>; 5] = [
+static SHOWN: [Line<'_>; 7] = [
     ("? devices object", BOTH),
     (
         "? balance object",
@@ -373,6 +436,14 @@ balance 100.00 dispersion 0.00 version 2",
     (
         "? status",
         "{\"hour\":0,\"kept\":3,\"limit\":100000,\"rings\":1}",
+    ),
+    (
+        "? moves object 1 2",
+        "422 {\"refused\":\"NoVersion\",\"rule\":32}",
+    ),
+    (
+        "? log 2 1",
+        "{\"log\":[{\"hour\":0,\"place\":2,\"reply\":{\"done\":\"add\",\"id\":1,\"version\":2},\"request\":{\"address\":\"10.0.0.2\",\"caller\":\"ops\",\"do\":\"add\",\"name\":\"d1\",\"number\":3,\"port\":6200,\"region\":1,\"ring\":\"object\",\"weight\":\"100.00\",\"zone\":1},\"status\":200}]}",
     ),
 ];
 

@@ -9,8 +9,8 @@ use Rattle.programs.specs.Performed.{FailsToShowStore, ShowsStore}
 use Rattle.programs.specs.Showing.{AsksShown, HasBadWord, IsFormFault, IsPathless}
 use Rattle.programs.specs.declared.faults.ProgramFault.{ProgramFault}
 
--- The task asks to be shown a ring's tables, the rings, the status, a whole ring or what a
--- rebalance would do, where a path is held, or a published ring.
+-- The task asks to be shown a ring's tables, the rings, the status, the metrics, a whole ring or
+-- what a rebalance would do, where a path is held, or a published ring.
 abbrev pub IsShowing : Task → Type 0
 IsShowing (task.Table file ring) = ⊤
 IsShowing (task.Show file what) = ⊤

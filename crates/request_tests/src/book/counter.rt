@@ -76,6 +76,10 @@ impl Machine for Counter {
         a == b
     }
 
+    fn copy(change: &Change) -> Result<Change, AllocError> {
+        Ok(*change)
+    }
+
     fn is_refusal(reply: &Counted) -> bool {
         matches!(reply, Counted::PastBound { .. })
     }

@@ -2,8 +2,9 @@
 ghost use Rattle.std.specs.Prelude.{◌≡◌, Some, cond, false, refl, true, ℕ};
 ghost use Rattle.request_book.specs.Inner.Only.{is_only};
 
-use request_book::{Found, KeepFault, Keeper, Machine};
+use request_book::{Entry, Found, KeepFault, Keeper, Machine};
 use ring_words::{Hour, Key};
+use std::alloc::Global;
 
 /// A keeper over another one. Its store fails once, after so many calls.
 #[derive(Drop)]
@@ -86,6 +87,18 @@ impl<M: Machine, K: Keeper<M>> Keeper<M> for Flaky<K> {
             return Err(KeepFault::Store);
         }
         self.kept.is_full()
+    }
+
+    fn entries(
+        &mut self,
+        alloc: Global,
+        from: u32,
+        most: u32,
+    ) -> Result<Vec<Entry<M::Command, M::Reply>>, KeepFault> {
+        if self.fails_now() {
+            return Err(KeepFault::Store);
+        }
+        self.kept.entries(alloc, from, most)
     }
 
     fn count(&self) -> usize {

@@ -9,19 +9,20 @@ use Rattle.ring_words.specs.declared.spelling.SpellingFault.{SpellingFault}
 use Rattle.ring_words.specs.declared.spelling.SpellingFault.TheVariants.{Bad, NoMemory}
 use Rattle.ring_words.specs.Rows.{IsProperRow}
 use Rattle.ring_model.specs.Ring.{RingRecord}
-use Rattle.store_model.specs.Contents.{device_of, moved_of, part_of, published_of, ring_of}
-use Rattle.store_model.specs.Contents.{seat_of}
+use Rattle.store_model.specs.Contents.{device_of, moved_of, part_of, published_of, request_of}
+use Rattle.store_model.specs.Contents.{ring_of, seat_of}
 use Rattle.store_model.specs.Entries.{NameNumber}
 use Rattle.store_model.specs.declared.rows.DeviceRow.{DeviceRow}
 use Rattle.store_model.specs.declared.rows.MovedRow.{MovedRow}
 use Rattle.store_model.specs.declared.rows.PartRow.{PartRow}
 use Rattle.store_model.specs.declared.rows.PublishedRow.{PublishedRow}
+use Rattle.store_model.specs.declared.rows.RequestRow.{RequestRow}
 use Rattle.store_model.specs.declared.rows.RingRow.{RingRow}
 use Rattle.store_model.specs.declared.rows.SeatRow.{SeatRow}
 use Rattle.store_rows.specs.RingRows.{device_entry, part_entry, part_entries_of}
 use Rattle.store_rows.specs.RingRows.{published_entry, ring_entry}
 use Rattle.store_rows.specs.FirstRows.{moved_entry, seat_entry}
-use Rattle.store_rows.specs.Stands.{IsNamedRing}
+use Rattle.store_rows.specs.Stands.{DecidedRequest, IsDecision, IsNamedRing, request_entry}
 use Rattle.ring_model.specs.Valid.{IsHour}
 use Rattle.store_rows.specs.declared.naming.RingTables.{RingTables}
 
@@ -49,6 +50,13 @@ pub record StandsForText (row : PublishedRow) (text : ℕ × List ℕ) : Type 0 
 pub record StandsForSeat (row : SeatRow) (id : ℕ) : Type 0 where
   pub device : row.device ≡ pos id
   pub small : id < short_count
+
+-- The row is that of this decided request, at its place.
+pub record StandsForRequest (row : RequestRow) (e : DecidedRequest) : Type 0 where
+  pub place : ℕ
+  pub is : request_of row ≡ request_entry (place, e)
+  pub small : place < long_count
+  pub decision : IsDecision e
 
 -- The seats of a ring, and the hours of its partitions' last moves.
 abbrev pub Places : Type 0

@@ -1,15 +1,16 @@
 -- Rows in the order of their keys, as the entries of the map that they stand for.
-use Rattle.std.proofs.Common.{◌≡◌, inl, inr, suc, ◌+◌, true, false, List, [], ◌∷◌, map, Ordering}
-use Rattle.std.proofs.Common.{Less, Equal, Greater, refl, sym, ap, subst, ◌∙◌, true≢false, arith}
-use Rattle.std.proofs.Common.{get_or}
+use Rattle.std.proofs.Common.{◌≡◌, inl, inr, ℕ, zero, suc, ℤ, ◌+◌, ◌<◌, true, false, List, [], ◌∷◌}
+use Rattle.std.proofs.Common.{map, length, Ordering, Less, Equal, Greater, refl, sym, ap, subst}
+use Rattle.std.proofs.Common.{subst₂, ◌∙◌, true≢false, arith, get_or}
 use Rattle.std.specs.List.{IsDistinct}
-use Rattle.std.specs.List.Sorted.{IsPermutation, IsSorted}
+use Rattle.std.specs.List.Sorted.{IsPermutation, IsSorted, IsSortedByKey}
 use Rattle.std.specs.Cmp.{IsTotalOrder}
-use Rattle.std.specs.Ordering.{is_eq, is_lt, eq_by_cmp, ordering_reverse}
+use Rattle.std.specs.Ordering.{is_eq, is_lt, eq_by_cmp, int_cmp, ordering_reverse}
 use Rattle.std.specs.FinMap.{is_sorted, IsAntisymmetric}
 use Rattle.std.specs.FinMap.Entries.{below_all}
 use Rattle.std.proofs.lemmas.Bool.{cases_Bool, and_from, and_parts}
 use Rattle.std.proofs.lemmas.Cmp.{tied_itself}
+use Rattle.std.proofs.lemmas.List.{get_or-map, length-map}
 use Rattle.std.proofs.lemmas.Map.Keys.{IsDistinct-head, IsDistinct-tail}
 use Rattle.std.proofs.lemmas.List.Sorted.{Contains-permutation}
 use Rattle.sqlite_value.specs.Order.{Row, value_cmp}
@@ -42,6 +43,28 @@ tail_sorted cmp x xs up k d low high =
     let next : suc k + 1 ≡ suc (k + 1) = omega arith in
     let h = up (suc k) d (omega arith) (omega (arith, high)) in
     subst (λ n. is_lt (cmp (get_or (x ∷ xs) n d) (get_or xs k d)) ≡ false) next h
+
+has_index : {X : Type 0} (xs : List X) (i : ℕ) (d : X) → i < length xs → Has xs (get_or xs i d)
+has_index [] i d within = absurd (omega (arith, within))
+has_index (x ∷ xs) zero d within = inl refl
+has_index (x ∷ xs) (suc i) d within = inr (has_index xs i d (omega (arith, within)))
+
+-- what is sorted is still sorted as what it stands for, by numbers that compare alike
+pub sorted_as : {X Y : Type 0} (cmp : X → X → Ordering) (rank : Y → ℤ) (entry : X → Y)
+    (xs : List X)
+    → ((x y : X) → Has xs x → Has xs y → cmp x y ≡ int_cmp (rank (entry x)) (rank (entry y)))
+    → IsSorted cmp xs → IsSortedByKey rank int_cmp (map entry xs)
+sorted_as cmp rank entry [] alike up = λ k d low high. absurd (omega (arith, high))
+sorted_as {Y = Y} cmp rank entry (x ∷ xs) alike up = λ k d low high.
+    let count : length (map entry (x ∷ xs)) ≡ length (x ∷ xs) = length-map (x ∷ xs) entry in
+    let next : k + 1 < length (x ∷ xs) = omega (arith, high, count) in
+    let here : k < length (x ∷ xs) = omega (arith, next) in
+    let later = get_or (x ∷ xs) (k + 1) x in
+    let one = get_or (x ∷ xs) k x in
+    subst₂ (λ (p q : Y). is_lt (int_cmp (rank p) (rank q)) ≡ false)
+    (sym (get_or-map entry (x ∷ xs) (k + 1) x d next)) (sym (get_or-map entry (x ∷ xs) k x d here))
+    (ap is_lt (sym (alike later one (has_index (x ∷ xs) (k + 1) x next)
+    (has_index (x ∷ xs) k x here))) ∙ up k x low next)
 
 module _ {K V : Type 0} {R : K → K → Ordering} (o : IsTotalOrder R) (exact : IsAntisymmetric R)
   where

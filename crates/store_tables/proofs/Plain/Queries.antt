@@ -69,7 +69,7 @@ pub each : {A B : Type 0} (f : A → B) (xs : List A) → flat_map (λ x. f x �
 each f [] = refl
 each f (x ∷ xs) = ap (λ ys. f x ∷ ys) (each f xs)
 
-picked : {A B : Type 0} (p : A → Bool) (f : A → B) (xs : List A)
+pub picked : {A B : Type 0} (p : A → Bool) (f : A → B) (xs : List A)
     → flat_map (λ x. if p x then f x ∷ [] else []) xs ≡ map f (filter p xs)
 picked p f [] = refl
 picked p f (x ∷ xs) = elim (cases_Bool (p x)) [

@@ -1,7 +1,7 @@
 -- Values of STRICT columns: how they are cast and compared.
 use Rattle.std.proofs.Common.{◌≡◌, inl, inr, Some, ℕ, ℤ, Bool, true, false, cond, List, [], ◌∷◌}
 use Rattle.std.proofs.Common.{refl, sym, ap, ◌∙◌, ◌&&◌, true≢false}
-use Rattle.std.specs.Ordering.{is_eq, nat_cmp, int_cmp, ordering_then}
+use Rattle.std.specs.Ordering.{is_eq, is_ge, nat_cmp, int_cmp, ordering_then}
 use Rattle.std.specs.declared.cmp.Ordering.{Ordering}
 use Rattle.std.specs.declared.cmp.Ordering.TheVariants.{Less, Equal, Greater}
 use Rattle.std.specs.Cmp.Lexicographic.{slice_cmp}
@@ -16,6 +16,8 @@ use Rattle.sqlite_trees.specs.View.{IsShaped}
 use Rattle.sqlite_trees.specs.declared.store.Shape.TheVariants.{Table}
 use Rattle.sqlite_trees.proofs.TreeLemmas.{IsShaped-filter}
 use Rattle.sqlite_sql.specs.Ops.{unary, binary, is_true, from_truth}
+use Rattle.sqlite_sql.specs.declared.ops.BinaryOp.TheVariants.{Compare}
+use Rattle.sqlite_sql.specs.declared.ops.CompareOp.TheVariants.{Ge}
 use Rattle.sqlite_schema.specs.declared.schema.Kind.TheVariants.{Integer}
 use Rattle.sqlite_schema.specs.Rules.{equal}
 use Rattle.sqlite_rules.specs.declared.error.Rowids.TheVariants.{Chosen}
@@ -44,6 +46,11 @@ truth_of false = refl
 pub equal_ints : (m n : ℤ) → equal Binary (Int m) (Int n) ≡ is_eq (int_cmp m n)
 unfolding binary
 equal_ints m n = truth_of _ ∙ ap is_eq (value_cmp-Int m n)
+
+pub no_less_ints : (m n : ℤ) → is_true (binary (Compare Ge Binary) (Int m) (Int n))
+    ≡ is_ge (int_cmp m n)
+unfolding binary
+no_less_ints m n = truth_of _ ∙ ap is_ge (value_cmp-Int m n)
 
 pub equal_texts : (s t : List ℕ) → equal Binary (Text s) (Text t) ≡ is_eq (slice_cmp nat_cmp s t)
 unfolding binary

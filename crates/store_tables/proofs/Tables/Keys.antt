@@ -1,17 +1,25 @@
 -- The columns of a key, compared one after another, are the order of the keys.
 use Rattle.std.proofs.Common.{◌≡◌, ◌&&◌, Equal, ℕ, ℤ, List, true}
-use Rattle.std.specs.Ordering.{int_cmp, eq_by_cmp, ordering_then}
+use Rattle.std.specs.Ordering.{int_cmp, is_ge, eq_by_cmp, ordering_then}
 use Rattle.sqlite_value.specs.declared.keys.Collation.TheVariants.{Binary}
 use Rattle.sqlite_value.specs.declared.value.Value.TheVariants.{Int, Text}
 use Rattle.sqlite_value.specs.Order.{value_cmp}
 use Rattle.sqlite_value.proofs.OrderLemmas.{value_cmp-Int, value_cmp-Text}
+use Rattle.sqlite_sql.specs.Ops.{binary, is_true}
+use Rattle.sqlite_sql.specs.declared.ops.BinaryOp.TheVariants.{Compare}
+use Rattle.sqlite_sql.specs.declared.ops.CompareOp.TheVariants.{Ge}
 use Rattle.sqlite_schema.specs.Rules.{equal}
 use Rattle.store_model.specs.Entries.{name_cmp, NameNumber, name_number_cmp, SeatKey, seat_cmp}
 use Rattle.store_tables.proofs.Plain.Values.{all_three, alone, both_equal, equal_ints, equal_texts}
+use Rattle.store_tables.proofs.Plain.Values.{no_less_ints}
 use Rattle.store_tables.proofs.Ties.{first_of, then_equal, then_equals}
 
 pub same_number : (k k′ : ℤ) → (equal Binary (Int k) (Int k′) && true) ≡ eq_by_cmp int_cmp k k′
 same_number k k′ = rw (equal_ints k k′) (alone _)
+
+pub from_number : (k k′ : ℤ) → (is_true (binary (Compare Ge Binary) (Int k) (Int k′)) && true)
+    ≡ is_ge (int_cmp k k′)
+from_number k k′ = rw (no_less_ints k k′) (alone _)
 
 pub same_name : (k k′ : List ℕ) → (equal Binary (Text k) (Text k′) && true)
     ≡ eq_by_cmp name_cmp k k′

@@ -69,6 +69,10 @@ abbrev pub pick_request : List ℕ
 pick_request =
     codes "SELECT place, hour, command, reply FROM request WHERE caller = ?1 AND number = ?2"
 
+abbrev pub page_request : List ℕ
+page_request =
+    codes "SELECT * FROM request WHERE place >= ?1 ORDER BY place LIMIT ?2"
+
 abbrev pub clear_seat : List ℕ
 clear_seat = codes "DELETE FROM seat"
 

@@ -92,6 +92,13 @@ static BREAKS: [&str; 14] = [
     "UPDATE device SET removed = 2 WHERE id = 0",
 ];
 
+/// Changes of one of which a text in the rows is no UTF-8.
+static BAD_TEXTS: [&str; 3] = [
+    "UPDATE request SET command = CAST(x'7b22ff22' AS TEXT) WHERE number = 7",
+    "UPDATE request SET caller = CAST(x'6fff73' AS TEXT) WHERE number = 7",
+    "INSERT INTO published VALUES ('object', 6, CAST(x'ff' AS TEXT))",
+];
+
 /// Carries out the statements that make a store of schema 1.
 fn execute_old<S: Alter + Drop>(conn: &mut Connection<S>) -> Result<(), Error> {
     for text in &TABLES {
@@ -160,6 +167,15 @@ fn broken_rows_are_refused(rt: HostRuntime) -> Result<(), Fail> {
     for text in &BREAKS {
         let fault = refused_after(rt.alloc(), text)?;
         assert!(rt; fault == Some(OpenFault::BadRows), "{text} {fault:?}");
+    }
+    Ok(())
+}
+
+#[test]
+fn texts_that_are_no_utf_8_are_refused(rt: HostRuntime) -> Result<(), Fail> {
+    for text in &BAD_TEXTS {
+        let fault = refused_after(rt.alloc(), text)?;
+        assert!(rt; fault == Some(OpenFault::BadTexts), "{text} {fault:?}");
     }
     Ok(())
 }

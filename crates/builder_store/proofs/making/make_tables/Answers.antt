@@ -48,7 +48,4 @@ prepare_store-requires-clause-begun g c = λ clean. c.is_blank.ensures.begun c.i
     (c.requires.fresh clean).is_open
 
 pub returns-clause-unjudged : goal.returns-clause-unjudged
-returns-clause-unjudged g c = λ bad. elim bad [
-  | inl rows ↦ c.fault_of.ensures.unjudged.0 rows
-  | inr tables ↦ c.fault_of.ensures.unjudged.1 tables
-]
+returns-clause-unjudged g c = c.fault_of.ensures.unjudged

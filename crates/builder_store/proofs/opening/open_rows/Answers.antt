@@ -13,7 +13,9 @@ use Rattle.ring_words.specs.declared.spelling.SpellingFault.{SpellingFault}
 use Rattle.ring_words.specs.declared.spelling.SpellingFault.TheVariants.{Bad}
 use Rattle.builder_store.specs.Opening.{no_contents}
 use Rattle.builder_store.specs.Inner.Opened.{LeadsInStore, LeadsTo}
+use Rattle.builder_store.proofs.Judged.{no_judge, no_rows}
 use Rattle.builder_store.proofs.Opens.{begun_store, opens_after}
+use Rattle.builder_store.specs.declared.fault.OpenFault.TheVariants.{BadRows, BadTables, BadTexts}
 use Rattle.builder_store.proofs.opening.open_rows.Goals as goal
 
 pub begin-requires-clause-begun : goal.begin-requires-clause-begun
@@ -102,10 +104,15 @@ pub returns-in-Err-Bad-clause-quiet : goal.returns-in-Err-Bad-clause-quiet
 returns-in-Err-Bad-clause-quiet g c = λ _. c.in-Ok.ensures.reads.survives
 
 pub returns-in-Ok-judge-clause-quiet : goal.returns-in-Ok-judge-clause-quiet
-returns-in-Ok-judge-clause-quiet g c = λ bad. absurd (c.migrate.ensures.other.0 bad)
+returns-in-Ok-judge-clause-quiet g c = λ bad. absurd
+    (no_rows c.migrate.result c.migrate.ensures.other bad)
 
 pub returns-then-is_empty-clause-quiet : goal.returns-then-is_empty-clause-quiet
-returns-then-is_empty-clause-quiet g c = λ bad. absurd (c.begin.ensures.other.0 bad)
+returns-then-is_empty-clause-quiet g c = λ bad. absurd
+    (no_rows c.begin.result c.begin.ensures.other bad)
+
+pub returns-in-Err-clause-quiet : goal.returns-in-Err-clause-quiet
+returns-in-Err-clause-quiet g c = λ _. c.in-Err.ensures.reads.survives
 
 pub migrate-requires-clause-tables : goal.migrate-requires-clause-tables
 migrate-requires-clause-tables g c = λ clean.
@@ -140,7 +147,28 @@ returns-in-Err-Bad-clause-bad g c = λ bad clean content opens.
     ]
 
 pub returns-in-Ok-judge-clause-bad : goal.returns-in-Ok-judge-clause-bad
-returns-in-Ok-judge-clause-bad g c = λ bad. absurd (c.migrate.ensures.other.0 bad)
+returns-in-Ok-judge-clause-bad g c = λ bad. absurd
+    (no_judge c.migrate.result BadRows tt c.migrate.ensures.other bad)
 
 pub returns-then-is_empty-clause-bad : goal.returns-then-is_empty-clause-bad
-returns-then-is_empty-clause-bad g c = λ bad. absurd (c.begin.ensures.other.0 bad)
+returns-then-is_empty-clause-bad g c = λ bad. absurd
+    (no_judge c.begin.result BadRows tt c.begin.ensures.other bad)
+
+pub returns-in-Ok-judge-clause-other : goal.returns-in-Ok-judge-clause-other
+returns-in-Ok-judge-clause-other g c = no_judge c.migrate.result BadTables tt c.migrate.ensures.other
+
+pub returns-then-is_empty-clause-other : goal.returns-then-is_empty-clause-other
+returns-then-is_empty-clause-other g c = no_judge c.begin.result BadTables tt c.begin.ensures.other
+
+pub returns-in-Ok-judge-clause-texts : goal.returns-in-Ok-judge-clause-texts
+returns-in-Ok-judge-clause-texts g c = λ bad. absurd
+    (no_judge c.migrate.result BadTexts tt c.migrate.ensures.other bad)
+
+pub returns-then-is_empty-clause-texts : goal.returns-then-is_empty-clause-texts
+returns-then-is_empty-clause-texts g c = λ bad. absurd
+    (no_judge c.begin.result BadTexts tt c.begin.ensures.other bad)
+
+pub returns-in-Err-clause-texts : goal.returns-in-Err-clause-texts
+returns-in-Err-clause-texts g c = λ bad clean.
+    let is : c.reading_fault.result ≡ BadTexts = cc in
+    c.in-Err.ensures.no_text clean (c.reading_fault.ensures.texts.0 is)

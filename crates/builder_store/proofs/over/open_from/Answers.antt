@@ -1,7 +1,8 @@
 use Rattle.std.proofs.Common.{arith, inl, inr, subst, sym}
 use Rattle.sqlite.specs.Files.{file_state}
 use Rattle.sqlite.specs.State.{HasCleanDisk}
-use Rattle.builder_store.specs.Opening.{IsOpenedAs}
+use Rattle.builder_store.specs.Opening.{HasBadTexts, IsOpenedAs}
+use Rattle.builder_store.proofs.Judged.{rows_of_connection}
 use Rattle.builder_store.specs.Left.{IsOfConnection}
 use Rattle.builder_store.proofs.Causes.{same_cause}
 use Rattle.builder_store.proofs.Rests.{bad_of_connection, fault_of_connection, not_connected}
@@ -40,6 +41,10 @@ returns-in-Err-clause-bad g c = λ bad. absurd (c.in-Err.ensures.unmade.0
 
 pub returns-in-Err-clause-rows : goal.returns-in-Err-clause-rows
 returns-in-Err-clause-rows g c = λ bad. absurd (c.in-Err.ensures.unmade.0
+    (rows_of_connection c.in-Err.fault bad))
+
+pub returns-in-Err-clause-texts : goal.returns-in-Err-clause-texts
+returns-in-Err-clause-texts g c = λ bad. absurd (c.in-Err.ensures.unmade.0
     (subst IsOfConnection (sym bad) tt))
 
 pub returns-in-Err-clause-crash : goal.returns-in-Err-clause-crash
@@ -69,8 +74,15 @@ returns-in-Err-over-clause-rows g c = λ bad clean db may.
       trees = (file_state c.in-Ok.conn).committed.trees;
       holds = found.holds;
       reads = found.reads;
-      left = c.in-Err-over.ensures.refused.kept (same_cause _ _ bad) clean db may;
+      left = c.in-Err-over.ensures.refused.kept bad clean db may;
     }
+
+pub returns-in-Err-over-clause-texts : goal.returns-in-Err-over-clause-texts
+returns-in-Err-over-clause-texts g c = λ bad clean db held.
+    let before : HasCleanDisk (file_state c.in-Ok.conn) = omega
+    (arith, c.in-Err-over.ensures.refused.clean, clean) in
+    subst HasBadTexts ((c.in-Ok.ensures.made.found before).holds db held)
+    (c.in-Err-over.ensures.refused.texts (same_cause _ _ bad) clean)
 
 pub returns-in-Err-over-clause-crash : goal.returns-in-Err-over-clause-crash
 returns-in-Err-over-clause-crash g c = λ clean db may.

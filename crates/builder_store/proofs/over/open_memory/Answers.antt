@@ -1,4 +1,4 @@
-use Rattle.std.proofs.Common.{arith, subst}
+use Rattle.std.proofs.Common.{arith, inl, inr, subst}
 use Rattle.sqlite.specs.Held.{state}
 use Rattle.sqlite.specs.Steps.{over_memory}
 use Rattle.sqlite_rules.specs.Lists.{Has}
@@ -6,7 +6,8 @@ use Rattle.sqlite_schema.specs.declared.schema.Schema.{Schema}
 use Rattle.builder_store.specs.Doubt.{undoubted}
 use Rattle.builder_store.specs.Keepers.{content_of_keeper}
 use Rattle.builder_store.specs.Opening.{nothing}
-use Rattle.builder_store.proofs.Nothing.{empty_declared, empty_opens, opened_empty}
+use Rattle.builder_store.proofs.Judged.{judged_as}
+use Rattle.builder_store.proofs.Nothing.{empty_declared, empty_opens, empty_texts, opened_empty}
 use Rattle.builder_store.proofs.over.open_memory.Goals as goal
 
 pub over-requires : goal.over-requires
@@ -34,13 +35,17 @@ returns-in-Ok-over-clause-found c = λ clean.
     (content_of_keeper c.in-Ok-over.keeper) (c.in-Ok-over.ensures.begins.found clean)
 
 pub returns-clause-good : goal.returns-clause-good
-returns-clause-good c =
+returns-clause-good c = λ bad.
     let s = state over_memory c.in-Ok.conn in
     let e = c.in-Ok.ensures.empty in
-    let refused = c.in-Err.ensures.refused in (
-      λ is. refused.rows is undoubted nothing (empty_opens s e c.nothing_is_holdable.ensures),
-      λ is. refused.tables is undoubted 0 (empty_declared s e),
-    )
+    let refused = c.in-Err.ensures.refused in
+    elim (judged_as c.in-Err.fault bad) [
+      | inl is ↦ refused.rows is undoubted nothing (empty_opens s e c.nothing_is_holdable.ensures)
+      | inr more ↦ elim more [
+        | inl is ↦ empty_texts s e (refused.texts is undoubted)
+        | inr is ↦ refused.tables is undoubted 0 (empty_declared s e)
+      ]
+    ]
 
 pub returns-clause-unfailed : goal.returns-clause-unfailed
 returns-clause-unfailed c = λ is. absurd (omega

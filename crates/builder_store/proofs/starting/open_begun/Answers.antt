@@ -8,6 +8,9 @@ use Rattle.store_tables.specs.Contents.{contents_of}
 use Rattle.store_tables.specs.Store.{HasMadeTables, begun_contents}
 use Rattle.store_tables.proofs.Living.{store_begun}
 use Rattle.builder_store.specs.Inner.Opened.{LeadsInStore, LeadsTo}
+use Rattle.store_tables.specs.Texts.{AreTexts}
+use Rattle.builder_store.proofs.Judged.{no_judge, no_rows}
+use Rattle.builder_store.specs.declared.fault.OpenFault.TheVariants.{BadRows, BadTables, BadTexts}
 use Rattle.builder_store.proofs.starting.open_begun.Goals as goal
 
 pub open_rows-requires-clause-tables : goal.open_rows-requires-clause-tables
@@ -36,7 +39,8 @@ returns-then-made-eq0-clause-found g c = λ clean. subst (λ n. IfOk c.begin.res
     ((c.begin.ensures.opens (λ _. refl)).found clean)
 
 pub returns-then-made-eq0-clause-quiet : goal.returns-then-made-eq0-clause-quiet
-returns-then-made-eq0-clause-quiet g c = λ bad. absurd (c.begin.ensures.other.0 bad)
+returns-then-made-eq0-clause-quiet g c = λ bad. absurd
+    (no_rows c.begin.result c.begin.ensures.other bad)
 
 pub returns-then-made-eq0-clause-survives : goal.returns-then-made-eq0-clause-survives
 returns-then-made-eq0-clause-survives g c =
@@ -114,7 +118,8 @@ returns-in-Err-clause-survives g c = survives_weaker (state g.S.Store c.args.con
     c.in-Err.ensures.commits.survives
 
 pub returns-then-made-eq0-clause-bad : goal.returns-then-made-eq0-clause-bad
-returns-then-made-eq0-clause-bad g c = λ bad. absurd (c.begin.ensures.other.0 bad)
+returns-then-made-eq0-clause-bad g c = λ bad. absurd
+    (no_judge c.begin.result BadRows tt c.begin.ensures.other bad)
 
 pub returns-then-made-eq-TABLE_COUNT-clause-bad : goal.returns-then-made-eq-TABLE_COUNT-clause-bad
 returns-then-made-eq-TABLE_COUNT-clause-bad g c = λ bad clean content opens.
@@ -127,3 +132,23 @@ returns-in-Ok-clause-bad g c = λ bad clean content opens.
     (arith, c.open_rows-in-Ok.ensures.opens.survives.clean, clean) in
     c.open_rows-in-Ok.ensures.bad bad clean content (subst (λ x. OpensAs x content)
     (sym (c.in-Ok.ensures.commits.done before).2.contents) opens)
+
+pub returns-then-made-eq0-clause-other : goal.returns-then-made-eq0-clause-other
+returns-then-made-eq0-clause-other g c = no_judge c.begin.result BadTables tt c.begin.ensures.other
+
+pub returns-then-made-eq0-clause-texts : goal.returns-then-made-eq0-clause-texts
+returns-then-made-eq0-clause-texts g c = λ bad. absurd
+    (no_judge c.begin.result BadTexts tt c.begin.ensures.other bad)
+
+pub returns-then-made-eq-TABLE_COUNT-clause-texts :
+    goal.returns-then-made-eq-TABLE_COUNT-clause-texts
+returns-then-made-eq-TABLE_COUNT-clause-texts g c = λ bad clean texts.
+    c.open_rows.ensures.texts bad clean (subst (λ n. AreTexts (begun_contents n
+    (state g.S.Store c.args.conn.now).now.trees)) c.if-made-eq-TABLE_COUNT.true texts)
+
+pub returns-in-Ok-clause-texts : goal.returns-in-Ok-clause-texts
+returns-in-Ok-clause-texts g c = λ bad clean texts.
+    let before : HasCleanDisk (state g.S.Store c.make_missing.new.conn) = omega
+    (arith, c.open_rows-in-Ok.ensures.opens.survives.clean, clean) in
+    c.open_rows-in-Ok.ensures.texts bad clean (subst AreTexts
+    (sym (c.in-Ok.ensures.commits.done before).2.contents) texts)

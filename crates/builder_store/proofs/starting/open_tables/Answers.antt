@@ -11,6 +11,7 @@ use Rattle.sqlite.specs.Held.{state}
 use Rattle.sqlite.specs.State.{HasCleanDisk}
 use Rattle.sqlite.proofs.StateLemmas.{survives_weaker}
 use Rattle.store_tables.specs.Store.{HasMadeTables, begun_contents}
+use Rattle.store_tables.specs.Texts.{AreTexts}
 use Rattle.builder_store.specs.Opening.{OpensAs}
 use Rattle.builder_store.proofs.Opens.{declared_as, survives_same}
 use Rattle.builder_store.proofs.Settled.{declared_in}
@@ -121,3 +122,17 @@ returns-in-Ok-None-clause-missing g c = λ bad clean made declared.
     })) fresh.committed sound in
     c.in-Ok-None.ensures.missing c.in-Ok-None.field-0-is made declared.0 (lists_once (s.committed.trees catalog_tree)
     s.now.schema (schema_of_first made) told.lists declared.1.lists)
+
+pub returns-in-Ok-Some-clause-texts : goal.returns-in-Ok-Some-clause-texts
+returns-in-Ok-Some-clause-texts g c = λ bad clean.
+    let s = state g.S.Store c.args.conn.now in
+    let made = c.in-Ok-Some.made in
+    let was : HasCleanDisk s = omega (arith, c.open_begun.ensures.survives.clean, clean) in
+    let fresh = c.requires.fresh was in
+    let declared = declared_as s c.in-Ok-Some.field-0 made c.in-Ok-Some.field-0-is
+    c.in-Ok-Some.ensures.declared fresh c.in-Ok-Some.ensures.begun in (
+      made,
+      declared,
+      λ texts. c.open_begun.ensures.texts bad clean (subst (λ (d : Database). AreTexts
+          (begun_contents made d.trees)) (sym fresh.committed) texts),
+    )

@@ -7,6 +7,7 @@ returns-in-Err-clause-unopened g c = record {
   connected = c.in-Err.ensures.connected;
   unconnected = c.in-Err.ensures.unconnected;
   bad = c.in-Err.ensures.bad;
+  texts = c.in-Err.ensures.texts;
   failed = c.in-Err.ensures.failed;
   rows = c.in-Err.ensures.rows;
   crash = c.in-Err.ensures.crash;

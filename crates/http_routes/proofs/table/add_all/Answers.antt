@@ -1,6 +1,7 @@
 use Rattle.http_routes.proofs.Built.{none-before, one, after-one, two, after-two, three}
 use Rattle.http_routes.proofs.Built.{after-three, four, after-four, five, after-five, six}
-use Rattle.http_routes.proofs.Built.{after-six, seven, after-seven, all-added}
+use Rattle.http_routes.proofs.Built.{after-six, seven, after-seven, eight, after-eight, nine}
+use Rattle.http_routes.proofs.Built.{after-nine, ten, after-ten, eleven, after-eleven, all-added}
 use Rattle.http_routes.proofs.table.add_all.Goals as goal
 
 pub add-requires : goal.add-requires
@@ -63,6 +64,60 @@ add-requires-8 c =
     let rows_7 = seven _ _ rows_6 c.in_ok-add-7.ensures in
     after-seven _ rows_7
 
+pub add-requires-9 : goal.add-requires-9
+add-requires-9 c =
+    let rows_1 = one _ _ c.requires c.in_ok-add.ensures in
+    let rows_2 = two _ _ rows_1 c.in_ok-add-2.ensures in
+    let rows_3 = three _ _ rows_2 c.in_ok-add-3.ensures in
+    let rows_4 = four _ _ rows_3 c.in_ok-add-4.ensures in
+    let rows_5 = five _ _ rows_4 c.in_ok-add-5.ensures in
+    let rows_6 = six _ _ rows_5 c.in_ok-add-6.ensures in
+    let rows_7 = seven _ _ rows_6 c.in_ok-add-7.ensures in
+    let rows_8 = eight _ _ rows_7 c.in_ok-add-8.ensures in
+    after-eight _ rows_8
+
+pub add-requires-10 : goal.add-requires-10
+add-requires-10 c =
+    let rows_1 = one _ _ c.requires c.in_ok-add.ensures in
+    let rows_2 = two _ _ rows_1 c.in_ok-add-2.ensures in
+    let rows_3 = three _ _ rows_2 c.in_ok-add-3.ensures in
+    let rows_4 = four _ _ rows_3 c.in_ok-add-4.ensures in
+    let rows_5 = five _ _ rows_4 c.in_ok-add-5.ensures in
+    let rows_6 = six _ _ rows_5 c.in_ok-add-6.ensures in
+    let rows_7 = seven _ _ rows_6 c.in_ok-add-7.ensures in
+    let rows_8 = eight _ _ rows_7 c.in_ok-add-8.ensures in
+    let rows_9 = nine _ _ rows_8 c.in_ok-add-9.ensures in
+    after-nine _ rows_9
+
+pub add-requires-11 : goal.add-requires-11
+add-requires-11 c =
+    let rows_1 = one _ _ c.requires c.in_ok-add.ensures in
+    let rows_2 = two _ _ rows_1 c.in_ok-add-2.ensures in
+    let rows_3 = three _ _ rows_2 c.in_ok-add-3.ensures in
+    let rows_4 = four _ _ rows_3 c.in_ok-add-4.ensures in
+    let rows_5 = five _ _ rows_4 c.in_ok-add-5.ensures in
+    let rows_6 = six _ _ rows_5 c.in_ok-add-6.ensures in
+    let rows_7 = seven _ _ rows_6 c.in_ok-add-7.ensures in
+    let rows_8 = eight _ _ rows_7 c.in_ok-add-8.ensures in
+    let rows_9 = nine _ _ rows_8 c.in_ok-add-9.ensures in
+    let rows_10 = ten _ _ rows_9 c.in_ok-add-10.ensures in
+    after-ten _ rows_10
+
+pub add-requires-12 : goal.add-requires-12
+add-requires-12 c =
+    let rows_1 = one _ _ c.requires c.in_ok-add.ensures in
+    let rows_2 = two _ _ rows_1 c.in_ok-add-2.ensures in
+    let rows_3 = three _ _ rows_2 c.in_ok-add-3.ensures in
+    let rows_4 = four _ _ rows_3 c.in_ok-add-4.ensures in
+    let rows_5 = five _ _ rows_4 c.in_ok-add-5.ensures in
+    let rows_6 = six _ _ rows_5 c.in_ok-add-6.ensures in
+    let rows_7 = seven _ _ rows_6 c.in_ok-add-7.ensures in
+    let rows_8 = eight _ _ rows_7 c.in_ok-add-8.ensures in
+    let rows_9 = nine _ _ rows_8 c.in_ok-add-9.ensures in
+    let rows_10 = ten _ _ rows_9 c.in_ok-add-10.ensures in
+    let rows_11 = eleven _ _ rows_10 c.in_ok-add-11.ensures in
+    after-eleven _ rows_11
+
 pub returns : goal.returns
 returns c =
     let rows_1 = one _ _ c.requires c.in_ok-add.ensures in
@@ -72,4 +127,8 @@ returns c =
     let rows_5 = five _ _ rows_4 c.in_ok-add-5.ensures in
     let rows_6 = six _ _ rows_5 c.in_ok-add-6.ensures in
     let rows_7 = seven _ _ rows_6 c.in_ok-add-7.ensures in
-    all-added c.add-8.result _ _ rows_7 c.add-8.ensures
+    let rows_8 = eight _ _ rows_7 c.in_ok-add-8.ensures in
+    let rows_9 = nine _ _ rows_8 c.in_ok-add-9.ensures in
+    let rows_10 = ten _ _ rows_9 c.in_ok-add-10.ensures in
+    let rows_11 = eleven _ _ rows_10 c.in_ok-add-11.ensures in
+    all-added c.add-12.result _ _ rows_11 c.add-12.ensures

@@ -11,5 +11,5 @@ returns-in_default-from_utf8 c =
 pub returns : goal.returns
 returns c =
     let is : c.args.line.now ≡ codes "? " ++ c.in-Some.text.now = search rules in
-    line_reads c.args.line.now c.in-Ok.words.now c.read_words.result
-    (is ∙ ap (λ (t : List ℕ). codes "? " ++ t) (sym c.in-Ok.ensures.cases.0)) c.read_words.ensures
+    line_reads c.args.line.now c.in-Ok.words.now c.read_inquiry.result
+    (is ∙ ap (λ (t : List ℕ). codes "? " ++ t) (sym c.in-Ok.ensures.cases.0)) c.read_inquiry.ensures

@@ -67,6 +67,29 @@ returns-in_err-loop_file-in-Loop-clause-failed g c =
     (GivesText g.S.Stores) (GivesNoText g.S.Stores) _ _ (RefusesToOpen g.S.Stores) (FailsToMake g.S.Stores) _ _ _ c.in-Loop.is
     (inr (refl, c.in_err-loop_file-in-Loop.ensures.failed)))
 
+pub returns-in_ok-write_log-in-Log-clause-ended : goal.returns-in_ok-write_log-in-Log-clause-ended
+returns-in_ok-write_log-in-Log-clause-ended g c =
+    ends_as _ g.S.Kept.Keeper g.S.Stores.begins (Closes g.S.Stores) g.R.Read.remaining g.W.Write.contents
+    c.args.reader.now c.args.reader.now c.args.writer.now c.write_log.new.writer (GivesText g.S.Stores)
+    (GivesNoText g.S.Stores) _ _ (MakesStore g.S.Stores) _ _ _ c.in-Log.is (
+      refl,
+      c.in_ok-write_log-in-Log.ensures.written,
+      c.in_ok-write_log-in-Log.ensures.opened,
+    )
+
+pub returns-in_err-write_log-in-Log-clause-failed : goal.returns-in_err-write_log-in-Log-clause-failed
+returns-in_err-write_log-in-Log-clause-failed g c =
+    let p = err_from_is_err_and c.from_residual-in_err-write_log-in-Log.result
+    c.from_residual-in_err-write_log-in-Log.ensures.1 in
+    rw (p.1, p.2) (fails_as _ g.S.Kept.Keeper g.S.Stores.begins (Closes g.S.Stores)
+    g.R.Read.remaining g.W.Write.contents c.args.reader.now c.args.reader.now c.args.writer.now
+    c.write_log.new.writer (GivesText g.S.Stores) (GivesNoText g.S.Stores) _ _
+    (RefusesToOpen g.S.Stores) (FailsToMake g.S.Stores) _ _ _ c.in-Log.is
+    (elim c.in_err-write_log-in-Log.ensures.fault [
+      | inl word ↦ inl (word.0, refl, word.1, word.2)
+      | inr failed ↦ inr (refl, failed.0, failed.1)
+    ]))
+
 pub returns-in-Table-clause-failed : goal.returns-in-Table-clause-failed
 returns-in-Table-clause-failed g c =
     let showing : IsShowing c.args.task.now = elim c.in-Table.is [

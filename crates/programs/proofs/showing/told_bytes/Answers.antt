@@ -13,7 +13,7 @@ returns-clause-shown g c = let kept = c.kept_bytes-bytes in
       left = refl;
       stays_sound = kept.ensures.sound;
       stays = kept.ensures.content;
-      tells = tells;
+      tells = λ sound. (c.requires.clock, tells sound);
     })
     kept.ensures.shown
 

@@ -1,27 +1,42 @@
-use Rattle.std.proofs.Common.{◌∙◌, Err, Ok, ap, rules, sym, ℕ}
-use Rattle.std.specs.Prelude.{Vec}
+use Rattle.std.proofs.Common.{ℕ, IfOk, Result, Some, subst, sym}
+use Rattle.std.specs.Prelude.{IsUtf8, Vec}
 use Rattle.std.specs.declared.alloc.Global.{Global}
-use Rattle.builder.specs.Life.{BookContent}
-use Rattle.ring_reads.specs.Holding.{holding_of}
-use Rattle.ring_book.specs.Book.{Found}
-use Rattle.ring_book.proofs.Holdings.{read_as, still_held}
+use Rattle.std.proofs.lemmas.Result.{IfOk-weaker}
+use Rattle.request_book.specs.Call.{Load}
+use Rattle.request_book.specs.declared.book.Fault.{Fault}
+use Rattle.ring_log.specs.Inquiries.{AsksText}
+use Rattle.ring_log.specs.declared.inquiry.Inquiry.{Inquiry}
+use Rattle.ring_book.specs.Book.{Found, Made}
+use Rattle.ring_book.specs.Reads.{IsReadAs}
 use Rattle.ring_book.proofs.asking.read.Goals as goal
 
-pub returns-in-Ok-clause-told : goal.returns-in-Ok-clause-told
-returns-in-Ok-clause-told g c =
+pub returns-in-Held-clause-told : goal.returns-in-Held-clause-told
+returns-in-Held-clause-told g c =
     let old = c.args.book.now in
-    let new = c.load.new.self in
-    let same = c.load.ensures.content in
-    let found : Found g.K.Keeper c.args.clock old new (holding_of c.held_in.result) =
-    λ sound. c.held_in.ensures sound
-    (c.in-Ok.ensures.hour sound ∙ sym (ap (λ (all : BookContent). all.hour) (same sound)))
-    ∙ still_held g.K.Keeper c.args.clock old.keeper new.keeper (same sound) c.load.ensures.made.limits in (
-      Ok tt,
-      search rules,
-      read_as (Found g.K.Keeper c.args.clock old new) c.args.names.prefix.now c.args.names.suffix.now
-          c.args.question.now (holding_of c.held_in.result) c.read_held.result
-          (λ (bytes : Vec ℕ Global). bytes.items) found c.read_held.ensures.told,
-    )
+    let new = c.read_question.new.book in
+    subst (λ (asked : Inquiry). (answer : Result (Unit {0}) Fault)
+    × Made g.K.Keeper old new (Some (Load answer))
+    × IsReadAs (Found g.K.Keeper c.args.clock old new) c.args.names.prefix.now
+    c.args.names.suffix.now asked answer c.read_question.result
+    (λ (bytes : Vec ℕ Global). bytes.items)) (sym c.in-Held.is) c.read_question.ensures.told
 
-pub returns-in-Err-clause-told : goal.returns-in-Err-clause-told
-returns-in-Err-clause-told g c = (Err c.in-Err.fault, search rules, search rules)
+pub returns-in-Held-clause-text : goal.returns-in-Held-clause-text
+returns-in-Held-clause-text g c = subst (λ (asked : Inquiry). IfOk c.read_question.result
+    (λ (bytes : Vec ℕ Global). AsksText asked → IsUtf8 bytes.items)) (sym c.in-Held.is)
+    c.read_question.ensures.text
+
+pub returns-in-Log-clause-told : goal.returns-in-Log-clause-told
+returns-in-Log-clause-told g c =
+    let old = c.args.book.now in
+    let new = c.read_log.new.book in
+    let told = c.read_log.ensures.told in
+    subst (λ (asked : Inquiry). (answer : Result (Unit {0}) Fault)
+    × Made g.K.Keeper old new (Some (Load answer))
+    × IsReadAs (Found g.K.Keeper c.args.clock old new) c.args.names.prefix.now
+    c.args.names.suffix.now asked answer c.read_log.result
+    (λ (bytes : Vec ℕ Global). bytes.items)) (sym c.in-Log.is)
+    (told.0, told.1, told.2 c.args.clock c.args.names.prefix.now c.args.names.suffix.now)
+
+pub returns-in-Log-clause-text : goal.returns-in-Log-clause-text
+returns-in-Log-clause-text g c = IfOk-weaker c.read_log.result _ _ (λ bytes utf8 asks. utf8)
+    c.read_log.ensures.text

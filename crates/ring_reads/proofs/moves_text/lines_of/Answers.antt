@@ -2,7 +2,7 @@ use Rattle.std.proofs.Common.{◌∙◌, ap, arith}
 use Rattle.std.specs.List.{flat_map}
 use Rattle.std.proofs.lemmas.List.{take_all}
 use Rattle.ring_reads.specs.SeatMoves.{move_line}
-use Rattle.ring_reads.proofs.SeatMoving.{next_part}
+use Rattle.ring_tables.proofs.Lists.{next_part}
 use Rattle.ring_reads.proofs.moves_text.lines_of.Goals as goal
 
 pub loop-one-preserved : goal.loop-one-preserved

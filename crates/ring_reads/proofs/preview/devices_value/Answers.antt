@@ -9,7 +9,7 @@ use Rattle.serde_json.proofs.Views.{view-Array}
 use Rattle.ring_words.specs.declared.device.Device.{Device}
 use Rattle.ring_reads.proofs.Moving.{pair_moves}
 use Rattle.ring_reads.proofs.RingData.{data_more}
-use Rattle.ring_reads.proofs.RowByRow.{pair_below, read_pair}
+use Rattle.ring_tables.proofs.Lists.{pair_below, read_pair}
 use Rattle.ring_reads.proofs.preview.devices_value.Goals as goal
 
 pub loop-place-preserved : goal.loop-place-preserved

@@ -11,7 +11,7 @@ use Rattle.ring_share.specs.Room.{have}
 use Rattle.ring_share.proofs.Standing.{read_at}
 use Rattle.ring_reads.specs.RingJson.{device_data}
 use Rattle.ring_reads.proofs.RingData.{data_more, pair_data}
-use Rattle.ring_reads.proofs.RowByRow.{pair_below, read_pair}
+use Rattle.ring_tables.proofs.Lists.{pair_below, read_pair}
 use Rattle.ring_reads.proofs.whole_ring.devices_value.Goals as goal
 
 pub loop-place-preserved : goal.loop-place-preserved

@@ -2,7 +2,7 @@ use Rattle.std.proofs.Common.{arith, inl, inr, subst, sym}
 use Rattle.sqlite.specs.Held.{state}
 use Rattle.sqlite.specs.State.{HasCleanDisk}
 use Rattle.builder_store.specs.Keepers.{content_of_keeper}
-use Rattle.builder_store.specs.Opening.{AreDeclared, IsMadeOf, IsOpenedAs, KeepsRows}
+use Rattle.builder_store.specs.Opening.{AreDeclared, HasBadTexts, IsMadeOf, IsOpenedAs, KeepsRows}
 use Rattle.builder_store.proofs.Taking.{met_before}
 use Rattle.builder_store.proofs.keeper.SqlKeeper.adopt.Goals as goal
 
@@ -64,3 +64,10 @@ returns-in-Err-clause-failed g c = λ told clean. met_before (state g.S.Store c.
 pub returns-in-Err-over-clause-failed : goal.returns-in-Err-over-clause-failed
 returns-in-Err-over-clause-failed g c = λ told clean.
     inl (omega (arith, c.in-Err-over.ensures.refused.failed told clean))
+
+pub returns-in-Err-over-clause-texts : goal.returns-in-Err-over-clause-texts
+returns-in-Err-over-clause-texts g c = λ failed clean.
+    let mid = state g.S.Store c.in-Ok.conn in
+    let before : HasCleanDisk mid = omega (arith, c.in-Err-over.ensures.refused.clean, clean) in
+    subst HasBadTexts (c.in-Ok.ensures.same before)
+    (c.in-Err-over.ensures.refused.texts failed clean)

@@ -1,9 +1,10 @@
 use Rattle.std.proofs.Common.{◌∙◌, ◌≤◌, Err, IfErr, ap, arith, inl, inr, subst, sym}
+use Rattle.std.specs.Prelude.{IsErrAnd}
 use Rattle.sqlite_trees.specs.View.{doubt}
 use Rattle.sqlite.specs.Held.{state}
 use Rattle.sqlite.specs.State.{HasCleanDisk}
 use Rattle.store_tables.specs.Failing.{HasFailed}
-use Rattle.builder_store.specs.Opening.{IsOpenedAs, TellsFault}
+use Rattle.builder_store.specs.Opening.{IsOpenedAs, JudgesRows, TellsFault}
 use Rattle.builder_store.proofs.Finds.{alone_from}
 use Rattle.builder_store.proofs.Taking.{met_while_open}
 use Rattle.builder_store.proofs.keeper.SqlKeeper.over.Goals as goal
@@ -49,12 +50,13 @@ returns-in-Err-clause-refused g c =
     record {
       clean = survives.clean;
       rows = λ is. c.open_ready.ensures.bad (c.in-Err.is ∙ ap Err is);
+      texts = λ is. c.open_ready.ensures.texts (c.in-Err.is ∙ ap Err is);
       tables = λ is. c.open_ready.ensures.missing (c.in-Err.is ∙ ap Err is);
       failed = λ is clean. met_while_open old new (c.requires.fresh (before clean)).is_open
           (subst (λ r. IfErr r (λ why. TellsFault why → HasFailed old new)) c.in-Err.is
           (c.open_ready.ensures.failed clean) is);
-      kept = λ is clean db may. elim ((c.open_ready.ensures.quiet (c.in-Err.is ∙ ap Err is)).crash
-          clean db may) [
+      kept = λ is clean db may. elim ((c.open_ready.ensures.quiet (subst
+          (λ r. IsErrAnd r JudgesRows) (sym c.in-Err.is) is)).crash clean db may) [
             | inl was ↦ inl (g.met.S.Store.settled c.args.conn.store db (c.requires.fresh
                 (before clean)).is_open was)
             | inr kept ↦ inr kept

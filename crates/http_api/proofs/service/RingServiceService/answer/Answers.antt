@@ -1,4 +1,6 @@
-use Rattle.http_api.proofs.Tellings.{message_answered, import_answered, read_answered}
+use Rattle.request_book.proofs.Fronts.{none_made}
+use Rattle.ring_book.specs.Book.{steps_of}
+use Rattle.http_api.proofs.Tellings.{message_answered, import_answered, page_answered, read_answered}
 use Rattle.http_api.proofs.service.RingServiceService.answer.Goals as goal
 
 pub returns-in_ok-told-in-Ok-Deliver : goal.returns-in_ok-told-in-Ok-Deliver
@@ -44,4 +46,19 @@ returns-in-Ok-Read g c =
       body = c.args.body.now;
       is_last =
           c.args.is_last;
-    }) _ _ _ c.in-Ok-Read.question asks told.0 told.1 c.answer_read.result told.2
+    }) _ _ _ c.in-Ok-Read.asked asks told.0 told.1 c.answer_read.result told.2
+
+pub returns-in-Ok-Page : goal.returns-in-Ok-Page
+returns-in-Ok-Page g c =
+    let asks = rw c.in-Ok-Page.field-0-is at c.in-Ok-Page.ensures in
+    page_answered g.K.Keeper
+    g.C.Clock.tells _ _
+    (record {
+      method = c.args.method;
+      target = c.args.target.now;
+      body = c.args.body.now;
+      is_last =
+          c.args.is_last;
+    }) _ _ _ asks (none_made steps_of g.K.Keeper.content g.K.Keeper.sound g.K.Keeper.limit
+    g.K.Keeper.fault_count _) c.shown_answer.result
+    (rw (c.as_bytes.ensures.value, c.page.ensures) at c.shown_answer.ensures)

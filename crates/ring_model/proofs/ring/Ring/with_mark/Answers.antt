@@ -1,4 +1,4 @@
-use Rattle.std.proofs.Common.{map, ap, sym, ◌∙◌, subst}
+use Rattle.std.proofs.Common.{map, ap, sym, ◌∙◌, subst, true}
 use Rattle.std.proofs.lemmas.List.{length-map}
 use Rattle.ring_model.specs.Ring.{RingRecord, with_mark, marked}
 use Rattle.ring_model.specs.Parts.{record_of}
@@ -19,7 +19,7 @@ invariant_of-result c =
           parts.devices.ok.0 (length-map _ _),
     )
     (subst (λ (r : RingRecord). IsValid (with_mark r c.args.id)) (sym c.in_ok-parts.ensures)
-    (changed_valid _ (altered_valid f (marked_keeps c.args.id) old c.self.invariant)))
+    (changed_valid _ (altered_valid f (marked_keeps true c.args.id) old c.self.invariant)))
 
 pub returns : goal.returns
 returns c =

@@ -1,0 +1,169 @@
+//! Decided requests as JSON text and as lines.
+ghost use Rattle.std.specs.Prelude.{◌≡◌, ◌<◌, ◌+◌, ◌^◌, ◌++◌, ◌∷◌, [], IfOk, OnOk, length, map};
+ghost use Rattle.std.specs.Prelude.{string_bytes};
+ghost use Rattle.serde_json.specs.Data.{array};
+ghost use Rattle.serde_json.specs.View.{items_of, members_view, view};
+ghost use Rattle.serde_json.specs.Written.{compact_text};
+ghost use Rattle.ring_log.specs.Log.{delivery_line, entries_data, entries_text, entry_data};
+ghost use Rattle.ring_log.specs.Log.{entry_figures, entry_text, log_data, log_json};
+
+use request_book::Entry;
+use ring_messages::Scalar::Number;
+use ring_messages::{Told, members, message_text, message_value, reply_value, status_of};
+use ring_words::{Command, Reply};
+use serde_json::{Map, Value, json, put};
+use std::alloc::{AllocError, Global};
+
+/// A decided request of a book of rings.
+pub type LogEntry = Entry<Command, Reply>;
+
+/// The form in which entries are written, a line each.
+#[derive(Clone, Copy, Debug, PartialEq, Eq)]
+pub enum LogForm {
+    /// Whole entries, as JSON.
+    Entries,
+    /// Lines that ask for the same deliveries again.
+    Deliveries,
+}
+
+/// The numbers that are told of the entry at a place.
+fn figures(alloc: Global, place: u64, entry: &LogEntry) -> Result<Map<String, Value>, AllocError>
+    ensures { IfOk result (λ told. members_view told.entries ≡ entry_figures place entry.now) }
+{
+    let status = status_of(&Told::Reply(entry.reply));
+    members(
+        alloc,
+        &[
+            ("hour", Number(entry.hour.into())),
+            ("place", Number(place)),
+            ("status", Number(status.into())),
+        ],
+    )
+}
+
+/// The entry at a place.
+fn entry_value(alloc: Global, place: u64, entry: &LogEntry) -> Result<Value, AllocError>
+    ensures { IfOk result (λ v. view v ≡ entry_data place entry.now) }
+{
+    let mut told = figures(alloc, place, entry)?;
+    put(&mut told, alloc, "reply", reply_value(alloc, entry.reply)?)?;
+    let request = message_value(alloc, &entry.key, &entry.command)?;
+    put(&mut told, alloc, "request", request)?;
+    Ok(Value::Object(told))
+}
+
+/// The place of the entry behind so many others from a place on.
+fn next_place(from: u32, others: usize) -> u64
+    requires { others < 2 ^ 63 }
+    ensures { result ≡ from + others }
+{
+    u64::from(from) + others as u64
+}
+
+/// Adds the next of the entries from a place on.
+fn push_entry(
+    into: &mut Vec<Value>,
+    alloc: Global,
+    from: u32,
+    entry: &LogEntry,
+) -> Result<(), AllocError>
+    ensures { OnOk result (map view into.new.items ≡ map view into.old.items ++
+        entry_data (from + length into.old.items) entry.now ∷ []) }
+{
+    let place = next_place(from, into.len());
+    into.push(entry_value(alloc, place, entry)?)?;
+    Ok(())
+}
+
+/// Entries, of which the first has this place.
+fn entries_value(alloc: Global, from: u32, entries: &[LogEntry]) -> Result<Value, AllocError>
+    ensures { IfOk result (λ v. view v ≡ array (items_of (entries_data from entries.now))) }
+{
+    let mut told = Vec::with_capacity(alloc, entries.len())?;
+    for entry in entries {
+        push_entry(&mut told, alloc, from, entry)?;
+    }
+    Ok(Value::Array(told))
+}
+
+/// The object with entries, of which the first has this place.
+fn log_value(alloc: Global, from: u32, entries: &[LogEntry]) -> Result<Value, AllocError>
+    ensures { IfOk result (λ v. view v ≡ log_data from entries.now) }
+{
+    let log = entries_value(alloc, from, entries)?;
+    json!(in alloc; {"log": log})
+}
+
+/// Entries, of which the first has this place, as compact JSON, its keys in byte order: of each, by
+/// rising place, the `hour` that it was decided at, its `place`, its `request` as a message, and the
+/// `reply` that is kept of it with its `status`.
+pub fn log_json(alloc: Global, from: u32, entries: &[LogEntry]) -> Result<String, AllocError>
+    ensures { IfOk result (λ text. string_bytes text ≡ log_json from entries.now) }
+{
+    log_value(alloc, from, entries)?.to_string(alloc)
+}
+
+/// The text of the entry at a place, as it is told among others.
+fn entry_json(alloc: Global, place: u64, entry: &LogEntry) -> Result<String, AllocError>
+    ensures { IfOk result (λ text. string_bytes text ≡ compact_text (entry_data place entry.now)) }
+{
+    entry_value(alloc, place, entry)?.to_string(alloc)
+}
+
+/// The line that asks for the delivery of an entry, at the hour that it was decided at. Its message
+/// is read back as the entry's key and command.
+fn delivery_text(alloc: Global, entry: &LogEntry) -> Result<String, AllocError>
+    ensures { IfOk result (λ text. string_bytes text ≡ delivery_line entry.now) }
+{
+    let hour = entry.hour;
+    let message = message_text(alloc, &entry.key, &entry.command)?;
+    format!(in alloc; "{hour} {message}")
+}
+
+/// The text of the entry at a place, in a form.
+fn entry_text(
+    alloc: Global,
+    form: LogForm,
+    place: u64,
+    entry: &LogEntry,
+) -> Result<String, AllocError>
+    ensures { IfOk result (λ text. string_bytes text ≡ entry_text form place entry.now) }
+{
+    match form {
+        LogForm::Entries => entry_json(alloc, place, entry),
+        LogForm::Deliveries => delivery_text(alloc, entry),
+    }
+}
+
+/// Adds the entry at a place as a line.
+fn push_text(
+    into: &mut String,
+    alloc: Global,
+    form: LogForm,
+    place: u64,
+    entry: &LogEntry,
+) -> Result<(), AllocError>
+    ensures { OnOk result (string_bytes into.new ≡ string_bytes into.old ++
+        (entry_text form place entry.now ++ 10 ∷ [])) }
+{
+    let text = entry_text(alloc, form, place, entry)?;
+    into.push_str(text.as_str())?;
+    into.push_str("\n")
+}
+
+/// A line for each of some entries, of which the first has this place, in a form.
+pub fn entries_text(
+    alloc: Global,
+    form: LogForm,
+    from: u32,
+    entries: &[LogEntry],
+) -> Result<String, AllocError>
+    ensures { IfOk result (λ text. string_bytes text ≡ entries_text form from entries.now) }
+{
+    let mut text = String::new(alloc);
+    for (index, entry) in entries.iter().enumerate() {
+        let place = next_place(from, index);
+        push_text(&mut text, alloc, form, place, entry)?;
+    }
+    Ok(text)
+}

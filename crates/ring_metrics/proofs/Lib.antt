@@ -1,0 +1,3 @@
+pub mod Resting
+pub mod Measuring
+pub mod Joined

@@ -1,0 +1,9 @@
+use Rattle.std.proofs.Common.{◌≡◌, string_bytes, take}
+use Rattle.std.specs.List.{flat_map}
+use Rattle.ring_metrics.specs.Metrics.{device_samples}
+use Rattle.ring_metrics.proofs.metrics.all_states_text.Given as goal
+
+-- the lines so far
+abbrev pub invariant-loop-measured : goal.invariant-loop-measured
+invariant-loop-measured l = string_bytes l.text ≡ flat_map device_samples
+    (take l.measured-index l.all)
