@@ -221,6 +221,10 @@ def session(checks):
         first = f"     3  {time.strftime('%Y-%m-%d %H:00', time.gmtime(int(HOUR) * 3600))} UTC  ctl 4"
         checks.show("and has a line for each request", logs[0][0].startswith(first) and logs[0][0].endswith(": done id 0 version 1"), logs[0][:1])
         checks.same("with each command", len({line.split("  ")[-1].split()[0] for line in logs[0] if line}), 12)
+        later = json.loads(by_url("preview", "photos", "--seed", "3", "--hour", HOUR + 50, "--json")[1])
+        checks.same("a preview of a later hour, by URL", later["hour"], HOUR + 50)
+        why = "ringctl: --hour is for --file: a service decides at the hour of its own clock\n"
+        checks.same("an hour for a change, by URL", by_url("publish", "photos", "--hour", HOUR), (2, "", why))
         first, second = (ctl.entries()[0]["caller"] for ctl in (by_url, by_file))
         are_made = re.fullmatch("ctl-[a-z0-9]{8}", first) and first != second
         checks.show("the caller is made at random", are_made, (first, second))
