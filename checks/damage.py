@@ -206,7 +206,7 @@ def put(path, place, text):
 
 
 def main():
-    return Checks("damage.py", 300).run(files, rows, texts, logs)
+    return Checks("damage.py", 600).run(files, rows, texts, logs)
 
 
 if __name__ == "__main__":

@@ -205,7 +205,7 @@ MOST = int(sys.argv[1]) if len(sys.argv) > 1 else 300
 
 
 def main():
-    checks = Checks("failing.py", 600)
+    checks = Checks("failing.py", 900)
     if sys.platform == "linux" and MACHINE == "x86_64":
         return checks.run(new_file, older_file, renewal)
     checks.skip(checks.name, f"calls are made to fail on Linux on x86-64, not on {sys.platform} on {MACHINE}")

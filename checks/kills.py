@@ -179,7 +179,7 @@ MOST = int(sys.argv[1]) if len(sys.argv) > 1 else 400
 
 
 def main():
-    return run_traced(Checks("kills.py", 600), new_file, older_file, renewal)
+    return run_traced(Checks("kills.py", 900), new_file, older_file, renewal)
 
 
 if __name__ == "__main__":

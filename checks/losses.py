@@ -185,7 +185,7 @@ MOST = int(sys.argv[1]) if len(sys.argv) > 1 else 600
 
 
 def main():
-    return run_traced(Checks("losses.py", 600), new_file, older_file)
+    return run_traced(Checks("losses.py", 900), new_file, older_file)
 
 
 if __name__ == "__main__":

@@ -71,7 +71,8 @@ def first_run(checks):
         told = common.metrics(json.loads(status), [common.unlocked(json.loads(FIRST_RING))])
         checks.same("show with --metrics, at the hour of the machine", run("show", file, "--metrics"), (0, told, b""))
         for more in (["object", "--status"], ["--status", "object"], ["object", "other"], ["--status", "--status"], ["object", "--metrics"],
-                     ["--metrics", "--status"], ["--metrics", "--metrics"]):
+                     ["--metrics", "--status"], ["--metrics", "--metrics"], ["--locks"], ["object", "--locks", "--status"], ["--metrics", "--locks"],
+                     ["object", "--locks", "--locks"]):
             code, told, errors = run("show", file, *more)
             checks.show(f"show FILE {' '.join(more)} ends with status 2", code == 2 and not told and errors, (code, told, errors))
         asked = run("run", "--file", file, given=lines("? balance object", "? rings", "? devices object", "? status", "? ring object"))
@@ -300,7 +301,7 @@ TOLD_BEFORE = [(["table", AWAY, "a b"], "Unreadable", 20), (["show", AWAY, "a b"
                (["loop", AWAY, "/no/folder/i"], "NoFile", 27), (["loop", AWAY, "/"], "ReadFailed", 50),
                (["loop", AWAY, "/proc/self/exe"], "TooLong", 29)]
 NO_FOLDER = [["run", "--file", AWAY], ["table", AWAY, "r"], ["show", AWAY, "r"], ["show", AWAY], ["show", AWAY, "--status"],
-             ["serve", AWAY, "8642", "1"], ["loop", AWAY, "/dev/null"]]
+             ["show", AWAY, "r", "--locks"], ["serve", AWAY, "8642", "1"], ["loop", AWAY, "/dev/null"]]
 
 
 def order_of_faults(checks):
@@ -433,6 +434,52 @@ def older_schema(checks):
         checks.same("the tables of seats and moves are empty", (rows["seat"], rows["moved"]), ([], []))
         hours = sorted(hour for _, _, _, hour in rows["part"])
         checks.same("three partitions kept the hour of their move", hours, [0, 0, 0, 24])
+
+
+PAGE = 4096
+OLDER_BAD = {
+    "a seat too few": "DELETE FROM seat WHERE part = 3",
+    "a seat too many": "INSERT INTO seat VALUES ('object', 4, 0, 1)",
+    "a move of a partition that is not there": "INSERT INTO moved VALUES ('object', 4, 0)",
+    "a move at an hour below 0": "UPDATE moved SET hour = -1 WHERE part = 0",
+    "a schema that is not known": "UPDATE meta SET schema = 3",
+    "this schema, and seats": "UPDATE meta SET schema = 2",
+    "an hour before a request's": "UPDATE meta SET hour = 0",
+    "no row on the whole store": "DELETE FROM meta",
+    "a gap between places": "UPDATE request SET place = 99 WHERE place = (SELECT max(place) FROM request)",
+    "a command that is none": "UPDATE request SET command = '{}' WHERE number = 1",
+    "a reply that is none": "UPDATE request SET reply = '{\"done\":\"published\"}' WHERE number = 1",
+    "a device of a number not yet given": "UPDATE ring SET next_id = 2",
+    "a weight above the greatest": "UPDATE device SET weight = 100000001 WHERE id = 1",
+    "a device's name that is no UTF-8": "UPDATE device SET name = CAST(x'ff' AS TEXT) WHERE id = 1",
+    "a text that is no UTF-8": "INSERT INTO published VALUES ('object', 1, CAST(x'ff' AS TEXT))",
+    "a table less, and rows that stand for nothing": "DROP TABLE request; UPDATE ring SET power = 15",
+    "a table more": "CREATE TABLE note (text TEXT) STRICT",
+}
+
+
+def bad_older_stores(checks):
+    """Stores of the older schema whose rows stand for no rings and requests: nothing is written to them."""
+    with scratch() as room:
+        file, bad = f"{room}/old.db", f"{room}/bad.db"
+        make_older(file)
+        for what, change in OLDER_BAD.items():
+            for end in ("", "-wal"):
+                if os.path.exists(f"{bad}{end}"):
+                    os.remove(f"{bad}{end}")
+            shutil.copyfile(file, bad)
+            with sqlite3.connect(bad) as edited:
+                edited.executescript(change)
+            edited.close()
+            before = Path(bad).read_bytes()
+            for words in (["run", "--file", bad], ["table", bad, "object"]):
+                told = run(*words)
+                is_refused = told == fault("BadStore", 26)
+                checks.show(f"an older store, {what}: {words[0]} refuses it", is_refused, told)
+                held = files_of(bad)
+                checks.show(f"an older store, {what}: {words[0]} leaves its bytes", held[""] == before)
+                log = len(held["-wal"] or b"")
+                checks.show(f"an older store, {what}: {words[0]} leaves no page in its log", log < PAGE, log)
 
 
 def read_only(checks):
@@ -598,10 +645,10 @@ def read_by_sqlite(checks):
 
 
 def main():
-    checks = Checks("store.py", 300)
+    checks = Checks("store.py", 900)
     return checks.run(
         first_run, other_words, order_of_faults, one_device, csv_import, renewal, full_file, broken_streams, read_that_fails_midway,
-        two_programs, no_places, no_databases, bad_stores, older_schema, read_only, failing_writes, failing_close,
+        two_programs, no_places, no_databases, bad_stores, older_schema, bad_older_stores, read_only, failing_writes, failing_close,
         read_by_sqlite)
 
 

@@ -15,7 +15,7 @@ use Rattle.store_tables.specs.Store.{begun_contents}
 use Rattle.store_tables.specs.Tables.{schema_of_first}
 use Rattle.store_rows.specs.Stands.{IsHoldable, RingContent, contents_for, first_contents_for}
 use Rattle.store_rows.specs.Stands.{meta_value}
-use Rattle.builder_store.specs.Opening.{AreDeclared, IsMadeOf, IsOpenedAs, KeepsRows, OpensAs}
+use Rattle.builder_store.specs.Opening.{AreDeclared, IsMadeOf, IsOpenedAs, OpensAs}
 use Rattle.builder_store.specs.Opening.{Stands}
 use Rattle.builder_store.specs.Standing.{StandsAlone}
 use Rattle.builder_store.specs.Inner.Finding.{stands_opens}
@@ -78,30 +78,11 @@ pub alone_from : OneContent → (db : Trees) (content : RingContent) → Stands 
     → StandsAlone db content
 alone_from one db content is = (is, λ other it. left_only one db content other is it)
 
--- tables that were made beside the rows are opened as these were
-pub kept_opens : (old db : Trees) (content : RingContent) → KeepsRows old db
-    → IsOpenedAs old content → IsOpenedAs db content
-kept_opens old db content kept it = (
-  8,
-  kept.are,
-  subst (λ c. OpensAs c content) (sym kept.rows) (opened_of old kept.made content kept.were it),
-)
-
-kept_opened : (old db : Trees) (content : RingContent) → KeepsRows old db
-    → IsOpenedAs db content → IsOpenedAs old content
-kept_opened old db content kept it = (
-  kept.made,
-  kept.were,
-  subst (λ c. OpensAs c content) kept.rows (opened_of db 8 content kept.are it),
-)
-
 -- what an opening finds of what an earlier one made, it would have found before
 pub made_opened : OneContent → (old db : Trees) (content : RingContent) → IsMadeOf old db
     → IsOpenedAs db content → IsOpenedAs old content
-made_opened one old db content made it = elim made [
-  | inl kept ↦ kept_opened old db content kept it
-  | inr leads ↦ subst (IsOpenedAs old) (sym (left_only one db leads.0 content leads.2 it)) leads.1
-]
+made_opened one old db content made it =
+    subst (IsOpenedAs old) (sym (left_only one db made.0 content made.2 it)) made.1
 
 -- of whatever trees an opening finds one content at most
 pub opened_once : OneContent → OneFirst → (db : Trees) (a b : RingContent) → IsOpenedAs db a
@@ -133,8 +114,6 @@ opened_once one first db a b it other =
 -- and all that it would have found
 pub made_opens : OneContent → OneFirst → (old db : Trees) (content : RingContent) → IsMadeOf old db
     → IsOpenedAs old content → IsOpenedAs db content
-made_opens one first old db content made it = elim made [
-  | inl kept ↦ kept_opens old db content kept it
-  | inr leads ↦ subst (IsOpenedAs db) (opened_once one first old content leads.0 it leads.1)
-      (stands_opens db leads.0 leads.2)
-]
+made_opens one first old db content made it =
+    subst (IsOpenedAs db) (opened_once one first old content made.0 it made.1)
+    (stands_opens db made.0 made.2)

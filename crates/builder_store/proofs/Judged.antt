@@ -1,5 +1,5 @@
 -- Which faults judge what is there.
-use Rattle.std.proofs.Common.{◌≡◌, ◌⊎◌, Err, Ok, Result, inl, inr, refl, subst, sym}
+use Rattle.std.proofs.Common.{◌≡◌, ◌⊎◌, Err, Ok, Result, inl, inr, refl, subst}
 use Rattle.std.specs.Prelude.{IfErr, IsErrAnd}
 use Rattle.builder_store.specs.Left.{IsOfConnection}
 use Rattle.builder_store.specs.Opening.{JudgesFileRows, JudgesFiles, JudgesRows, JudgesTables}

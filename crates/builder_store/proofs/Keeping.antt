@@ -14,16 +14,19 @@ use Rattle.sqlite.specs.State.{HasCleanDisk, Survives}
 use Rattle.request_book.specs.Content.{entry_of}
 use Rattle.builder.specs.Step.{Step}
 use Rattle.builder.specs.declared.machine.RingMachine.{RingMachine}
+use Rattle.store_rows.specs.Callers.{Bounds}
 use Rattle.store_rows.specs.RingRows.{NamedRings}
 use Rattle.store_rows.specs.Stands.{DecidedRequest, RingContent, gained}
 use Rattle.store_rows.specs.Differences.{IsChangedAt, with_state}
 use Rattle.builder_store.specs.Keepers.{content_of_keeper}
 use Rattle.builder_store.specs.Standing.{Holds, IsKnown, MayLeave, StandsAlone, content_told}
 use Rattle.builder_store.specs.Standing.{stands_for_one}
+use Rattle.builder_store.specs.Inner.Bound.{BoundsIn}
 use Rattle.builder_store.specs.Inner.Gains.{GainsIn}
 use Rattle.builder_store.specs.Inner.Known.{told_agrees, told_is, told_stands, whole_trees}
 use Rattle.builder_store.specs.Inner.Leaves.{quiet_leaves}
 use Rattle.builder_store.specs.Inner.Tables.{HasTables}
+use Rattle.builder_store.proofs.Bounding.{bounds_of}
 use Rattle.builder_store.proofs.Settled.{quiet_commit}
 use Rattle.builder_store.proofs.StepChanges.{step_changes}
 use Rattle.builder_store.specs.declared.keeper.SqlKeeper.{SqlKeeper}
@@ -95,6 +98,17 @@ module _ {S : Type 0} {g : Ghosts S} (k : SqlKeeper S g) where
       k.conn).committed.trees (content_of_keeper k) ∥₁
   stands_now none was = told_now g k.faults k.last.value k.conn k.rings k.count k.hour
       (λ it. k.holds it) (record { state = k.rings; book = []; hour = k.hour }) none was
+
+  -- and no key of its book is beyond the keeper's callers
+  pub known_now : k.faults ≡ 0 → HasCleanDisk (state g k.conn) → BoundsIn k.callers (state g
+      k.conn).committed.trees
+  known_now none was = subst (BoundsIn k.callers)
+      (whole_trees g k.faults k.last.value k.conn none) (k.known was)
+
+  pub bounded_now : k.faults ≡ 0 → HasCleanDisk (state g k.conn) → Bounds k.callers
+      (content_of_keeper k).book
+  bounded_now none was = bounds_of (state g k.conn).committed.trees (content_of_keeper k) k.callers
+      (stands_now none was) (known_now none was)
 
   -- and that has as many requests as the keeper counts
   pub counted_now : HasCleanDisk (state g k.conn) → length (content_of_keeper k).book ≡ k.count
@@ -176,6 +190,16 @@ module _ {S : Type 0} {g : Ghosts S} (k : SqlKeeper S g) where
       let was : HasCleanDisk (state g k.conn) = omega (arith, call.clean, clean) in
       subst (λ db. Holds db k.rings k.count k.hour)
       (sym (quiet_trees value conn settles stays none call clean has)) (k.holds was)
+
+  -- and no key of a book is beyond the keeper's callers
+  pub quiet_known : (value conn : Held S) → Settles → Stays → k.faults ≡ 0
+      → Survives (state g k.conn) (state g conn) (λ _. ⊥) → HasCleanDisk (state g conn)
+      → HasTables (state g conn)
+      → BoundsIn k.callers (state g (cond (nat_lt 0 k.faults) value conn)).committed.trees
+  quiet_known value conn settles stays none call clean has =
+      let was : HasCleanDisk (state g k.conn) = omega (arith, call.clean, clean) in
+      subst (BoundsIn k.callers)
+      (sym (quiet_trees value conn settles stays none call clean has)) (k.known was)
 
   -- a crash after a call that commits nothing leaves the keeper's content
   pub quiet_left : (conn : Held S) → Settles → Leaves → k.faults ≡ 0

@@ -11,6 +11,7 @@ pub mod Gained
 pub mod Made
 pub mod Rests
 pub mod Keeping
+pub mod Bounding
 pub mod Rising
 pub mod Orders
 pub mod StepChanges

@@ -1,10 +1,11 @@
 -- What the steps of an opening lead to.
-use Rattle.std.proofs.Common.{◌≡◌, ◌∙◌, [], List, None, Option, Some, ap, arith, inl, inr, refl}
+use Rattle.std.proofs.Common.{◌≡◌, ◌∙◌, [], None, Ok, Option, Some, ap, arith, inl, inr, refl}
 use Rattle.std.proofs.Common.{subst, sym, ◌≤◌, ℕ}
 use Rattle.std.specs.Prelude.{◌⊎◌, IfOk, IfSome, IsTrue, MatchOption, Result}
 use Rattle.sqlite_trees.specs.Tree.{Trees}
 use Rattle.sqlite.specs.Effect.{Database, IsDatabase}
 use Rattle.sqlite.specs.State.{HasCleanDisk, State, Survives}
+use Rattle.sqlite.specs.declared.error.Error.{Error}
 use Rattle.sqlite.proofs.StateLemmas.{survives_then}
 use Rattle.std.specs.declared.alloc.Global.{Global}
 use Rattle.std.specs.declared.vec.Vec.{Vec}
@@ -12,26 +13,22 @@ use Rattle.store_model.specs.declared.change.RowChange.{RowChange}
 use Rattle.store_model.specs.declared.rows.MetaRow.{MetaRow}
 use Rattle.store_model.specs.Changes.{prepared}
 use Rattle.store_model.specs.Contents.{Contents}
-use Rattle.store_tables.specs.Store.{AreOrdered, HasMadeTables, IsStore, IsStoreWith}
+use Rattle.store_tables.specs.Store.{AreOrdered, CommitsTables, HasMadeTables, IsStoreWith}
+use Rattle.store_tables.specs.Store.{begun_contents}
 use Rattle.store_tables.specs.Tables.{schema_of_first}
-use Rattle.store_tables.proofs.Living.{lives_in}
+use Rattle.store_tables.proofs.Living.{store_begun}
 use Rattle.store_rows.specs.Judging.{IsFoundIn, meta_now}
 use Rattle.store_rows.specs.Stands.{IsHoldable, RingContent, contents_for, first_contents_for}
 use Rattle.store_rows.specs.declared.judging.Judged.{Judged}
 use Rattle.builder_store.specs.Opening.{AreDeclared, OpensAs, Stands, no_contents, nothing}
-use Rattle.builder_store.specs.Inner.Opened.{IsFresh, LeadsInStore, LeadsTo, OpensRows}
+use Rattle.builder_store.specs.Inner.Opened.{IsFresh, LeadsInStore, LeadsTo, OpensRows, completed}
+use Rattle.builder_store.specs.Inner.Tables.{IsBegunState}
 use Rattle.builder_store.specs.declared.fault.OpenFault.{OpenFault}
 use Rattle.builder_store.specs.declared.reading.Opened.{Opened}
 use Rattle.builder_store.proofs.Settled.{declared_in}
 
--- a store has all tables
-pub begun_store : (db : Database) → IsStore db → HasMadeTables 8 db
-begun_store db is = let lives = lives_in db is in record {
-  schema = lives.schema_is;
-  sound =
-      lives.sound;
-  ordered = lives.ordered;
-}
+abbrev no_fault : Result (Unit {0}) Error
+no_fault = Ok tt
 
 pub survives_same : (s : State) (P : Trees → Type 0) → Survives s s P
 survives_same s P = record {
@@ -89,7 +86,12 @@ found_opens c content judged found = record {
 -- and what is held of it, where these tables stand for it
 pub found_leads : (c : Contents) (content : RingContent) (judged : Judged) (db : Trees)
     → IsFoundIn c content judged → Stands db content
-    → LeadsTo c db (record { rings = judged.rings; count = judged.count; hour = judged.hour })
+    → LeadsTo c db (record {
+      rings = judged.rings;
+      count = judged.count;
+      hour = judged.hour;
+      callers = judged.callers;
+    })
 found_leads c content judged db found stands = record {
   content = content;
   opens = found_opens c content judged found;
@@ -97,33 +99,45 @@ found_leads c content judged db found stands = record {
   rings = sym found.rings;
   count = sym found.count;
   hour = sym found.hour;
+  callers = found.callers;
 }
 
--- where nothing is to be migrated, the rows stand for it
-pub found_stands : (c : Contents) (content : RingContent) (judged : Judged)
-    → judged.migration ≡ None → IsFoundIn c content judged → c ≡ contents_for content
-found_stands c content judged none found = subst (λ o. MatchOption o (c ≡ contents_for content) (λ
-    (xs : Vec RowChange Global). (c ≡ first_contents_for content) × (prepared c xs.items
-    (meta_now content.hour) ≡ contents_for content))) none found.stands
+-- and once it is completed, the tables stand for it
+completed_is : (c : Contents) (content : RingContent) (hour : ℕ) (o : Option (Vec RowChange Global))
+    → hour ≡ content.hour → MatchOption o (c ≡ contents_for content)
+    (λ changes. (c ≡ first_contents_for content) × (prepared c changes.items
+    (meta_now content.hour) ≡ contents_for content)) → completed c hour o ≡ contents_for content
+completed_is c content hour None same is = is
+completed_is c content hour (Some changes) same both =
+    ap (λ n. prepared c changes.items (meta_now n)) same ∙ both.1
 
--- and a store that was migrated does
-pub migrated_stands : (c : Contents) (judged : Judged) (changes : Vec RowChange Global)
-    (made : List RowChange) (meta : MetaRow) (db : Trees) → judged.migration ≡ Some changes
-    → made ≡ changes.items → meta ≡ meta_now judged.hour
-    → IsStoreWith (prepared c made meta) db → (content : RingContent) → IsFoundIn c content judged
-    → Stands db content
-migrated_stands c judged changes made meta db some same is stands content found =
-    let both : (c ≡ first_contents_for content) × (prepared c changes.items
-    (meta_now content.hour) ≡ contents_for content) =
-    subst (λ o. MatchOption o (c ≡ contents_for content) (λ (xs : Vec RowChange Global).
-    (c ≡ first_contents_for content) × (prepared c xs.items
-    (meta_now content.hour) ≡ contents_for content))) some found.stands in
-    record {
-      declared = declared_in _ db stands;
-      holdable = found.holdable;
-      contents = stands.contents ∙ ap (λ xs. prepared c xs meta) same ∙ ap
-          (prepared c changes.items) (is ∙ ap meta_now found.hour) ∙ both.1;
-    }
+pub completed_stands : (c : Contents) (judged : Judged) (db : Trees)
+    → IsStoreWith (completed c judged.hour judged.migration) db → (content : RingContent)
+    → IsFoundIn c content judged → Stands db content
+completed_stands c judged db stands content found = record {
+  declared = declared_in _ db stands;
+  holdable = found.holdable;
+  contents = stands.contents ∙ completed_is c content judged.hour judged.migration found.hour
+      found.stands;
+}
+
+-- where all tables are there, nothing is missing
+pub begun_whole : (s : State) (made : ℕ) → made ≡ 8
+    → (HasCleanDisk s → IsBegunState made s)
+    → CommitsTables s s no_fault (begun_contents made s.now.trees)
+begun_whole s made all begun = record {
+  done = λ clean.
+      let it = begun clean in (
+        it.is_open,
+        it.committed,
+        record {
+          store = store_begun s.now (subst (λ n. HasMadeTables n s.now) all it.begun);
+          contents = ap (λ n. begun_contents n s.now.trees) (sym all);
+        },
+      );
+  none = λ _ _. tt;
+  survives = survives_same s _;
+}
 
 -- tables that were counted are declared in what is committed
 pub declared_as : (s : State) (found : Option ℕ) (made : ℕ) → found ≡ Some made

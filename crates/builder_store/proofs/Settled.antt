@@ -12,7 +12,7 @@ use Rattle.sqlite_trees.specs.declared.store.Shape.TheVariants as shape
 use Rattle.sqlite_catalog.specs.Listing.{Lists}
 use Rattle.sqlite_catalog.proofs.ReadLemmas.{lists_once}
 use Rattle.sqlite_rules.specs.Lists.{Has}
-use Rattle.sqlite.specs.Effect.{Database, IsDatabase}
+use Rattle.sqlite.specs.Effect.{Database}
 use Rattle.sqlite.specs.State.{HasCleanDisk, IsLive, State, Survives}
 use Rattle.store_model.specs.Contents.{Contents}
 use Rattle.store_tables.specs.Store.{Becomes, IsStoreWith}
@@ -88,19 +88,6 @@ open_if false broken shut whole = absurd (true≢false (sym (shut refl) ∙ whol
 -- the trees of a store have all tables declared
 pub declared_in : (after : Contents) (db : Trees) → IsStoreWith after db → AreDeclared 8 db
 declared_in after db is = (omega arith, (lives_in _ is.store).sound)
-
--- who sees a store has it declared in what is committed
-pub settled_declared : (s : State) → IsSettledState s → AreDeclared 8 s.committed.trees
-settled_declared s is =
-    let lives = lives_in s.now is.store in (
-      omega arith,
-      subst (λ schema. IsDatabase (record { schema = schema; trees = s.committed.trees }))
-          lives.schema_is
-          (subst (λ (d : Database). IsDatabase (record {
-            schema = s.now.schema;
-            trees = d.trees;
-          })) is.committed lives.sound),
-    )
 
 -- a store that was made in a transaction of its own is committed
 pub committed_store : (s : State) (after : Contents) → s.now ≡ s.committed → Becomes s.now after

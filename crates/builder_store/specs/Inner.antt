@@ -2,6 +2,7 @@
 pub mod Answering
 pub mod Codes
 pub mod Begins
+pub mod Bound
 pub mod Faults
 pub mod Finding
 pub mod Gains

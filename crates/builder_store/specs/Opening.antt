@@ -85,18 +85,19 @@ JudgesTables BadRows = ⊤
 JudgesTables BadTexts = ⊤
 JudgesTables _ = ⊥
 
--- The same of what files hold.
+-- The fault judges what files hold: their tables, the rows in them, or the texts of these.
 abbrev pub JudgesFiles : FileFault → Type 0
 JudgesFiles (file.Opening why) = JudgesTables why
 JudgesFiles _ = ⊥
 
--- The fault judges the rows of a store's tables.
+-- The fault judges the rows of a store's tables: it tells that they stand for nothing, or that a text
+-- in them is no UTF-8.
 abbrev pub JudgesRows : OpenFault → Type 0
 JudgesRows BadRows = ⊤
 JudgesRows BadTexts = ⊤
 JudgesRows _ = ⊥
 
--- The same of what files hold.
+-- The fault judges the rows of a store in files.
 abbrev pub JudgesFileRows : FileFault → Type 0
 JudgesFileRows (file.Opening why) = JudgesRows why
 JudgesFileRows _ = ⊥
@@ -116,7 +117,8 @@ HoldsNoStore image = (db : Trees) → HoldsDatabase image db → (content : Ring
 abbrev pub HasBadTexts : Trees → Type 0
 HasBadTexts db = (made : ℕ) × AreDeclared made db × (AreTexts (begun_contents made db) → ⊥)
 
--- So it is in the database of files that held this.
+-- Files that held this hold the first tables of a store with a text that is no UTF-8: their database
+-- has them, if they hold one.
 abbrev pub HoldsBadTexts : Image → Type 0
 HoldsBadTexts image = (db : Trees) → HoldsDatabase image db → HasBadTexts db
 
@@ -135,15 +137,6 @@ HoldsNoTable image = (db : Trees) → HoldsDatabase image db → AreDeclared 0 d
 abbrev pub HoldsTables : Image → Type 0
 HoldsTables image = (db : Trees) → HoldsDatabase image db → AreDeclared 0 db → ⊥
 
--- The first tables of the store were there, all of them are, and no row is another.
-pub record KeepsRows (old db : Trees) : Type 0 where
-  pub made : ℕ
-  pub were : AreDeclared made old
-  pub are : AreDeclared table_count db
-  pub rows : contents_of db ≡ begun_contents made old
-
--- What an opening makes of the old trees: the tables that were missing, with no row changed; or the
--- tables that stand for the content that it finds.
+-- What an opening makes of the old trees: the tables that stand for the content that it finds.
 abbrev pub IsMadeOf : Trees → Trees → Type 0
-IsMadeOf old db = KeepsRows old db
-    ⊎ ((content : RingContent) × IsOpenedAs old content × Stands db content)
+IsMadeOf old db = (content : RingContent) × IsOpenedAs old content × Stands db content

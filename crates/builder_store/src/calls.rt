@@ -11,6 +11,7 @@ ghost use Rattle.request_book.specs.Keeper.{IsFound};
 ghost use Rattle.request_book.specs.declared.keeper.KeepFault.TheVariants.{NoMemory, Store};
 ghost use Rattle.store_rows.specs.Stands.{RingContent};
 ghost use Rattle.builder_store.specs.Opening.{Stands};
+ghost use Rattle.builder_store.specs.Inner.Bound.{BoundsIn};
 ghost use Rattle.builder_store.specs.Inner.Answering.{IsUnanswered};
 ghost use Rattle.builder_store.specs.Inner.Tables.{HasTables, IsSettledState};
 
@@ -18,7 +19,7 @@ use request_book::{Entry, Found, KeepFault};
 use ring_words::{Command, Key, Reply, SpellingFault};
 use sqlite::{Alter, Connection, Error, ErrorCode, Row};
 use std::alloc::Global;
-use store_rows::{read_entries, read_found};
+use store_rows::{Callers, read_entries, read_found};
 use store_tables::{find_request, requests_from};
 
 /// What is known of a connection that sees the tables outside a transaction: it sees a store, which
@@ -97,7 +98,7 @@ fn unread(fault: SpellingFault) -> KeepFault
 }
 
 /// What the tables have of a key and a command.
-pub(crate) fn find<S: Alter>(
+fn find<S: Alter>(
     alloc: Global,
     conn: &mut Connection<S>,
     key: &Key,
@@ -127,6 +128,33 @@ pub(crate) fn find<S: Alter>(
         Ok(found) => Ok(found),
         Err(fault) => Err(unread(fault)),
     }
+}
+
+/// What the tables have of a key and a command, where no key of their book is beyond what these
+/// callers used. They are asked only where the key is not beyond that.
+pub(crate) fn look_up<S: Alter>(
+    alloc: Global,
+    conn: &mut Connection<S>,
+    callers: &Callers,
+    key: &Key,
+    command: &Command,
+) -> Result<Found<Reply>, KeepFault>
+    requires mode { conn.old.in_transaction ≡ false }
+    requires tables { HasCleanDisk (state S.Store conn.old) → HasTables (state S.Store conn.old) }
+    requires known { HasCleanDisk (state S.Store conn.old) → BoundsIn callers.now
+        (state S.Store conn.old).committed.trees }
+    ensures mode { conn.new.in_transaction ≡ false }
+    ensures tables { HasCleanDisk (state S.Store conn.new) → result ≢ Err Store
+        → HasTables (state S.Store conn.new) }
+    ensures found { HasCleanDisk (state S.Store conn.new) → (content : RingContent)
+        → Stands (state S.Store conn.old).committed.trees content
+        → IfOk result (IsFound (entry_of key.now content.book) command.now) }
+    ensures survives { Survives (state S.Store conn.old) (state S.Store conn.new) (λ _. ⊥) }
+{
+    if callers.is_beyond(key) {
+        return Ok(Found::New);
+    }
+    find(alloc, conn, key, command)
 }
 
 /// The decided requests that the tables have from a place on, in the order of their decisions, and

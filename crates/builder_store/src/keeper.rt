@@ -4,10 +4,11 @@ ghost use Rattle.ring_words.specs.Limits.{most_numbers};
 ghost use Rattle.sqlite.specs.Held.{state};
 ghost use Rattle.sqlite.specs.State.{HasCleanDisk};
 ghost use Rattle.builder_store.specs.Standing.{Holds};
+ghost use Rattle.builder_store.specs.Inner.Bound.{BoundsIn, known_prop};
 ghost use Rattle.builder_store.specs.Inner.Tables.{HasTables, fact_prop};
 
 use crate::adopting::{Left, fault_of, take_over};
-use crate::calls::{find, read_page};
+use crate::calls::{look_up, read_page};
 use crate::fault::{FileFault, MakeFault, OpenFault};
 use crate::making::make_ready;
 use crate::planning::keep;
@@ -20,10 +21,12 @@ use ring_words::{Command, Hour, Key, Limits, Reply};
 use sqlite::{Alter, Connection};
 use std::alloc::Global;
 use std::snapshot::Snapshot;
+use store_rows::Callers;
 use store_rows::laws::one_content;
 
 /// Keeps rings and decided requests in the tables of a SQL store. The rings, the count of the
-/// requests and the greatest hour are held in memory beside the tables.
+/// requests, the greatest hour and the greatest number of each caller are held in memory beside the
+/// tables.
 ///
 /// After a fault of the store nobody knows what the connection shows. The content is then that of
 /// the tables as the call in which the store failed found them.
@@ -35,6 +38,7 @@ pub struct SqlKeeper<S: Alter> {
     rings: Rings,
     count: usize,
     hour: Hour,
+    callers: Callers,
     limit: u32,
     faults: u64,
     ghost small: { limit ≤ most_numbers },
@@ -44,6 +48,10 @@ pub struct SqlKeeper<S: Alter> {
     ghost holds: { HasCleanDisk (state S.Store conn)
         → Holds (state S.Store (cond (nat_lt 0 faults) last.value conn)).committed.trees rings count
         hour },
+    ghost known: { HasCleanDisk (state S.Store conn) → BoundsIn callers
+        (state S.Store (cond (nat_lt 0 faults) last.value conn)).committed.trees } by { known_prop
+            callers (state S.Store (cond (nat_lt 0 faults) last.value conn)).committed.trees
+            (HasCleanDisk (state S.Store conn)) },
 }
 
 // It is written out, so that a caller does not prove again how each part is dropped.
@@ -56,6 +64,7 @@ impl<S: Alter + Drop> Drop for SqlKeeper<S> {
             rings: _,
             count: _,
             hour: _,
+            callers: _,
             limit: _,
             faults: _,
         } = self;
@@ -71,15 +80,15 @@ impl<S: Alter + Drop> SqlKeeper<S> {
     ghost use Rattle.std.specs.Prelude.{ℕ};
     ghost use Rattle.store_rows.specs.Stands.{RingContent};
     ghost use Rattle.builder_store.specs.Opening.{AreDeclared, HasBadTexts, IsMadeOf, IsOpenedAs};
-    ghost use Rattle.builder_store.specs.Opening.{JudgesRows, KeepsRows, TellsFault};
+    ghost use Rattle.builder_store.specs.Opening.{JudgesRows, TellsFault};
     ghost use Rattle.builder_store.specs.declared.fault.OpenFault.TheVariants.{BadRows, BadTables};
     ghost use Rattle.builder_store.specs.declared.fault.OpenFault.TheVariants.{BadTexts};
 
     /// Opens what the connection's last commit holds, and keeps at most `limits.numbers` requests.
     /// What the connection hasn't committed is rolled back.
     ///
-    /// Makes the tables that are missing, judges every row, and migrates a store of schema 1 in one
-    /// transaction. A refused opening gives back what is left.
+    /// Judges every row, and only then makes the tables that are missing and migrates a store of
+    /// schema 1, in one transaction. A refused opening gives back what is left.
     pub fn adopt(
         alloc: Global,
         conn: Connection<S>,
@@ -91,12 +100,10 @@ impl<S: Alter + Drop> SqlKeeper<S> {
             (state S.Store k.conn).is_clean) }
         ensures found { IfOk result (λ k. HasCleanDisk (state S.Store k.conn)
             → IsOpenedAs (state S.Store conn).committed.trees (content_of_keeper k)) }
-        // Where the rows or their texts are refused, a crash leaves what it could leave before, or
-        // tables with the same rows.
+        // Where the rows or their texts are refused, nothing was written: a crash leaves what it
+        // could leave before.
         ensures rows { IfErr result (λ e. JudgesRows e.0 → IsCleanLeft S.Store e.1 → (db : Trees)
-            → left_may_leave S.Store e.1 db
-            → (state S.Store conn).may_leave db ⊎ KeepsRows
-            (state S.Store conn).committed.trees db) }
+            → left_may_leave S.Store e.1 db → (state S.Store conn).may_leave db) }
         // The rows are refused only where the tables stand for nothing, a text only where one in the
         // tables is no UTF-8, and the tables only where they are not declared as a store's.
         ensures bad { IfErr result (λ e. e.0 ≡ BadRows → IsCleanLeft S.Store e.1
@@ -139,9 +146,16 @@ impl<S: Alter + Drop> SqlKeeper<S> {
         requires tables { HasCleanDisk (state S.Store conn) → HasTables (state S.Store conn) }
         requires holds { HasCleanDisk (state S.Store conn) → Holds
             (state S.Store conn).committed.trees opened.rings opened.count opened.hour }
+        requires known { HasCleanDisk (state S.Store conn) → BoundsIn opened.callers
+            (state S.Store conn).committed.trees }
         ensures { IsHolding S.Store conn limits.numbers result }
     {
-        let Opened { rings, count, hour } = opened;
+        let Opened {
+            rings,
+            count,
+            hour,
+            callers,
+        } = opened;
         SqlKeeper {
             alloc,
             last: Snapshot::of(&conn),
@@ -149,6 +163,7 @@ impl<S: Alter + Drop> SqlKeeper<S> {
             rings,
             count,
             hour,
+            callers,
             limit: limits.numbers,
             faults: 0,
         }
@@ -194,6 +209,7 @@ impl<S: Alter + Drop> SqlKeeper<S> {
                     rings,
                     count: 0,
                     hour,
+                    callers: Callers::new(alloc),
                 };
                 Ok(SqlKeeper::holding(alloc, conn, opened, limits))
             }
@@ -274,6 +290,7 @@ impl<S: Alter> SqlKeeper<S> {
             rings: _,
             count: _,
             hour: _,
+            callers: _,
             limit: _,
             faults: _,
         } = self;
@@ -310,7 +327,7 @@ impl<S: Alter> Keeper<RingMachine> for SqlKeeper<S> {
 
     fn look(&mut self, key: &Key, command: &Command) -> Result<Found<Reply>, KeepFault> {
         self.last = Snapshot::of(&self.conn);
-        match find(self.alloc, &mut self.conn, key, command) {
+        match look_up(self.alloc, &mut self.conn, &self.callers, key, command) {
             Ok(found) => Ok(found),
             Err(KeepFault::NoMemory) => Err(KeepFault::NoMemory),
             Err(KeepFault::Store) => {
@@ -380,6 +397,7 @@ impl<S: Alter> Keeper<RingMachine> for SqlKeeper<S> {
         match keep(
             self.alloc,
             &mut self.conn,
+            &mut self.callers,
             &self.rings,
             &state,
             self.count,

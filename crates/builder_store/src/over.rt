@@ -14,7 +14,7 @@ ghost use Rattle.builder_store.specs.Left.{IsUnconnected, IsUnmadeOver, IsUntouc
 ghost use Rattle.builder_store.specs.Making.{IsFailure, IsJudgement, rings_alone};
 ghost use Rattle.builder_store.specs.Opening.{HoldsBadTexts, HoldsNoStore, HoldsNoTable, HoldsTables};
 ghost use Rattle.builder_store.specs.Opening.{IsBadStore, IsLeftOf, IsMadeOf, IsOpenedFrom};
-ghost use Rattle.builder_store.specs.Opening.{JudgesFileRows, JudgesTables, KeepsRows, Stands};
+ghost use Rattle.builder_store.specs.Opening.{JudgesFileRows, JudgesTables, Stands};
 ghost use Rattle.builder_store.specs.Opening.{TellsFault, TellsOpenFault, nothing};
 ghost use Rattle.builder_store.specs.Inner.Begins.{IsMadeOver};
 ghost use Rattle.builder_store.specs.declared.fault.FileFault.TheVariants.{Opening};
@@ -153,10 +153,10 @@ pub fn open_from<S: Start>(
     ensures failed { IfErr result (λ e. TellsOpenFault e.0 → IsConnectedAnd e.1 (λ conn.
         HasCleanDisk (file_state conn) → 0 < (file_state conn).faults)) }
     // A crash after a refusal leaves what the files recovered to, or what an opening makes of it;
-    // where the rows or their texts are refused, no row of it is another.
+    // where the rows or their texts are refused, nothing was written.
     ensures rows { IfErr result (λ e. JudgesFileRows e.0 → IsConnectedAnd e.1 (λ conn.
         HasCleanDisk (file_state conn) → (db : Trees) → (file_state conn).may_leave db
-        → IsLeftOf KeepsRows (image_at S.Start) db)) }
+        → IsLeftOf (λ _ _. ⊥) (image_at S.Start) db)) }
     ensures crash { IfErr result (λ e. IfConnected e.1 (λ conn. HasCleanDisk (file_state conn)
         → (db : Trees) → (file_state conn).may_leave db
         → IsLeftOf IsMadeOf (image_at S.Start) db)) }

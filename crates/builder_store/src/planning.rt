@@ -1,5 +1,6 @@
 //! What a commit writes, and its transaction.
-ghost use Rattle.std.specs.Prelude.{◌≡◌, ◌≢◌, ◌<◌, ◌≤◌, false, Err, IfOk, OnOk};
+ghost use Rattle.std.specs.Prelude.{◌++◌, ◌≡◌, ◌≢◌, ◌<◌, ◌≤◌, ◌∷◌, [], false, Err, IfOk};
+ghost use Rattle.std.specs.Prelude.{List, OnOk};
 ghost use Rattle.ring_words.specs.Limits.{most_numbers};
 ghost use Rattle.sqlite.specs.Held.{state};
 ghost use Rattle.sqlite.specs.State.{HasCleanDisk, Survives};
@@ -9,7 +10,8 @@ ghost use Rattle.builder_store.specs.Inner.Gains.{GainsIn, IsNextIn, LeadOn, wri
 ghost use Rattle.builder_store.specs.Inner.Tables.{HasTables};
 ghost use Rattle.store_tables.specs.Store.{CommitsTables, IsStoreWith, SeesStore};
 ghost use Rattle.store_rows.specs.Differences.{with_state};
-ghost use Rattle.store_rows.specs.Stands.{RingContent, gained};
+ghost use Rattle.store_rows.specs.Callers.{Bounds};
+ghost use Rattle.store_rows.specs.Stands.{DecidedRequest, RingContent, gained};
 
 use crate::calls::{cause, settle};
 use request_book::{Entry, KeepFault};
@@ -19,7 +21,7 @@ use sqlite::{Alter, Connection, Error};
 use std::alloc::{AllocError, Global};
 use store_model::RowChange;
 use store_rows::laws::one_content;
-use store_rows::{Change, DecidedRows, decided_rows};
+use store_rows::{Callers, Change, DecidedRows, decided_rows};
 use store_tables::{commit_decided, commit_request};
 
 /// What a commit writes: the rows of rings that differ, and those of the request.
@@ -108,11 +110,14 @@ fn write<S: Alter>(
 }
 
 /// Keeps a decided request with the rings that it leads to, in one transaction, where the greatest
-/// hour so far is this one. All that it needs of memory besides the store's own is asked for
-/// before.
+/// hour so far is this one, and notes its key. All that it needs of memory besides the store's own
+/// is asked for before.
+///
+/// The key is noted before anything is written, and stays noted where it is not kept.
 pub(crate) fn keep<S: Alter>(
     alloc: Global,
     conn: &mut Connection<S>,
+    callers: &mut Callers,
     old: &Rings,
     new: &Rings,
     count: usize,
@@ -127,6 +132,10 @@ pub(crate) fn keep<S: Alter>(
     ensures tables { HasCleanDisk (state S.Store conn.new) → result ≢ Err Store
         → HasTables (state S.Store conn.new) }
     ensures room { OnOk result (count < limit) }
+    ensures noted { OnOk result ((book : List DecidedRequest) → Bounds callers.old book
+        → Bounds callers.new (book ++ entry.now ∷ [])) }
+    ensures bounds { (book : List DecidedRequest) → Bounds callers.old book
+        → Bounds callers.new book }
     ensures done { HasCleanDisk (state S.Store conn.new)
         → OnOk result (GainsIn (state S.Store conn.old).committed.trees old.now count limit hour
         entry.now new.now
@@ -142,6 +151,7 @@ pub(crate) fn keep<S: Alter>(
     if count >= limit as usize {
         return Err(KeepFault::Store);
     }
+    callers.note(&entry.key)?;
     let Ok(plan) = planned(alloc, old, new, count as u32, entry) else {
         return Err(KeepFault::NoMemory);
     };

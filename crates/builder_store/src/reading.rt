@@ -5,7 +5,7 @@ ghost use Rattle.sqlite.specs.Held.{state};
 ghost use Rattle.store_model.specs.Contents.{Contents, device_of, meta_of, moved_of, part_of};
 ghost use Rattle.store_model.specs.Contents.{published_of, request_of, ring_of, seat_of};
 ghost use Rattle.store_tables.specs.Failing.{FailsForCause};
-ghost use Rattle.store_tables.specs.Store.{ReadsTables, SeesStore};
+ghost use Rattle.store_tables.specs.Store.{ReadsContents, SeesTables, begun_contents};
 ghost use Rattle.store_rows.specs.Judging.{AreRowsOf};
 ghost use Rattle.builder_store.specs.Opening.{no_contents};
 ghost use Rattle.builder_store.specs.Inner.Reading.{MeetsNoText};
@@ -17,7 +17,7 @@ use std::alloc::Global;
 use store_model::{
     DeviceRow, MetaRow, MovedRow, PartRow, PublishedRow, RequestRow, RingRow, SeatRow,
 };
-use store_rows::StoreRows;
+use store_rows::{Callers, StoreRows};
 use store_tables::all_rows;
 
 /// What a keeper holds in memory of a content.
@@ -26,34 +26,39 @@ pub(crate) struct Opened {
     pub(crate) rings: Rings,
     pub(crate) count: usize,
     pub(crate) hour: Hour,
+    pub(crate) callers: Callers,
 }
 
-/// The rows on the whole store, of rings and of devices, and the seats of schema 1.
+/// The rows on the whole store, of rings and of devices, and the seats of schema 1, where the first
+/// `made` tables are there.
 fn read_first<S: Alter>(
     alloc: Global,
     conn: &mut Connection<S>,
+    made: usize,
 ) -> Result<(Vec<MetaRow>, Vec<RingRow>, Vec<DeviceRow>, Vec<SeatRow>), Error>
     requires mode { conn.old.in_transaction ≡ false }
-    requires store { SeesStore (state S.Store conn.old) }
-    ensures reads { ReadsTables (state S.Store conn.old) (state S.Store conn.new) result
+    requires begun { SeesTables made (state S.Store conn.old) }
+    ensures reads { ReadsContents (begun_contents made (state S.Store conn.old).now.trees)
+        (state S.Store conn.old) (state S.Store conn.new) result
         (λ c rows. (map meta_of rows.0.items ≡ entries c.meta) × (map ring_of rows.1.items ≡ entries c.rings)
         × (map device_of rows.2.items ≡ entries c.devices) ×
         (map seat_of rows.3.items ≡ entries c.seats)) }
     ensures mode { conn.new.in_transaction ≡ false }
     ensures cause { FailsForCause (state S.Store conn.old) (state S.Store conn.new) result }
-    ensures no_text { MeetsNoText (state S.Store conn.old) (state S.Store conn.new) result }
+    ensures no_text { MeetsNoText made (state S.Store conn.old) (state S.Store conn.new) result }
 {
-    let meta = all_rows::<MetaRow, S>(alloc, conn)?;
-    let rings = all_rows::<RingRow, S>(alloc, conn)?;
-    let devices = all_rows::<DeviceRow, S>(alloc, conn)?;
-    let seats = all_rows::<SeatRow, S>(alloc, conn)?;
+    let meta = all_rows::<MetaRow, S>(alloc, conn, made)?;
+    let rings = all_rows::<RingRow, S>(alloc, conn, made)?;
+    let devices = all_rows::<DeviceRow, S>(alloc, conn, made)?;
+    let seats = all_rows::<SeatRow, S>(alloc, conn, made)?;
     Ok((meta, rings, devices, seats))
 }
 
-/// The moves of schema 1, the published texts, the requests and the partitions.
+/// The moves of schema 1, the published texts, the requests and the partitions, likewise.
 fn read_rest<S: Alter>(
     alloc: Global,
     conn: &mut Connection<S>,
+    made: usize,
 ) -> Result<
     (
         Vec<MovedRow>,
@@ -64,37 +69,40 @@ fn read_rest<S: Alter>(
     Error,
 >
     requires mode { conn.old.in_transaction ≡ false }
-    requires store { SeesStore (state S.Store conn.old) }
-    ensures reads { ReadsTables (state S.Store conn.old) (state S.Store conn.new) result
+    requires begun { SeesTables made (state S.Store conn.old) }
+    ensures reads { ReadsContents (begun_contents made (state S.Store conn.old).now.trees)
+        (state S.Store conn.old) (state S.Store conn.new) result
         (λ c rows. (map moved_of rows.0.items ≡ entries c.moved) × (map published_of rows.1.items ≡ entries c.published)
         × (map request_of rows.2.items ≡ entries c.requests) ×
         (map part_of rows.3.items ≡ entries c.parts)) }
     ensures mode { conn.new.in_transaction ≡ false }
     ensures cause { FailsForCause (state S.Store conn.old) (state S.Store conn.new) result }
-    ensures no_text { MeetsNoText (state S.Store conn.old) (state S.Store conn.new) result }
+    ensures no_text { MeetsNoText made (state S.Store conn.old) (state S.Store conn.new) result }
 {
-    let moved = all_rows::<MovedRow, S>(alloc, conn)?;
-    let published = all_rows::<PublishedRow, S>(alloc, conn)?;
-    let requests = all_rows::<RequestRow, S>(alloc, conn)?;
-    let parts = all_rows::<PartRow, S>(alloc, conn)?;
+    let moved = all_rows::<MovedRow, S>(alloc, conn, made)?;
+    let published = all_rows::<PublishedRow, S>(alloc, conn, made)?;
+    let requests = all_rows::<RequestRow, S>(alloc, conn, made)?;
+    let parts = all_rows::<PartRow, S>(alloc, conn, made)?;
     Ok((moved, published, requests, parts))
 }
 
-/// All rows of a store.
+/// All rows of a store of which the first `made` tables are there.
 pub(crate) fn read_rows<S: Alter>(
     alloc: Global,
     conn: &mut Connection<S>,
+    made: usize,
 ) -> Result<StoreRows, Error>
     requires mode { conn.old.in_transaction ≡ false }
-    requires store { SeesStore (state S.Store conn.old) }
-    ensures reads { ReadsTables (state S.Store conn.old) (state S.Store conn.new) result
+    requires begun { SeesTables made (state S.Store conn.old) }
+    ensures reads { ReadsContents (begun_contents made (state S.Store conn.old).now.trees)
+        (state S.Store conn.old) (state S.Store conn.new) result
         (λ c rows. AreRowsOf rows c) }
     ensures mode { conn.new.in_transaction ≡ false }
     ensures cause { FailsForCause (state S.Store conn.old) (state S.Store conn.new) result }
-    ensures no_text { MeetsNoText (state S.Store conn.old) (state S.Store conn.new) result }
+    ensures no_text { MeetsNoText made (state S.Store conn.old) (state S.Store conn.new) result }
 {
-    let (meta, rings, devices, seats) = read_first(alloc, conn)?;
-    let (moved, published, requests, parts) = read_rest(alloc, conn)?;
+    let (meta, rings, devices, seats) = read_first(alloc, conn, made)?;
+    let (moved, published, requests, parts) = read_rest(alloc, conn, made)?;
     Ok(StoreRows {
         meta,
         rings,

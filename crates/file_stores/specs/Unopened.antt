@@ -12,7 +12,7 @@ use Rattle.builder_store.specs.Left.{IsConnectedAnd, IsMadeOfConnection, IsOfCon
 use Rattle.builder_store.specs.Left.{IsUnconnected, IsUnmadeOver, IsUntouched}
 use Rattle.builder_store.specs.Making.{IsFailure, IsJudgement}
 use Rattle.builder_store.specs.Opening.{HoldsBadTexts, HoldsNoStore, HoldsTables, IsBadStore, IsLeftOf}
-use Rattle.builder_store.specs.Opening.{IsMadeOf, JudgesFileRows, KeepsRows, Stands, TellsOpenFault}
+use Rattle.builder_store.specs.Opening.{IsMadeOf, JudgesFileRows, Stands, TellsOpenFault}
 use Rattle.builder_store.specs.declared.fault.FileFault.{FileFault}
 use Rattle.builder_store.specs.declared.fault.FileFault.TheVariants as file
 use Rattle.builder_store.specs.declared.fault.MakeFault.{MakeFault}
@@ -64,8 +64,8 @@ ConnectionMetFaults left = IsConnectedAnd left (λ conn. HasCleanDisk (file_stat
 -- none; and they are told to hold bad tables or rows only where they hold no store, bad texts only
 -- where a text in a store's tables is no UTF-8, and the store to have failed or to be damaged only
 -- where their disk met a fault. A crash leaves what they recovered to or what an opening makes of it,
--- and where the rows or their texts are bad, the same rows. So it is if their disk returned what was
--- written.
+-- and where the rows or their texts are bad, what they recovered to. So it is if their disk returned
+-- what was written.
 pub record IsNotOpened {D : Type 0} {disk : disks.Ghosts D} (image : Image) (why : ProgramFault)
     (cause : FileFault) (left : Option (FilesLeft D disk)) : Type 0 where
   pub told : why ≡ open_fault cause
@@ -77,7 +77,7 @@ pub record IsNotOpened {D : Type 0} {disk : disks.Ghosts D} (image : Image) (why
   pub texts : cause ≡ file.Opening opening.BadTexts → IsConnectedAnd left (λ conn.
       HasCleanDisk (file_state conn) → HoldsBadTexts image)
   pub failed : TellsOpenFault cause → ConnectionMetFaults left
-  pub rows : JudgesFileRows cause → IsConnectedAnd left (LeavesOr image KeepsRows)
+  pub rows : JudgesFileRows cause → IsConnectedAnd left (LeavesOr image (λ _ _. ⊥))
   pub crash : IfConnected left (LeavesOr image IsMadeOf)
 
 -- A store of this content wasn't made in files that held this, for this cause, which is told, and

@@ -27,3 +27,4 @@ pub mod AtName
 pub mod FirstRings
 pub mod OneStore
 pub mod BookPages
+pub mod Used

@@ -7,6 +7,7 @@ use Rattle.store_model.specs.declared.rows.MetaRow.{MetaRow}
 use Rattle.store_model.specs.Contents.{Contents, meta_of, ring_of, device_of, seat_of, moved_of}
 use Rattle.store_model.specs.Contents.{published_of, request_of, part_of}
 use Rattle.store_model.specs.Changes.{prepared}
+use Rattle.store_rows.specs.Callers.{Bounds}
 use Rattle.store_rows.specs.Stands.{RingContent, IsHoldable, contents_for, first_contents_for}
 use Rattle.store_rows.specs.declared.judging.StoreRows.{StoreRows}
 use Rattle.store_rows.specs.declared.judging.Judged.{Judged}
@@ -33,6 +34,7 @@ pub record IsFoundIn (c : Contents) (content : RingContent) (found : Judged) : T
   pub rings : found.rings ≡ content.state
   pub count : found.count ≡ length content.book
   pub hour : found.hour ≡ content.hour
+  pub callers : Bounds found.callers content.book
   pub stands : MatchOption found.migration (c ≡ contents_for content)
       (λ changes. (c ≡ first_contents_for content) ×
       (prepared c changes.items (meta_now content.hour) ≡ contents_for content))

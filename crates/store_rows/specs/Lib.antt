@@ -1,6 +1,7 @@
 pub mod RingRows
 pub mod FirstRows
 pub mod Stands
+pub mod Callers
 pub mod Differences
 pub mod Judging
 pub mod Inner

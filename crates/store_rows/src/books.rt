@@ -4,11 +4,13 @@ ghost use Rattle.ring_words.specs.Limits.{most_numbers};
 ghost use Rattle.std.specs.FinMap.{FinMap, entries, from_entries};
 ghost use Rattle.request_book.specs.Run.{last_hour};
 ghost use Rattle.ring_words.specs.Spelling.{Reads};
+ghost use Rattle.store_rows.specs.Callers.{Bounds};
 ghost use Rattle.store_rows.specs.Stands.{DecidedRequest, IsBook, request_entries};
 ghost use Rattle.store_model.specs.Contents.{request_of};
 ghost use Rattle.store_model.specs.Entries.{Request, name_number_cmp};
 ghost use Rattle.store_rows.specs.Inner.Books.{IsSaid, SaysRequest};
 
+use crate::callers::Callers;
 use crate::numbers::number32;
 use request_book::Entry;
 use ring_messages::{read_command, read_reply};
@@ -39,22 +41,24 @@ pub(crate) fn read_request(
 }
 
 /// Judges the rows of a book in the order of their places: the hour of the last request, 0 without
-/// any. Bad where a row is no request's, where a place is missing, and where an hour is before that
-/// of an earlier request.
-fn judge_in_order(alloc: Global, rows: &[RequestRow]) -> Result<Hour, SpellingFault>
+/// any, and the callers. Bad where a row is no request's, where a place is missing, and where an
+/// hour is before that of an earlier request.
+fn judge_in_order(alloc: Global, rows: &[RequestRow]) -> Result<(Hour, Callers), SpellingFault>
     requires { length rows.now ≤ most_numbers }
-    ensures { Reads (λ hour. (book : List DecidedRequest) × IsSaid rows.now book ×
-        (last_hour 0 book ≡ hour)) result }
+    ensures { Reads (λ found. (book : List DecidedRequest) × IsSaid rows.now book ×
+        (last_hour 0 book ≡ found.0) × Bounds found.1 book) result }
 {
     let mut hour = 0;
+    let mut callers = Callers::new(alloc);
     for (place, row) in rows.iter().enumerate() {
         let entry = read_request(alloc, row, place as u32)?;
         if entry.hour < hour {
             return Err(SpellingFault::Bad);
         }
         hour = entry.hour;
+        callers.note(&entry.key)?;
     }
-    Ok(hour)
+    Ok((hour, callers))
 }
 
 /// Whether an hour is that of the last of so many requests, if there is one.
@@ -64,26 +68,26 @@ fn is_last(count: usize, last: Hour, hour: Hour) -> bool
     count == 0 || last == hour
 }
 
-/// Judges the rows of a book whose greatest hour is this, and counts them. Bad where they are no
-/// book's.
+/// Judges the rows of a book whose greatest hour is this, and counts them and their callers. Bad
+/// where they are no book's.
 pub(crate) fn judge_book(
     alloc: Global,
     rows: Vec<RequestRow>,
     hour: Hour,
-) -> Result<usize, SpellingFault>
+) -> Result<(usize, Callers), SpellingFault>
     ensures { (requests : FinMap name_number_cmp Request) → map request_of rows.items ≡ entries requests
-        → Reads (λ count. (book : List DecidedRequest) × IsBook book
+        → Reads (λ found. (book : List DecidedRequest) × IsBook book
         × (requests ≡ from_entries (request_entries book)) × (last_hour hour book ≡ hour)
-        × (length book ≡ count)) result }
+        × (length book ≡ found.0) × Bounds found.1 book) result }
 {
     if rows.len() > MOST_NUMBERS {
         return Err(SpellingFault::Bad);
     }
     let mut rows = rows;
     rows.sort_unstable_by_key(|row| row.place);
-    let last = judge_in_order(alloc, &rows)?;
+    let (last, callers) = judge_in_order(alloc, &rows)?;
     if !is_last(rows.len(), last, hour) {
         return Err(SpellingFault::Bad);
     }
-    Ok(rows.len())
+    Ok((rows.len(), callers))
 }

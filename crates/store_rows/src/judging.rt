@@ -16,6 +16,7 @@ ghost use Rattle.store_rows.specs.Judging.{AreRowsOf, Judges};
 
 use crate::all_rows::{device_rows, part_rows, published_rows, ring_rows};
 use crate::books::judge_book;
+use crate::callers::Callers;
 use crate::change::push_parts;
 use crate::comparing::are_alike;
 use crate::first_rows::{moved_rows, seat_rows};
@@ -52,6 +53,8 @@ pub struct Judged {
     pub count: usize,
     /// The greatest hour.
     pub hour: Hour,
+    /// The callers of the book, with their greatest numbers.
+    pub callers: Callers,
     /// The changes that make a store of schema 1 one of schema 2, and none where it is one already.
     pub migration: Option<Vec<RowChange>>,
 }
@@ -188,12 +191,13 @@ pub fn judge(alloc: Global, rows: StoreRows) -> Result<Judged, SpellingFault>
     let (is_first, hour) = read_meta(&rows.meta)?;
     let rings = judge_rings(alloc, is_first, &rows)?;
     rings_are_proper(&rings);
-    let count = judge_book(alloc, rows.requests, hour)?;
+    let (count, callers) = judge_book(alloc, rows.requests, hour)?;
     let migration = migration(alloc, is_first, &rings)?;
     Ok(Judged {
         rings,
         count,
         hour,
+        callers,
         migration,
     })
 }

@@ -8,6 +8,7 @@
 
 mod all_rows;
 mod books;
+mod callers;
 mod change;
 mod comparing;
 mod differences;
@@ -24,6 +25,7 @@ mod rings_reading;
 mod row_reading;
 mod written;
 
+pub use callers::Callers;
 pub use change::Change;
 pub use judging::{Judged, StoreRows, judge};
 pub use requests::{DecidedRows, decided_rows, meta_row, read_entries, read_found};

@@ -1,5 +1,5 @@
 -- A row that is read as no text is one of those that are shown.
-use Rattle.std.proofs.Common.{◌≡◌, ◌++◌, ◌∷◌, [], List, Result, Err, subst, map}
+use Rattle.std.proofs.Common.{◌≡◌, ◌++◌, ◌∷◌, [], List, Result, Err, subst, sym, map}
 use Rattle.std.specs.Prelude.{All, IfErr}
 use Rattle.std.specs.List.{AllByRecursion}
 use Rattle.std.proofs.lemmas.List.Elements.{recursion_from_All}
@@ -16,6 +16,17 @@ module _ {R X : Type 0} (P : X → Type 0) (f : R → X) where
       → P (f row)
   of_row all front rest row is each = in_front front rest row (recursion_from_All P _ (subst
       (λ rs. All P (map f rs)) is each))
+
+  last_in_front : (front : List R) (row : R) (rest : List X)
+      → AllByRecursion P (map f (front ++ row ∷ []) ++ rest) → P (f row)
+  last_in_front [] row rest all = all.0
+  last_in_front (x ∷ front) row rest all = last_in_front front row rest all.1
+
+  -- so it is of the last one that is shown so far
+  pub of_last : (front : List R) (row : R) (rest all : List X)
+      → map f (front ++ row ∷ []) ++ rest ≡ all → All P all → P (f row)
+  of_last front row rest all is each = last_in_front front row rest (recursion_from_All P _ (subst
+      (All P) (sym is) each))
 
 -- an error that is handed on is told of what it was told of
 pub hands_error : {A B : Type 0} (Q : Error → Type 0) (first : Result A Error)

@@ -51,13 +51,18 @@ pub record Reaches (old new : State) {A : Type 0} (result : Result A Error) (aft
   pub kept : HasCleanDisk new → KeepsCommit old new
   pub survives : Survives old new (λ _. ⊥)
 
--- A call that reads: where it answers Ok, the answer is so of the contents, and nothing changed.
--- Whatever it answers, nothing is committed.
-pub record ReadsTables (old new : State) {A : Type 0} (result : Result A Error) (IsSo : Contents →
-    A → Type 0) : Type 0 where
-  pub answer : HasCleanDisk new → IfOk result (IsSo (contents_of old.now.trees))
+-- A call that reads of these contents: where it answers Ok, the answer is so of them, and nothing
+-- changed. Whatever it answers, nothing is committed.
+pub record ReadsContents (c : Contents) (old new : State) {A : Type 0} (result : Result A Error)
+    (IsSo : Contents → A → Type 0) : Type 0 where
+  pub answer : HasCleanDisk new → IfOk result (IsSo c)
   pub same : HasCleanDisk new → OnOk result (IsUnchanged old new)
   pub survives : Survives old new (λ _. ⊥)
+
+-- A call that reads of what the tables contain.
+abbrev pub ReadsTables : State → State → {A : Type 0} → Result A Error → (Contents → A → Type 0)
+    → Type 0
+ReadsTables old new result IsSo = ReadsContents (contents_of old.now.trees) old new result IsSo
 
 -- A transaction of its own: where it answers Ok, the database is a store that contains `after`,
 -- and that is committed. Where it answers Err and the store is still open, nothing was done. A
@@ -79,6 +84,15 @@ pub record HasMadeTables (made : ℕ) (db : Database) : Type 0 where
   pub sound : IsDatabase db
   pub ordered : (t : Table) → Has (schema_of_first made).tables t
       → IsShaped shape.Table (db.trees t.tree)
+
+-- A connection is open, and sees the first so many tables of a store.
+pub record SeesFirst (made : ℕ) (s : State) : Type 0 where
+  pub is_open : IsTrue s.is_open
+  pub begun : HasMadeTables made s.now
+
+-- A clean connection is so.
+abbrev pub SeesTables : ℕ → State → Type 0
+SeesTables made s = HasCleanDisk s → SeesFirst made s
 
 -- The map that a table stands for where it is made, and else the empty one.
 abbrev so_far : {K V : Type 0} {R : K → K → Ordering} → Bool → FinMap R V → FinMap R V

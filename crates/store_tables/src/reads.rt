@@ -8,13 +8,13 @@ ghost use Rattle.sqlite.specs.State.{HasCleanDisk};
 ghost use Rattle.sqlite_value.specs.Order.{bytes, column};
 ghost use Rattle.sqlite_value.specs.declared.value.Value.TheVariants.{Blob, Int, Text};
 ghost use Rattle.store_model.specs.Contents.{kept_of};
-ghost use Rattle.store_tables.specs.Contents.{contents_of};
 ghost use Rattle.store_tables.specs.Failing.{FailsForCause, is_no_text, tells_failure};
 ghost use Rattle.store_tables.specs.Inner.Told.{told};
 ghost use Rattle.store_tables.specs.Inner.Shown.{Lists, shown_as};
-ghost use Rattle.store_tables.specs.Store.{ReadsTables, SeesStore};
+ghost use Rattle.store_tables.specs.Store.{ReadsContents, ReadsTables, SeesStore, SeesTables};
+ghost use Rattle.store_tables.specs.Store.{begun_contents};
 
-use sqlite::{Alter, Connection, Error, Row, params};
+use sqlite::{Alter, Connection, Error, ErrorCode, Row, params};
 use std::alloc::Global;
 use std::rc::RcStr;
 use store_model::{
@@ -50,7 +50,8 @@ fn bytes_in(row: &Row, at: usize) -> Result<Vec<u8>, Error>
 
 /// A row of a table that a statement lists whole.
 pub trait Listed: Sized {
-    ghost use Rattle.std.specs.Prelude.{List};
+    ghost use Rattle.std.specs.Prelude.{◌<◌, ◌≤◌, [], ℕ, List};
+    ghost use Rattle.sqlite_trees.specs.Tree.{Trees};
     ghost use Rattle.store_model.specs.Contents.{Contents};
     ghost use Rattle.store_tables.specs.Entries.{Layout};
 
@@ -72,9 +73,18 @@ pub trait Listed: Sized {
     /// The texts of an entry are UTF-8.
     ghost are_texts: { Key × Value → Type 0 };
 
+    /// How many tables of the store come before it.
+    ghost before: { ℕ };
+
+    /// How many tables of the store come before it.
+    fn tables_before() -> usize
+        ensures before { result ≡ before }
+        ensures missing { (made : ℕ) (trees : Trees) → made ≤ before
+            → listed (begun_contents made trees) ≡ [] };
+
     /// The statement that lists the table.
     fn query() -> &'static str
-        ensures { Lists result.now layout listed };
+        ensures { (made : ℕ) → before < made → Lists made result.now layout listed };
 
     /// The row, from its columns.
     fn read(alloc: Global, row: &Row) -> Result<Self, Error>
@@ -103,6 +113,12 @@ impl Listed for MetaRow {
     ghost listed = { λ c. entries c.meta };
 
     ghost are_texts = { λ _. ⊤ };
+
+    ghost before = { 0 };
+
+    fn tables_before() -> usize {
+        0
+    }
 
     fn query() -> &'static str {
         "SELECT * FROM meta ORDER BY one"
@@ -137,6 +153,12 @@ impl Listed for RingRow {
     ghost listed = { λ c. entries c.rings };
 
     ghost are_texts = { AreRingTexts };
+
+    ghost before = { 1 };
+
+    fn tables_before() -> usize {
+        1
+    }
 
     fn query() -> &'static str {
         "SELECT * FROM ring ORDER BY name"
@@ -173,6 +195,12 @@ impl Listed for DeviceRow {
     ghost listed = { λ c. entries c.devices };
 
     ghost are_texts = { AreDeviceTexts };
+
+    ghost before = { 2 };
+
+    fn tables_before() -> usize {
+        2
+    }
 
     fn query() -> &'static str {
         "SELECT * FROM device ORDER BY ring, id"
@@ -214,6 +242,12 @@ impl Listed for SeatRow {
 
     ghost are_texts = { AreSeatTexts };
 
+    ghost before = { 3 };
+
+    fn tables_before() -> usize {
+        3
+    }
+
     fn query() -> &'static str {
         "SELECT * FROM seat ORDER BY ring, part, replica"
     }
@@ -249,6 +283,12 @@ impl Listed for MovedRow {
 
     ghost are_texts = { AreMovedTexts };
 
+    ghost before = { 4 };
+
+    fn tables_before() -> usize {
+        4
+    }
+
     fn query() -> &'static str {
         "SELECT * FROM moved ORDER BY ring, part"
     }
@@ -283,6 +323,12 @@ impl Listed for PublishedRow {
 
     ghost are_texts = { ArePublishedTexts };
 
+    ghost before = { 5 };
+
+    fn tables_before() -> usize {
+        5
+    }
+
     fn query() -> &'static str {
         "SELECT * FROM published ORDER BY ring, version"
     }
@@ -316,6 +362,12 @@ impl Listed for RequestRow {
     ghost listed = { λ c. entries c.requests };
 
     ghost are_texts = { AreRequestTexts };
+
+    ghost before = { 6 };
+
+    fn tables_before() -> usize {
+        6
+    }
 
     fn query() -> &'static str {
         "SELECT * FROM request ORDER BY caller, number"
@@ -353,6 +405,12 @@ impl Listed for PartRow {
 
     ghost are_texts = { ArePartTexts };
 
+    ghost before = { 7 };
+
+    fn tables_before() -> usize {
+        7
+    }
+
     fn query() -> &'static str {
         "SELECT * FROM part ORDER BY ring, part"
     }
@@ -383,21 +441,39 @@ pub(crate) fn rows_in<T: Listed + Drop>(alloc: Global, shown: Vec<Row>) -> Resul
     Ok(rows)
 }
 
-/// All rows of a table, by rising key. A text that is no UTF-8 is refused with `Utf8Error`.
+/// All rows of a table, by rising key, where the first `made` tables of the store are there; none where
+/// it is not among them. A text that is no UTF-8 is refused with `Utf8Error`.
+///
+/// Each row is read from its columns before the next one is shown, so that no text is held twice.
 pub fn all_rows<T: Listed + Drop, S: Alter>(
     alloc: Global,
     conn: &mut Connection<S>,
+    made: usize,
 ) -> Result<Vec<T>, Error>
-    requires { SeesStore (state S.Store conn.old) }
-    ensures reads { ReadsTables (state S.Store conn.old) (state S.Store conn.new) result
+    requires { SeesTables made (state S.Store conn.old) }
+    ensures reads { ReadsContents (begun_contents made (state S.Store conn.old).now.trees)
+        (state S.Store conn.old) (state S.Store conn.new) result
         (λ c rows. map T.entry rows.items ≡ T.listed c) }
     ensures mode { conn.old.in_transaction ≡ false → conn.new.in_transaction ≡ false }
     ensures cause { FailsForCause (state S.Store conn.old) (state S.Store conn.new) result }
     ensures no_text { HasCleanDisk (state S.Store conn.new) → IfErr result (λ e. IsTrue (is_no_text e)
-        → All T.are_texts (T.listed (contents_of (state S.Store conn.old).now.trees)) → ⊥) }
+        → All T.are_texts (T.listed (begun_contents made (state S.Store conn.old).now.trees)) → ⊥) }
 {
-    let shown = conn.query_all(T::query(), &[])?;
-    rows_in(alloc, shown)
+    let mut rows = Vec::new(alloc);
+    if made <= T::tables_before() {
+        return Ok(rows);
+    }
+    let sql = T::query();
+    let mut shown = conn.query(sql, &[])?;
+    'rows: for _ in 0..u64::MAX {
+        shown.advance()?;
+        let Some(row) = shown.get() else {
+            return Ok(rows);
+        };
+        rows.push(T::read(alloc, row)?)?;
+    }
+    // No memory has room for so many.
+    Err(Error::SqliteFailure(ErrorCode::OutOfMemory))
 }
 
 /// What a row of the four columns tells of a request.

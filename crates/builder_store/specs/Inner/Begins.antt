@@ -16,7 +16,7 @@ use Rattle.builder_store.specs.Keepers.{content_of_keeper}
 use Rattle.builder_store.specs.Left.{IsMadeOfConnection}
 use Rattle.builder_store.specs.Making.{IsFailure, IsJudgement, rings_alone}
 use Rattle.builder_store.specs.Opening.{AreDeclared, HasBadTexts, IsMadeOf, IsOpenedAs, JudgesRows}
-use Rattle.builder_store.specs.Opening.{KeepsRows, Stands, TellsFault}
+use Rattle.builder_store.specs.Opening.{Stands, TellsFault}
 use Rattle.builder_store.specs.Standing.{StandsAlone}
 use Rattle.builder_store.specs.Inner.Opened.{IsFresh}
 use Rattle.builder_store.specs.declared.fault.MakeFault.{MakeFault}
@@ -63,11 +63,10 @@ module _ {S : Type 0} (g : Ghosts S) where
     -- The store is told to have failed or to be damaged only where its disk met a fault.
     pub failed : TellsFault why → HasCleanDisk (state g left)
         → MoreFaults (state g conn).faults (state g left).faults
-    -- A crash leaves what was committed, or what the opening made of it; where the rows are refused,
-    -- no row of it is another.
+    -- A crash leaves what was committed, or what the opening made of it; where the rows or their
+    -- texts are refused, nothing was made.
     pub kept : JudgesRows why → HasCleanDisk (state g left) → (db : Trees)
-        → (state g left).may_leave db
-        → (db ≡ (state g conn).committed.trees) ⊎ KeepsRows (state g conn).committed.trees db
+        → (state g left).may_leave db → db ≡ (state g conn).committed.trees
     pub crash : HasCleanDisk (state g left) → (db : Trees) → (state g left).may_leave db
         → (db ≡ (state g conn).committed.trees) ⊎ IsMadeOf (state g conn).committed.trees db
 

@@ -1,10 +1,16 @@
 -- What the steps of an opening find and leave.
-use Rattle.std.specs.Prelude.{◌≡◌, IfErr, IfOk, IsTrue, OnOk, Result, length}
+use Rattle.std.specs.Prelude.{◌≡◌, ℕ, IfErr, IfOk, IsTrue, None, OnOk, Option, Result, Some, length}
+use Rattle.std.specs.declared.alloc.Global.{Global}
+use Rattle.std.specs.declared.vec.Vec.{Vec}
 use Rattle.sqlite_trees.specs.Tree.{Trees}
 use Rattle.sqlite.specs.State.{HasCleanDisk, IsLive, State, Survives}
+use Rattle.store_model.specs.Changes.{prepared}
 use Rattle.store_model.specs.Contents.{Contents}
+use Rattle.store_model.specs.declared.change.RowChange.{RowChange}
 use Rattle.store_tables.specs.Failing.{HasFailed}
 use Rattle.store_tables.specs.Store.{AreOrdered}
+use Rattle.store_rows.specs.Callers.{Bounds}
+use Rattle.store_rows.specs.Judging.{meta_now}
 use Rattle.store_rows.specs.Stands.{RingContent}
 use Rattle.builder_store.specs.Opening.{IsOpenedAs, OpensAs, Stands, TellsFault}
 use Rattle.builder_store.specs.Inner.Tables.{HasTables}
@@ -23,6 +29,7 @@ pub record LeadsTo (c : Contents) (db : Trees) (held : Opened) : Type 0 where
   pub rings : content.state ≡ held.rings
   pub count : length content.book ≡ held.count
   pub hour : content.hour ≡ held.hour
+  pub callers : Bounds held.callers content.book
 
 -- A step that finds a content in these contents and leads to the tables that stand for it. A crash
 -- leaves what it could leave before, or tables that stand for that content.
@@ -31,6 +38,12 @@ pub record OpensRows (c : Contents) (old new : State) (result : Result Opened Op
     pub tables : HasCleanDisk new → OnOk result (HasTables new)
     pub found : HasCleanDisk new → IfOk result (LeadsTo c new.committed.trees)
     pub survives : Survives old new (LeadsInStore c)
+
+-- What is written of a judged store makes it contain this: the tables that are missing, and, where
+-- it is of schema 1, the rows of this one.
+abbrev pub completed : Contents → ℕ → Option (Vec RowChange Global) → Contents
+completed c hour None = c
+completed c hour (Some changes) = prepared c changes.items (meta_now hour)
 
 -- A step is told to have failed for the disk only where that failed or refused or gave back what is
 -- no page, or where the store was shut before.
@@ -53,3 +66,4 @@ pub record IsOpenedTo (old db : Trees) (held : Opened) : Type 0 where
   pub rings : content.state ≡ held.rings
   pub count : length content.book ≡ held.count
   pub hour : content.hour ≡ held.hour
+  pub callers : Bounds held.callers content.book

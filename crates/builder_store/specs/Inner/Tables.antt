@@ -11,7 +11,7 @@ use Rattle.sqlite_trees.specs.declared.store.Shape.TheVariants as shape
 use Rattle.sqlite_schema.specs.contracts.schema.Schema.{the_row}
 use Rattle.sqlite.specs.State.{HasCleanDisk, State}
 use Rattle.store_tables.specs.Tables.{store_schema}
-use Rattle.store_tables.specs.Store.{AreOrdered, IsStore}
+use Rattle.store_tables.specs.Store.{AreOrdered, HasMadeTables, IsStore}
 
 -- The connection is open, and sees the tables of the store, with rising rowids.
 abbrev pub HasTables : State → Type 0
@@ -21,6 +21,12 @@ HasTables s = IsTrue s.is_open × (s.now.schema ≡ store_schema) × AreOrdered 
 pub record IsSettledState (s : State) : Type 0 where
   pub is_open : IsTrue s.is_open
   pub store : IsStore s.now
+  pub committed : s.now ≡ s.committed
+
+-- The connection is open and sees the first so many tables of a store, which are committed.
+pub record IsBegunState (made : ℕ) (s : State) : Type 0 where
+  pub is_open : IsTrue s.is_open
+  pub begun : HasMadeTables made s.now
   pub committed : s.now ≡ s.committed
 
 table_prop : (rows : List Row) → IsProp (IsTable rows)

@@ -1,12 +1,13 @@
 -- Queries of one table: all its rows in order, and the rows of a key.
 use Rattle.std.proofs.Common.{◌≡◌, inl, inr, ℕ, ℤ, pos, negsuc, Bool, false, if◌then◌else◌, List}
-use Rattle.std.proofs.Common.{[], ◌∷◌, map, filter, length, slice_get, option_map, Some, None, refl}
+use Rattle.std.proofs.Common.{[], ◌∷◌, ◌++◌, map, filter, length, slice_get, option_map, Some, None, refl}
 use Rattle.std.proofs.Common.{sym, ap, subst, subst₂, ◌∙◌, arith}
 use Rattle.std.specs.List.{flat_map, list_all, range_with_len}
 use Rattle.std.specs.List.Sorted.{IsPermutation, IsSorted}
 use Rattle.std.specs.Ordering.{eq_by_cmp}
 use Rattle.std.specs.FinMap.{get, find, get-from_entries, entries}
 use Rattle.std.proofs.lemmas.Bool.{cases_Bool}
+use Rattle.std.proofs.lemmas.List.{map-append}
 use Rattle.std.proofs.lemmas.Cmp.{eq_by_cmp_equiv}
 use Rattle.std.proofs.lemmas.List.Sorted.{IsPermutation-map, IsPermutation-sym, length_permutation}
 use Rattle.sqlite_value.specs.declared.value.Value.TheVariants.{Null, Int}
@@ -23,7 +24,7 @@ use Rattle.sqlite.specs.Query.{Query, inner, end}
 use Rattle.sqlite_schema.specs.declared.command.Command.{Command}
 use Rattle.sqlite_schema.specs.declared.program.Program.{Program}
 use Rattle.sqlite.specs.Command.TheVariants.{Select}
-use Rattle.sqlite.specs.Effect.{Database, Reads}
+use Rattle.sqlite.specs.Effect.{Database, Reads, ReadsFirst}
 use Rattle.sqlite.specs.Listing.{understood, reads_listing}
 use Rattle.sqlite.specs.Program.{overlay}
 use Rattle.sqlite.specs.State.{State, Shown}
@@ -272,3 +273,18 @@ module _ (schema : Schema) {K V : Type 0} (l : Layout K V) (f : Facts schema l) 
         ap (map (λ r. l.entry (Null ∷ r))) a.shown ∙ map-map (λ r. l.entry (Null ∷ r))
         (λ (x : Output). x.1) a.ordered
         ∙ entries_of all are a.ordered same a.sorted ∙ ap (λ rows. entries (map_of l rows)) base
+
+    -- the first rows are the first entries
+    pub lists_first : (db : Database) (rows : List Row) → Lives schema db
+        → ReadsFirst (command_of (understood schema sql)) db [] rows
+        → (rest : List (K × V)) × (map (λ r. l.entry (Null ∷ r)) rows ++ rest
+        ≡ entries (map_of l (db.trees l.plain.tree)))
+    lists_first db rows lives h =
+        let first = subst (λ k. ReadsFirst k db [] rows) text.means.is h in
+        let tail = first.1.0 in
+        let whole : Reads lists db [] (rows ++ tail) = record { typed = first.0; answer = first.1.1 } in (
+          map (λ r. l.entry (Null ∷ r)) tail,
+          sym (map-append (λ r. l.entry (Null ∷ r)) rows tail)
+              ∙ lists_all db (rows ++ tail) lives (subst (λ k. Reads k db [] (rows ++ tail))
+              (sym text.means.is) whole),
+        )

@@ -10,7 +10,7 @@ use Rattle.sqlite.specs.Command.TheVariants.{Select}
 use Rattle.sqlite.specs.Listing.{understood}
 use Rattle.sqlite_tied.specs.Compute.{everything}
 use Rattle.store_model.specs.Entries.{NameNumber}
-use Rattle.store_tables.specs.Tables.{store_schema}
+use Rattle.store_tables.specs.Tables.{schema_of_first, store_schema}
 use Rattle.store_tables.specs.Entries.{meta_rows, ring_rows, device_rows, seat_rows, moved_rows}
 use Rattle.store_tables.specs.Entries.{published_rows, request_rows, part_rows}
 use Rattle.store_tables.specs.Inner.Texts.{list_meta, list_ring, list_device, list_seat}
@@ -20,94 +20,101 @@ use Rattle.store_tables.specs.Inner.Told.{told}
 use Rattle.store_tables.proofs.Plain.Queries.{ListText, Means, PickText, program_of, lists, of_table}
 use Rattle.store_tables.proofs.Tables.Keys.{number_order, name_order, name_number_order}
 use Rattle.store_tables.proofs.Tables.Keys.{same_name_number, seat_order}
-use Rattle.store_tables.proofs.Tables.Facts.{meta_facts, ring_facts, device_facts, seat_facts}
-use Rattle.store_tables.proofs.Tables.Facts.{moved_facts, published_facts, request_facts}
-use Rattle.store_tables.proofs.Tables.Facts.{part_facts}
+use Rattle.store_tables.proofs.Tables.Facts.{device_at, meta_at, more, moved_at, part_at}
+use Rattle.store_tables.proofs.Tables.Facts.{published_at, request_at, request_facts, ring_at, seat_at}
 
-meta_means : Means store_schema list_meta (lists store_schema meta_rows meta_facts)
+meta_means : (n : ℕ) → Means (schema_of_first (more 1 n)) list_meta
+    (lists (schema_of_first (more 1 n)) meta_rows (meta_at n))
 unfolding understood everything
-meta_means = record { is = refl; unlisted = refl; plain = (refl, refl) }
+meta_means n = record { is = refl; unlisted = refl; plain = (refl, refl) }
 
-pub meta_lists : ListText store_schema meta_rows meta_facts list_meta
-meta_lists = record {
-  means = meta_means;
+pub meta_lists : (n : ℕ) → ListText (schema_of_first (more 1 n)) meta_rows (meta_at n) list_meta
+meta_lists n = record {
+  means = meta_means n;
   ordered_as = λ id k v id′ k′ v′. number_order k k′;
   shows = λ id k v. refl;
 }
 
-ring_means : Means store_schema list_ring (lists store_schema ring_rows ring_facts)
+ring_means : (n : ℕ) → Means (schema_of_first (more 2 n)) list_ring
+    (lists (schema_of_first (more 2 n)) ring_rows (ring_at n))
 unfolding understood everything
-ring_means = record { is = refl; unlisted = refl; plain = (refl, refl) }
+ring_means n = record { is = refl; unlisted = refl; plain = (refl, refl) }
 
-pub ring_lists : ListText store_schema ring_rows ring_facts list_ring
-ring_lists = record {
-  means = ring_means;
+pub ring_lists : (n : ℕ) → ListText (schema_of_first (more 2 n)) ring_rows (ring_at n) list_ring
+ring_lists n = record {
+  means = ring_means n;
   ordered_as = λ id k v id′ k′ v′. name_order k k′;
   shows = λ id k v. refl;
 }
 
-device_means : Means store_schema list_device (lists store_schema device_rows device_facts)
+device_means : (n : ℕ) → Means (schema_of_first (more 3 n)) list_device
+    (lists (schema_of_first (more 3 n)) device_rows (device_at n))
 unfolding understood everything
-device_means = record { is = refl; unlisted = refl; plain = (refl, refl) }
+device_means n = record { is = refl; unlisted = refl; plain = (refl, refl) }
 
-pub device_lists : ListText store_schema device_rows device_facts list_device
-device_lists = record {
-  means = device_means;
+pub device_lists : (n : ℕ) → ListText (schema_of_first (more 3 n)) device_rows (device_at n) list_device
+device_lists n = record {
+  means = device_means n;
   ordered_as = λ id k v id′ k′ v′. name_number_order k k′;
   shows = λ id k v. refl;
 }
 
-seat_means : Means store_schema list_seat (lists store_schema seat_rows seat_facts)
+seat_means : (n : ℕ) → Means (schema_of_first (more 4 n)) list_seat
+    (lists (schema_of_first (more 4 n)) seat_rows (seat_at n))
 unfolding understood everything
-seat_means = record { is = refl; unlisted = refl; plain = (refl, refl) }
+seat_means n = record { is = refl; unlisted = refl; plain = (refl, refl) }
 
-pub seat_lists : ListText store_schema seat_rows seat_facts list_seat
-seat_lists = record {
-  means = seat_means;
+pub seat_lists : (n : ℕ) → ListText (schema_of_first (more 4 n)) seat_rows (seat_at n) list_seat
+seat_lists n = record {
+  means = seat_means n;
   ordered_as = λ id k v id′ k′ v′. seat_order k k′;
   shows = λ id k v. refl;
 }
 
-moved_means : Means store_schema list_moved (lists store_schema moved_rows moved_facts)
+moved_means : (n : ℕ) → Means (schema_of_first (more 5 n)) list_moved
+    (lists (schema_of_first (more 5 n)) moved_rows (moved_at n))
 unfolding understood everything
-moved_means = record { is = refl; unlisted = refl; plain = (refl, refl) }
+moved_means n = record { is = refl; unlisted = refl; plain = (refl, refl) }
 
-pub moved_lists : ListText store_schema moved_rows moved_facts list_moved
-moved_lists = record {
-  means = moved_means;
+pub moved_lists : (n : ℕ) → ListText (schema_of_first (more 5 n)) moved_rows (moved_at n) list_moved
+moved_lists n = record {
+  means = moved_means n;
   ordered_as = λ id k v id′ k′ v′. name_number_order k k′;
   shows = λ id k v. refl;
 }
 
-published_means : Means store_schema list_published (lists store_schema published_rows published_facts)
+published_means : (n : ℕ) → Means (schema_of_first (more 6 n)) list_published
+    (lists (schema_of_first (more 6 n)) published_rows (published_at n))
 unfolding understood everything
-published_means = record { is = refl; unlisted = refl; plain = (refl, refl) }
+published_means n = record { is = refl; unlisted = refl; plain = (refl, refl) }
 
-pub published_lists : ListText store_schema published_rows published_facts list_published
-published_lists = record {
-  means = published_means;
+pub published_lists : (n : ℕ) → ListText (schema_of_first (more 6 n)) published_rows (published_at n) list_published
+published_lists n = record {
+  means = published_means n;
   ordered_as = λ id k v id′ k′ v′. name_number_order k k′;
   shows = λ id k v. refl;
 }
 
-request_means : Means store_schema list_request (lists store_schema request_rows request_facts)
+request_means : (n : ℕ) → Means (schema_of_first (more 7 n)) list_request
+    (lists (schema_of_first (more 7 n)) request_rows (request_at n))
 unfolding understood everything
-request_means = record { is = refl; unlisted = refl; plain = (refl, refl) }
+request_means n = record { is = refl; unlisted = refl; plain = (refl, refl) }
 
-pub request_lists : ListText store_schema request_rows request_facts list_request
-request_lists = record {
-  means = request_means;
+pub request_lists : (n : ℕ) → ListText (schema_of_first (more 7 n)) request_rows (request_at n) list_request
+request_lists n = record {
+  means = request_means n;
   ordered_as = λ id k v id′ k′ v′. name_number_order k k′;
   shows = λ id k v. refl;
 }
 
-part_means : Means store_schema list_part (lists store_schema part_rows part_facts)
+part_means : (n : ℕ) → Means (schema_of_first (more 8 n)) list_part
+    (lists (schema_of_first (more 8 n)) part_rows (part_at n))
 unfolding understood everything
-part_means = record { is = refl; unlisted = refl; plain = (refl, refl) }
+part_means n = record { is = refl; unlisted = refl; plain = (refl, refl) }
 
-pub part_lists : ListText store_schema part_rows part_facts list_part
-part_lists = record {
-  means = part_means;
+pub part_lists : (n : ℕ) → ListText (schema_of_first (more 8 n)) part_rows (part_at n) list_part
+part_lists n = record {
+  means = part_means n;
   ordered_as = λ id k v id′ k′ v′. name_number_order k k′;
   shows = λ id k v. refl;
 }

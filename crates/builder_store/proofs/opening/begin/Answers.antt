@@ -2,6 +2,7 @@ use Rattle.std.proofs.Common.{arith, refl, sym}
 use Rattle.sqlite.specs.Held.{state}
 use Rattle.sqlite.specs.State.{HasCleanDisk}
 use Rattle.sqlite.proofs.StateLemmas.{survives_weaker}
+use Rattle.store_rows.proofs.Used.{bounds_none}
 use Rattle.builder_store.specs.Opening.{nothing}
 use Rattle.builder_store.proofs.Opens.{begun_stands, nothing_opens}
 use Rattle.builder_store.proofs.Settled.{committed_store, tables_from}
@@ -26,6 +27,7 @@ returns-in-Ok-clause-opens g c = λ empty.
         rings = sym c.new.ensures;
         count = refl;
         hour = refl;
+        callers = bounds_none _;
       };
       survives = survives_weaker old new _ _ (λ clean db is. (
         nothing,

@@ -6,15 +6,15 @@ use Rattle.sqlite.specs.Held.{state}
 use Rattle.sqlite.specs.State.{HasCleanDisk}
 use Rattle.sqlite.proofs.StateLemmas.{survives_then, survives_weaker}
 use Rattle.store_model.specs.Contents.{Contents}
-use Rattle.store_tables.specs.Contents.{contents_of}
-use Rattle.store_tables.specs.Store.{IsStore}
+use Rattle.sqlite.specs.Effect.{Database}
+use Rattle.store_tables.specs.Store.{HasMadeTables, begun_contents}
 use Rattle.store_rows.specs.Judging.{IsFoundIn, Judges}
 use Rattle.ring_words.specs.declared.spelling.SpellingFault.{SpellingFault}
 use Rattle.ring_words.specs.declared.spelling.SpellingFault.TheVariants.{Bad}
 use Rattle.builder_store.specs.Opening.{no_contents}
 use Rattle.builder_store.specs.Inner.Opened.{LeadsInStore, LeadsTo}
 use Rattle.builder_store.proofs.Judged.{no_judge, no_rows}
-use Rattle.builder_store.proofs.Opens.{begun_store, opens_after}
+use Rattle.builder_store.proofs.Opens.{opens_after}
 use Rattle.builder_store.specs.declared.fault.OpenFault.TheVariants.{BadRows, BadTables, BadTexts}
 use Rattle.builder_store.proofs.opening.open_rows.Goals as goal
 
@@ -23,19 +23,18 @@ begin-requires-clause-begun g c = λ clean.
     let old = state g.S.Store c.args.conn.now in
     let was : HasCleanDisk old = omega (arith, c.in-Ok.ensures.reads.survives.clean, clean) in
     let same = c.in-Ok.ensures.reads.same clean in
-    begun_store _ (subst IsStore (sym same.0.now_is) (c.requires.tables was).store)
+    subst (HasMadeTables c.args.made) (sym same.0.now_is) (c.requires.begun was).begun
 
 pub returns-then-is_empty-clause-opens : goal.returns-then-is_empty-clause-opens
 returns-then-is_empty-clause-opens g c =
     let old = state g.S.Store c.args.conn.now in
     let mid = state g.S.Store c.read_rows.new.conn in
     let new = state g.S.Store c.begin.new.conn in
-    let found : Contents = contents_of old.now.trees in
+    let found : Contents = begun_contents c.args.made old.now.trees in
     let reads = c.in-Ok.ensures.reads in
     let empty : HasCleanDisk mid → found ≡ no_contents = λ clean. (c.is_empty.ensures found
     (reads.answer clean)).0 c.if-is_empty.true in
-    let premise : HasCleanDisk mid → contents_of mid.now.trees ≡ no_contents = λ clean. ap
-    (λ d. contents_of d.trees) (reads.same clean).0.now_is ∙ empty clean in
+    let premise : HasCleanDisk mid → begun_contents c.args.made mid.now.trees ≡ no_contents = λ clean. ap (λ (d : Database). begun_contents c.args.made d.trees) (reads.same clean).0.now_is ∙ empty clean in
     opens_after found no_contents old mid new c.begin.result reads.survives (λ clean. sym (empty
     (omega (arith, (c.begin.ensures.opens premise).survives.clean, clean))))
     (c.begin.ensures.opens premise)
@@ -45,15 +44,14 @@ returns-in-Ok-judge-clause-opens g c =
     let old = state g.S.Store c.args.conn.now in
     let mid = state g.S.Store c.read_rows.new.conn in
     let new = state g.S.Store c.migrate.new.conn in
-    let found : Contents = contents_of old.now.trees in
+    let found : Contents = begun_contents c.args.made old.now.trees in
     let reads = c.in-Ok.ensures.reads in
     let before : HasCleanDisk new → HasCleanDisk mid = λ clean. omega
     (arith, c.migrate.ensures.survives.clean, clean) in
-    let same : HasCleanDisk new → contents_of mid.now.trees ≡ found = λ clean. ap
-    (λ d. contents_of d.trees) (reads.same (before clean)).0.now_is in
+    let same : HasCleanDisk new → begun_contents c.args.made mid.now.trees ≡ found = λ clean. ap (λ (d : Database). begun_contents c.args.made d.trees) (reads.same (before clean)).0.now_is in
     let judged = λ (clean : HasCleanDisk new). c.in-Ok-judge.ensures found (reads.answer
     (before clean)) in
-    let is : (clean : HasCleanDisk new) → IsFoundIn (contents_of mid.now.trees)
+    let is : (clean : HasCleanDisk new) → IsFoundIn (begun_contents c.args.made mid.now.trees)
     (judged clean).0 c.in-Ok-judge.judged =
     λ clean. subst (λ x. IsFoundIn x (judged clean).0 c.in-Ok-judge.judged) (sym (same clean))
     (judged clean).1 in
@@ -114,21 +112,21 @@ returns-then-is_empty-clause-quiet g c = λ bad. absurd
 pub returns-in-Err-clause-quiet : goal.returns-in-Err-clause-quiet
 returns-in-Err-clause-quiet g c = λ _. c.in-Err.ensures.reads.survives
 
-pub migrate-requires-clause-tables : goal.migrate-requires-clause-tables
-migrate-requires-clause-tables g c = λ clean.
+pub migrate-requires-clause-begun : goal.migrate-requires-clause-begun
+migrate-requires-clause-begun g c = λ clean.
     let old = state g.S.Store c.args.conn.now in
     let was : HasCleanDisk old = omega (arith, c.in-Ok.ensures.reads.survives.clean, clean) in
     let shown = (c.in-Ok.ensures.reads.same clean).0 in
-    let before = c.requires.tables was in
+    let before = c.requires.begun was in
     record {
       is_open = shown.is_open;
-      store = subst IsStore (sym shown.now_is) before.store;
+      begun = subst (HasMadeTables c.args.made) (sym shown.now_is) before.begun;
       committed = shown.now_is ∙ before.committed ∙ sym shown.committed_is;
     }
 
 pub returns-in-Err-Bad-clause-bad : goal.returns-in-Err-Bad-clause-bad
 returns-in-Err-Bad-clause-bad g c = λ bad clean content opens.
-    let found : Contents = contents_of (state g.S.Store c.args.conn.now).now.trees in
+    let found : Contents = begun_contents c.args.made (state g.S.Store c.args.conn.now).now.trees in
     let judged : Judges found (Err Bad) = subst (λ (f : SpellingFault). Judges found (Err f))
     c.in-Err-Bad.field-0-is (c.in-Err-Bad.ensures found (c.in-Ok.ensures.reads.answer clean)) in
     elim opens.stands [

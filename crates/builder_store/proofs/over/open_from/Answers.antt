@@ -74,7 +74,7 @@ returns-in-Err-over-clause-rows g c = λ bad clean db may.
       trees = (file_state c.in-Ok.conn).committed.trees;
       holds = found.holds;
       reads = found.reads;
-      left = c.in-Err-over.ensures.refused.kept bad clean db may;
+      left = inl (c.in-Err-over.ensures.refused.kept bad clean db may);
     }
 
 pub returns-in-Err-over-clause-texts : goal.returns-in-Err-over-clause-texts

@@ -1,10 +1,13 @@
-use Rattle.std.proofs.Common.{◌==◌, arith, refl}
+use Rattle.std.proofs.Common.{◌==◌, arith, refl, subst, sym}
 use Rattle.std.proofs.lemmas.Result.{on_ok_weaker}
 use Rattle.std.proofs.lemmas.Bool.Decides.{Decides-eqb}
 use Rattle.sqlite.specs.Held.{state}
 use Rattle.sqlite.proofs.StateLemmas.{survives_weaker}
 use Rattle.builder_store.proofs.Gained.{gains_in}
 use Rattle.builder_store.proofs.Opens.{survives_same}
+use Rattle.store_rows.specs.Callers.{Bounds}
+use Rattle.builder_store.proofs.Bounding.{on_ok_always}
+use Rattle.store_rows.proofs.Used.{bounds_more, bounds_still}
 use Rattle.builder_store.proofs.planning.keep.Goals as goal
 
 pub returns-clause-done : goal.returns-clause-done
@@ -47,3 +50,25 @@ returns-clause-tables g c = c.write.ensures.tables
 
 pub returns-clause-none : goal.returns-clause-none
 returns-clause-none g c = c.write.ensures.none
+
+pub returns-clause-noted : goal.returns-clause-noted
+returns-clause-noted g c = on_ok_always c.write.result _ (λ book. bounds_more c.args.callers.now
+    c.note.new.self book c.args.entry.now c.in_ok-note.ensures.ok)
+
+pub returns-clause-bounds : goal.returns-clause-bounds
+returns-clause-bounds g c = λ book. bounds_still c.args.callers.now c.note.new.self book
+    c.args.entry.now.key c.in_ok-note.ensures.ok
+
+pub returns-in_default-clause-bounds : goal.returns-in_default-clause-bounds
+returns-in_default-clause-bounds g c = λ book. bounds_still c.args.callers.now c.note.new.self book
+    c.args.entry.now.key c.in_ok-note.ensures.ok
+
+pub returns-in_err-note-clause-bounds : goal.returns-in_err-note-clause-bounds
+returns-in_err-note-clause-bounds g c = λ book bounds. subst (λ used. Bounds used book)
+    (sym c.in_err-note.ensures.err) bounds
+
+pub returns-in_err-note-clause-tables : goal.returns-in_err-note-clause-tables
+returns-in_err-note-clause-tables g c = λ clean _. c.requires.tables clean
+
+pub returns-in_err-note-clause-survives : goal.returns-in_err-note-clause-survives
+returns-in_err-note-clause-survives g c = survives_same (state g.S.Store c.args.conn.now) _

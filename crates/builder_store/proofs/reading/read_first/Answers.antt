@@ -13,7 +13,7 @@ returns-in_err-rings-clause-no_text g c =
     let new = state g.S.Store c.all_rows-2.new.conn in
     let same : HasCleanDisk one → one.now ≡ old.now = λ clean.
     (c.in_ok-meta.ensures.reads.same clean).0.now_is in
-    text_met AreRingTexts (λ m. entries m.rings) old one new c.all_rows-2.result
+    text_met AreRingTexts (λ m. entries m.rings) c.args.made old one new c.all_rows-2.result
     c.from_residual-in_err-rings.result c.in_err-rings.field-0.0 (λ m texts. texts.rings)
     (λ clean. same (omega (arith, c.all_rows-2.ensures.reads.survives.clean, clean)))
     (search rules) (search rules) c.all_rows-2.ensures.no_text
@@ -29,7 +29,7 @@ returns-in_err-devices-clause-no_text g c =
     in
     (c.in_ok-rings.ensures.reads.same clean).0.now_is
     ∙ (c.in_ok-meta.ensures.reads.same early).0.now_is in
-    text_met AreDeviceTexts (λ m. entries m.devices) old two new c.all_rows-3.result
+    text_met AreDeviceTexts (λ m. entries m.devices) c.args.made old two new c.all_rows-3.result
     c.from_residual-in_err-devices.result c.in_err-devices.field-0.0 (λ m texts. texts.devices)
     (λ clean. same (omega (arith, c.all_rows-3.ensures.reads.survives.clean, clean)))
     (search rules) (search rules) c.all_rows-3.ensures.no_text
@@ -49,7 +49,7 @@ returns-in_err-seats-clause-no_text g c =
     (c.in_ok-devices.ensures.reads.same clean).0.now_is
     ∙ (c.in_ok-rings.ensures.reads.same middle).0.now_is
     ∙ (c.in_ok-meta.ensures.reads.same early).0.now_is in
-    text_met AreSeatTexts (λ m. entries m.seats) old three new c.all_rows-4.result
+    text_met AreSeatTexts (λ m. entries m.seats) c.args.made old three new c.all_rows-4.result
     c.from_residual-in_err-seats.result c.in_err-seats.field-0.0 (λ m texts. texts.seats)
     (λ clean. same (omega (arith, c.all_rows-4.ensures.reads.survives.clean, clean)))
     (search rules) (search rules) c.all_rows-4.ensures.no_text

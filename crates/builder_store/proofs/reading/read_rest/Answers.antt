@@ -13,7 +13,7 @@ returns-in_err-published-clause-no_text g c =
     let new = state g.S.Store c.all_rows-2.new.conn in
     let same : HasCleanDisk one → one.now ≡ old.now = λ clean.
     (c.in_ok-moved.ensures.reads.same clean).0.now_is in
-    text_met ArePublishedTexts (λ m. entries m.published) old one new c.all_rows-2.result
+    text_met ArePublishedTexts (λ m. entries m.published) c.args.made old one new c.all_rows-2.result
     c.from_residual-in_err-published.result c.in_err-published.field-0.0 (λ m texts. texts.published)
     (λ clean. same (omega (arith, c.all_rows-2.ensures.reads.survives.clean, clean)))
     (search rules) (search rules) c.all_rows-2.ensures.no_text
@@ -29,7 +29,7 @@ returns-in_err-requests-clause-no_text g c =
     in
     (c.in_ok-published.ensures.reads.same clean).0.now_is
     ∙ (c.in_ok-moved.ensures.reads.same early).0.now_is in
-    text_met AreRequestTexts (λ m. entries m.requests) old two new c.all_rows-3.result
+    text_met AreRequestTexts (λ m. entries m.requests) c.args.made old two new c.all_rows-3.result
     c.from_residual-in_err-requests.result c.in_err-requests.field-0.0 (λ m texts. texts.requests)
     (λ clean. same (omega (arith, c.all_rows-3.ensures.reads.survives.clean, clean)))
     (search rules) (search rules) c.all_rows-3.ensures.no_text
@@ -49,7 +49,7 @@ returns-in_err-parts-clause-no_text g c =
     (c.in_ok-requests.ensures.reads.same clean).0.now_is
     ∙ (c.in_ok-published.ensures.reads.same middle).0.now_is
     ∙ (c.in_ok-moved.ensures.reads.same early).0.now_is in
-    text_met ArePartTexts (λ m. entries m.parts) old three new c.all_rows-4.result
+    text_met ArePartTexts (λ m. entries m.parts) c.args.made old three new c.all_rows-4.result
     c.from_residual-in_err-parts.result c.in_err-parts.field-0.0 (λ m texts. texts.parts)
     (λ clean. same (omega (arith, c.all_rows-4.ensures.reads.survives.clean, clean)))
     (search rules) (search rules) c.all_rows-4.ensures.no_text

@@ -27,6 +27,7 @@ returns c = λ requests all.
       last_of c.args.hour book (λ some. found.2 ∙ c.is_last.ensures.0 c.if-not-is_last.false
           (omega arith)),
       omega arith,
+      found.3,
     )
 
 pub returns-then-len-gt-MOST_NUMBERS : goal.returns-then-len-gt-MOST_NUMBERS
@@ -44,13 +45,14 @@ returns-in_err-last c = λ requests all.
     let up = c.sort_unstable_by_key.ensures.sorted (λ (r : RequestRow). r.place)
     (always_returns_same _ (λ a r. r ≡ a.0.now.place) _ (λ a r q k. search rules)) in
     let p = err_from_is_err_and c.from_residual.result c.from_residual.ensures.1 in
-    rw (p.1, p.2) (spells_likewise _ _ c.in_err-last.field-0.0 c.in_err-last.ensures (λ count says. (
-      last_hour 0 says.0,
+    rw (p.1, p.2) (spells_likewise _ _ c.in_err-last.field-0.0 c.in_err-last.ensures (λ found says. (
+      (last_hour 0 says.0, found.1),
       (
         says.0,
         subst (λ rs. IsSaid rs says.0) (sym c.deref.ensures.value) (said_of c.args.rows.items sorted
             says.0 says.1 moved (all ∙ ap entries says.2) up),
         refl,
+        says.5,
       ),
     )))
 

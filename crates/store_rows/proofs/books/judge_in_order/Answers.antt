@@ -5,10 +5,11 @@ use Rattle.store_rows.specs.Inner.Books.{IsSaid, SaysRequest}
 use Rattle.store_rows.proofs.BookGains.{last-more}
 use Rattle.store_rows.proofs.BookOpens.{said_at, same_hour, spells_likewise}
 use Rattle.store_rows.proofs.BookRows.{none_said, said_more}
+use Rattle.store_rows.proofs.Used.{bounds_more, bounds_none}
 use Rattle.store_rows.proofs.books.judge_in_order.Goals as goal
 
 pub loop-place-init : goal.loop-place-init
-loop-place-init c = ([], none_said, refl)
+loop-place-init c = ([], none_said, refl, bounds_none c.new-callers.result)
 
 pub loop-place-preserved : goal.loop-place-preserved
 loop-place-preserved c =
@@ -19,6 +20,7 @@ loop-place-preserved c =
           c.loop-place.hour c.loop-place-test.true c.index-rows-place.is inv.1 inv.2
           c.if-entry-hour.false c.in_ok-entry.ensures,
       last-more 0 inv.0 e,
+      bounds_more c.loop-place.callers c.note.new.self inv.0 e c.in_ok-note.ensures.ok inv.3,
     )
 
 pub returns : goal.returns
@@ -27,6 +29,7 @@ returns c = (
   subst (λ rs. IsSaid rs c.loop-place.invariant.0)
       (take_all c.loop-place.place c.args.rows.now (omega arith)) c.loop-place.invariant.1,
   c.loop-place.invariant.2,
+  c.loop-place.invariant.3,
 )
 
 pub returns-in_err-entry : goal.returns-in_err-entry

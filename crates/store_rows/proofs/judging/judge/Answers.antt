@@ -8,6 +8,7 @@ use Rattle.store_rows.specs.Inner.Sayings.{SayRings}
 use Rattle.store_rows.proofs.FoundRows.{stands, found_in}
 use Rattle.store_rows.proofs.Opens.{meta_said, rings_said, rows_judge, same_meta, schema_of}
 use Rattle.store_rows.proofs.Opens.{spelling_judges}
+use Rattle.store_rows.proofs.Used.{some_bounds}
 use Rattle.store_rows.proofs.judging.judge.Goals as goal
 
 pub returns : goal.returns
@@ -33,6 +34,7 @@ returns c = λ t all.
         rings = refl;
         count = sym found.4;
         hour = refl;
+        callers = found.5;
         stands = found_in c.in_ok-is_first.is_first held t c.in_ok-migration.migration
             c.rings_are_proper.ensures are c.in_ok-migration.ensures;
       },
@@ -79,12 +81,13 @@ returns-in_err-count c = λ t all.
     let f = schema_of t content stand in
     let same = same_meta f.0 c.in_ok-is_first.is_first content.hour c.in_ok-is_first.hour
     (sym (meta_said content stand.holdable c.args.rows t all f.0 f.1) ∙ meta) in (
-      length content.book,
+      (length content.book, (some_bounds content.book).0),
       (
         content.book,
         stand.holdable.book,
         ap (λ (x : Contents). x.requests) f.1,
         subst (λ h. last_hour h content.book ≡ h) same.1 stand.holdable.hour,
         refl,
+        (some_bounds content.book).1,
       ),
     )))

@@ -2,7 +2,7 @@ use Rattle.std.proofs.Common.{arith, inl, inr, subst, sym}
 use Rattle.sqlite.specs.Held.{state}
 use Rattle.sqlite.specs.State.{HasCleanDisk}
 use Rattle.builder_store.specs.Keepers.{content_of_keeper}
-use Rattle.builder_store.specs.Opening.{AreDeclared, HasBadTexts, IsMadeOf, IsOpenedAs, KeepsRows}
+use Rattle.builder_store.specs.Opening.{AreDeclared, HasBadTexts, IsMadeOf, IsOpenedAs}
 use Rattle.builder_store.proofs.Taking.{met_before}
 use Rattle.builder_store.proofs.keeper.SqlKeeper.adopt.Goals as goal
 
@@ -27,11 +27,9 @@ pub returns-in-Err-over-clause-rows : goal.returns-in-Err-over-clause-rows
 returns-in-Err-over-clause-rows g c = λ failed clean db left.
     let mid = state g.S.Store c.in-Ok.conn in
     let before : HasCleanDisk mid = omega (arith, c.in-Err-over.ensures.refused.clean, clean) in
-    elim (c.in-Err-over.ensures.refused.kept failed clean db left) [
-      | inl is ↦ inl (c.in-Ok.ensures.crash before db (subst (λ t. mid.may_leave t) (sym is)
-          (g.met.S.Store.stays c.in-Ok.conn.store (c.in-Ok.ensures.fresh before).is_open)))
-      | inr kept ↦ inr (subst (λ t. KeepsRows t db) (c.in-Ok.ensures.same before) kept)
-    ]
+    let is = c.in-Err-over.ensures.refused.kept failed clean db left in
+    c.in-Ok.ensures.crash before db (subst (λ t. mid.may_leave t) (sym is)
+    (g.met.S.Store.stays c.in-Ok.conn.store (c.in-Ok.ensures.fresh before).is_open))
 
 pub returns-in-Err-over-clause-crash : goal.returns-in-Err-over-clause-crash
 returns-in-Err-over-clause-crash g c = λ clean db left.

@@ -8,6 +8,7 @@ invariant_of-result g c = record {
   idle = c.requires.idle;
   tables = λ none clean. c.requires.tables clean;
   holds = λ clean. c.requires.holds clean;
+  known = λ clean. c.requires.known clean;
 }
 
 pub returns : goal.returns

@@ -10,6 +10,8 @@ use Rattle.store_tables.specs.Tables.{no_tables}
 use Rattle.builder_store.specs.Making.{rings_alone}
 use Rattle.builder_store.proofs.Finds.{alone_from}
 use Rattle.builder_store.proofs.Taking.{met_while_open}
+use Rattle.store_rows.proofs.Used.{bounds_none}
+use Rattle.builder_store.proofs.Bounding.{bounds_alone}
 use Rattle.builder_store.proofs.keeper.SqlKeeper.make_over.Goals as goal
 
 pub holding-requires-clause-holds : goal.holding-requires-clause-holds
@@ -23,6 +25,13 @@ holding-requires-clause-holds g c = λ clean.
       refl,
       refl,
     ) ∣₁
+
+pub holding-requires-clause-known : goal.holding-requires-clause-known
+holding-requires-clause-known g c = λ clean.
+    let content = rings_alone c.args.rings c.args.hour in
+    bounds_alone (state g.S.Store c.make_ready.new.conn).committed.trees content _ (alone_from
+    c.one_content.ensures (state g.S.Store c.make_ready.new.conn).committed.trees content
+    (c.in-Ok.ensures.made clean)) (bounds_none _)
 
 pub returns-in-Ok-clause-begins : goal.returns-in-Ok-clause-begins
 returns-in-Ok-clause-begins g c =

@@ -7,6 +7,7 @@ use Rattle.store_tables.specs.Failing.{HasFailed}
 use Rattle.builder_store.specs.Opening.{IsOpenedAs, JudgesRows, TellsFault}
 use Rattle.builder_store.proofs.Finds.{alone_from}
 use Rattle.builder_store.proofs.Taking.{met_while_open}
+use Rattle.builder_store.proofs.Bounding.{bounds_alone}
 use Rattle.builder_store.proofs.keeper.SqlKeeper.over.Goals as goal
 
 pub holding-requires-clause-holds : goal.holding-requires-clause-holds
@@ -20,6 +21,13 @@ holding-requires-clause-holds g c = λ clean.
       it.count,
       it.hour,
     ) ∣₁
+
+pub holding-requires-clause-known : goal.holding-requires-clause-known
+holding-requires-clause-known g c = λ clean.
+    let it = c.in-Ok.ensures.found clean in
+    bounds_alone (state g.S.Store c.open_ready.new.conn).committed.trees it.content
+    c.in-Ok.opened.callers (alone_from c.one_content.ensures
+    (state g.S.Store c.open_ready.new.conn).committed.trees it.content it.stands) it.callers
 
 pub returns-in-Ok-clause-begins : goal.returns-in-Ok-clause-begins
 returns-in-Ok-clause-begins g c =
@@ -57,9 +65,9 @@ returns-in-Err-clause-refused g c =
           (c.open_ready.ensures.failed clean) is);
       kept = λ is clean db may. elim ((c.open_ready.ensures.quiet (subst
           (λ r. IsErrAnd r JudgesRows) (sym c.in-Err.is) is)).crash clean db may) [
-            | inl was ↦ inl (g.met.S.Store.settled c.args.conn.store db (c.requires.fresh
-                (before clean)).is_open was)
-            | inr kept ↦ inr kept
+            | inl was ↦ g.met.S.Store.settled c.args.conn.store db (c.requires.fresh
+                (before clean)).is_open was
+            | inr none ↦ absurd none
           ];
       crash = λ clean db may. elim (survives.crash clean db may) [
         | inl was ↦ inl (g.met.S.Store.settled c.args.conn.store db (c.requires.fresh

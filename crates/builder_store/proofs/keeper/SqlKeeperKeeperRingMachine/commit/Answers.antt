@@ -3,11 +3,14 @@ use Rattle.std.proofs.Math.Logic.{∥∥₁_map}
 use Rattle.sqlite.specs.Held.{state}
 use Rattle.sqlite.specs.State.{HasCleanDisk}
 use Rattle.builder_store.specs.Keepers.{content_of_keeper}
+use Rattle.builder_store.specs.Opening.{Stands}
 use Rattle.builder_store.specs.Standing.{Holds, StandsAlone}
 use Rattle.std.specs.Prelude.{◌+◌}
+use Rattle.builder_store.specs.Inner.Bound.{BoundsIn}
 use Rattle.builder_store.specs.Inner.Known.{told_same, whole_trees}
 use Rattle.builder_store.specs.Inner.Leaves.{after_call, leaves_one, open_leaves}
-use Rattle.builder_store.proofs.Keeping.{counted_now, gains_now, gains_told, kept_trees}
+use Rattle.builder_store.proofs.Bounding.{bounds_known}
+use Rattle.builder_store.proofs.Keeping.{bounded_now, counted_now, gains_now, gains_told, kept_trees}
 use Rattle.builder_store.proofs.Keeping.{lost_trees, never, not_failed, one_more}
 use Rattle.builder_store.proofs.Keeping.{only_memory, stands_now}
 use Rattle.builder_store.proofs.keeper.SqlKeeperKeeperRingMachine.commit.Goals as goal
@@ -54,6 +57,15 @@ invariant_of-self g c =
             one_more (content_of_keeper k).book _ k.count (counted_now k was),
             refl,
           )));
+      known = λ clean.
+          let was : HasCleanDisk old = omega (arith, c.keep.ensures.survives.clean, clean) in
+          let made = gains_now k c.requires.faults was (c.requires.room was)
+          (c.requires.unknown was) (c.requires.hour was) (c.requires.step was)
+          (c.in-Ok.ensures.done clean) in
+          subst (BoundsIn c.keep.new.callers) (sym
+          (whole_trees g.S.Store k.faults c.of.result.value c.keep.new.conn c.requires.faults))
+          (bounds_known new.committed.trees _ c.keep.new.callers made (c.in-Ok.ensures.noted
+          (content_of_keeper k).book (bounded_now k c.requires.faults was)));
     }
 
 pub returns-in-Ok-clause-commits : goal.returns-in-Ok-clause-commits
@@ -97,6 +109,13 @@ invariant_of-self-in-Err-NoMemory g c =
           ∙ ap Err c.in-Err-NoMemory.field-0-is)) in
           let later = kept_trees k _ _ c.requires.faults same in
           subst (λ db. Holds db k.rings k.count k.hour) (sym later) (k.holds was);
+      known = λ clean content stands.
+          let was : HasCleanDisk old = omega (arith, c.keep.ensures.survives.clean, clean) in
+          let same = ap (λ d. d.trees) (c.keep.ensures.none clean (c.in-Err-NoMemory.is
+          ∙ ap Err c.in-Err-NoMemory.field-0-is)) in
+          let later = kept_trees k _ _ c.requires.faults same in
+          c.keep.ensures.bounds content.book (k.known was content (subst (λ db. Stands db content)
+          later stands));
     }
 
 pub returns-in-Err-NoMemory-clause-commits : goal.returns-in-Err-NoMemory-clause-commits
@@ -138,6 +157,11 @@ invariant_of-self-in-Err-Store g c =
           let was : HasCleanDisk old = omega (arith, c.keep.ensures.survives.clean, clean) in
           let later = lost_trees k _ c.requires.faults c.of.ensures in
           subst (λ db. Holds db k.rings k.count k.hour) (sym later) (k.holds was);
+      known = λ clean content stands.
+          let was : HasCleanDisk old = omega (arith, c.keep.ensures.survives.clean, clean) in
+          let later = lost_trees k _ c.requires.faults c.of.ensures in
+          c.keep.ensures.bounds content.book (k.known was content (subst (λ db. Stands db content)
+          later stands));
     }
 
 pub returns-clause-commits : goal.returns-clause-commits

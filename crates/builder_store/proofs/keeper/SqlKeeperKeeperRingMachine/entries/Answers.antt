@@ -3,9 +3,11 @@ use Rattle.std.proofs.Math.Logic.{∥∥₁_elim}
 use Rattle.sqlite.specs.Held.{state}
 use Rattle.sqlite.specs.State.{HasCleanDisk}
 use Rattle.builder_store.specs.Standing.{Holds}
+use Rattle.builder_store.specs.Inner.Bound.{BoundsIn}
 use Rattle.builder_store.specs.Inner.Known.{told_same}
 use Rattle.builder_store.proofs.Found.{entries_prop}
 use Rattle.builder_store.proofs.Keeping.{lost_trees, never, not_failed, only_memory, quiet_holds}
+use Rattle.builder_store.proofs.Keeping.{quiet_known}
 use Rattle.builder_store.proofs.Keeping.{quiet_left, quiet_trees, stands_now}
 use Rattle.builder_store.proofs.keeper.SqlKeeperKeeperRingMachine.entries.Goals as goal
 
@@ -19,6 +21,9 @@ invariant_of-self g c =
       holds = λ clean. quiet_holds k _ c.read_page.new.conn g.met.S.Store.settled g.met.S.Store.stays
           c.requires c.read_page.ensures.survives clean
           (c.read_page.ensures.tables clean (not_failed c.in-Ok.is));
+      known = λ clean. quiet_known k _ c.read_page.new.conn g.met.S.Store.settled g.met.S.Store.stays
+          c.requires c.read_page.ensures.survives clean
+          (c.read_page.ensures.tables clean (not_failed c.in-Ok.is));
     }
 
 pub invariant_of-self-in-Err-NoMemory : goal.invariant_of-self-in-Err-NoMemory
@@ -30,6 +35,8 @@ invariant_of-self-in-Err-NoMemory g c =
       idle = c.read_page.ensures.mode;
       tables = λ none clean. c.read_page.ensures.tables clean memory;
       holds = λ clean. quiet_holds k _ c.read_page.new.conn g.met.S.Store.settled g.met.S.Store.stays
+          c.requires c.read_page.ensures.survives clean (c.read_page.ensures.tables clean memory);
+      known = λ clean. quiet_known k _ c.read_page.new.conn g.met.S.Store.settled g.met.S.Store.stays
           c.requires c.read_page.ensures.survives clean (c.read_page.ensures.tables clean memory);
     }
 
@@ -45,6 +52,9 @@ invariant_of-self-in-Err-Store g c =
           let was : HasCleanDisk old = omega (arith, c.read_page.ensures.survives.clean, clean) in
           subst (λ db. Holds db k.rings k.count k.hour)
           (sym (lost_trees k _ c.requires c.of.ensures)) (k.holds was);
+      known = λ clean.
+          let was : HasCleanDisk old = omega (arith, c.read_page.ensures.survives.clean, clean) in
+          subst (BoundsIn k.callers) (sym (lost_trees k _ c.requires c.of.ensures)) (k.known was);
     }
 
 pub returns-in-Ok-clause-entries : goal.returns-in-Ok-clause-entries
