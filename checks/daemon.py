@@ -212,7 +212,7 @@ def goes_on(checks):
 
 
 def main():
-    checks = Checks("daemon.py", 300)
+    checks = Checks("daemon.py", 600)
     if not has("service"):
         checks.skip("the service", "the program has no service")
         print("0 passed, 0 failed")

@@ -14,7 +14,7 @@ import time
 import common
 from common import Checks, compact, has, message, rows_of, run, scratch
 
-STORES, SECONDS = 50, 200
+STORES, SECONDS = 50, 400
 PART = 1000
 NAMES = ["object", "disks", "cold"]
 WEIGHTS = ["0.00", "12.50", "100.00", "250.00", "4000.00"]
@@ -76,9 +76,8 @@ def part(file, place, most):
     """The entries of a log from a place on, and whether they are told in the bytes that their keys are in."""
     told = run("run", "--file", file, given=f"? log {place} {most}\n".encode())
     assert (told[0], told[2]) == (0, b""), told
-    line = told[1].decode().rstrip("\n")
-    entries = json.loads(line)["log"]
-    return entries, line == compact({"log": entries})
+    entries = [json.loads(line) for line in told[1].splitlines() if line]
+    return entries, told[1].decode() == ("".join(f"{compact(entry)}\n" for entry in entries) or "\n")
 
 
 def whole(file, place=0, sizes=lambda: PART):
@@ -180,13 +179,13 @@ def as_lines(checks):
         checks.same("the lines are answered as they were", run("run", "--file", again, given=made[0])[1], answers)
         checks.same("and these are the answers", made[1], answers)
         checks.same("the next part begins behind them", made[2], b"4\n")
-        torn = subprocess.run([tool], input=log.split(b"\n")[1] + log.split(b"\n")[0], capture_output=True, timeout=20).returncode
+        torn = subprocess.run([tool], input=b"\n".join(log.splitlines()[::-1]), capture_output=True, timeout=20).returncode
         checks.same("places that are out of order are refused", torn, 1)
         entry = {"hour": 1, "place": 0, "reply": {"done": "publish", "version": 1}, "request": {"do": "x" * 65536}, "status": 200}
         for what, text, words, status in [
-            ("a line that is too long for run", compact({"log": [entry]}), (), 1), ("but its answer is told", compact({"log": [entry]}), ("--answers",), 0),
-            ("what is no part of a log", '{"rings":[]}', (), 2), ("an entry without its hour", '{"log":[{"place":0}]}', (), 2),
-            ("what is no JSON", "{", (), 2), ("other words", "", ("--all",), 2), ("nothing", "", (), 0), ("an empty part", '{"log":[]}', ("--next",), 0),
+            ("a line that is too long for run", compact(entry), (), 1), ("but its answer is told", compact(entry), ("--answers",), 0),
+            ("what is no entry of a log", '{"rings":[]}', (), 2), ("an entry without its hour", '{"place":0}', (), 2), ("a number", "7", (), 2),
+            ("what is no JSON", "{", (), 2), ("other words", "", ("--all",), 2), ("nothing", "", (), 0), ("an empty part", "\n", ("--next",), 0),
         ]:
             made = subprocess.run([tool, *words], input=text.encode(), capture_output=True, timeout=20)
             want = b'200 {"done":"publish","version":1}\n' if words == ("--answers",) else b""
@@ -221,4 +220,4 @@ def wanted(name, other):
 
 
 if __name__ == "__main__":
-    sys.exit(Checks("log.py", 300).run(random_stores, kept_up, renewed, as_lines, by_program))
+    sys.exit(Checks("log.py", 600).run(random_stores, kept_up, renewed, as_lines, by_program))

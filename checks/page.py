@@ -32,7 +32,7 @@ from common import TOP, Checks, free_port, is_listening, message, program, run, 
 # The page stands in this file, between the signs of a raw string.
 PAGE = TOP / "crates/ring_page/src/lib.rt"
 BEGINS, ENDS = 'r##"', '"##;'
-MOST_BYTES, SECONDS = 33000, 200
+MOST_BYTES, SECONDS = 35500, 600
 LOG_ROWS = 20
 DIRECTIVES = (
     "default-src 'none'; script-src {script}; style-src {style}; img-src data:; connect-src 'self'; base-uri 'none'; form-action 'none'; "
@@ -208,6 +208,8 @@ SHOWN = """({
     zone: row.closest("details").querySelector("strong").textContent, region: row.closest(".zones").previousSibling.firstChild.data,
     pieces: [...row.querySelectorAll(".bar i")].map((piece) => [piece.className, parseFloat(piece.style.left), parseFloat(piece.style.width || 0)]),
   })),
+  locks: [document.getElementById("locks-told").textContent, document.querySelector("#locks-rows .hours")?.ariaLabel ?? "",
+    [...document.querySelectorAll("#locks-rows i")].map((piece) => [piece.title, parseFloat(piece.style.height)])],
   preview: [...document.querySelectorAll("#preview-rows tbody tr")].map((row) => [0, 3, 4, 5, 6, 7].map((place) => row.cells[place].textContent)),
   moves: [...document.querySelectorAll("#moves-rows tbody tr")].map((row) => [0, 3, 4].map((place) => row.cells[place].textContent)),
   log: [...document.querySelectorAll("#log tbody tr")].map((row) => [...row.cells].map((cell) => cell.textContent)),
@@ -230,7 +232,7 @@ class Asked:
         return json.loads(self.get(target))
 
     def log(self, target):
-        return self.json(target)["log"]
+        return [json.loads(line) for line in self.get(target).splitlines()]
 
 
 def rows_of(devices, zones):
@@ -381,6 +383,7 @@ def has_figures(checks, server, browser, name):
     want |= {"Numbers kept": str(status["kept"]), "Hour": str(status["hour"]), "Rings": str(status["rings"])}
     checks.same(f"{name}: figures", shown["figures"], want)
     checks.same(f"{name}: names", (shown["name"], shown["ring"], shown["title"]), (name, name, f"{name} - rings"))
+    checks.same(f"{name}: locks", shown["locks"], locks_of(checks, server, ring))
     most = max([1] + [max(device["wanted"], device["has"]) for device in ring["devices"]])
     rows = []
     for device in by_place(ring["devices"]):
@@ -417,6 +420,32 @@ def has_figures(checks, server, browser, name):
         values = [str(value) for key, value in one["reply"].items() if key not in ("balance", "dispersion", "done")]
         if not all(value in row[6] for value in values):
             checks.show(f"{name}: the answer at {one['place']} of the log", False, row)
+
+
+def count(number, one):
+    return f"{number} {one}{'' if number == 1 else 's'}"
+
+
+def locks_of(checks, server, ring):
+    """What the page shows of a ring's locks: what it says, the same for who listens, and the bars."""
+    told = server.json(f"/v1/rings/{ring['ring']}/locks")
+    ends = {end["hours"]: end["partitions"] for end in told["rests"]}
+    figures = [told[key] for key in ("hour", "locked", "min_hours", "partitions", "ring")], sum(ends.values()), max(ends, default=0)
+    want = [ring["hour"], ring["locked"], ring["min_hours"], 1 << ring["power"], ring["ring"]], ring["locked"], ring["rests"]
+    checks.same(f"{ring['ring']}: the locks are those of the whole ring", figures, want)
+    if not ends:
+        return ["", "", []]
+    last = max(ends)
+    step = -(-last // 24)
+    spans = [range(first, first + step) for first in range(1, last + 1, step)]
+    bars = [sum(ends.get(hours, 0) for hours in span) for span in spans]
+    titles = [f"{count(bar, 'partition')} in {f'{span[0]} to ' if step > 1 else ''}{count(span[-1], 'hour')}" for bar, span in zip(bars, spans)]
+    half = next(hours for hours in sorted(ends) if 2 * sum(number for other, number in ends.items() if other <= hours) >= told["locked"])
+    first, half, last = (count(hours, "hour") for hours in (min(ends), half, last))
+    begin = "" if first == last else f"the first in {first}, half in {half}, "
+    return [f"Locked partitions are free: {begin}all in {last}.",
+            "Locked partitions that are free: " + ", ".join(title for title, bar in zip(titles, bars) if bar),
+            [[title, float(f"{100 * bar / max(bars):.6g}")] for title, bar in zip(titles, bars)]]
 
 
 def has_moves(checks, server, shown, name, old, new):
@@ -508,8 +537,9 @@ def refreshes(checks):
         checks.same("nothing is read while it is hidden", len(server.server.sent), reads)
         browser.run("window.away = false; document.dispatchEvent(new Event('visibilitychange'))")
         checks.show("it reads once it is seen again", browser.until("waits.length === 2 && " + SETTLED))
-        checks.same("with six reads", [target.partition("?")[0] for _, target in server.server.sent[reads:]],
-                    ["/v1/status", "/v1/rings", "/v1/rings/photos", "/v1/rings/photos/preview", "/v1/rings/photos/moves", "/v1/log"])
+        checks.same("with seven reads", [target.partition("?")[0] for _, target in server.server.sent[reads:]],
+                    ["/v1/status", "/v1/rings", "/v1/rings/photos", "/v1/rings/photos/locks", "/v1/rings/photos/preview", "/v1/rings/photos/moves",
+                     "/v1/log"])
         browser.run("window.kept = document.querySelector('#devices table'); fire()")
         checks.show("it reads when the time has come", browser.until("waits.length === 3 && " + SETTLED))
         checks.show("what is the same is not drawn again", browser.run("kept.isConnected"))

@@ -180,6 +180,11 @@ class Ring:
             "rests": max(rests, default=0), "ring": self.name, "seats": self.total() if self.seats else 0, "version": self.version,
         }
 
+    def locks(self):
+        rests = [self.min_hours - (self.hour - self.moved[partition]) for partition in range(1 << self.power) if self.is_locked(partition)]
+        ends = [{"hours": hours, "partitions": rests.count(hours)} for hours in sorted(set(rests))]
+        return {"hour": self.hour, "locked": len(rests), "min_hours": self.min_hours, "partitions": 1 << self.power, "rests": ends, "ring": self.name}
+
     @functools.lru_cache(maxsize=None)
     def preview(self, seed):
         done = self.rebalanced(seed)
@@ -384,17 +389,19 @@ class Mock(http.server.HTTPServer):
             begin, most = number_of(query.get("from", "0")), number_of(query.get("most", "100"))
             if most > 1000:
                 raise ruled(400, "fault", "Unreadable", 20)
-            return {"log": [log_entry(place, self.hour) for place in range(begin, min(self.kept, begin + most))]}
-        found = re.fullmatch("/v1/rings/([^/]+)(/preview|/moves)?", path)
+            return [log_entry(place, self.hour) for place in range(begin, min(self.kept, begin + most))]
+        found = re.fullmatch("/v1/rings/([^/]+)(/locks|/preview|/moves)?", path)
         if not found:
             raise NO_ROUTE
         name, read = found.groups()
         if not re.fullmatch("[a-z][a-z0-9-]{0,31}", name):
             raise ruled(400, "fault", "Unreadable", 20)
-        given = [number_of(query.get(key)) for key in {None: (), "/preview": ("seed",), "/moves": ("from", "to")}[read]]
+        given = [number_of(query.get(key)) for key in {"/preview": ("seed",), "/moves": ("from", "to")}.get(read, ())]
         ring = self.rings.get(name)
         if ring is None:
             raise ruled(422, "refused", "NoRing", 1)
+        if read == "/locks":
+            return ring.locks()
         if read == "/preview":
             told = ring.preview(*given)
             if told is None:
@@ -432,7 +439,7 @@ class Mock(http.server.HTTPServer):
                 else:
                     told = spoil(told, draw, 1 if path == "/v1/status" else 0)
             if isinstance(told, list):
-                return 200, "application/json", "".join(compact(each) + "\n" for each in told)
+                return 200, "application/x-ndjson", "".join(compact(each) + "\n" for each in told)
             return 200, "application/json", compact(told)
         except Refused as refused:
             return refused.status, "application/json", compact(refused.body)

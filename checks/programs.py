@@ -190,6 +190,7 @@ def faults(room):
     terms = ["--min-hours", 1]
     yield "NoRing 1", ["table", file, "none"], file, {}
     yield "NoRing 1", ["show", file, "none"], file, {}
+    yield "NoRing 1", ["show", file, "none", "--locks"], file, {}
     yield "RingExists 2", ["found", f"{room}/new.db", text, text, *terms], None, {}
     yield "TooManyRings 3", ["found", f"{room}/new.db", *(f"{room}/t{n}" for n in range(17)), *terms], None, {}
     yield "TooFewDevices 9", ["preview", file, "empty", "--seed", 1], file, {}
@@ -248,7 +249,7 @@ def on_the_page(checks):
 
 
 def main():
-    checks = Checks("programs.py", 120)
+    checks = Checks("programs.py", 300)
     if not has("found"):
         checks.skip("all of it", "the program has no found")
         print("0 passed, 0 failed")

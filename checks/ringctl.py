@@ -154,6 +154,7 @@ SESSION = [
     ("balance pictures", refused("there is no ring pictures")),
     ("show pictures", refused("there is no ring pictures")),
     ("preview pictures", refused("there is no ring pictures")),
+    ("locks pictures", refused("there is no ring pictures")),
     ("moves photos 7 11", refused("photos was not published as version 7 or 11")),
     ("moves photos 11 11", done("0 seats in 0 partitions moved from version 11 to 11")),
     ("preview photos --seed x", (2, "", "ringctl: the seed is x; it is a whole number from 0 to 4294967295\n")),
@@ -278,6 +279,26 @@ BAD = [
     ("rebalance photos --until-done --hours x", whole("the number of hours", "x", 0, 65535)),
     ("rebalance photos --until-done --hour 480000", "--until-done waits by the clock, and --hour holds it"),
 ]
+
+
+def locks(checks):
+    """The locks of a ring, a line for each hour at which some end."""
+    with scratch() as room:
+        with Server(f"{room}/rings.db", hour=HOUR) as server:
+            ctl = Ctl(room, "--url", url(server.port))
+            told = [ctl(*words.split()) for words in ("create photos 4 1 24", "add photos r1z1-10.0.0.1:6200/sda 100", "locks photos",
+                                                      "rebalance photos --seed 1", "locks photos", "locks photos --json")]
+        hour = int(HOUR)
+        checks.same("where none is locked it is a line of figures", told[2], done(f"0 of 16 partitions are locked at hour {hour}"))
+        want = f"16 of 16 partitions are locked at hour {hour}\nhours       hour partitions\n   24 {hour + 24:>10} {16:>10}"
+        checks.same("and one for each hour", told[4], done(want))
+        ends = [{"hours": 24, "partitions": 16}]
+        checks.same("as JSON it is the service's", told[5], done(common.compact(
+            {"hour": hour, "locked": 16, "min_hours": 24, "partitions": 16, "rests": ends, "ring": "photos"})))
+        by_file = Ctl(room, "--file", "rings.db", "--ringd", program_file(room))
+        now = [done(f"0 of 16 partitions are locked at hour {hour}") for hour in common.machine_hours()]
+        told = by_file("locks", "photos")
+        checks.show("over a file it is of the machine's hour", told in now, told)
 
 
 def bad_words(checks):
@@ -746,8 +767,8 @@ def busy_file(checks):
 
 
 def main():
-    checks = Checks("ringctl.py", 240)
-    return checks.run(session, bad_words, dry, until_done, killed_by_url, killed_over_file, lost_answers, restarted,
+    checks = Checks("ringctl.py", 900)
+    return checks.run(session, locks, bad_words, dry, until_done, killed_by_url, killed_over_file, lost_answers, restarted,
                       strangers, at_once, torn, callers, busy_file)
 
 

@@ -104,6 +104,14 @@ def answer(status, phrase, body, kind="application/json", more=""):
     return head.encode() + body
 
 
+JSON_LINES = "application/x-ndjson"
+
+
+def each_line(entries):
+    """JSON texts, one a line."""
+    return "".join(f"{compact(entry)}\n" for entry in entries)
+
+
 def request(method, target, body=None, fields=HEAD, version="HTTP/1.1"):
     """The bytes of a request."""
     length = "" if body is None else f"Content-Length: {len(body)}\r\n"
@@ -150,9 +158,9 @@ def routes(checks):
                 ("a refusal is kept, and a repeat and a number that is used are not", request("GET", "/v1/status"),
                  answer(200, "OK", common.status(0, 9, 2))),
                 ("and stands at the end of the log", request("GET", "/v1/log?from=8"),
-                 answer(200, "OK", compact({"log": [{"hour": 0, "place": 8, "reply": {"refused": "RingExists", "rule": 2}, "status": 422,
-                                                     "request": json.loads(message(40, "create", power=1, replicas=1, min_hours=0))}]}))),
-                ("nothing stands behind it", request("GET", "/v1/log?most=1000&from=9"), answer(200, "OK", '{"log":[]}')),
+                 answer(200, "OK", each_line([{"hour": 0, "place": 8, "reply": {"refused": "RingExists", "rule": 2}, "status": 422,
+                                               "request": json.loads(message(40, "create", power=1, replicas=1, min_hours=0))}]), JSON_LINES)),
+                ("nothing stands behind it", request("GET", "/v1/log?most=1000&from=9"), answer(200, "OK", "", JSON_LINES)),
                 ("more of the log than may be asked for", request("GET", "/v1/log?most=1001"),
                  ruled(400, "Bad Request", "fault", "Unreadable", 20)),
                 ("no message", request("POST", "/v1/requests", "{}"), ruled(400, "Bad Request", "fault", "Unreadable", 20)),
@@ -210,10 +218,23 @@ def percent(hundredths):
     return f"{hundredths // 100}.{hundredths % 100:02d}"
 
 
+def left_of(rows, clock):
+    """The hour at an hour of the clock, and for how many hours each partition of the only ring is locked that is."""
+    hour, min_hours = max(rows["meta"][0][2], clock), rows["ring"][0][3]
+    return hour, [moved + min_hours - hour for _, _, _, moved in rows["part"] if 0 <= moved and hour < moved + min_hours]
+
+
+def locks_of(rows, clock):
+    """What they say of its locks, as JSON."""
+    (name, _, _, min_hours, _, _), (hour, left) = rows["ring"][0], left_of(rows, clock)
+    ends = [{"hours": hours, "partitions": left.count(hours)} for hours in sorted(set(left))]
+    figures = {"hour": hour, "locked": len(left), "min_hours": min_hours, "partitions": len(rows["part"])}
+    return compact({**figures, "rests": ends, "ring": name}).encode()
+
+
 def figures_of(rows, clock):
     """What the rows of a closed file say of its only ring at an hour of the clock, under the keys of a whole ring."""
-    hour, (name, power, replicas, min_hours, next_id, version) = max(rows["meta"][0][2], clock), rows["ring"][0]
-    left = [moved + min_hours - hour for _, _, _, moved in rows["part"] if 0 <= moved and hour < moved + min_hours]
+    (name, power, replicas, min_hours, next_id, version), (hour, left) = rows["ring"][0], left_of(rows, clock)
     seats = sum(len(devices) for _, _, devices, _ in rows["part"]) // 2
     return {"hour": hour, "locked": len(left), "min_hours": min_hours, "next_id": next_id, "power": power,
             "published": [row[1] for row in rows["published"]], "replicas": replicas, "rests": max(left, default=0),
@@ -246,7 +267,13 @@ def whole_ring(checks):
             as_the_tables(checks, ring, *([row.split() for row in table] for table in tables))
             texts = [server.ask("GET", f"/v1/rings/object/text/{version}")[0] for version in ring["published"]]
             checks.same("both versions that it names can be read", texts, [200, 200])
+            locks = server.ask("GET", "/v1/rings/object/locks")
         rows = rows_of(file)
+        checks.same("its locks are those of the rows, hour by hour", locks, (200, locks_of(rows, 9)))
+        ends = json.loads(locks[1])["rests"]
+        checks.same("together those of the ring, and the last hour is its rest",
+                    (sum(end["partitions"] for end in ends), ends[-1]["hours"]), (ring["locked"], ring["rests"]))
+        checks.same("a line tells them too", run("run", "--file", file, given=lines("? locks object")), (0, locks[1] + b"\n", b""))
         want = figures_of(rows, 9)
         checks.same("the other numbers are those of the rows", {key: ring[key] for key in want}, want)
         checks.show("the clock is behind, so the hour is the last request's, and some partitions are locked for an hour more",
@@ -254,7 +281,12 @@ def whole_ring(checks):
         checks.same("a line tells these bytes and a line feed", run("run", "--file", file, given=lines("? ring object")), (0, told + b"\n", b""))
         with Server(file, hour=99) as server:
             later = server.ask("GET", "/v1/rings/object")[1]
+            free = server.ask("GET", "/v1/rings/object/locks")[1]
         checks.same("once the clock is ahead it is the clock's, and no partition is locked", later, compact({**ring, **figures_of(rows, 99)}).encode())
+        checks.same("nor told among the locks", free, locks_of(rows, 99))
+        shown = run("show", file, "object", "--locks")
+        here = [(0, locks_of(rows, hour) + b"\n", b"") for hour in common.machine_hours()]
+        checks.show("show tells the locks at the hour of the machine", shown in here, shown)
         shown = run("show", file, "object")
         here = [(0, compact({**ring, **figures_of(rows, hour)}).encode() + b"\n", b"") for hour in common.machine_hours()]
         checks.show("show tells the hour of the machine", shown in here, shown)
@@ -399,11 +431,11 @@ def log(checks):
         run("run", "--file", file, given=lines(*MANY, *LATER))
         with Server(file, hour=9) as server:
             status, told = server.ask("GET", "/v1/log?most=1000")
-            entries = json.loads(told)["log"]
-            checks.same("it is compact, and its keys stand in order", (status, told), (200, compact({"log": entries}).encode()))
-            checks.same("without words it begins at the first and tells 100", server.ask("GET", "/v1/log"), (200, compact({"log": entries[:100]}).encode()))
-            parts = [json.loads(server.ask("GET", f"/v1/log?from={place}&most=7")[1])["log"] for place in range(0, len(entries) + 7, 7)]
-            checks.same("in parts of 7 it is the same, and the last is empty", (sum(parts, []), parts[-1]), (entries, []))
+            entries = [json.loads(line) for line in told.splitlines()]
+            checks.same("an entry a line, compact, and its keys stand in order", (status, told.decode()), (200, each_line(entries)))
+            checks.same("without words it begins at the first and tells 100", server.ask("GET", "/v1/log"), (200, each_line(entries[:100]).encode()))
+            parts = [server.ask("GET", f"/v1/log?from={place}&most=7")[1] for place in range(0, len(entries) + 7, 7)]
+            checks.same("its parts of 7 are the whole, and the last is empty", (b"".join(parts), parts[-1]), (told, b""))
             checks.same("as many are told as are kept", len(entries), json.loads(server.ask("GET", "/v1/status")[1])["kept"])
             again = [server.post(compact(entry["request"])) for entry in entries]
             checks.same("each request, sent again, is answered as it is told", again, [(entry["status"], compact(entry["reply"]).encode()) for entry in entries])
@@ -419,9 +451,9 @@ def log(checks):
         want = [(*(entry["request"][key] for key in keys), entry["place"], entry["hour"],
                  compact({key: value for key, value in entry["request"].items() if key not in keys}), compact(entry["reply"])) for entry in entries]
         checks.same("its entries are the rows of the file", want, rows)
-        checks.same("a line tells these bytes and a line feed", run("run", "--file", file, given=lines("? log 0 1000")), (0, told + b"\n", b""))
-        each = "".join(f"{compact(entry)}\n" for entry in entries).encode()
-        checks.same("and the program an entry a line", run("log", file), (0, each, b""))
+        checks.same("a line tells these bytes", run("run", "--file", file, given=lines("? log 0 1000")), (0, told, b""))
+        checks.same("and an empty line where nothing is told", run("run", "--file", file, given=lines("? log 1000 1")), (0, b"\n", b""))
+        checks.same("and so does the program", run("log", file), (0, told, b""))
 
 
 NAME = r"[a-zA-Z_:][a-zA-Z0-9_:]*"
@@ -1102,7 +1134,7 @@ class Quiet:
 
 
 def main():
-    checks = Checks("service.py", 1800 if "--long" in sys.argv else 300)
+    checks = Checks("service.py", 1800 if "--long" in sys.argv else 900)
     if not has("serve"):
         checks.skip("the service", "the program has no serve")
         print("0 passed, 0 failed")

@@ -354,7 +354,7 @@ def main():
     if not has_swift():
         print("skipped swift.py: Swift's own code is not there. apt-get install python3-swift; it is used by /usr/bin/python3")
         return 0
-    return Checks("swift.py", 300).run(rings, refusals, conversion, no_conversion, unknown_hours, foundings)
+    return Checks("swift.py", 900).run(rings, refusals, conversion, no_conversion, unknown_hours, foundings)
 
 
 if __name__ == "__main__":

@@ -100,12 +100,13 @@ const PROGRAMS: &[Program<'static>] = &[
     },
     Program {
         name: "show",
-        about: "Shows which rings there are, a whole ring, how much is kept, or metrics",
+        about: "Shows which rings there are, a whole ring or its locks, how much is kept, or metrics",
         arguments: &[
             Needed("FILE"),
             Possible("RING"),
             Flag("status"),
             Flag("metrics"),
+            Flag("locks"),
         ],
     },
     Program {

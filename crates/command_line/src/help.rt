@@ -43,7 +43,7 @@ Each is answered by a status, a space and a JSON object, before the next line is
 sends the line again: it is answered as before, and nothing is done twice. Another request takes another number. The hour
 is a whole number of hours since 1970.
 
-Eight questions change nothing, and need no number. Each is answered by what is asked for, or by a status and why there
+Nine questions change nothing, and need no number. Each is answered by what is asked for, or by a status and why there
 is none:
 
   ? rings                              which rings there are, and their versions, as a JSON object in one line
@@ -54,11 +54,14 @@ is none:
                                        in percent
   ? ring object                        all of that, how long partitions stay locked, and what is published, as a JSON
                                        object in one line
+  ? locks object                       how many partitions are locked, and in how many hours how many of them are free, as
+                                       a JSON object in one line
   ? preview object 1 480002            what a rebalance of the ring with seed 1 at this hour would do, as a JSON object in
                                        one line, which 'ringd preview --help' tells
   ? moves object 2 5                   what moved between two published versions of the ring, as a JSON object in one line
   ? log 0 100                          what was decided, from this place on, at most so many entries (up to 1000), as a
-                                       JSON object in one line, which 'ringd log --help' tells
+                                       JSON object in a line for each, which 'ringd log --help' tells; an empty line
+                                       where there is none
 
 After the three requests above, '? balance object' is answered by
 
@@ -81,12 +84,14 @@ Only this machine reaches it: TLS, and who may ask, are for a proxy in front of 
   POST /v1/import/RING?caller=C&number=N          the body is a CSV table of devices, imported as this request
   GET  /v1/status                                 how much is kept, as JSON
   GET  /v1/metrics                                the figures of all of it, in the text format of Prometheus
-  GET  /v1/log?from=PLACE&most=COUNT              what was decided, from this place on, as JSON; both may be left out
+  GET  /v1/log?from=PLACE&most=COUNT              what was decided, from this place on, a JSON object a line; both may be
+                                                  left out
   GET  /v1/page                                   a page that shows all this in a browser
   GET  /v1/rings                                  which rings there are, as JSON
   GET  /v1/rings/RING                             the whole ring, as JSON
   GET  /v1/rings/RING/devices                     where each device stands, what it weighs, and its state
   GET  /v1/rings/RING/balance                     how many seats each device wants and has
+  GET  /v1/rings/RING/locks                       in how many hours how many locked partitions are free, as JSON
   GET  /v1/rings/RING/nodes?account=A&container=C&object=O
                                                   the devices that hold a path; container and object may be left out
   GET  /v1/rings/RING/text/VERSION                the ring as it was published under this version
@@ -143,17 +148,22 @@ The options are those of 'serve'.";
 
 /// What `ringd show --help` tells.
 static SHOW: &str =
-    "Shows which rings there are in FILE, or the ring RING in it, or with --status how much is kept in it, as a JSON object in
-one line, on standard output; or with --metrics the figures of all of it, in the text format of Prometheus.
+    "Shows which rings there are in FILE, or the ring RING in it, or with --locks its locks, or with --status how much is kept
+in FILE, as a JSON object in one line, on standard output; or with --metrics the figures of all of it, in the text format of
+Prometheus.
 
 Of the rings it has, by name, the name and the version of each. The status has the greatest hour that was used in FILE, how
 many numbers are kept, how many may be (limit), and how many rings there are. The metrics are these and the figures of each
-ring, its locked partitions at the hour of the clock. No two of RING, --status and --metrics are given together.
+ring, its locked partitions at the hour of the clock. No two of RING, --status and --metrics are given together, and --locks
+beside RING alone.
 
 A ring has its power, replicas, min_hours, version and next_id; how many seats are taken; balance and dispersion, in
 hundredths of a percent; the hour, which is the clock's or the greatest that was used in FILE, if that is greater; how many
 partitions are locked at that hour, and for how many hours from then some partition is (rests); under which versions the
-ring is published; and its devices: where each stands, what it weighs, its state, and how many seats it wants and has.";
+ring is published; and its devices: where each stands, what it weighs, its state, and how many seats it wants and has.
+
+Its locks are how many of its partitions are locked at that hour; and by rising hours, in how many hours some of them are
+free, and how many then (rests).";
 
 /// What `ringd preview --help` tells.
 static PREVIEW: &str =
@@ -258,6 +268,7 @@ pub(crate) static FORMS: &str = "error: an argument is not of its form
   --format <format> text or swift
   --status          not beside a RING
   --metrics         beside neither of them
+  --locks           beside a RING, and neither of them
 
 Numbers are written in digits, without leading zeros. For more information, try '--help'.
 ";

@@ -167,10 +167,29 @@ fn table<'a>(matches: &ArgMatches<'a>) -> Option<Task<'a>>
     })
 }
 
+/// What is to be shown where locks are named: `None` where no ring is, or the status or the metrics
+/// are too.
+fn locks_of<'a>(matches: &ArgMatches<'a>) -> Option<Shown<'a>>
+    requires { is_flagged (rows_of (found_of matches.now)) (codes "locks") ≡ true }
+    ensures { IsToShow (codes "show") (rows_of (found_of matches.now)) result }
+{
+    if is_flagged(matches, "status") {
+        return None;
+    }
+    if is_flagged(matches, "metrics") {
+        return None;
+    }
+    match text_of(matches, "RING") {
+        Some(ring) => Some(Shown::Ring { ring, locks: true }),
+        None => None,
+    }
+}
+
 /// What is to be shown where the metrics are named: `None` where a ring or the status is named too.
 #[tactic(auto, using(crate::proofs::Tasks::shows_no_status, crate::proofs::Tasks::shows_no_ring))]
 fn metrics_of<'a>(matches: &ArgMatches<'a>) -> Option<Shown<'a>>
-    requires { is_flagged (rows_of (found_of matches.now)) (codes "metrics") ≡ true }
+    requires metrics { is_flagged (rows_of (found_of matches.now)) (codes "metrics") ≡ true }
+    requires locks { is_flagged (rows_of (found_of matches.now)) (codes "locks") ≡ false }
     ensures { IsToShow (codes "show") (rows_of (found_of matches.now)) result }
 {
     let ring = text_of(matches, "RING");
@@ -186,7 +205,8 @@ fn metrics_of<'a>(matches: &ArgMatches<'a>) -> Option<Shown<'a>>
 /// What is to be shown where the metrics aren't named: `None` where both a ring and the status are.
 #[tactic(auto, using(crate::proofs::Tasks::shows_nothing))]
 fn json_of<'a>(matches: &ArgMatches<'a>) -> Option<Shown<'a>>
-    requires { is_flagged (rows_of (found_of matches.now)) (codes "metrics") ≡ false }
+    requires metrics { is_flagged (rows_of (found_of matches.now)) (codes "metrics") ≡ false }
+    requires locks { is_flagged (rows_of (found_of matches.now)) (codes "locks") ≡ false }
     ensures { IsToShow (codes "show") (rows_of (found_of matches.now)) result }
 {
     let ring = text_of(matches, "RING");
@@ -198,19 +218,32 @@ fn json_of<'a>(matches: &ArgMatches<'a>) -> Option<Shown<'a>>
     } else {
         match ring {
             None => Some(Shown::Rings),
-            Some(name) => Some(Shown::Ring(name)),
+            Some(ring) => Some(Shown::Ring { ring, locks: false }),
         }
     }
 }
 
-/// What is to be shown, `None` where two of a ring, the status and the metrics are named.
-fn shown_of<'a>(matches: &ArgMatches<'a>) -> Option<Shown<'a>>
+/// What is to be shown where no locks are named.
+fn whole_of<'a>(matches: &ArgMatches<'a>) -> Option<Shown<'a>>
+    requires { is_flagged (rows_of (found_of matches.now)) (codes "locks") ≡ false }
     ensures { IsToShow (codes "show") (rows_of (found_of matches.now)) result }
 {
     if is_flagged(matches, "metrics") {
         metrics_of(matches)
     } else {
         json_of(matches)
+    }
+}
+
+/// What is to be shown, `None` where two of a ring, the status and the metrics are named, or locks
+/// of no ring.
+fn shown_of<'a>(matches: &ArgMatches<'a>) -> Option<Shown<'a>>
+    ensures { IsToShow (codes "show") (rows_of (found_of matches.now)) result }
+{
+    if is_flagged(matches, "locks") {
+        locks_of(matches)
+    } else {
+        whole_of(matches)
     }
 }
 

@@ -16,8 +16,11 @@ pub enum Shown<'a> {
     Status,
     /// The metrics of all that is held, as text.
     Metrics,
-    /// The whole ring of this name, which stands as it was written.
-    Ring(&'a str),
+    /// The whole ring of this name, which stands as it was written, or its locks alone.
+    Ring {
+        ring: &'a str,
+        locks: bool,
+    },
     /// What a rebalance of the ring of this name would do, at this hour or the greatest that the
     /// file keeps.
     Preview {
@@ -83,8 +86,8 @@ pub enum Task<'a> {
         file: &'a str,
         ring: &'a str,
     },
-    /// To show the rings, the status, the metrics, a whole ring, what a rebalance would do or what
-    /// moved.
+    /// To show the rings, the status, the metrics, a whole ring or its locks, what a rebalance would
+    /// do or what moved.
     Show {
         file: &'a str,
         what: Shown<'a>,

@@ -66,10 +66,10 @@ abbrev pub question_kind : Question → BodyKind
 question_kind asked = if is_json asked then kind.Json else (if is_metrics asked then kind.Metrics else
     (if is_file asked then kind.Bytes else kind.Text))
 
--- what kind of body is shown of what is asked: a part of the log is JSON
+-- what kind of body is shown of what is asked: a part of the log is JSON, a line for each entry
 abbrev pub shown_kind : Inquiry → BodyKind
 shown_kind (inquiry.Held question) = question_kind question
-shown_kind (inquiry.Log from most) = kind.Json
+shown_kind (inquiry.Log from most) = kind.JsonLines
 
 -- What a read is answered where this is the answer of the call that it leads to: what is shown of
 -- what is found, or why nothing is shown or can be read.

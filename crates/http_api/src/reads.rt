@@ -44,7 +44,7 @@ fn kind_of(asked: &Inquiry) -> BodyKind
 {
     match asked {
         Inquiry::Held(question) => question_kind(question),
-        Inquiry::Log(..) => BodyKind::Json,
+        Inquiry::Log(..) => BodyKind::JsonLines,
     }
 }
 

@@ -14,7 +14,8 @@ use Rattle.http_messages.specs.declared.request.HeadFault.TheVariants.{NotAllowe
 use Rattle.http_messages.specs.declared.request.HeadFault.TheVariants.{LengthRequired}
 use Rattle.http_messages.specs.declared.answer.AnswerHead.{AnswerHead}
 use Rattle.http_messages.specs.declared.answer.BodyKind.{BodyKind}
-use Rattle.http_messages.specs.declared.answer.BodyKind.TheVariants.{Bytes, Html, Json, Metrics, Text}
+use Rattle.http_messages.specs.declared.answer.BodyKind.TheVariants.{Bytes, Html, Json, JsonLines}
+use Rattle.http_messages.specs.declared.answer.BodyKind.TheVariants.{Metrics, Text}
 use Rattle.http_messages.specs.declared.faults.RouteFault.{RouteFault}
 use Rattle.http_messages.specs.declared.faults.RouteFault.TheVariants.{NoRoute, WrongMethod}
 
@@ -43,6 +44,7 @@ kind_text Text = codes "text/plain"
 kind_text Metrics = codes "text/plain; version=0.0.4; charset=utf-8"
 kind_text Bytes = codes "application/octet-stream"
 kind_text Html = codes "text/html; charset=utf-8"
+kind_text JsonLines = codes "application/x-ndjson"
 
 -- the name of a method
 abbrev pub method_text : Method → List ℕ

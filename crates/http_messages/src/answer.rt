@@ -20,6 +20,8 @@ pub enum BodyKind {
     Bytes,
     /// `text/html`
     Html,
+    /// `application/x-ndjson`, a JSON text a line
+    JsonLines,
 }
 
 impl BodyKind {
@@ -32,6 +34,7 @@ impl BodyKind {
             BodyKind::Metrics => "text/plain; version=0.0.4; charset=utf-8",
             BodyKind::Bytes => "application/octet-stream",
             BodyKind::Html => "text/html; charset=utf-8",
+            BodyKind::JsonLines => "application/x-ndjson",
         }
     }
 }

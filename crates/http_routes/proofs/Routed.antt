@@ -427,11 +427,13 @@ is_whole : (asked : Plain) → (asked ≡ plain.Ring) ⊎ (asked ≢ plain.Ring)
 is_whole plain.Devices = inr (λ e. cc)
 is_whole plain.Balance = inr (λ e. cc)
 is_whole plain.Ring = inl refl
+is_whole plain.Locks = inr (λ e. cc)
 
 tail_is : (asked : Plain) → asked ≢ plain.Ring → plain_tail asked ≡ 47 ∷ plain_word asked
 tail_is plain.Devices other = refl
 tail_is plain.Balance other = refl
 tail_is plain.Ring other = absurd (other refl)
+tail_is plain.Locks other = refl
 
 -- a path with this row has the route to the endpoint that the row leads to
 pub leads-to : (path : List ℕ) (row : TableRow) (at : Endpoint) (ring version word : List ℕ) →
@@ -525,6 +527,7 @@ unfolding matchit_on_literals
 word-first plain.Devices = refl
 word-first plain.Balance = refl
 word-first plain.Ring = refl
+word-first plain.Locks = refl
 
 -- and so have those of a preview and of what moved
 preview-first : first ring_rows (codes "/preview") ≡ Some word_row.1
@@ -667,6 +670,7 @@ tail-utf8 : (asked : Plain) → IsUtf8 (plain_tail asked)
 tail-utf8 plain.Devices = plain-utf8 (codes "/devices") refl
 tail-utf8 plain.Balance = plain-utf8 (codes "/balance") refl
 tail-utf8 plain.Ring = plain-utf8 [] refl
+tail-utf8 plain.Locks = plain-utf8 (codes "/locks") refl
 
 -- a path that has a route is text
 pub routed-utf8 : (path : List ℕ) (endpoint : Endpoint) (ring version : List ℕ)

@@ -17,6 +17,8 @@ whole_word word is (endpoint.Word plain.Devices) leads =
 whole_word word is (endpoint.Word plain.Balance) leads =
     omega (arith, ap (λ (l : List ℕ). length l) (sym is ∙ leads.1))
 whole_word word is (endpoint.Word plain.Ring) leads = leads.0 refl
+whole_word word is (endpoint.Word plain.Locks) leads =
+    omega (arith, ap (λ (l : List ℕ). length l) (sym is ∙ leads.1))
 whole_word word is endpoint.Preview leads =
     omega (arith, ap (λ (l : List ℕ). length l) (sym is ∙ leads))
 whole_word word is endpoint.Moves leads =

@@ -239,13 +239,15 @@ fn an_account_of_257_bytes_is_refused(rt: HostRuntime) -> Result<(), Fail> {
 }
 
 /// Segments are taken as they stand, and empty ones are none.
-static SEGMENTS: [Step<'_>; 30] = [
+static SEGMENTS: [Step<'_>; 32] = [
     (Sent::Get("/v1/rings/object/text/01"), UNREADABLE),
     (Sent::Get("/v1/rings/object/text/4294967296"), UNREADABLE),
     (Sent::Get("/v1/rings/object/swift/01"), UNREADABLE),
     (Sent::Get("/v1/rings/object/swift/4294967296"), UNREADABLE),
     (Sent::Get("/v1/rings/%6Fbject/devices"), UNREADABLE),
     (Sent::Get("/v1/rings/Object/balance"), UNREADABLE),
+    (Sent::Get("/v1/rings/Object/locks"), UNREADABLE),
+    (Sent::Get("/v1/rings/object/locks/"), LOST),
     (Sent::Get("/v1/rings/Object"), UNREADABLE),
     (Sent::Get("/v1/rings/%6Fbject"), UNREADABLE),
     (Sent::Get("/v1/rings//devices"), LOST),

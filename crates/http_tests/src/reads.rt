@@ -245,8 +245,8 @@ fn a_ring_without_seats_has_no_nodes(rt: HostRuntime) -> Result<(), Fail> {
     Ok(())
 }
 
-/// Reads of the tables of the ring `object`.
-static TABLES: [Step<'_>; 2] = [
+/// Reads of the tables and the locks of the ring `object`.
+static TABLES: [Step<'_>; 4] = [
     (
         Sent::Get("/v1/rings/object/balance?x"),
         Told::Text(
@@ -257,6 +257,14 @@ static TABLES: [Step<'_>; 2] = [
         Sent::Get("/v1/rings/object/devices"),
         Told::Text(TWO_DEVICES),
     ),
+    (
+        Sent::Get("/v1/rings/object/locks?x"),
+        Told::Json(
+            "200 OK",
+            "{\"hour\":0,\"locked\":4,\"min_hours\":24,\"partitions\":4,\"rests\":[{\"hours\":24,\"partitions\":4}],\"ring\":\"object\"}",
+        ),
+    ),
+    (Sent::Get("/v1/rings/object/lock"), LOST),
 ];
 
 #[test]
@@ -552,26 +560,26 @@ fn the_rings_and_the_status_are_read(rt: HostRuntime) -> Result<(), Fail> {
     Ok(())
 }
 
+/// What is told of a log that has nothing from a place on.
+const NO_ENTRY: Told<'_> = Told::Bytes(
+    "HTTP/1.1 200 OK\r\nContent-Type: application/x-ndjson\r\nContent-Length: 0\r\n\r\n",
+);
+
 /// Reads of the log of the ring `tiny`.
 static LOG: [Step<'_>; 13] = [
     (
         Sent::Get("/v1/log?from=2&most=1"),
-        Told::Json(
-            "200 OK",
-            "{\"log\":[{\"hour\":0,\"place\":2,\"reply\":{\"balance\":0,\"changed\":2,\"dispersion\":0,\"done\":\"rebalance\",\"version\":2},\"request\":{\"caller\":\"ops\",\"do\":\"rebalance\",\"number\":3,\"ring\":\"tiny\",\"seed\":7},\"status\":200}]}",
+        Told::Bytes(
+            "HTTP/1.1 200 OK\r\nContent-Type: application/x-ndjson\r\nContent-Length: 192\r\n\r\n{\"hour\":0,\"place\":2,\"reply\":{\"balance\":0,\"changed\":2,\"dispersion\":0,\"done\":\"rebalance\",\"version\":2},\"request\":{\"caller\":\"ops\",\"do\":\"rebalance\",\"number\":3,\"ring\":\"tiny\",\"seed\":7},\"status\":200}\n",
         ),
     ),
     (
         Sent::Get("/v1/log?from=3"),
-        Told::Json(
-            "200 OK",
-            "{\"log\":[{\"hour\":0,\"place\":3,\"reply\":{\"done\":\"publish\",\"version\":2},\"request\":{\"caller\":\"ops\",\"do\":\"publish\",\"number\":4,\"ring\":\"tiny\"},\"status\":200}]}",
+        Told::Bytes(
+            "HTTP/1.1 200 OK\r\nContent-Type: application/x-ndjson\r\nContent-Length: 140\r\n\r\n{\"hour\":0,\"place\":3,\"reply\":{\"done\":\"publish\",\"version\":2},\"request\":{\"caller\":\"ops\",\"do\":\"publish\",\"number\":4,\"ring\":\"tiny\"},\"status\":200}\n",
         ),
     ),
-    (
-        Sent::Get("/v1/log?most=1000&from=4"),
-        Told::Json("200 OK", "{\"log\":[]}"),
-    ),
+    (Sent::Get("/v1/log?most=1000&from=4"), NO_ENTRY),
     (Sent::Get("/v1/log?most=0"), UNREADABLE),
     (Sent::Get("/v1/log?most=1001"), UNREADABLE),
     (Sent::Get("/v1/log?from=1&from=1"), UNREADABLE),
@@ -590,7 +598,7 @@ static LOG: [Step<'_>; 13] = [
 ];
 
 /// The log where there is nothing.
-static NO_LOG: [Step<'_>; 1] = [(Sent::Get("/v1/log"), Told::Json("200 OK", "{\"log\":[]}"))];
+static NO_LOG: [Step<'_>; 1] = [(Sent::Get("/v1/log"), NO_ENTRY)];
 
 #[test]
 fn the_log_is_read(rt: HostRuntime) -> Result<(), Fail> {

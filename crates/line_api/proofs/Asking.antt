@@ -28,7 +28,7 @@ use Rattle.ring_log.specs.declared.inquiry.Inquiry.{Inquiry}
 use Rattle.ring_log.specs.declared.inquiry.Inquiry.TheVariants as inquiry
 use Rattle.ring_reads.specs.Reads.{plain_word}
 use Rattle.ring_reads.specs.declared.plain.Plain.{Plain}
-use Rattle.ring_reads.specs.declared.plain.Plain.TheVariants.{Devices, Balance, Ring}
+use Rattle.ring_reads.specs.declared.plain.Plain.TheVariants.{Devices, Balance, Ring, Locks}
 use Rattle.ring_reads.specs.declared.reads.Question.{Question}
 use Rattle.ring_reads.specs.declared.reads.Question.TheVariants as question
 use Rattle.ring_reads.specs.declared.reads.Read.{Read}
@@ -79,18 +79,21 @@ word_text : (plain : Plain) → IsUtf8 (plain_word plain)
 word_text Devices = IsUtf8-from_ascii (codes "devices") (label_bytes (codes "devices") refl)
 word_text Balance = IsUtf8-from_ascii (codes "balance") (label_bytes (codes "balance") refl)
 word_text Ring = IsUtf8-from_ascii (codes "ring") (label_bytes (codes "ring") refl)
+word_text Locks = IsUtf8-from_ascii (codes "locks") (label_bytes (codes "locks") refl)
 
 first_word : (plain : Plain) (rest : List ℕ) →
     before_first (λ b. b == 32) (asked_text plain rest) ≡ plain_word plain
 first_word Devices rest = refl
 first_word Balance rest = refl
 first_word Ring rest = refl
+first_word Locks rest = refl
 
 first_place : (plain : Plain) (rest : List ℕ) →
     position_or_len (λ b. b == 32) (asked_text plain rest) ≡ length (plain_word plain)
 first_place Devices rest = refl
 first_place Balance rest = refl
 first_place Ring rest = refl
+first_place Locks rest = refl
 
 -- a text that begins with a word and a space has a space
 pub has_space : (t : List ℕ) (r : Option (Bor (List ℕ) × Bor (List ℕ))) → Splits 32 t r → r ≡ None →
@@ -276,6 +279,8 @@ moves_word Balance rest text is =
     let clash : ◌≡◌ {A = ℕ} 98 109 = ap (λ (t : List ℕ). get_or t 0 0) is in omega (arith, clash)
 moves_word Ring rest text is =
     let clash : ◌≡◌ {A = ℕ} 114 109 = ap (λ (t : List ℕ). get_or t 0 0) is in omega (arith, clash)
+moves_word Locks rest text is =
+    let clash : ◌≡◌ {A = ℕ} 108 109 = ap (λ (t : List ℕ). get_or t 0 0) is in omega (arith, clash)
 
 -- a plain read and a preview have different words in front
 other_word : (plain : Plain) (rest text : List ℕ) →
@@ -286,6 +291,8 @@ other_word Balance rest text is =
     let clash : ◌≡◌ {A = ℕ} 98 112 = ap (λ (t : List ℕ). get_or t 0 0) is in omega (arith, clash)
 other_word Ring rest text is =
     let clash : ◌≡◌ {A = ℕ} 114 112 = ap (λ (t : List ℕ). get_or t 0 0) is in omega (arith, clash)
+other_word Locks rest text is =
+    let clash : ◌≡◌ {A = ℕ} 108 112 = ap (λ (t : List ℕ). get_or t 0 0) is in omega (arith, clash)
 
 -- where what stands behind the word names no ring and numbers, the words ask nothing of a ring
 pub no_preview : (words text : List ℕ) (fault : SpellingFault) →
@@ -361,6 +368,8 @@ log_word Balance rest text is =
     let clash : ◌≡◌ {A = ℕ} 98 108 = ap (λ (t : List ℕ). get_or t 0 0) is in omega (arith, clash)
 log_word Ring rest text is =
     let clash : ◌≡◌ {A = ℕ} 114 108 = ap (λ (t : List ℕ). get_or t 0 0) is in omega (arith, clash)
+log_word Locks rest text is =
+    let clash : ◌≡◌ {A = ℕ} 99 103 = ap (λ (t : List ℕ). get_or t 2 0) is in omega (arith, clash)
 
 -- and so have a preview, what moved, the rings and the status
 log_preview : (rest text : List ℕ) → codes "preview " ++ rest ≡ codes "log " ++ text → ⊥

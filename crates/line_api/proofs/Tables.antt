@@ -1,20 +1,24 @@
--- What is written of a table or of JSON ends with a line feed.
+-- What is written of a table, of JSON or of a log ends with a line feed.
 use Rattle.std.proofs.Common.{◌≡◌, ℕ, List, [], ◌∷◌, ◌++◌, codes, decimal, map, refl, sym, ap, ◌∙◌}
-use Rattle.std.proofs.Common.{append-nil, append_assoc, Result, Ok, Err}
+use Rattle.std.proofs.Common.{append-nil, append_assoc, subst, Result, Ok, Err}
+use Rattle.std.specs.Prelude.{◌+◌, if◌then◌else◌}
 use Rattle.std.specs.List.{concat, zip}
 use Rattle.ring_model.specs.Ring.{RingRecord}
 use Rattle.ring_words.specs.Texts.{hundredths_text}
 use Rattle.ring_share.specs.Figures.{ring_balance, ring_dispersion}
+use Rattle.builder.specs.Safety.{Entries}
 use Rattle.request_book.specs.declared.book.Fault.{Fault}
 use Rattle.ring_book.specs.Book.{Finding}
 use Rattle.ring_book.specs.Reads.{ReadShows}
-use Rattle.ring_log.specs.Inquiries.{AsksText, written_for}
+use Rattle.ring_log.specs.Inquiries.{AsksText, asks_json, written_for}
+use Rattle.ring_log.specs.Log.{DecidedEntry, entries_text, entry_text}
+use Rattle.ring_log.specs.declared.text.LogForm.TheVariants as form
 use Rattle.ring_log.specs.declared.inquiry.Inquiry.{Inquiry}
 use Rattle.ring_log.specs.declared.inquiry.Inquiry.TheVariants as inquiry
 use Rattle.ring_reads.specs.Holding.{Holding, hour_now}
 use Rattle.ring_reads.specs.Reads.{IsPlainText, IsText, Shows, written_as}
 use Rattle.ring_reads.specs.declared.plain.Plain.{Plain}
-use Rattle.ring_reads.specs.declared.plain.Plain.TheVariants.{Devices, Balance, Ring}
+use Rattle.ring_reads.specs.declared.plain.Plain.TheVariants.{Devices, Balance, Ring, Locks}
 use Rattle.ring_reads.specs.declared.reads.Question.{Question}
 use Rattle.ring_reads.specs.declared.reads.Question.TheVariants as question
 use Rattle.ring_reads.specs.declared.reads.Read.TheVariants as read
@@ -72,6 +76,7 @@ plain_ends : (plain : Plain) (name : List ℕ) (ring : RingRecord) (hour : ℕ) 
 plain_ends Devices name ring hour text is = device_table_ends ring text is
 plain_ends Balance name ring hour text is = balance_table_ends ring is.0 text is.2
 plain_ends Ring name ring hour text is = (text, refl)
+plain_ends Locks name ring hour text is = (text, refl)
 
 -- what is written of a question ends with a line feed
 held_ends : (prefix suffix words : List ℕ) (asked : Question) → AskQuestion words asked →
@@ -94,15 +99,48 @@ held_ends prefix suffix words (question.Ring name (read.Moves from to)) asks hel
 held_ends prefix suffix words (question.Ring name (read.EachMove from to)) asks held bytes shows =
     absurd asks
 
+-- what is written ends with a line feed where one JSON text and its line feed do, or all else as it
+-- is
+written_ends : (asked : Inquiry) (bytes : List ℕ)
+    → IsEnded (if asks_json asked then bytes ++ 10 ∷ [] else bytes)
+    → IsEnded (written_for asked bytes)
+written_ends asked [] ends = ([], refl)
+written_ends asked (b ∷ bytes) ends = ends
+
+-- the lines of entries end with a line feed
+lines_end : (place : ℕ) (e : DecidedEntry) (es : Entries) →
+    IsEnded (entries_text form.Entries place (e ∷ es))
+lines_end place e [] =
+    (entry_text form.Entries place e, append-nil (entry_text form.Entries place e ++ 10 ∷ []))
+lines_end place e (f ∷ es) =
+    let first : List ℕ = entry_text form.Entries place e ++ 10 ∷ [] in
+    let rest = lines_end (place + 1) f es in (
+      first ++ rest.0,
+      ap (λ (t : List ℕ). first ++ t) rest.1 ∙ sym (append_assoc first rest.0 (10 ∷ [])),
+    )
+
+log_ends : (from most : ℕ) (page : Entries) (bytes : List ℕ)
+    → bytes ≡ entries_text form.Entries from page
+    → IsEnded (written_for (inquiry.Log from most) bytes)
+log_ends from most [] bytes is =
+    subst (λ (t : List ℕ). IsEnded (written_for (inquiry.Log from most) t)) (sym is) ([], refl)
+log_ends from most (e ∷ es) bytes is =
+    let lines = lines_end from e es in
+    written_ends (inquiry.Log from most) bytes (lines.0, is ∙ lines.1)
+
 -- what is written of what a line asks for ends with a line feed
 pub shown_ends : (Finds : Finding) (prefix suffix line : List ℕ) (asked : Inquiry) →
     AsksInquiry line asked → (answer : Result (Unit {0}) Fault) (bytes : List ℕ) →
     ReadShows Finds prefix suffix asked answer bytes → IsEnded (written_for asked bytes)
 shown_ends Finds prefix suffix line (inquiry.Held question) asks (Ok ready) bytes shows =
-    held_ends prefix suffix asks.words question asks.asks shows.0 bytes shows.2
+    written_ends (inquiry.Held question) bytes
+    (held_ends prefix suffix asks.words question asks.asks shows.0 bytes shows.2)
 shown_ends Finds prefix suffix line (inquiry.Held question) asks (Err fault) bytes shows =
     absurd shows
-shown_ends Finds prefix suffix line (inquiry.Log from most) asks answer bytes shows = (bytes, refl)
+shown_ends Finds prefix suffix line (inquiry.Log from most) asks (Ok ready) bytes shows =
+    log_ends from most shows.0 bytes shows.2
+shown_ends Finds prefix suffix line (inquiry.Log from most) asks (Err fault) bytes shows =
+    absurd shows
 
 -- what is shown of a question is text
 held_text : (words : List ℕ) (asked : Question) → AskQuestion words asked → IsText asked

@@ -90,8 +90,9 @@ fn shown_text(asked: &Inquiry, bytes: Vec<u8>) -> String
         × (written_for asked.now bytes.items ≡ front ++ 10 ∷ []) }
     ensures { string_bytes result ++ 10 ∷ [] ≡ written_for asked.now bytes.items }
 {
+    let has_no_end = asked.is_json() || bytes.is_empty();
     match String::from_utf8(bytes) {
-        Ok(text) if asked.is_json() => text,
+        Ok(text) if has_no_end => text,
         Ok(text) => unended(text),
         Err(_) => unreachable!(),
     }

@@ -27,18 +27,26 @@ fn told(alloc: Global, line: &str) -> Result<String, AllocError> {
 }
 
 /// What the words of a line ask for.
-static ASKED: [(&str, &str); 35] = [
+static ASKED: [(&str, &str); 37] = [
     ("run", "Run { file: None }"),
     ("run --file F", "Run { file: Some(\"F\") }"),
     ("table F object", "Table { file: \"F\", ring: \"object\" }"),
     (
         "show F object",
-        "Show { file: \"F\", what: Ring(\"object\") }",
+        "Show { file: \"F\", what: Ring { ring: \"object\", locks: false } }",
+    ),
+    (
+        "show F object --locks",
+        "Show { file: \"F\", what: Ring { ring: \"object\", locks: true } }",
+    ),
+    (
+        "show --locks F object",
+        "Show { file: \"F\", what: Ring { ring: \"object\", locks: true } }",
     ),
     ("show F", "Show { file: \"F\", what: Rings }"),
     (
         "show F status",
-        "Show { file: \"F\", what: Ring(\"status\") }",
+        "Show { file: \"F\", what: Ring { ring: \"status\", locks: false } }",
     ),
     ("show F --status", "Show { file: \"F\", what: Status }"),
     ("show --status F", "Show { file: \"F\", what: Status }"),
@@ -174,7 +182,7 @@ static NOT_OF_ITS_FORM: [&str; 29] = [
     "export F object 7 --format json",
 ];
 
-static OTHER_WORDS: [&str; 73] = [
+static OTHER_WORDS: [&str; 77] = [
     "",
     "ran",
     "Run",
@@ -194,6 +202,10 @@ static OTHER_WORDS: [&str; 73] = [
     "show F --status --metrics",
     "show F object --metrics --status",
     "show F --metrics --metrics",
+    "show F --locks",
+    "show F object --locks --status",
+    "show F object --metrics --locks",
+    "show F object --locks --locks",
     "preview F object",
     "preview F object 7",
     "preview F --seed 7",

@@ -3,8 +3,9 @@ use Rattle.std.proofs.Common.{◌≡◌, ◌∙◌, ℕ, List, Result, Ok, Err, 
 use Rattle.std.specs.Prelude.{MatchResult}
 use Rattle.builder.specs.Life.{BookContent}
 use Rattle.builder.specs.Safety.{Entries}
-use Rattle.ring_log.specs.Log.{log_json}
+use Rattle.ring_log.specs.Log.{entries_text}
 use Rattle.ring_log.specs.declared.inquiry.Inquiry.TheVariants as inquiry
+use Rattle.ring_log.specs.declared.text.LogForm.TheVariants as form
 use Rattle.ring_messages.specs.declared.told.Told.{Told}
 use Rattle.ring_messages.specs.declared.told.Told.TheVariants as told
 use Rattle.ring_reads.specs.Holding.{Holding}
@@ -45,7 +46,8 @@ read_as Finds prefix suffix question held (Err told) bytes_of found tells = (hel
 -- what is read of the entries that were found is read as it is to be
 pub log_as : (Finds : Finding) (prefix suffix : List ℕ) (from most : ℕ) (page : Entries)
     {A : Type 0} (result : Result A Told) (bytes_of : A → List ℕ) → Finds.log from most page →
-    MatchResult result (λ shown. bytes_of shown ≡ log_json from page) (λ t. t ≡ told.NoMemory) →
+    MatchResult result (λ shown. bytes_of shown ≡ entries_text form.Entries from page)
+    (λ t. t ≡ told.NoMemory) →
     IsReadAs Finds prefix suffix (inquiry.Log from most) (Ok tt) result bytes_of
 log_as Finds prefix suffix from most page (Ok shown) bytes_of found shows = (page, found, shows)
 log_as Finds prefix suffix from most page (Err t) bytes_of found tells = tells

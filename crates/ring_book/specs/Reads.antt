@@ -2,9 +2,10 @@
 use Rattle.std.specs.Prelude.{◌≡◌, ℕ, Err, List, MatchResult, Ok, Result}
 use Rattle.builder.specs.Safety.{Entries}
 use Rattle.request_book.specs.declared.book.Fault.{Fault}
-use Rattle.ring_log.specs.Log.{log_json}
+use Rattle.ring_log.specs.Log.{entries_text}
 use Rattle.ring_log.specs.declared.inquiry.Inquiry.{Inquiry}
 use Rattle.ring_log.specs.declared.inquiry.Inquiry.TheVariants as inquiry
+use Rattle.ring_log.specs.declared.text.LogForm.TheVariants as form
 use Rattle.ring_messages.specs.declared.told.Told.{Told}
 use Rattle.ring_messages.specs.declared.told.Told.TheVariants as told
 use Rattle.ring_reads.specs.Holding.{Holding}
@@ -19,12 +20,12 @@ abbrev pub TellsHidden : Holding → Question → Told → Type 0
 TellsHidden held question t = (why : Hidden) × Hides held question why × (t ≡ told_hidden why)
 
 -- These bytes are shown where that is found: of what is held what is shown of a question, and of the
--- book the entries from a place on, at most so many. Paths are hashed between a prefix and a suffix.
+-- book the entries from a place on, at most so many, a line of JSON each. Paths are hashed between a prefix and a suffix.
 abbrev pub FoundShows : Finding → List ℕ → List ℕ → Inquiry → List ℕ → Type 0
 FoundShows Finds prefix suffix (inquiry.Held question) bytes =
     (held : Holding) × Finds.held held × Shows prefix suffix held question bytes
 FoundShows Finds prefix suffix (inquiry.Log from most) text =
-    (page : Entries) × Finds.log from most page × (text ≡ log_json from page)
+    (page : Entries) × Finds.log from most page × (text ≡ entries_text form.Entries from page)
 
 -- Nothing is shown of what is found, and this is told. A log is hidden by want of memory alone.
 abbrev pub FoundTells : Finding → Inquiry → Told → Type 0

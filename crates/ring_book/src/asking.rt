@@ -5,7 +5,8 @@ ghost use Rattle.request_book.specs.declared.book.Fault.{Fault};
 ghost use Rattle.ring_book.specs.Book.{Delivers, Found, Made, holding};
 ghost use Rattle.ring_book.specs.Reads.{IsReadAs, TellsHidden};
 ghost use Rattle.ring_log.specs.Inquiries.{AsksText};
-ghost use Rattle.ring_log.specs.Log.{log_json};
+ghost use Rattle.ring_log.specs.Log.{entries_text};
+ghost use Rattle.ring_log.specs.declared.text.LogForm.TheVariants as form;
 ghost use Rattle.ring_reads.specs.Holding.{holding_of};
 ghost use Rattle.ring_reads.specs.Reads.{IsText, Shows};
 
@@ -13,7 +14,7 @@ use crate::telling::{told_fault, told_hidden, told_of};
 use builder::{RingMachine, Told};
 use path_lookup::HashNames;
 use request_book::{Book, Keeper};
-use ring_log::{Inquiry, LogEntry, log_json};
+use ring_log::{Inquiry, LogEntry, LogForm, entries_text};
 use ring_messages::command_is_proper;
 use ring_reads::{Held, Question, show};
 use ring_words::{Command, Hour, Key};
@@ -92,20 +93,22 @@ fn read_question<K: Keeper<RingMachine>>(
     }
 }
 
-/// Entries as JSON, of which the first has this place, or that there is no memory for it.
+/// A line of JSON for each of some entries, of which the first has this place, or that there is no
+/// memory for them.
 fn log_bytes(alloc: Global, from: u32, entries: &[LogEntry]) -> Result<Vec<u8>, Told>
-    ensures told { MatchResult result (λ bytes. bytes.items ≡ log_json from entries.now)
+    ensures told { MatchResult result (λ bytes. bytes.items ≡ entries_text form.Entries from
+        entries.now)
         (λ t. t ≡ Told.NoMemory) }
     ensures text { IfOk result (λ bytes. IsUtf8 bytes.items) }
 {
-    match log_json(alloc, from, entries) {
+    match entries_text(alloc, LogForm::Entries, from, entries) {
         Ok(text) => Ok(text.into_bytes()),
         Err(_) => Err(Told::NoMemory),
     }
 }
 
-/// The entries of a book from a place on, at most so many, as JSON, or what is told where there is
-/// nothing to show.
+/// The entries of a book from a place on, at most so many, a line of JSON each, or what is told where
+/// they are not shown.
 fn read_log<K: Keeper<RingMachine>>(
     alloc: Global,
     book: &mut Book<RingMachine, K>,

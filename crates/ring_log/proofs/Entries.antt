@@ -1,55 +1,17 @@
 -- Entries that are told one after another.
-use Rattle.std.proofs.Common.{◌≡◌, ◌∙◌, ℕ, suc, ◌+◌, ◌<◌, Bool, false, List, [], ◌∷◌, ◌++◌, codes}
-use Rattle.std.proofs.Common.{get_or, length, map, take, append-nil, append_assoc, ap, arith, refl}
+use Rattle.std.proofs.Common.{◌≡◌, ◌∙◌, ℕ, ◌+◌, ◌<◌, false, List, [], ◌∷◌, ◌++◌, codes}
+use Rattle.std.proofs.Common.{get_or, length, take, append-nil, append_assoc, ap, arith, refl}
 use Rattle.std.proofs.Common.{sym}
-use Rattle.std.specs.Prelude.{◌||◌}
-use Rattle.std.proofs.lemmas.List.{length-map, length-take-le, take_more}
-use Rattle.serde_json.specs.Data.{Data, put}
-use Rattle.serde_json.specs.View.{items_of, view}
-use Rattle.serde_json.specs.Written.{has_float, items_have_float}
-use Rattle.serde_json.specs.declared.value.Value.{Value}
+use Rattle.std.proofs.lemmas.List.{length-take-le, take_more}
+use Rattle.serde_json.specs.Data.{put}
+use Rattle.serde_json.specs.Written.{has_float}
 use Rattle.ring_messages.specs.Message.{message_data}
 use Rattle.ring_messages.specs.Replies.{reply_data}
 use Rattle.ring_messages.proofs.Keyed.{message_no_float}
 use Rattle.ring_messages.proofs.Puts.{each_put, no_floats}
 use Rattle.ring_messages.proofs.ReplyObjects.{reply_no_float}
-use Rattle.ring_log.specs.Log.{DecidedEntry, entries_data, entries_text, entry_data, entry_figures}
-use Rattle.ring_log.specs.Log.{entry_text, log_data}
+use Rattle.ring_log.specs.Log.{DecidedEntry, entries_text, entry_data, entry_figures, entry_text}
 use Rattle.ring_log.specs.declared.text.LogForm.{LogForm}
-
--- ---- as JSON
-
-count_data : (place : ℕ) (es : List DecidedEntry) → length (entries_data place es) ≡ length es
-count_data place [] = refl
-count_data place (e ∷ es) = ap suc (count_data (place + 1) es)
-
--- what is told of one entry more
-data_push : (place : ℕ) (es : List DecidedEntry) (e : DecidedEntry)
-    → entries_data place (es ++ e ∷ [])
-    ≡ entries_data place es ++ entry_data (place + length es) e ∷ []
-data_push place [] e =
-    let same : place ≡ place + 0 = omega arith in
-    ap (λ (n : ℕ). entry_data n e ∷ []) same
-data_push place (x ∷ es) e =
-    let same : place + 1 + length es ≡ place + length (x ∷ es) = omega arith in
-    ap (λ (datas : List Data). entry_data place x ∷ datas) (data_push (place + 1) es e
-    ∙ ap (λ (n : ℕ). entries_data (place + 1) es ++ entry_data n e ∷ []) same)
-
--- the values of so many entries get that of the next
-pub data_more : (place : ℕ) (es : List DecidedEntry) (i : ℕ) (e : DecidedEntry)
-    (before after : List Value) → i < length es → e ≡ get_or es i e
-    → map view before ≡ entries_data place (take i es)
-    → map view after ≡ map view before ++ entry_data (place + length before) e ∷ []
-    → map view after ≡ entries_data place (take (i + 1) es)
-data_more place es i e before after lt is so_far more =
-    let count : length before ≡ length (take i es) =
-    sym (length-map before view) ∙ ap (λ (datas : List Data). length datas) so_far
-    ∙ count_data place (take i es) in
-    more ∙ ap (λ (datas : List Data). datas ++ entry_data (place + length before) e ∷ []) so_far
-    ∙ ap (λ (n : ℕ). entries_data place (take i es) ++ entry_data (place + n) e ∷ []) count
-    ∙ sym (data_push place (take i es) e)
-    ∙ ap (λ (x : DecidedEntry). entries_data place (take i es ++ x ∷ [])) is
-    ∙ ap (λ (xs : List DecidedEntry). entries_data place xs) (sym (take_more es i e lt))
 
 -- no number of an entry is a float
 pub entry_without_float : (place : ℕ) (e : DecidedEntry) → has_float (entry_data place e) ≡ false
@@ -60,21 +22,6 @@ entry_without_float place e =
     (message_no_float e.key e.command)
     (each_put (λ k d. has_float d ≡ false) (codes "reply") (reply_data e.reply)
     (entry_figures place e) (reply_no_float e.reply) (refl, (refl, (refl, tt)))))
-
-neither : (a b : Bool) → a ≡ false → b ≡ false → (a || b) ≡ false
-neither a b first second = rw (first, second) refl
-
-entries_without_float : (place : ℕ) (es : List DecidedEntry)
-    → items_have_float (items_of (entries_data place es)) ≡ false
-entries_without_float place [] = refl
-entries_without_float place (e ∷ es) = neither (has_float (entry_data place e))
-    (items_have_float (items_of (entries_data (place + 1) es))) (entry_without_float place e)
-    (entries_without_float (place + 1) es)
-
-pub log_without_float : (place : ℕ) (es : List DecidedEntry) → has_float (log_data place es) ≡ false
-log_without_float place es = rw (entries_without_float place es) refl
-
--- ---- as lines
 
 text_push : (form : LogForm) (place : ℕ) (es : List DecidedEntry) (e : DecidedEntry)
     → entries_text form place (es ++ e ∷ [])

@@ -1,7 +1,7 @@
--- What is told of decided requests: as compact JSON, its keys in byte order, and as lines.
+-- What is told of decided requests, a line each: as compact JSON, its keys in byte order, or as the
+-- line that asks for it again.
 use Rattle.std.specs.Prelude.{ℕ, ◌+◌, List, [], ◌∷◌, ◌++◌, codes, decimal}
-use Rattle.serde_json.specs.Data.{Data, array, object, Members, no_members, member, put}
-use Rattle.serde_json.specs.View.{items_of}
+use Rattle.serde_json.specs.Data.{Data, object, Members, no_members, member, put}
 use Rattle.serde_json.specs.Written.{compact_text}
 use Rattle.request_book.specs.declared.entry.Entry.{Entry}
 use Rattle.ring_messages.specs.Fields.{whole}
@@ -17,8 +17,6 @@ use Rattle.ring_log.specs.declared.text.LogForm.TheVariants as form
 abbrev pub DecidedEntry : Type 0
 DecidedEntry = Entry Command Reply
 
--- ---- as JSON
-
 -- the numbers that are told of the entry at a place: the hour that it was decided at, its place, and
 -- the status that its reply has
 abbrev pub entry_figures : ℕ → DecidedEntry → Members
@@ -32,22 +30,6 @@ abbrev pub entry_data : ℕ → DecidedEntry → Data
 entry_data place e =
     object (put (codes "request") (message_data e.key e.command)
     (put (codes "reply") (reply_data e.reply) (entry_figures place e)))
-
--- what is told of entries, by rising place, of which the first has this one
-abbrev pub entries_data : ℕ → List DecidedEntry → List Data
-entries_data place [] = []
-entries_data place (e ∷ es) = entry_data place e ∷ entries_data (place + 1) es
-
--- what is told of a part of a log that begins at this place
-abbrev pub log_data : ℕ → List DecidedEntry → Data
-log_data place es =
-    object (member (codes "log") (array (items_of (entries_data place es))) no_members)
-
--- The text of it.
-abbrev pub log_json : ℕ → List DecidedEntry → List ℕ
-log_json place es = compact_text (log_data place es)
-
--- ---- as lines
 
 -- The line that asks for the delivery of an entry: the hour that it was decided at, a space, and its
 -- message.

@@ -24,8 +24,7 @@ pub fn read_size(word: &str) -> Result<u32, SpellingFault>
 pub enum Inquiry {
     /// Something of what it holds.
     Held(Question),
-    /// The entries of its log from a place on, and at most so many of them, as JSON without a line
-    /// feed.
+    /// The entries of its log from a place on, and at most so many of them, a line of JSON each.
     Log(u32, u32),
 }
 
@@ -33,13 +32,13 @@ impl Inquiry {
     ghost use Rattle.std.specs.Prelude.{◌≡◌};
     ghost use Rattle.ring_log.specs.Inquiries.{asks_json};
 
-    /// Whether what is shown of it is JSON, which has no line feed at its end.
+    /// Whether what is shown of it is one JSON text, which has no line feed at its end.
     pub fn is_json(&self) -> bool
         ensures { result ≡ asks_json self.now }
     {
         match self {
             Inquiry::Held(question) => question.is_json(),
-            Inquiry::Log(..) => true,
+            Inquiry::Log(..) => false,
         }
     }
 }

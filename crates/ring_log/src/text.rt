@@ -1,17 +1,15 @@
-//! Decided requests as JSON text and as lines.
-ghost use Rattle.std.specs.Prelude.{◌≡◌, ◌<◌, ◌+◌, ◌^◌, ◌++◌, ◌∷◌, [], IfOk, OnOk, length, map};
-ghost use Rattle.std.specs.Prelude.{string_bytes};
-ghost use Rattle.serde_json.specs.Data.{array};
-ghost use Rattle.serde_json.specs.View.{items_of, members_view, view};
+//! Decided requests, a line each.
+ghost use Rattle.std.specs.Prelude.{◌≡◌, ◌<◌, ◌+◌, ◌^◌, ◌++◌, ◌∷◌, [], IfOk, OnOk, string_bytes};
+ghost use Rattle.serde_json.specs.View.{members_view, view};
 ghost use Rattle.serde_json.specs.Written.{compact_text};
-ghost use Rattle.ring_log.specs.Log.{delivery_line, entries_data, entries_text, entry_data};
-ghost use Rattle.ring_log.specs.Log.{entry_figures, entry_text, log_data, log_json};
+ghost use Rattle.ring_log.specs.Log.{delivery_line, entries_text, entry_data, entry_figures};
+ghost use Rattle.ring_log.specs.Log.{entry_text};
 
 use request_book::Entry;
 use ring_messages::Scalar::Number;
 use ring_messages::{Told, members, message_text, message_value, reply_value, status_of};
 use ring_words::{Command, Reply};
-use serde_json::{Map, Value, json, put};
+use serde_json::{Map, Value, put};
 use std::alloc::{AllocError, Global};
 
 /// A decided request of a book of rings.
@@ -20,7 +18,9 @@ pub type LogEntry = Entry<Command, Reply>;
 /// The form in which entries are written, a line each.
 #[derive(Clone, Copy, Debug, PartialEq, Eq)]
 pub enum LogForm {
-    /// Whole entries, as JSON.
+    /// Whole entries, as compact JSON, its keys in byte order: the `hour` that a request was decided
+    /// at, its `place`, its `request` as a message, and the `reply` that is kept of it with its
+    /// `status`.
     Entries,
     /// Lines that ask for the same deliveries again.
     Deliveries,
@@ -58,49 +58,6 @@ fn next_place(from: u32, others: usize) -> u64
     ensures { result ≡ from + others }
 {
     u64::from(from) + others as u64
-}
-
-/// Adds the next of the entries from a place on.
-fn push_entry(
-    into: &mut Vec<Value>,
-    alloc: Global,
-    from: u32,
-    entry: &LogEntry,
-) -> Result<(), AllocError>
-    ensures { OnOk result (map view into.new.items ≡ map view into.old.items ++
-        entry_data (from + length into.old.items) entry.now ∷ []) }
-{
-    let place = next_place(from, into.len());
-    into.push(entry_value(alloc, place, entry)?)?;
-    Ok(())
-}
-
-/// Entries, of which the first has this place.
-fn entries_value(alloc: Global, from: u32, entries: &[LogEntry]) -> Result<Value, AllocError>
-    ensures { IfOk result (λ v. view v ≡ array (items_of (entries_data from entries.now))) }
-{
-    let mut told = Vec::with_capacity(alloc, entries.len())?;
-    for entry in entries {
-        push_entry(&mut told, alloc, from, entry)?;
-    }
-    Ok(Value::Array(told))
-}
-
-/// The object with entries, of which the first has this place.
-fn log_value(alloc: Global, from: u32, entries: &[LogEntry]) -> Result<Value, AllocError>
-    ensures { IfOk result (λ v. view v ≡ log_data from entries.now) }
-{
-    let log = entries_value(alloc, from, entries)?;
-    json!(in alloc; {"log": log})
-}
-
-/// Entries, of which the first has this place, as compact JSON, its keys in byte order: of each, by
-/// rising place, the `hour` that it was decided at, its `place`, its `request` as a message, and the
-/// `reply` that is kept of it with its `status`.
-pub fn log_json(alloc: Global, from: u32, entries: &[LogEntry]) -> Result<String, AllocError>
-    ensures { IfOk result (λ text. string_bytes text ≡ log_json from entries.now) }
-{
-    log_value(alloc, from, entries)?.to_string(alloc)
 }
 
 /// The text of the entry at a place, as it is told among others.

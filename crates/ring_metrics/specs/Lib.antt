@@ -1,3 +1,4 @@
 pub mod Locks
+pub mod Inner
 pub mod Measures
 pub mod Metrics

@@ -318,7 +318,7 @@ fn text_of(alloc: Global, store: &StoreFigures, all: &[Measured<'_>]) -> Result<
 /// gauge with HELP and TYPE in front of it: how many numbers of callers are kept and may be, and the
 /// greatest hour that was decided at, in whole hours since 1970; and of each ring, by rising name,
 /// under the label `ring`: its version, partitions and replicas, its balance and dispersion in
-/// percent with two digits behind the point, how many partitions are locked at the hour and in how
+/// percent with two digits after the point, how many partitions are locked at the hour and in how
 /// many hours none is any more, how many versions are published and may be, how many seats are not
 /// where they are wanted, and how many devices are in each state (the label `state`, as the device
 /// table has it).

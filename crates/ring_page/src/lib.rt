@@ -11,7 +11,7 @@ pub static PAGE: &str = r##"<!doctype html>
 <html lang="en">
 <head>
 <meta charset="utf-8">
-<meta http-equiv="Content-Security-Policy" content="default-src 'none'; script-src 'sha256-u94B0LSFCfcFJSiSRFBRrQjn6rR9RNEjOm4zJQo3wfY='; style-src 'sha256-Xc/6umNOprcv/v1n1tQ8+zSo1XWIdpLNkZ7kgtjPxGk='; img-src data:; connect-src 'self'; base-uri 'none'; form-action 'none'; require-trusted-types-for 'script'; trusted-types 'none'">
+<meta http-equiv="Content-Security-Policy" content="default-src 'none'; script-src 'sha256-IwcdGucT7CzL7FqgSAYzlVuPwU2eXm8/+N4Q6Zpct7g='; style-src 'sha256-NC6Vj9UkQl4KhErC89GsgxhL5yo6+JH8zJz8ENqj2xo='; img-src data:; connect-src 'self'; base-uri 'none'; form-action 'none'; require-trusted-types-for 'script'; trusted-types 'none'">
 <meta name="viewport" content="width=device-width, initial-scale=1">
 <title>Rings</title>
 <link rel="icon" href="data:,">
@@ -62,6 +62,12 @@ section { background: var(--card); border: 1px solid var(--line); border-radius:
 dt { color: var(--soft); font-size: .85rem; }
 .big { font-size: 1.45rem; font-weight: 650; line-height: 1.25; }
 .tiles .bar { margin: .3rem 0; }
+.locks { max-width: 40rem; margin: .6rem 0 0; }
+#locks-told:not(:empty) { margin-top: .9rem; }
+.hours { display: flex; gap: 1px; align-items: flex-end; height: 3.5rem; border-bottom: 1px solid var(--soft); forced-color-adjust: none; }
+.hours i { flex: 1; background: var(--has); min-height: 2px; }
+.hours .none { background: none; }
+figcaption { display: flex; justify-content: space-between; }
 .asks { margin: .5rem 0 .7rem; }
 .zones { display: grid; grid-template-columns: repeat(auto-fit, minmax(min(100%, 22rem), 1fr)); gap: .7rem 1.2rem; align-items: start; }
 details, .tall { container-type: inline-size; }
@@ -138,6 +144,8 @@ th:first-child, td:first-child, .text { text-align: left; }
 <section>
 <h2 id="name"></h2>
 <dl class="tiles" id="ring-rows"></dl>
+<p id="locks-told"></p>
+<div id="locks-rows"></div>
 </section>
 <section id="devices">
 <h2>What each device wants and has</h2>
@@ -196,6 +204,7 @@ th:first-child, td:first-child, .text { text-align: left; }
 // This page sends nothing but GET. Texts of answers go in as texts (append, textContent), never as HTML.
 
 const LOG_ROWS = 20;
+const MOST_BARS = 24, MOST_HOURS = 16384; // of locks: bars, and as many as a ring has partitions
 const EVERY = 60, AFTER_FAULT = 10; // seconds until the page reads again, while it is visible
 const PATIENCE = 30; // seconds for one answer: others may be served first
 const NEAR = 0.9; // of the limit of numbers
@@ -257,7 +266,7 @@ function shown(text) {
 const isWhole = (value) => Number.isSafeInteger(value) && value >= 0;
 const whole = (of, key) => member(of, key, isWhole, null);
 const text = (of, key) => shown(member(of, key, (value) => typeof value === "string", "?"));
-const list = (of, key) => member(of, key, Array.isArray, []).slice(0, 2000);
+const list = (of, key, most = 2000) => member(of, key, Array.isArray, []).slice(0, most);
 const wholes = (of, ...keys) => Object.fromEntries(keys.map((key) => [key, whole(of, key)]));
 
 /**
@@ -313,8 +322,10 @@ function read(path) {
   return body;
 }
 
+/** What an answer tells: one JSON text, and the log one a line. */
 function parse(path, body) {
   try {
+    if (path.startsWith("log")) return body.split("\n").filter((line) => line).map((line) => JSON.parse(line));
     return JSON.parse(body);
   } catch {
     throw told(`The answer to ${path} is no JSON. Do the service and this page fit?`, false);
@@ -392,9 +403,9 @@ function drawRing(of) {
   at("ring-rows").replaceChildren(
     tile("Balance", percent(ring.balance), worst),
     tile("Dispersion", percent(ring.dispersion), "of partitions could have replicas farther apart"),
-    tile("Locked partitions", ring.locked, bar(partitions || 1, ["fill", 0, ring.locked]), say`of ${partitions}`),
-    tile("Hours until none is locked", ring.rests, bar(ring.min_hours || 1, ["fill", 0, ring.rests]),
-      say`of ${ring.min_hours} (min hours)`, ring.locked ? `until ${date(ring.hour + ring.rests)} UTC` : ""),
+    tile("Locked partitions", ring.locked, say`of ${partitions}`),
+    tile("Hours until none is locked", ring.rests, say`of ${ring.min_hours} (min hours)`,
+      ring.locked ? `until ${date(ring.hour + ring.rests)} UTC` : ""),
     tile("Seats on devices", ring.seats, ring.seats === 0 ? "the ring was never rebalanced" : "",
       say`${partitions} partitions (power ${ring.power}), ${count(ring.replicas, "replica")}`),
     tile("Version", ring.version, ring.published.length ? kept : "no version is published"),
@@ -402,6 +413,42 @@ function drawRing(of) {
   drawDevices();
   drawn.delete("preview"); // these two tell the names of devices
   drawn.delete("moves");
+}
+
+/** A bar for each span of hours: how many partitions are free in it. The spans are as long as each other, and so many at most. */
+function drawLocks(of) {
+  const ends = list(of, "rests", MOST_HOURS).map((end) => wholes(end, "hours", "partitions")).filter((end) => end.hours && end.partitions);
+  if (!ends.length) return leaveLocks();
+  const last = ends.reduce((most, { hours }) => Math.max(most, hours), 0);
+  const all = ends.reduce((sum, { partitions }) => sum + partitions, 0);
+  const step = Math.ceil(last / MOST_BARS);
+  const bars = new Array(Math.ceil(last / step)).fill(0);
+  let half = null, sum = 0;
+  for (const { hours, partitions } of ends) {
+    bars[Math.ceil(hours / step) - 1] += partitions;
+    sum += partitions;
+    if (2 * sum >= all) half ??= hours;
+  }
+  const most = Math.max(...bars);
+  const spans = bars.map((number, place) => `${count(number, "partition")} in ${step > 1 ? `${place * step + 1} to ` : ""}${count((place + 1) * step, "hour")}`);
+  const row = make("div", "hours", ...bars.map((number, place) => {
+    const piece = make("i", number ? "" : "none");
+    piece.style.height = (100 * number) / most + "%";
+    piece.title = spans[place];
+    return piece;
+  }));
+  row.role = "img";
+  row.ariaLabel = `Locked partitions that are free: ${spans.filter((_, place) => bars[place]).join(", ")}`;
+  const ticks = make("figcaption", "soft", make("span", "", "now"), make("span", "", count(bars.length * step, "hour")));
+  at("locks-rows").replaceChildren(make("figure", "locks", row, ticks));
+  const [first, middle, end] = [ends[0].hours, half, last].map((each) => count(each, "hour"));
+  const begin = first === end ? "" : `the first in ${first}, half in ${middle}, `;
+  at("locks-told").textContent = `Locked partitions are free: ${begin}all in ${end}.`;
+}
+
+function leaveLocks() {
+  at("locks-told").textContent = "";
+  at("locks-rows").replaceChildren();
 }
 
 /** Things by a key, in the order of the first one of each. */
@@ -577,8 +624,8 @@ function logRow(of) {
   );
 }
 
-function drawLog(of) {
-  const rows = list(of, "log").slice(-LOG_ROWS).reverse().map(logRow);
+function drawLog(entries) {
+  const rows = entries.slice(-LOG_ROWS).reverse().map(logRow);
   const last = `The last ${count(rows.length, "request")} that were decided, the newest first.`;
   at("log-told").textContent = rows.length ? last : "No request was decided yet.";
   const heads = ["Hour (UTC)", "Caller", "Number", "Ring", "What was asked", "Status", "Answer"].map((name) => ["", name]);
@@ -619,6 +666,8 @@ async function readRing(name) {
   if (!isThere) return;
   if (askedRing !== name) picked = [];
   askedRing = name;
+  if (ring.locked === 0) draw("locks", "", leaveLocks);
+  else await show("locks", `rings/${name}/locks`, drawLocks);
   await show("preview", `rings/${name}/preview?seed=${at("seed").value || 0}`, drawPreview);
   const two = drawPublished();
   if (two) await show("moves", `rings/${name}/moves?from=${two[0]}&to=${two[1]}`, drawMoves);

@@ -1,6 +1,8 @@
 pub mod NodeLemmas
 pub mod RingData
 pub mod StoreData
+pub mod SeatCounting
 pub mod Moving
 pub mod SeatMoving
 pub mod Hiding
+pub mod LocksData

@@ -1,5 +1,7 @@
 pub mod Nodes
 pub mod RingJson
+pub mod LocksJson
+pub mod Inner
 pub mod Moves
 pub mod Preview
 pub mod SeatMoves

@@ -7,6 +7,7 @@ use Rattle.ring_metrics.specs.Metrics.{IsMetrics}
 use Rattle.ring_model.specs.Ring.{RingRecord, is_assigned, published_at}
 use Rattle.ring_model.specs.Rings.{ring_at}
 use Rattle.ring_reads.specs.Holding.{Holding, figures_of, hour_now}
+use Rattle.ring_reads.specs.LocksJson.{IsLocksJson}
 use Rattle.ring_reads.specs.Nodes.{nodes_json}
 use Rattle.ring_reads.specs.MovesJson.{AreMoveLines, IsMovesJson}
 use Rattle.ring_reads.specs.Preview.{IsPreviewJson}
@@ -14,7 +15,7 @@ use Rattle.ring_reads.specs.RingJson.{IsRingJson}
 use Rattle.ring_reads.specs.StoreJson.{rings_json, status_json}
 use Rattle.ring_tables.specs.Tables.{balance_table, device_table}
 use Rattle.ring_reads.specs.declared.plain.Plain.{Plain}
-use Rattle.ring_reads.specs.declared.plain.Plain.TheVariants.{Devices, Balance, Ring}
+use Rattle.ring_reads.specs.declared.plain.Plain.TheVariants.{Devices, Balance, Ring, Locks}
 use Rattle.ring_reads.specs.declared.reads.Format.TheVariants as format
 use Rattle.ring_reads.specs.declared.reads.Hidden.{Hidden}
 use Rattle.ring_reads.specs.declared.reads.Hidden.TheVariants.{NoRing, NotAssigned, NoVersion}
@@ -35,6 +36,7 @@ abbrev pub plain_word : Plain → List ℕ
 plain_word Devices = codes "devices"
 plain_word Balance = codes "balance"
 plain_word Ring = codes "ring"
+plain_word Locks = codes "locks"
 
 -- The text is what a plain read shows of a ring of this name at an hour.
 abbrev pub IsPlainText : Plain → List ℕ → RingRecord → ℕ → List ℕ → Type 0
@@ -42,6 +44,7 @@ IsPlainText Devices name ring hour text = text ≡ device_table ring
 IsPlainText Balance name ring hour text = (wants : List ℕ) × AreWanted ring wants
     × (text ≡ balance_table ring wants)
 IsPlainText Ring name ring hour text = IsRingJson name ring hour text
+IsPlainText Locks name ring hour text = IsLocksJson name ring hour text
 
 -- ---- what a ring shows
 
@@ -97,6 +100,7 @@ abbrev pub is_json_read : Read → Bool
 is_json_read (read.Plain Devices) = false
 is_json_read (read.Plain Balance) = false
 is_json_read (read.Plain Ring) = true
+is_json_read (read.Plain Locks) = true
 is_json_read read.Tables = false
 is_json_read (read.Nodes path) = true
 is_json_read (read.Published version written) = false

@@ -1,7 +1,7 @@
 //! What is read of rings: which there are and how much is kept, as JSON; the metrics of all, in the
-//! text format of Prometheus; of a ring its tables for operators, the whole of it, the nodes of a
-//! path, the preview of a rebalance and what moved between two published versions as JSON, and
-//! published texts.
+//! text format of Prometheus; of a ring its tables for operators, the whole of it, its locks, the
+//! nodes of a path, the preview of a rebalance and what moved between two published versions as
+//! JSON, and published texts.
 //!
 //! A front reads what is asked in its own words, and clothes what is shown; what that is, and why
 //! nothing is shown, stands here alone. The definitions that contracts cite stand in `specs/`, and
@@ -9,12 +9,14 @@
 #![tactic(auto)]
 
 mod held;
+mod locks;
 mod moves;
 mod moves_text;
 mod nodes;
 mod plain;
 mod preview;
 mod reads;
+mod seat_counts;
 mod seat_moves;
 mod whole_ring;
 mod whole_store;

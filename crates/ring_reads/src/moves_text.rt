@@ -1,5 +1,5 @@
 //! What moved between two published versions of a ring, as JSON text and as lines.
-ghost use Rattle.std.specs.Prelude.{◌≡◌, ◌++◌, ◌∷◌, ◌||◌, [], IfOk, OnOk, filter, map, nat_lt};
+ghost use Rattle.std.specs.Prelude.{◌≡◌, ◌++◌, ◌∷◌, ◌||◌, [], IfOk, List, OnOk, filter, map};
 ghost use Rattle.std.specs.Prelude.{string_bytes};
 ghost use Rattle.std.specs.List.{flat_map};
 ghost use Rattle.serde_json.specs.Data.{array};
@@ -9,8 +9,10 @@ ghost use Rattle.ring_model.specs.Ring.{has_device};
 ghost use Rattle.ring_reads.specs.MovesJson.{mover_data, movers_data, moves_data, moves_figures};
 ghost use Rattle.ring_reads.specs.SeatMoves.{given_seats, is_mover, move_line, move_lines};
 ghost use Rattle.ring_reads.specs.SeatMoves.{moved_partitions, seat_moves, seat_word, taken_seats};
+ghost use Rattle.ring_reads.specs.declared.seat_moves.Move.{Move as MoveModel};
 
-use crate::seat_moves::{Move, Moves, given_seats, moves_between, taken_seats};
+use crate::seat_counts::{given_counts, taken_counts};
+use crate::seat_moves::{Move, Moves, moves_between};
 use ring_messages::Scalar::{Number, Text};
 use ring_messages::{members, object};
 use ring_tables::push_decimal;
@@ -32,51 +34,48 @@ fn is_known(old: &Snapshot, new: &Snapshot, id: DeviceId) -> bool
     has_device(old.devices(), id) || has_device(new.devices(), id)
 }
 
-/// Whether it gives or takes some of these seats.
-fn has_moves(moves: &[Move], id: DeviceId) -> bool
-    ensures { result ≡ (nat_lt 0 (given_seats moves.now id) || nat_lt 0 (taken_seats moves.now
-        id)) }
+/// Whether it is, and gave or took some of the seats that differ, where it gave and took so many.
+fn is_mover(old: &Snapshot, new: &Snapshot, id: DeviceId, given: usize, taken: usize) -> bool
+    ensures { (moves : List MoveModel) → given ≡ given_seats moves id → taken ≡ taken_seats moves id
+        → result ≡ is_mover old.now new.now moves id }
 {
-    given_seats(moves, id) > 0 || taken_seats(moves, id) > 0
+    (given > 0 || taken > 0) && is_known(old, new, id)
 }
 
-/// Whether both is so.
-fn is_mover(old: &Snapshot, new: &Snapshot, moves: &[Move], id: DeviceId) -> bool
-    ensures { result ≡ is_mover old.now new.now moves.now id }
-{
-    is_known(old, new, id) && has_moves(moves, id)
-}
-
-/// The device of a number, by some seats that differ.
-fn mover_value(alloc: Global, moves: &[Move], id: DeviceId) -> Result<Value, AllocError>
-    ensures { IfOk result (λ v. view v ≡ mover_data moves.now id) }
+/// The device of a number that gave and took so many of the seats that differ.
+fn mover_value(alloc: Global, id: DeviceId, given: usize, taken: usize) -> Result<Value, AllocError>
+    ensures { IfOk result (λ v. (moves : List MoveModel) → given ≡ given_seats moves id →
+        taken ≡ taken_seats moves id → view v ≡ mover_data moves id) }
 {
     object(
         alloc,
         &[
-            ("gives", Number(given_seats(moves, id) as u64)),
+            ("gives", Number(given as u64)),
             ("id", Number(id.into())),
-            ("takes", Number(taken_seats(moves, id) as u64)),
+            ("takes", Number(taken as u64)),
         ],
     )
 }
 
-/// Adds the device of a number if it gives or takes some of these seats.
+/// Adds the device of a number if it gave or took some of the seats that differ, where it gave and
+/// took so many.
 fn push_mover(
     into: &mut Vec<Value>,
     alloc: Global,
     old: &Snapshot,
     new: &Snapshot,
-    moves: &[Move],
     id: DeviceId,
+    given: usize,
+    taken: usize,
 ) -> Result<(), AllocError>
-    ensures { OnOk result (map view into.new.items ≡ map view into.old.items ++
-        map (mover_data moves.now) (filter (is_mover old.now new.now moves.now) (id ∷ []))) }
+    ensures { OnOk result ((moves : List MoveModel) → given ≡ given_seats moves id →
+        taken ≡ taken_seats moves id → map view into.new.items ≡ map view into.old.items ++
+        map (mover_data moves) (filter (is_mover old.now new.now moves) (id ∷ []))) }
 {
-    if !is_mover(old, new, moves, id) {
+    if !is_mover(old, new, id, given, taken) {
         return Ok(());
     }
-    into.push(mover_value(alloc, moves, id)?)?;
+    into.push(mover_value(alloc, id, given, taken)?)?;
     Ok(())
 }
 
@@ -90,9 +89,19 @@ fn movers_value(
     requires { moves.now ≡ seat_moves old.now new.now }
     ensures { IfOk result (λ v. view v ≡ array (items_of (movers_data old.now new.now))) }
 {
+    let given = given_counts(alloc, moves)?;
+    let taken = taken_counts(alloc, moves)?;
     let mut devices = Vec::new(alloc);
     for id in 0..MOST_IDS {
-        push_mover(&mut devices, alloc, old, new, moves, id as u16)?;
+        push_mover(
+            &mut devices,
+            alloc,
+            old,
+            new,
+            id as u16,
+            given[id],
+            taken[id],
+        )?;
     }
     Ok(Value::Array(devices))
 }

@@ -3,6 +3,7 @@ ghost use Rattle.std.specs.Prelude.{◌≡◌, IfOk, IfSome, IfNone, string_byte
 ghost use Rattle.ring_reads.specs.Reads.{IsPlainText, plain_word};
 ghost use Rattle.ring_reads.specs.declared.plain.Plain.{Plain as PlainModel};
 
+use crate::locks::locks_json;
 use crate::whole_ring::ring_json;
 use ring_model::Ring;
 use ring_tables::{balance_table, device_table};
@@ -18,6 +19,8 @@ pub enum Plain {
     Balance,
     /// The whole ring, as JSON without a line feed.
     Ring,
+    /// How many partitions are locked, and for how many hours, as JSON without a line feed.
+    Locks,
 }
 
 impl Plain {
@@ -30,6 +33,7 @@ impl Plain {
             "devices" => Some(Plain::Devices),
             "balance" => Some(Plain::Balance),
             "ring" => Some(Plain::Ring),
+            "locks" => Some(Plain::Locks),
             _ => None,
         }
     }
@@ -50,6 +54,7 @@ impl Plain {
             Plain::Devices => device_table(alloc, ring),
             Plain::Balance => balance_table(alloc, ring),
             Plain::Ring => ring_json(alloc, name, ring, hour),
+            Plain::Locks => locks_json(alloc, name, ring, hour),
         }
     }
 }

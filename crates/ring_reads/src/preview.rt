@@ -5,17 +5,18 @@ ghost use Rattle.serde_json.specs.View.{items_of, members_view, view};
 ghost use Rattle.ring_place.specs.Rebalance.{IsRebalance, changed_seats};
 ghost use Rattle.ring_place.specs.Seeded.{IsSeeded};
 ghost use Rattle.ring_share.specs.Want.{AreWanted, is_open};
-ghost use Rattle.ring_reads.specs.Preview.{IsPreviewJson, device_moves, devices_moves, moving_data};
+ghost use Rattle.ring_reads.specs.Preview.{IsPreviewJson, devices_moves, moving_data};
 ghost use Rattle.ring_reads.specs.Preview.{preview_data, preview_figures};
 
-use crate::moves::{changed_partitions, staying_seats};
+use crate::moves::changed_partitions;
+use crate::seat_counts::{seat_counts, staying_counts};
 use ring_messages::Scalar::{Number, Text};
 use ring_messages::{members, object};
 use ring_metrics::locked_count;
 use ring_model::Ring;
 use ring_place::Rebalanced;
-use ring_share::{balance, dispersion, have, wanted};
-use ring_words::{Device, DeviceId, Hour, RingName};
+use ring_share::{balance, dispersion, wanted};
+use ring_words::{DeviceId, Hour, RingName};
 use serde_json::{Map, Value, put};
 use std::alloc::{AllocError, Global};
 
@@ -25,41 +26,25 @@ fn moving_value(
     alloc: Global,
     id: DeviceId,
     want: u32,
-    before: u32,
-    after: u32,
+    before: usize,
+    after: usize,
     stay: usize,
 ) -> Result<Value, AllocError>
     ensures { IfOk result (λ v. view v ≡ moving_data id want before after stay) }
 {
-    let gives = (before as usize).saturating_sub(stay);
-    let takes = (after as usize).saturating_sub(stay);
+    let gives = before.saturating_sub(stay);
+    let takes = after.saturating_sub(stay);
     object(
         alloc,
         &[
             ("gives", Number(gives as u64)),
-            ("has", Number(before.into())),
+            ("has", Number(before as u64)),
             ("id", Number(id.into())),
             ("takes", Number(takes as u64)),
-            ("then", Number(after.into())),
+            ("then", Number(after as u64)),
             ("wanted", Number(want.into())),
         ],
     )
-}
-
-/// A device of a ring that wants so many seats, where a new ring comes of that one.
-fn device_value(
-    alloc: Global,
-    ring: &Ring,
-    new: &Ring,
-    device: &Device,
-    want: u32,
-) -> Result<Value, AllocError>
-    ensures { IfOk result (λ v. view v ≡ device_moves ring.now new.now device.now want) }
-{
-    let before = have(ring, device.id);
-    let after = have(new, device.id);
-    let stay = staying_seats(ring, new, device.id);
-    moving_value(alloc, device.id, want, before, after, stay)
 }
 
 /// The devices of a ring, which want so many seats, where a new ring comes of that one.
@@ -68,9 +53,15 @@ fn devices_value(alloc: Global, ring: &Ring, new: &Ring, wants: &[u32]) -> Resul
     ensures { IfOk result (λ v. view v
         ≡ array (items_of (devices_moves ring.now new.now wants.now))) }
 {
+    let before = seat_counts(alloc, ring.seats())?;
+    let after = seat_counts(alloc, new.seats())?;
+    let stay = staying_counts(alloc, ring.seats(), new.seats())?;
     let mut devices = Vec::with_capacity(alloc, wants.len())?;
     for (place, device) in ring.devices().iter().enumerate() {
-        devices.push(device_value(alloc, ring, new, device, wants[place])?)?;
+        let id = usize::from(device.id);
+        let want = wants[place];
+        let value = moving_value(alloc, device.id, want, before[id], after[id], stay[id])?;
+        devices.push(value)?;
     }
     Ok(Value::Array(devices))
 }

@@ -66,7 +66,10 @@ impl Read {
     {
         matches!(
             self,
-            Read::Plain(Plain::Ring) | Read::Nodes(_) | Read::Preview(..) | Read::Moves(..)
+            Read::Plain(Plain::Ring | Plain::Locks)
+                | Read::Nodes(_)
+                | Read::Preview(..)
+                | Read::Moves(..)
         )
     }
 

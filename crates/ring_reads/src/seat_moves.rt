@@ -1,10 +1,9 @@
 //! Which seats differ between two rings that were published of one.
 ghost use Rattle.std.specs.Prelude.{◌≡◌, ◌+◌, ◌-◌, ◌*◌, ◌/◌, ◌^◌, ◌∷◌, ◌++◌, [], IfOk, OnOk};
-ghost use Rattle.std.specs.Prelude.{◌==◌, filter, max, slice_get};
-ghost use Rattle.ring_share.specs.Crowd.{is_on};
-ghost use Rattle.ring_reads.specs.SeatMoves.{common_power, given_seats, is_move, move_at};
+ghost use Rattle.std.specs.Prelude.{filter, max, slice_get};
+ghost use Rattle.ring_reads.specs.SeatMoves.{common_power, is_move, move_at};
 ghost use Rattle.ring_reads.specs.SeatMoves.{moved_partitions, partition_moves, raised_seat};
-ghost use Rattle.ring_reads.specs.SeatMoves.{seat_moves, taken_seats};
+ghost use Rattle.ring_reads.specs.SeatMoves.{seat_moves};
 
 use crate::moves::differ;
 use ring_text::Snapshot;
@@ -142,25 +141,4 @@ pub(crate) fn moves_between(
         }
     }
     Ok(Moves { list, partitions })
-}
-
-/// Whether a seat is on the device of a number.
-fn is_on(seat: Option<DeviceId>, id: DeviceId) -> bool
-    ensures { result ≡ is_on (λ other. other == id) seat }
-{
-    seat == Some(id)
-}
-
-/// How many of some seats the device of a number had.
-pub(crate) fn given_seats(moves: &[Move], id: DeviceId) -> usize
-    ensures { result ≡ given_seats moves.now id }
-{
-    moves.iter().filter(|one| is_on(one.from, id)).count()
-}
-
-/// How many of some seats the device of a number has.
-pub(crate) fn taken_seats(moves: &[Move], id: DeviceId) -> usize
-    ensures { result ≡ taken_seats moves.now id }
-{
-    moves.iter().filter(|one| is_on(one.to, id)).count()
 }

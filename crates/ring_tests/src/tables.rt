@@ -5,7 +5,7 @@ use crate::fixtures::{
     RingRow, WITHOUT_DEVICES, device, ring, spelled_ring, with_ring,
 };
 use ring_model::{Ring, Rings};
-use ring_reads::{Held, ring_json, rings_json, status_json};
+use ring_reads::{Held, Plain, rings_json, status_json};
 use ring_tables::{balance_table, device_table};
 use ring_words::{Address, Device, DeviceName, Hour, Port, RingName};
 use std::alloc::Global;
@@ -224,6 +224,53 @@ static RINGS: [(&str, RingRow, Hour, &str); 4] = [
     ),
 ];
 
+/// Rings, hours, and what is told of the locks of the rings at these.
+static LOCKS: [(&str, RingRow, Hour, &str); 3] = [
+    (
+        "partitions are free by the hours of their moves, and two were free before",
+        RingRow {
+            power: 3,
+            devices: &[DEVICE_0],
+            seats: &[0; 8],
+            moved: &[
+                Some(25),
+                Some(10),
+                None,
+                Some(6),
+                Some(25),
+                Some(7),
+                Some(10),
+                Some(25),
+            ],
+            ..WITHOUT_DEVICES
+        },
+        30,
+        concat!(
+            r#"{"hour":30,"locked":6,"min_hours":24,"partitions":8,"rests":["#,
+            r#"{"hours":1,"partitions":1},{"hours":4,"partitions":2},"#,
+            r#"{"hours":19,"partitions":3}],"ring":"photos"}"#,
+        ),
+    ),
+    (
+        "where no partition is locked, the list is empty",
+        WITHOUT_DEVICES,
+        0,
+        r#"{"hour":0,"locked":0,"min_hours":24,"partitions":2,"rests":[],"ring":"photos"}"#,
+    ),
+    (
+        "a partition that was moved after the hour is locked longer than others can be",
+        RingRow {
+            moved: &[Some(u32::MAX), Some(0), None, None],
+            ..BALANCED
+        },
+        0,
+        concat!(
+            r#"{"hour":0,"locked":2,"min_hours":24,"partitions":4,"rests":["#,
+            r#"{"hours":24,"partitions":1},{"hours":4294967319,"partitions":1}],"ring":"photos"}"#,
+        ),
+    ),
+];
+
 /// Whether a ring's table of devices is this text.
 fn has_devices(alloc: Global, ring: &Ring, text: &str) -> Result<bool, Fail> {
     Ok(device_table(alloc, ring)?.as_str() == text)
@@ -263,16 +310,31 @@ fn balances_are_told(rt: HostRuntime) -> Result<(), Fail> {
 }
 
 /// Whether this text is what is told, under the name `photos`, of the ring that a row spells.
-fn is_ring_told(alloc: Global, row: &RingRow, hour: Hour, text: &str) -> Result<bool, Fail> {
+fn is_plain_told(
+    alloc: Global,
+    plain: Plain,
+    row: &RingRow,
+    hour: Hour,
+    text: &str,
+) -> Result<bool, Fail> {
     let ring = spelled_ring(alloc, row)?;
     let name = RingName::new(alloc, "photos")?;
-    Ok(ring_json(alloc, &name, &ring, hour)?.as_str() == text)
+    Ok(plain.text(alloc, &name, &ring, hour)?.as_str() == text)
 }
 
 #[test]
 fn rings_are_told(rt: HostRuntime) -> Result<(), Fail> {
     for (shows, row, hour, text) in &RINGS {
-        assert!(rt; is_ring_told(rt.alloc(), row, *hour, text)?, "{shows}");
+        assert!(rt;
+            is_plain_told(rt.alloc(), Plain::Ring, row, *hour, text)?,
+            "{shows}"
+        );
+    }
+    for (shows, row, hour, text) in &LOCKS {
+        assert!(rt;
+            is_plain_told(rt.alloc(), Plain::Locks, row, *hour, text)?,
+            "{shows}"
+        );
     }
     Ok(())
 }

@@ -26,7 +26,7 @@ object members = codes "{" ++ listed members ++ codes "}"
 abbrev pub array : List (List ℕ) → List ℕ
 array parts = codes "[" ++ listed parts ++ codes "]"
 
--- so many hundredths as Swift writes such a number: with two digits behind the point, or with one
+-- so many hundredths as Swift writes such a number: with two digits after the point, or with one
 -- where the other is 0
 abbrev pub hundredths : ℕ → List ℕ
 hundredths h = decimal (h / 100) ++ codes "." ++

@@ -68,12 +68,14 @@ balance 0.00 dispersion 0.00 version 0\n",
 0 {\"address\":\"10.0.0.1\",\"caller\":\"ops\",\"do\":\"add\",\"name\":\"d0\",\"number\":2,\"port\":6200,\"region\":1,\"ring\":\"object\",\"weight\":\"100.00\",\"zone\":1}
 5 {\"caller\":\"ops\",\"do\":\"rebalance\",\"number\":3,\"ring\":\"object\",\"seed\":7}
 6 {\"caller\":\"ops\",\"do\":\"publish\",\"number\":4,\"ring\":\"object\"}
-? ring object",
+? ring object
+? locks object",
         "200 {\"done\":\"create\",\"version\":0}
 200 {\"done\":\"add\",\"id\":0,\"version\":1}
 200 {\"balance\":0,\"changed\":2,\"dispersion\":0,\"done\":\"rebalance\",\"version\":2}
 200 {\"done\":\"publish\",\"version\":2}
-{\"balance\":0,\"devices\":[{\"address\":\"10.0.0.1\",\"has\":2,\"id\":0,\"name\":\"d0\",\"port\":6200,\"region\":1,\"state\":\"open\",\"wanted\":2,\"weight\":\"100.00\",\"zone\":1}],\"dispersion\":0,\"hour\":6,\"locked\":2,\"min_hours\":24,\"next_id\":1,\"power\":1,\"published\":[2],\"replicas\":1,\"rests\":23,\"ring\":\"object\",\"seats\":2,\"version\":2}\n",
+{\"balance\":0,\"devices\":[{\"address\":\"10.0.0.1\",\"has\":2,\"id\":0,\"name\":\"d0\",\"port\":6200,\"region\":1,\"state\":\"open\",\"wanted\":2,\"weight\":\"100.00\",\"zone\":1}],\"dispersion\":0,\"hour\":6,\"locked\":2,\"min_hours\":24,\"next_id\":1,\"power\":1,\"published\":[2],\"replicas\":1,\"rests\":23,\"ring\":\"object\",\"seats\":2,\"version\":2}
+{\"hour\":6,\"locked\":2,\"min_hours\":24,\"partitions\":2,\"rests\":[{\"hours\":23,\"partitions\":2}],\"ring\":\"object\"}\n",
     ),
     (
         "rings_are_listed_by_name_and_a_refused_request_is_kept_and_a_repeat_is_not",
@@ -107,15 +109,17 @@ balance 0.00 dispersion 0.00 version 0\n",
 ? log 1 1
 ? log 3 5
 ? log 4294967295 1000",
-        "{\"log\":[]}
+        "
 200 {\"done\":\"create\",\"version\":0}
 422 {\"refused\":\"RingExists\",\"rule\":2}
 200 {\"done\":\"set_hours\",\"version\":1}
 200 {\"done\":\"create\",\"version\":0}
-{\"log\":[{\"hour\":5,\"place\":0,\"reply\":{\"done\":\"create\",\"version\":0},\"request\":{\"caller\":\"ops\",\"do\":\"create\",\"min_hours\":24,\"number\":1,\"power\":1,\"replicas\":1,\"ring\":\"object\"},\"status\":200},{\"hour\":6,\"place\":1,\"reply\":{\"refused\":\"RingExists\",\"rule\":2},\"request\":{\"caller\":\"ops\",\"do\":\"create\",\"min_hours\":24,\"number\":2,\"power\":1,\"replicas\":1,\"ring\":\"object\"},\"status\":422},{\"hour\":6,\"place\":2,\"reply\":{\"done\":\"set_hours\",\"version\":1},\"request\":{\"caller\":\"app\",\"do\":\"set_hours\",\"min_hours\":1,\"number\":4294967295,\"ring\":\"object\"},\"status\":200}]}
-{\"log\":[{\"hour\":6,\"place\":1,\"reply\":{\"refused\":\"RingExists\",\"rule\":2},\"request\":{\"caller\":\"ops\",\"do\":\"create\",\"min_hours\":24,\"number\":2,\"power\":1,\"replicas\":1,\"ring\":\"object\"},\"status\":422}]}
-{\"log\":[]}
-{\"log\":[]}\n",
+{\"hour\":5,\"place\":0,\"reply\":{\"done\":\"create\",\"version\":0},\"request\":{\"caller\":\"ops\",\"do\":\"create\",\"min_hours\":24,\"number\":1,\"power\":1,\"replicas\":1,\"ring\":\"object\"},\"status\":200}
+{\"hour\":6,\"place\":1,\"reply\":{\"refused\":\"RingExists\",\"rule\":2},\"request\":{\"caller\":\"ops\",\"do\":\"create\",\"min_hours\":24,\"number\":2,\"power\":1,\"replicas\":1,\"ring\":\"object\"},\"status\":422}
+{\"hour\":6,\"place\":2,\"reply\":{\"done\":\"set_hours\",\"version\":1},\"request\":{\"caller\":\"app\",\"do\":\"set_hours\",\"min_hours\":1,\"number\":4294967295,\"ring\":\"object\"},\"status\":200}
+{\"hour\":6,\"place\":1,\"reply\":{\"refused\":\"RingExists\",\"rule\":2},\"request\":{\"caller\":\"ops\",\"do\":\"create\",\"min_hours\":24,\"number\":2,\"power\":1,\"replicas\":1,\"ring\":\"object\"},\"status\":422}
+
+\n",
     ),
     (
         "a_preview_is_of_no_earlier_hour_and_tells_what_a_rebalance_then_does",
@@ -126,7 +130,8 @@ balance 0.00 dispersion 0.00 version 0\n",
 6 {\"address\":\"10.0.0.2\",\"caller\":\"ops\",\"do\":\"add\",\"name\":\"d1\",\"number\":4,\"port\":6200,\"region\":1,\"ring\":\"object\",\"weight\":\"100.00\",\"zone\":1}
 ? preview object 7 3
 ? preview object 7 29
-29 {\"caller\":\"ops\",\"do\":\"rebalance\",\"number\":5,\"ring\":\"object\",\"seed\":7}",
+29 {\"caller\":\"ops\",\"do\":\"rebalance\",\"number\":5,\"ring\":\"object\",\"seed\":7}
+? locks object",
         "200 {\"done\":\"create\",\"version\":0}
 422 {\"refused\":\"TooFewDevices\",\"rule\":9}
 200 {\"done\":\"add\",\"id\":0,\"version\":1}
@@ -134,7 +139,8 @@ balance 0.00 dispersion 0.00 version 0\n",
 200 {\"done\":\"add\",\"id\":1,\"version\":3}
 {\"balance\":10000,\"changed\":0,\"devices\":[{\"gives\":0,\"has\":4,\"id\":0,\"takes\":0,\"then\":4,\"wanted\":2},{\"gives\":0,\"has\":0,\"id\":1,\"takes\":0,\"then\":0,\"wanted\":2}],\"dispersion\":0,\"hour\":6,\"locked\":4,\"partitions\":0,\"ring\":\"object\",\"seed\":7,\"version\":4}
 {\"balance\":0,\"changed\":2,\"devices\":[{\"gives\":2,\"has\":4,\"id\":0,\"takes\":0,\"then\":2,\"wanted\":2},{\"gives\":0,\"has\":0,\"id\":1,\"takes\":2,\"then\":2,\"wanted\":2}],\"dispersion\":0,\"hour\":29,\"locked\":0,\"partitions\":2,\"ring\":\"object\",\"seed\":7,\"version\":4}
-200 {\"balance\":0,\"changed\":2,\"dispersion\":0,\"done\":\"rebalance\",\"version\":4}\n",
+200 {\"balance\":0,\"changed\":2,\"dispersion\":0,\"done\":\"rebalance\",\"version\":4}
+{\"hour\":29,\"locked\":2,\"min_hours\":24,\"partitions\":4,\"rests\":[{\"hours\":24,\"partitions\":2}],\"ring\":\"object\"}\n",
     ),
     (
         "moves_are_told_between_published_versions_and_by_the_partitions_of_the_greater_power",
@@ -216,10 +222,11 @@ static BEFORE_IT_IS_MADE: [Line<'_>; 2] = [
     ("? balance object", NO_RING),
 ];
 
-static NOT_THERE: [Line<'_>; 8] = [
+static NOT_THERE: [Line<'_>; 9] = [
     ("? devices none", NO_RING),
     ("? balance none", NO_RING),
     ("? ring none", NO_RING),
+    ("? locks none", NO_RING),
     ("? preview none 1 0", NO_RING),
     ("? moves none 2 2", NO_RING),
     ("? devices objec", NO_RING),
@@ -240,7 +247,7 @@ fn a_ring_that_is_not_there_has_no_table(rt: HostRuntime) -> Result<(), Fail> {
     Ok(())
 }
 
-static NO_QUESTIONS: [&str; 67] = [
+static NO_QUESTIONS: [&str; 72] = [
     "?",
     "? ",
     "? devices",
@@ -269,6 +276,11 @@ static NO_QUESTIONS: [&str; 67] = [
     "? balanceobject",
     "? ring",
     "? Ring object",
+    "? locks",
+    "? locks ",
+    "? lock object",
+    "? locks Object",
+    "? locks object 1",
     "? rings ",
     "? rings object",
     "?  rings",
@@ -369,6 +381,7 @@ static CLOSING_READS: &str =
 ? status
 ? ring object
 ? ring none
+? locks object
 ? preview object 1 0
 ? moves object 1 1
 ? log 0 1
@@ -380,6 +393,7 @@ static CLOSING_READS: &str =
 static FAILED_AT_A_READ: &str = "200 {\"done\":\"create\",\"version\":0}
 {\"rings\":[{\"ring\":\"object\",\"version\":0}]}
 503 {\"fault\":\"StoreFault\",\"rule\":24}
+503 {\"fault\":\"Closed\",\"rule\":25}
 503 {\"fault\":\"Closed\",\"rule\":25}
 503 {\"fault\":\"Closed\",\"rule\":25}
 503 {\"fault\":\"Closed\",\"rule\":25}
@@ -443,7 +457,7 @@ balance 100.00 dispersion 0.00 version 2",
     ),
     (
         "? log 2 1",
-        "{\"log\":[{\"hour\":0,\"place\":2,\"reply\":{\"done\":\"add\",\"id\":1,\"version\":2},\"request\":{\"address\":\"10.0.0.2\",\"caller\":\"ops\",\"do\":\"add\",\"name\":\"d1\",\"number\":3,\"port\":6200,\"region\":1,\"ring\":\"object\",\"weight\":\"100.00\",\"zone\":1},\"status\":200}]}",
+        "{\"hour\":0,\"place\":2,\"reply\":{\"done\":\"add\",\"id\":1,\"version\":2},\"request\":{\"address\":\"10.0.0.2\",\"caller\":\"ops\",\"do\":\"add\",\"name\":\"d1\",\"number\":3,\"port\":6200,\"region\":1,\"ring\":\"object\",\"weight\":\"100.00\",\"zone\":1},\"status\":200}",
     ),
 ];
 

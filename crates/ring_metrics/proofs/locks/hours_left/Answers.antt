@@ -3,11 +3,11 @@ use Rattle.std.specs.Prelude.{nat_lt}
 use Rattle.ring_metrics.proofs.Resting.{before_end, none_before}
 use Rattle.ring_metrics.proofs.locks.hours_left.Goals as goal
 
-pub returns-in-None : goal.returns-in-None
-returns-in-None c = λ later. rw c.in-None.is (none_before later)
+pub returns-in-None-clause-until : goal.returns-in-None-clause-until
+returns-in-None-clause-until c = λ later. rw c.in-None.is (none_before later)
 
-pub returns-in-Some : goal.returns-in-Some
-returns-in-Some c = λ later.
+pub returns-in-Some-clause-until : goal.returns-in-Some-clause-until
+returns-in-Some-clause-until c = λ later.
     let left : c.in-Some.moved + c.args.min_hours - c.args.hour ≡ c.saturating_sub.result =
     omega (
       arith,

@@ -11,7 +11,7 @@ pub loop-moved-preserved : goal.loop-moved-preserved
 loop-moved-preserved c =
     let more = rest_more c.min_hours-min_hours.result c.args.hour c.moves-moves.result.now
     c.loop-moved.moved-index c.loop-moved.rest c.hours_left.result (omega arith)
-    c.loop-moved.invariant c.hours_left.ensures in
+    c.loop-moved.invariant c.hours_left.ensures.until in
     let longer : c.max-rest.result ≡ max c.loop-moved.rest c.hours_left.result = search rules in
     subst (IsRestOf c.min_hours-min_hours.result c.args.hour
     (take (c.loop-moved.moved-index + 1) c.moves-moves.result.now)) (sym longer) more

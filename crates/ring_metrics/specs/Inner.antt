@@ -1,0 +1,2 @@
+-- Words of contracts of private functions and of proofs. No public contract rests on them.
+pub mod Ends
