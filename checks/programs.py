@@ -190,7 +190,7 @@ def faults(room):
     terms = ["--min-hours", 1]
     yield "NoRing 1", ["table", file, "none"], file, {}
     yield "NoRing 1", ["show", file, "none"], file, {}
-    yield "NoRing 1", ["show", file, "none", "--locks"], file, {}
+    yield "NoRing 1", ["show", file, "none", "locks"], file, {}
     yield "RingExists 2", ["found", f"{room}/new.db", text, text, *terms], None, {}
     yield "TooManyRings 3", ["found", f"{room}/new.db", *(f"{room}/t{n}" for n in range(17)), *terms], None, {}
     yield "TooFewDevices 9", ["preview", file, "empty", "--seed", 1], file, {}

@@ -284,7 +284,7 @@ def whole_ring(checks):
             free = server.ask("GET", "/v1/rings/object/locks")[1]
         checks.same("once the clock is ahead it is the clock's, and no partition is locked", later, compact({**ring, **figures_of(rows, 99)}).encode())
         checks.same("nor told among the locks", free, locks_of(rows, 99))
-        shown = run("show", file, "object", "--locks")
+        shown = run("show", file, "object", "locks")
         here = [(0, locks_of(rows, hour) + b"\n", b"") for hour in common.machine_hours()]
         checks.show("show tells the locks at the hour of the machine", shown in here, shown)
         shown = run("show", file, "object")

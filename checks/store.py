@@ -66,13 +66,17 @@ def first_run(checks):
         shown = run("show", file, "object")
         checks.show("show of a ring, at the hour of the machine", common.is_shown_now(shown, FIRST_RING), shown)
         listed, status = common.listed(object=3) + b"\n", common.status(0, 4, 1) + b"\n"
+        for word, table in (("devices", FIRST_DEVICES), ("balance", FIRST_BALANCE)):
+            checks.same(f"show of a ring's {word}", run("show", file, "object", word), (0, table, b""))
+        shown = run("show", file, "object", "ring")
+        checks.show("the word of the whole ring is ring", common.is_shown_now(shown, FIRST_RING), shown)
         checks.same("show of no ring's name tells which there are", run("show", file), (0, listed, b""))
         checks.same("show with --status: the repeat is not kept again", run("show", file, "--status"), (0, status, b""))
         told = common.metrics(json.loads(status), [common.unlocked(json.loads(FIRST_RING))])
         checks.same("show with --metrics, at the hour of the machine", run("show", file, "--metrics"), (0, told, b""))
         for more in (["object", "--status"], ["--status", "object"], ["object", "other"], ["--status", "--status"], ["object", "--metrics"],
-                     ["--metrics", "--status"], ["--metrics", "--metrics"], ["--locks"], ["object", "--locks", "--status"], ["--metrics", "--locks"],
-                     ["object", "--locks", "--locks"]):
+                     ["--metrics", "--status"], ["--metrics", "--metrics"], ["object", ""], ["object", "locks", "--status"], ["object", "locks", "--metrics"],
+                     ["object", "locks", "locks"], ["object", "--locks"]):
             code, told, errors = run("show", file, *more)
             checks.show(f"show FILE {' '.join(more)} ends with status 2", code == 2 and not told and errors, (code, told, errors))
         asked = run("run", "--file", file, given=lines("? balance object", "? rings", "? devices object", "? status", "? ring object"))
@@ -301,7 +305,7 @@ TOLD_BEFORE = [(["table", AWAY, "a b"], "Unreadable", 20), (["show", AWAY, "a b"
                (["loop", AWAY, "/no/folder/i"], "NoFile", 27), (["loop", AWAY, "/"], "ReadFailed", 50),
                (["loop", AWAY, "/proc/self/exe"], "TooLong", 29)]
 NO_FOLDER = [["run", "--file", AWAY], ["table", AWAY, "r"], ["show", AWAY, "r"], ["show", AWAY], ["show", AWAY, "--status"],
-             ["show", AWAY, "r", "--locks"], ["serve", AWAY, "8642", "1"], ["loop", AWAY, "/dev/null"]]
+             ["show", AWAY, "r", "locks"], ["serve", AWAY, "8642", "1"], ["loop", AWAY, "/dev/null"]]
 
 
 def order_of_faults(checks):

@@ -1,5 +1,5 @@
 -- The task that words ask for, from what `clap` says of them.
-use Rattle.std.proofs.Common.{◌≡◌, Bool, List, [], true, false, Option, Some, None, refl, sym, ap}
+use Rattle.std.proofs.Common.{◌≡◌, Bool, List, [], true, Option, Some, None, refl, sym, ap}
 use Rattle.ring_words.specs.Limits.{greatest_long, greatest_short}
 use Rattle.std.proofs.Common.{subst, ◌∙◌, ⊎_elim, codes, ℕ, ◌∷◌, slice_index, arith, length, Bor}
 use Rattle.std.specs.Option.{option_map}
@@ -15,7 +15,9 @@ use Rattle.clap.specs.declared.error.kind.ErrorKind.TheVariants.{OutOfMemory}
 use Rattle.clap.specs.declared.parser.matches.ArgMatches.{ArgMatches}
 use Rattle.command_line.specs.Shapes.{programs}
 use Rattle.command_line.specs.Tasks.{AskFor, AskForNothing, HasArguments, HasHour, HasNumber}
-use Rattle.command_line.specs.Tasks.{HasShown, HasText, IfBad, is_flagged, program_of, shown_program}
+use Rattle.command_line.specs.Tasks.{HasPlain, HasShown, HasText, IfBad, is_flagged, program_of}
+use Rattle.command_line.specs.Tasks.{shown_program}
+use Rattle.ring_reads.specs.declared.plain.Plain.{Plain}
 use Rattle.command_line.specs.Inner.Reading.{IsTask}
 use Rattle.command_line.specs.declared.task.ArgsFault.{ArgsFault}
 use Rattle.command_line.specs.declared.task.ArgsFault.TheVariants.{Bad, NoMemory}
@@ -120,7 +122,7 @@ shows_nothing rows ring name flagged text named status set what by_show has = by
     by shown.Rings by_show has = missing has.0
     by shown.Status by_show has = missing has.0
     by shown.Metrics by_show has = missing has.0
-    by (shown.Ring other locks) by_show has = cc (set, status, has.1)
+    by (shown.Ring other plain) by_show has = cc (set, status, has.1)
     by (shown.Preview other seed hour) by_show has =
         other_word 112 115 _ _ by_show (λ e. omega (arith, e))
     by (shown.Moves other from to each) by_show has =
@@ -133,7 +135,7 @@ pub shows_no_status : (rows : List Row) (flagged : Bool)
 shows_no_status rows flagged metrics status set shown.Rings by_show has = cc (metrics, has.2)
 shows_no_status rows flagged metrics status set shown.Status by_show has = cc (metrics, has.2)
 shows_no_status rows flagged metrics status set shown.Metrics by_show has = cc (set, status, has.1)
-shows_no_status rows flagged metrics status set (shown.Ring name locks) by_show has = cc (metrics, has.2)
+shows_no_status rows flagged metrics status set (shown.Ring name plain) by_show has = cc (metrics, has.2)
 shows_no_status rows flagged metrics status set (shown.Preview ring seed hour) by_show has =
     other_word 112 115 _ _ by_show (λ e. omega (arith, e))
 shows_no_status rows flagged metrics status set (shown.Moves ring from to each) by_show has =
@@ -154,24 +156,26 @@ shows_no_ring rows ring name metrics text named what by_show has = by what by_sh
     by shown.Rings by_show has = cc (metrics, has.2)
     by shown.Status by_show has = cc (metrics, has.2)
     by shown.Metrics by_show has = absurd (none-some name.now (sym (given ∙ has.0)))
-    by (shown.Ring other locks) by_show has = cc (metrics, has.2)
+    by (shown.Ring other plain) by_show has = cc (metrics, has.2)
     by (shown.Preview other seed hour) by_show has =
         other_word 112 115 _ _ by_show (λ e. omega (arith, e))
     by (shown.Moves other from to each) by_show has =
         other_word 109 115 _ _ by_show (λ e. omega (arith, e))
 
--- where locks are named and no ring is shown, nothing is
-pub shows_no_locks : (rows : List Row) → is_flagged rows (codes "locks") ≡ true →
-    ((ring : Bor Text) → HasText rows (codes "RING") ring →
-    is_flagged rows (codes "status") ≡ false → is_flagged rows (codes "metrics") ≡ false → ⊥) →
-    (what : Shown) → shown_program what ≡ codes "show" → HasShown rows what → ⊥
-shows_no_locks rows named none shown.Rings by_show has = cc (named, has.3)
-shows_no_locks rows named none shown.Status by_show has = cc (named, has.3)
-shows_no_locks rows named none shown.Metrics by_show has = cc (named, has.3)
-shows_no_locks rows named none (shown.Ring ring locks) by_show has = none ring has.0 has.1 has.2
-shows_no_locks rows named none (shown.Preview ring seed hour) by_show has =
+-- where a ring is named and a word that asks nothing of one, nothing is
+pub shows_no_word : (rows : List Row) (name : Bor Text) → HasText rows (codes "RING") name →
+    ((what : Plain) → HasPlain rows what → ⊥) → (what : Shown) → shown_program what ≡ codes "show" →
+    HasShown rows what → ⊥
+shows_no_word rows name given none shown.Rings by_show has =
+    absurd (none-some name.now (sym (sym given ∙ has.0)))
+shows_no_word rows name given none shown.Status by_show has =
+    absurd (none-some name.now (sym (sym given ∙ has.0)))
+shows_no_word rows name given none shown.Metrics by_show has =
+    absurd (none-some name.now (sym (sym given ∙ has.0)))
+shows_no_word rows name given none (shown.Ring ring what) by_show has = none what has.3
+shows_no_word rows name given none (shown.Preview ring seed hour) by_show has =
     other_word 112 115 _ _ by_show (λ e. omega (arith, e))
-shows_no_locks rows named none (shown.Moves ring from to each) by_show has =
+shows_no_word rows name given none (shown.Moves ring from to each) by_show has =
     other_word 109 115 _ _ by_show (λ e. omega (arith, e))
 
 -- without a seed no preview is to be shown
@@ -180,7 +184,7 @@ pub no_seed : (rows : List Row) → ((n : ℕ) → HasNumber rows (codes "seed")
 no_seed rows none shown.Rings is has = omega (arith, ap length is)
 no_seed rows none shown.Status is has = omega (arith, ap length is)
 no_seed rows none shown.Metrics is has = omega (arith, ap length is)
-no_seed rows none (shown.Ring name locks) is has = omega (arith, ap length is)
+no_seed rows none (shown.Ring name plain) is has = omega (arith, ap length is)
 no_seed rows none (shown.Preview ring seed hour) is has = none seed has.1
 no_seed rows none (shown.Moves ring from to each) is has =
     other_word 109 112 _ _ is (λ e. omega (arith, e))
@@ -190,7 +194,7 @@ not_serve : (what : Shown) → shown_program what ≡ codes "serve" → ⊥
 not_serve shown.Rings is = omega (arith, ap length is)
 not_serve shown.Status is = omega (arith, ap length is)
 not_serve shown.Metrics is = omega (arith, ap length is)
-not_serve (shown.Ring name locks) is = omega (arith, ap length is)
+not_serve (shown.Ring name plain) is = omega (arith, ap length is)
 not_serve (shown.Preview ring seed hour) is = other_word 112 115 _ _ is (λ e. omega (arith, e))
 not_serve (shown.Moves ring from to each) is = other_word 109 115 _ _ is (λ e. omega (arith, e))
 
@@ -198,7 +202,7 @@ not_service : (what : Shown) → shown_program what ≡ codes "service" → ⊥
 not_service shown.Rings is = omega (arith, ap length is)
 not_service shown.Status is = omega (arith, ap length is)
 not_service shown.Metrics is = omega (arith, ap length is)
-not_service (shown.Ring name locks) is = omega (arith, ap length is)
+not_service (shown.Ring name plain) is = omega (arith, ap length is)
 not_service (shown.Preview ring seed hour) is = other_word 112 115 _ _ is (λ e. omega (arith, e))
 not_service (shown.Moves ring from to each) is = other_word 109 115 _ _ is (λ e. omega (arith, e))
 
@@ -206,7 +210,7 @@ not_found : (what : Shown) → shown_program what ≡ codes "found" → ⊥
 not_found shown.Rings is = other_word 115 102 _ _ is (λ e. omega (arith, e))
 not_found shown.Status is = other_word 115 102 _ _ is (λ e. omega (arith, e))
 not_found shown.Metrics is = other_word 115 102 _ _ is (λ e. omega (arith, e))
-not_found (shown.Ring name locks) is = other_word 115 102 _ _ is (λ e. omega (arith, e))
+not_found (shown.Ring name plain) is = other_word 115 102 _ _ is (λ e. omega (arith, e))
 not_found (shown.Preview ring seed hour) is = other_word 112 102 _ _ is (λ e. omega (arith, e))
 not_found (shown.Moves ring from to each) is = other_word 109 102 _ _ is (λ e. omega (arith, e))
 

@@ -75,11 +75,11 @@ import_rows = program (codes "import")
 abbrev pub table_shape : Shape
 table_shape = program (codes "table") (needed (codes "FILE") ∷ needed (codes "RING") ∷ [])
 
--- Shows the rings, a ring, its locks or the status as JSON, or the metrics.
+-- Shows the rings, what a word asks of one, the status, or the metrics.
 abbrev pub show_shape : Shape
 show_shape = program (codes "show")
-    (needed (codes "FILE") ∷ possible (codes "RING") ∷ flag (codes "status") ∷
-    flag (codes "metrics") ∷ flag (codes "locks") ∷ [])
+    (needed (codes "FILE") ∷ possible (codes "RING") ∷ possible (codes "WORD") ∷
+    flag (codes "status") ∷ flag (codes "metrics") ∷ [])
 
 -- Shows what a rebalance would do.
 abbrev pub preview_shape : Shape

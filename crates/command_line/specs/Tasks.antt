@@ -12,6 +12,8 @@ use Rattle.ring_words.specs.Spelling.{SpellsNumber}
 use Rattle.command_line.specs.Shapes.{programs}
 use Rattle.command_line.specs.declared.task.ArgsFault.{ArgsFault}
 use Rattle.command_line.specs.declared.task.ArgsFault.TheVariants.{Bad, NoMemory}
+use Rattle.ring_reads.specs.Reads.{plain_word}
+use Rattle.ring_reads.specs.declared.plain.Plain.{Plain}
 use Rattle.ring_reads.specs.declared.reads.Format.{Format}
 use Rattle.ring_reads.specs.declared.reads.Format.TheVariants as format
 use Rattle.path_lookup.specs.declared.hash.HashNames.{HashNames}
@@ -65,23 +67,24 @@ abbrev pub HasFormat : List Row → Format → Type 0
 HasFormat rows written =
     unwrap_or (first_of (codes "format") rows) (codes "text") ≡ format_word written
 
--- What is to be shown is named so: a ring by its name alone, its locks by `--locks` beside the
--- name, the status by `--status` alone, the metrics by `--metrics` alone, the rings by none of these,
--- a preview by the ring's name, a seed and perhaps an hour, and what moved by the ring's name and two
--- versions, each seat by `--each`.
+-- A plain read of a ring is named by its word, and is the whole ring where it isn't named.
+abbrev pub HasPlain : List Row → Plain → Type 0
+HasPlain rows what = unwrap_or (first_of (codes "WORD") rows) (codes "ring") ≡ plain_word what
+
+-- What is to be shown is named so: a plain read of a ring by its name and perhaps a word, the status
+-- by `--status` alone, the metrics by `--metrics` alone, the rings by none of these, a preview by the
+-- ring's name, a seed and perhaps an hour, and what moved by the ring's name and two versions, each
+-- seat by `--each`.
 abbrev pub HasShown : List Row → Shown → Type 0
 HasShown rows shown.Rings = (first_of (codes "RING") rows ≡ None)
     × (is_flagged rows (codes "status") ≡ false) × (is_flagged rows (codes "metrics") ≡ false)
-    × (is_flagged rows (codes "locks") ≡ false)
 HasShown rows shown.Status = (first_of (codes "RING") rows ≡ None)
     × (is_flagged rows (codes "status") ≡ true) × (is_flagged rows (codes "metrics") ≡ false)
-    × (is_flagged rows (codes "locks") ≡ false)
 HasShown rows shown.Metrics = (first_of (codes "RING") rows ≡ None)
     × (is_flagged rows (codes "status") ≡ false) × (is_flagged rows (codes "metrics") ≡ true)
-    × (is_flagged rows (codes "locks") ≡ false)
-HasShown rows (shown.Ring ring locks) = HasText rows (codes "RING") ring
+HasShown rows (shown.Ring ring what) = HasText rows (codes "RING") ring
     × (is_flagged rows (codes "status") ≡ false) × (is_flagged rows (codes "metrics") ≡ false)
-    × (locks ≡ is_flagged rows (codes "locks"))
+    × HasPlain rows what
 HasShown rows (shown.Preview ring seed hour) = HasText rows (codes "RING") ring
     × HasNumber rows (codes "seed") 0 greatest_long seed × HasHour rows hour
 HasShown rows (shown.Moves ring from to each) = HasText rows (codes "RING") ring
@@ -93,7 +96,7 @@ abbrev pub shown_program : Shown → Text
 shown_program shown.Rings = codes "show"
 shown_program shown.Status = codes "show"
 shown_program shown.Metrics = codes "show"
-shown_program (shown.Ring ring locks) = codes "show"
+shown_program (shown.Ring ring what) = codes "show"
 shown_program (shown.Preview ring seed hour) = codes "preview"
 shown_program (shown.Moves ring from to each) = codes "moves"
 

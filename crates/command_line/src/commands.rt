@@ -100,13 +100,13 @@ const PROGRAMS: &[Program<'static>] = &[
     },
     Program {
         name: "show",
-        about: "Shows which rings there are, a whole ring or its locks, how much is kept, or metrics",
+        about: "Shows which rings there are, what a word asks of one, how much is kept, or metrics",
         arguments: &[
             Needed("FILE"),
             Possible("RING"),
+            Possible("WORD"),
             Flag("status"),
             Flag("metrics"),
-            Flag("locks"),
         ],
     },
     Program {

@@ -148,21 +148,23 @@ The options are those of 'serve'.";
 
 /// What `ringd show --help` tells.
 static SHOW: &str =
-    "Shows which rings there are in FILE, or the ring RING in it, or with --locks its locks, or with --status how much is kept
-in FILE, as a JSON object in one line, on standard output; or with --metrics the figures of all of it, in the text format of
-Prometheus.
+    "Shows which rings there are in FILE, or the ring RING in it, or with --status how much is kept in it, as a JSON object in
+one line, on standard output; or with --metrics the figures of all of it, in the text format of Prometheus.
+
+WORD asks for something else of RING than the whole of it: devices, where each device stands and its state; balance, how many
+seats each wants and has, both as tables; locks, for how long how many partitions are locked, as JSON. The word of the whole
+ring is ring.
 
 Of the rings it has, by name, the name and the version of each. The status has the greatest hour that was used in FILE, how
 many numbers are kept, how many may be (limit), and how many rings there are. The metrics are these and the figures of each
-ring, its locked partitions at the hour of the clock. No two of RING, --status and --metrics are given together, and --locks
-beside RING alone.
+ring, its locked partitions at the hour of the clock. No two of RING, --status and --metrics are given together.
 
 A ring has its power, replicas, min_hours, version and next_id; how many seats are taken; balance and dispersion, in
 hundredths of a percent; the hour, which is the clock's or the greatest that was used in FILE, if that is greater; how many
 partitions are locked at that hour, and for how many hours from then some partition is (rests); under which versions the
 ring is published; and its devices: where each stands, what it weighs, its state, and how many seats it wants and has.
 
-Its locks are how many of its partitions are locked at that hour; and by rising hours, in how many hours some of them are
+The locks of a ring are how many of its partitions are locked at that hour; and by rising hours, in how many hours some of them are
 free, and how many then (rests).";
 
 /// What `ringd preview --help` tells.
@@ -266,9 +268,9 @@ pub(crate) static FORMS: &str = "error: an argument is not of its form
   --min-hours <min-hours>
                     a whole number from 0 to 65535
   --format <format> text or swift
+  WORD              devices, balance, ring or locks
   --status          not beside a RING
   --metrics         beside neither of them
-  --locks           beside a RING, and neither of them
 
 Numbers are written in digits, without leading zeros. For more information, try '--help'.
 ";

@@ -7,9 +7,9 @@ ghost use Rattle.clap.specs.Values.{kind_of};
 ghost use Rattle.clap.specs.Walk.{first_of, rows_of};
 ghost use Rattle.clap.specs.declared.error.kind.ErrorKind.{ErrorKind};
 ghost use Rattle.command_line.specs.Tasks.{AskFor, AskForNothing, HasTexts, HaveNames, IfBad};
-ghost use Rattle.command_line.specs.Tasks.{is_flagged};
+ghost use Rattle.command_line.specs.Tasks.{HasText, is_flagged};
 ghost use Rattle.command_line.specs.Inner.Reading.{AreHours, IsFormat, IsHourWord, IsNumberWord};
-ghost use Rattle.command_line.specs.Inner.Reading.{IsPlace, IsTask, IsToShow};
+ghost use Rattle.command_line.specs.Inner.Reading.{IsPlace, IsPlain, IsTask, IsToShow};
 
 use crate::commands::command;
 use crate::help::{ABOUT, FORMS};
@@ -17,7 +17,7 @@ use crate::task::{ArgsFault, Shown, Task};
 use clap::error::ErrorKind;
 use clap::{ArgMatches, Error};
 use path_lookup::HashNames;
-use ring_reads::Format;
+use ring_reads::{Format, Plain};
 use ring_words::{Hour, Port, read_bounded, read_number, read_number16};
 use std::alloc::{AllocError, Global};
 use std::fmt::Display;
@@ -167,20 +167,24 @@ fn table<'a>(matches: &ArgMatches<'a>) -> Option<Task<'a>>
     })
 }
 
-/// What is to be shown where locks are named: `None` where no ring is, or the status or the metrics
-/// are too.
-fn locks_of<'a>(matches: &ArgMatches<'a>) -> Option<Shown<'a>>
-    requires { is_flagged (rows_of (found_of matches.now)) (codes "locks") ≡ true }
+/// What a word asks of a ring, the whole ring where there is no word; `None` where the word asks
+/// nothing of one.
+fn plain_of(matches: &ArgMatches<'_>) -> Option<Plain>
+    ensures { IsPlain (rows_of (found_of matches.now)) result }
+{
+    Plain::of_word(text_of(matches, "WORD").unwrap_or("ring"))
+}
+
+/// What is to be shown of a ring, where neither the status nor the metrics are named: `None` where a
+/// word asks nothing of one.
+fn ring_of<'a>(matches: &ArgMatches<'a>, ring: &'a str) -> Option<Shown<'a>>
+    requires ring { HasText (rows_of (found_of matches.now)) (codes "RING") ring }
+    requires status { is_flagged (rows_of (found_of matches.now)) (codes "status") ≡ false }
+    requires metrics { is_flagged (rows_of (found_of matches.now)) (codes "metrics") ≡ false }
     ensures { IsToShow (codes "show") (rows_of (found_of matches.now)) result }
 {
-    if is_flagged(matches, "status") {
-        return None;
-    }
-    if is_flagged(matches, "metrics") {
-        return None;
-    }
-    match text_of(matches, "RING") {
-        Some(ring) => Some(Shown::Ring { ring, locks: true }),
+    match plain_of(matches) {
+        Some(what) => Some(Shown::Ring { ring, what }),
         None => None,
     }
 }
@@ -188,8 +192,7 @@ fn locks_of<'a>(matches: &ArgMatches<'a>) -> Option<Shown<'a>>
 /// What is to be shown where the metrics are named: `None` where a ring or the status is named too.
 #[tactic(auto, using(crate::proofs::Tasks::shows_no_status, crate::proofs::Tasks::shows_no_ring))]
 fn metrics_of<'a>(matches: &ArgMatches<'a>) -> Option<Shown<'a>>
-    requires metrics { is_flagged (rows_of (found_of matches.now)) (codes "metrics") ≡ true }
-    requires locks { is_flagged (rows_of (found_of matches.now)) (codes "locks") ≡ false }
+    requires { is_flagged (rows_of (found_of matches.now)) (codes "metrics") ≡ true }
     ensures { IsToShow (codes "show") (rows_of (found_of matches.now)) result }
 {
     let ring = text_of(matches, "RING");
@@ -202,11 +205,11 @@ fn metrics_of<'a>(matches: &ArgMatches<'a>) -> Option<Shown<'a>>
     }
 }
 
-/// What is to be shown where the metrics aren't named: `None` where both a ring and the status are.
+/// What is to be shown where the metrics aren't named: `None` where both a ring and the status are,
+/// or where a word asks nothing of a ring.
 #[tactic(auto, using(crate::proofs::Tasks::shows_nothing))]
 fn json_of<'a>(matches: &ArgMatches<'a>) -> Option<Shown<'a>>
-    requires metrics { is_flagged (rows_of (found_of matches.now)) (codes "metrics") ≡ false }
-    requires locks { is_flagged (rows_of (found_of matches.now)) (codes "locks") ≡ false }
+    requires { is_flagged (rows_of (found_of matches.now)) (codes "metrics") ≡ false }
     ensures { IsToShow (codes "show") (rows_of (found_of matches.now)) result }
 {
     let ring = text_of(matches, "RING");
@@ -218,32 +221,20 @@ fn json_of<'a>(matches: &ArgMatches<'a>) -> Option<Shown<'a>>
     } else {
         match ring {
             None => Some(Shown::Rings),
-            Some(ring) => Some(Shown::Ring { ring, locks: false }),
+            Some(ring) => ring_of(matches, ring),
         }
     }
 }
 
-/// What is to be shown where no locks are named.
-fn whole_of<'a>(matches: &ArgMatches<'a>) -> Option<Shown<'a>>
-    requires { is_flagged (rows_of (found_of matches.now)) (codes "locks") ≡ false }
+/// What is to be shown, `None` where two of a ring, the status and the metrics are named, or a word
+/// that asks nothing of a ring.
+fn shown_of<'a>(matches: &ArgMatches<'a>) -> Option<Shown<'a>>
     ensures { IsToShow (codes "show") (rows_of (found_of matches.now)) result }
 {
     if is_flagged(matches, "metrics") {
         metrics_of(matches)
     } else {
         json_of(matches)
-    }
-}
-
-/// What is to be shown, `None` where two of a ring, the status and the metrics are named, or locks
-/// of no ring.
-fn shown_of<'a>(matches: &ArgMatches<'a>) -> Option<Shown<'a>>
-    ensures { IsToShow (codes "show") (rows_of (found_of matches.now)) result }
-{
-    if is_flagged(matches, "locks") {
-        locks_of(matches)
-    } else {
-        whole_of(matches)
     }
 }
 

@@ -3,7 +3,7 @@ ghost use Rattle.std.specs.Prelude.{◌≡◌};
 ghost use Rattle.command_line.specs.declared.task.ArgsFault.TheVariants.{NoMemory};
 
 use path_lookup::HashNames;
-use ring_reads::Format;
+use ring_reads::{Format, Plain};
 use ring_words::{Hour, Port};
 use std::alloc::AllocError;
 
@@ -16,10 +16,10 @@ pub enum Shown<'a> {
     Status,
     /// The metrics of all that is held, as text.
     Metrics,
-    /// The whole ring of this name, which stands as it was written, or its locks alone.
+    /// What a word asks of the ring of this name, which stands as it was written.
     Ring {
         ring: &'a str,
-        locks: bool,
+        what: Plain,
     },
     /// What a rebalance of the ring of this name would do, at this hour or the greatest that the
     /// file keeps.
@@ -86,7 +86,7 @@ pub enum Task<'a> {
         file: &'a str,
         ring: &'a str,
     },
-    /// To show the rings, the status, the metrics, a whole ring or its locks, what a rebalance would
+    /// To show the rings, the status, the metrics, what a word asks of a ring, what a rebalance would
     /// do or what moved.
     Show {
         file: &'a str,

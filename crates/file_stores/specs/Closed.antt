@@ -43,7 +43,7 @@ module _ {K D : Type 0} (g : Keeping K) {d : disk.Ghosts D} (store : FileStore D
     pub hold : g.fault_count keeper ≡ 0 → AreClean d files.log files.db →
         AreLeftWith d files (g.content keeper)
 
-  -- It couldn't be closed, for this error, which is told, and the store is open still and left so.
+  -- It couldn't be closed, for this error, which is told, and the store is given back.
   -- Where it had not failed and its disk returned what was written, the error has a cause, and a
   -- crash leaves nothing that it could not leave before.
   pub record IsStillOpen (why : ProgramFault) (error : Error) (last : FileStore D d) : Type 0 where

@@ -29,7 +29,7 @@ pub struct UnopenedFiles<D: Disk> {
 /// What is left where a store in files was closed, or couldn't be.
 #[derive(Drop)]
 pub struct ClosedFiles<D: Disk> {
-    /// The files in which it is; or why it couldn't be closed, and the store, which is open still.
+    /// The files in which it is; or why it couldn't be closed, and the store.
     pub left: Result<Files<D>, (Error, FileStore<D>)>,
 }
 

@@ -33,20 +33,20 @@ static ASKED: [(&str, &str); 37] = [
     ("table F object", "Table { file: \"F\", ring: \"object\" }"),
     (
         "show F object",
-        "Show { file: \"F\", what: Ring { ring: \"object\", locks: false } }",
+        "Show { file: \"F\", what: Ring { ring: \"object\", what: Ring } }",
     ),
     (
-        "show F object --locks",
-        "Show { file: \"F\", what: Ring { ring: \"object\", locks: true } }",
+        "show F object locks",
+        "Show { file: \"F\", what: Ring { ring: \"object\", what: Locks } }",
     ),
     (
-        "show --locks F object",
-        "Show { file: \"F\", what: Ring { ring: \"object\", locks: true } }",
+        "show F object balance",
+        "Show { file: \"F\", what: Ring { ring: \"object\", what: Balance } }",
     ),
     ("show F", "Show { file: \"F\", what: Rings }"),
     (
         "show F status",
-        "Show { file: \"F\", what: Ring { ring: \"status\", locks: false } }",
+        "Show { file: \"F\", what: Ring { ring: \"status\", what: Ring } }",
     ),
     ("show F --status", "Show { file: \"F\", what: Status }"),
     ("show --status F", "Show { file: \"F\", what: Status }"),
@@ -146,7 +146,11 @@ static ASKED: [(&str, &str); 37] = [
 ];
 
 /// Lines whose argument is not of its form.
-static NOT_OF_ITS_FORM: [&str; 29] = [
+static NOT_OF_ITS_FORM: [&str; 32] = [
+    // words of a ring
+    "show F object ",
+    "show F object more",
+    "show F object Locks",
     // ports and counts
     "serve F 0 1",
     "serve F 65536 1",
@@ -182,7 +186,7 @@ static NOT_OF_ITS_FORM: [&str; 29] = [
     "export F object 7 --format json",
 ];
 
-static OTHER_WORDS: [&str; 77] = [
+static OTHER_WORDS: [&str; 75] = [
     "",
     "ran",
     "Run",
@@ -193,7 +197,6 @@ static OTHER_WORDS: [&str; 77] = [
     "table F object more",
     "show",
     "show --status",
-    "show F object more",
     "show F object --status",
     "show --status F object",
     "show F --status --status",
@@ -202,10 +205,9 @@ static OTHER_WORDS: [&str; 77] = [
     "show F --status --metrics",
     "show F object --metrics --status",
     "show F --metrics --metrics",
-    "show F --locks",
-    "show F object --locks --status",
-    "show F object --metrics --locks",
-    "show F object --locks --locks",
+    "show F object locks --status",
+    "show F object locks --metrics",
+    "show F object locks locks",
     "preview F object",
     "preview F object 7",
     "preview F --seed 7",

@@ -15,7 +15,7 @@ use Rattle.ring_reads.specs.declared.reads.Hidden.TheVariants as hidden
 use Rattle.ring_reads.specs.declared.reads.Question.{Question}
 use Rattle.ring_reads.specs.declared.reads.Question.TheVariants as asking
 use Rattle.ring_reads.specs.declared.reads.Read.{Read}
-use Rattle.ring_reads.specs.declared.plain.Plain.TheVariants.{Locks, Ring}
+use Rattle.ring_reads.specs.declared.plain.Plain.{Plain as PlainRead}
 use Rattle.ring_reads.specs.declared.reads.Read.TheVariants.{Plain, Tables, Nodes, Published}
 use Rattle.ring_reads.specs.declared.reads.Read.TheVariants.{EachMove, Moves, Preview}
 use Rattle.ring_reads.specs.Holding.{Holding}
@@ -53,13 +53,9 @@ AsksOfRing word Is (asking.Ring name what) = SpellsName is_label word name × Is
 abbrev pub AsksTables : List ℕ → Question → Type 0
 AsksTables name question = AsksOfRing name (λ what. what ≡ Tables) question
 
--- what is read of a ring: its locks alone, or the whole of it
-abbrev pub ring_read : Bool → Read
-ring_read locks = Plain (if locks then Locks else Ring)
-
--- What `show` asks of the ring of this name.
-abbrev pub AsksRing : List ℕ → Bool → Question → Type 0
-AsksRing name locks question = AsksOfRing name (λ what. what ≡ ring_read locks) question
+-- What `show` asks of the ring of this name: this plain read.
+abbrev pub AsksRing : List ℕ → PlainRead → Question → Type 0
+AsksRing name plain question = AsksOfRing name (λ what. what ≡ Plain plain) question
 
 -- What `preview` asks of the ring of this name: with this seed, and at this hour or, where none is
 -- given, at that of 0, so that the greatest hour counts.
@@ -77,13 +73,13 @@ AsksMoves name one other each question = AsksOfRing name (λ what. (from : ℕ)
     × SpellsNumber one 0 greatest_long from × ((to : ℕ) × SpellsNumber other 0 greatest_long to
     × (what ≡ moves_read from to each))) question
 
--- What `show` asks: for the rings, for the status, for the metrics, or for a ring or its locks; and
--- what `preview` and `moves` ask.
+-- What `show` asks: for the rings, for the status, for the metrics, or for a plain read of a ring;
+-- and what `preview` and `moves` ask.
 abbrev pub AsksToShow : Shown → Question → Type 0
 AsksToShow shown.Rings question = question ≡ asking.Rings
 AsksToShow shown.Status question = question ≡ asking.Status
 AsksToShow shown.Metrics question = question ≡ asking.Metrics
-AsksToShow (shown.Ring ring locks) question = AsksRing ring.now locks question
+AsksToShow (shown.Ring ring what) question = AsksRing ring.now what question
 AsksToShow (shown.Preview ring seed hour) question = AsksPreview ring.now seed hour question
 AsksToShow (shown.Moves ring from to each) question =
     AsksMoves ring.now from.now to.now each question
@@ -126,7 +122,7 @@ abbrev pub HasNoName : Shown → Type 0
 HasNoName shown.Rings = ⊥
 HasNoName shown.Status = ⊥
 HasNoName shown.Metrics = ⊥
-HasNoName (shown.Ring ring locks) = IsNoName ring.now
+HasNoName (shown.Ring ring what) = IsNoName ring.now
 HasNoName (shown.Preview ring seed hour) = IsNoName ring.now
 HasNoName (shown.Moves ring from to each) = IsNoName ring.now ⊎ IsNoNumber from.now
     ⊎ IsNoNumber to.now

@@ -13,7 +13,7 @@ ghost use Rattle.programs.specs.Showing.{AsksToShow, FailsToShow, HasNoName, Hid
 ghost use Rattle.programs.specs.Showing.{IsAsked, IsFormFault, IsNoName, IsNoNumber, ShowsAs};
 ghost use Rattle.programs.specs.Serving.{TellsHour};
 ghost use Rattle.programs.specs.Showing.{ShowsNow, ShowsRead, named_hour};
-ghost use Rattle.programs.specs.Showing.{hidden_fault, moves_read, names_given, ring_read};
+ghost use Rattle.programs.specs.Showing.{hidden_fault, moves_read, names_given};
 ghost use Rattle.programs.specs.Left.{Closes, RefusesToOpen};
 ghost use Rattle.ring_book.specs.Book.{holding};
 ghost use Rattle.ring_reads.specs.Holding.{holding_of};
@@ -40,20 +40,12 @@ pub(crate) fn ask_tables(alloc: Global, ring: &str) -> Result<Question, ProgramF
     Ok(Question::Ring(read_name(alloc, ring)?, Read::Tables))
 }
 
-/// What is read of a ring: its locks alone, or the whole of it.
-fn ring_read(locks: bool) -> Read
-    ensures { result ≡ ring_read locks }
-{
-    Read::Plain(if locks { Plain::Locks } else { Plain::Ring })
-}
-
 /// What `show` shows of a ring.
-fn ask_ring(alloc: Global, ring: &str, locks: bool) -> Result<Question, ProgramFault>
-    ensures asked { IfOk result (AsksRing ring.now locks) }
+fn ask_ring(alloc: Global, ring: &str, what: Plain) -> Result<Question, ProgramFault>
+    ensures asked { IfOk result (AsksRing ring.now what) }
     ensures fault { IfErr result (IsFormFault (IsNoName ring.now) ⊥) }
 {
-    let what = ring_read(locks);
-    Ok(Question::Ring(read_name(alloc, ring)?, what))
+    Ok(Question::Ring(read_name(alloc, ring)?, Read::Plain(what)))
 }
 
 /// What `preview` shows of a ring.
@@ -108,7 +100,7 @@ pub(crate) fn ask_shown(alloc: Global, what: Shown<'_>) -> Result<Question, Prog
         Shown::Rings => Ok(Question::Rings),
         Shown::Status => Ok(Question::Status),
         Shown::Metrics => Ok(Question::Metrics),
-        Shown::Ring { ring, locks } => ask_ring(alloc, ring, locks),
+        Shown::Ring { ring, what } => ask_ring(alloc, ring, what),
         Shown::Preview { ring, seed, hour } => ask_preview(alloc, ring, seed, hour),
         Shown::Moves {
             ring,

@@ -3,8 +3,9 @@ use Rattle.std.specs.Prelude.{◌≡◌, ℕ, List, Option, Some, None, codes}
 use Rattle.clap.specs.Walk.{Row, Text}
 use Rattle.std.specs.Borrow.{Bor}
 use Rattle.ring_words.specs.Limits.{greatest_short}
-use Rattle.command_line.specs.Tasks.{HasArguments, HasFormat, HasHour, HasNumber, HasShown, HasText}
-use Rattle.command_line.specs.Tasks.{program_of, shown_program}
+use Rattle.command_line.specs.Tasks.{HasArguments, HasFormat, HasHour, HasNumber, HasPlain, HasShown}
+use Rattle.command_line.specs.Tasks.{HasText, program_of, shown_program}
+use Rattle.ring_reads.specs.declared.plain.Plain.{Plain}
 use Rattle.ring_reads.specs.declared.reads.Format.{Format}
 use Rattle.command_line.specs.declared.task.Shown.{Shown}
 use Rattle.command_line.specs.declared.task.Task.{Task}
@@ -37,6 +38,11 @@ IsPlace rows None = (file : Bor Text) (port : ℕ) → HasText rows (codes "FILE
 abbrev pub IsFormat : List Row → Option Format → Type 0
 IsFormat rows (Some written) = HasFormat rows written
 IsFormat rows None = (written : Format) → HasFormat rows written → ⊥
+
+-- The plain read is the one that is named; None stands for a word that names none.
+abbrev pub IsPlain : List Row → Option Plain → Type 0
+IsPlain rows (Some what) = HasPlain rows what
+IsPlain rows None = (what : Plain) → HasPlain rows what → ⊥
 
 -- This is to be shown by the program of this name; None stands for arguments that name nothing that
 -- it shows.
