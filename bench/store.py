@@ -175,9 +175,9 @@ def deliveries(room):
     tell("A delivery by the numbers that are kept", "bench/store.py", ["numbers", "a new number, stored", "a repeat"], told)
 
 
-def with_texts(file, rings, texts):
+def with_texts(file, rings, texts, numbers):
     """A store with so many of the largest rings, in the first of which so many texts are published, all but one of them put
-    there by sqlite3."""
+    there by sqlite3; and with so many numbers, if it has fewer, likewise."""
     with start(file) as running:
         number = 0
         for ring in range(rings):
@@ -193,37 +193,55 @@ def with_texts(file, rings, texts):
     with sqlite3.connect(file) as held:
         held.execute("PRAGMA journal_mode = DELETE")
         held.executemany("INSERT INTO published SELECT ring, ?, body FROM published WHERE version > ?", ((version, texts) for version in range(1, texts)))
+        place, command, reply = held.execute("SELECT place, command, reply FROM request ORDER BY place DESC LIMIT 1").fetchone()
+        held.executemany("INSERT INTO request VALUES ('others', ?, ?, 0, ?, ?)", ((at, at, command, reply) for at in range(place + 1, numbers)))
     held.close()
 
 
+def changes(running, times):
+    """The seconds of changes and refusals of the first ring, by turns."""
+    took = {"set_weight": [], "refused": []}
+    for it in range(times):
+        number = 100000 + 10 * it
+        took["set_weight"].append(ask(running, message(number, "set_weight", ring="ring0", id=1, weight=f"{90 + it}.00"))[1])
+        took["refused"].append(ask(running, message(number + 1, "remove", ring="ring0", id=60000))[1])
+    return took
+
+
+def publications(running, ring, times):
+    """The seconds of publications of a ring. They stand apart from changes: what a text leaves in the log makes the next commit slower."""
+    took = []
+    for it in range(times):
+        ask(running, message(200000 + 10 * it, "set_hours", ring=ring, min_hours=it))
+        answer, seconds = ask(running, message(200001 + 10 * it, "publish", ring=ring))
+        if not answer.startswith("200 "):
+            raise SystemExit(f"not published: {answer}")
+        took.append(seconds)
+    return took
+
+
 def published(room):
-    """A delivery by the texts that are published, and by the rings beside."""
-    told = []
-    for count in RINGS:
-        for texts in TEXTS:
-            file = f"{room}/texts.db"
-            with_texts(file, count, texts)
-            begun = time.perf_counter()
-            with start(file) as running:
-                ask(running, "? devices nothing\n")
-                opened, memory = time.perf_counter() - begun, most_memory(running)
-                took = {"set_weight": [], "refused": [], "publish": []}
-                times = range(5 if SMALL else 15)
-                for it in times:
-                    number = 100000 + 10 * it
-                    took["set_weight"].append(ask(running, message(number, "set_weight", ring="ring0", id=1, weight=f"{90 + it}.00"))[1])
-                    took["refused"].append(ask(running, message(number + 1, "remove", ring="ring0", id=60000))[1])
-                # apart from the others: what a text leaves in the log makes the next commit slower
-                for it in times if texts < 1000 else ():
-                    ask(running, message(200000 + 10 * it, "set_hours", ring="ring0", min_hours=it))
-                    took["publish"].append(ask(running, message(200001 + 10 * it, "publish", ring="ring0"))[1])
-                running.stdin.close()
-            cells = [f"{MILLI * statistics.median(took[it]):.2f} ms" if took[it] else "" for it in took]
-            told.append([count, texts, *cells, f"{MILLI * opened:.0f} ms", f"{memory:.0f} MB"])
-            for end in ("", "-wal"):
-                os.remove(file + end) if os.path.exists(file + end) else None
+    """A delivery by the texts that are published, by the rings beside, and by the numbers. Where the first ring can publish no more, the
+    second one does."""
+    told, times = [], 5 if SMALL else 15
+    for count, texts, numbers in [*((count, texts, 0) for count in RINGS for texts in TEXTS), (RINGS[-1], TEXTS[-1], NUMBERS - 100)]:
+        file = f"{room}/texts.db"
+        with_texts(file, count, texts, numbers)
+        size = os.path.getsize(file) / 1e6
+        begun = time.perf_counter()
+        with start(file) as running:
+            ask(running, "? devices nothing\n")
+            opened, memory = time.perf_counter() - begun, most_memory(running)
+            took = changes(running, times)
+            publishing = "ring0" if texts < 1000 else "ring1" if count > 1 else None
+            took["publish"] = publications(running, publishing, times) if publishing else []
+            running.stdin.close()
+        cells = [f"{MILLI * statistics.median(took[it]):.2f} ms" if took[it] else "" for it in took]
+        told.append([count, texts, numbers or "few", *cells, f"{size:.0f} MB", f"{MILLI * opened:.0f} ms", f"{memory:.0f} MB"])
+        for end in ("", "-wal"):
+            os.remove(file + end) if os.path.exists(file + end) else None
     tell(f"A delivery by the texts that are published, rings of power {POWER}", "bench/store.py",
-         ["rings", "texts", "`set_weight`", "a refusal", "`publish`", "opening", "memory"], told)
+         ["rings", "texts", "numbers", "`set_weight`", "a refusal", "`publish`", "file", "opening", "memory"], told)
 
 
 def main():
