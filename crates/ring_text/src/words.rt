@@ -1,9 +1,9 @@
 //! The words of a line, and what follows a key at its front.
-ghost use Rattle.std.specs.Prelude.{◌≡◌, ◌<◌, ◌++◌, ◌==◌, [], IfOk, IsErrOf, length, map};
+ghost use Rattle.std.specs.Prelude.{◌≡◌, ℕ, ◌<◌, ◌++◌, ◌==◌, List, [], IfOk, IsErrOf, length, map};
 ghost use Rattle.std.specs.List.{slice_split};
 ghost use Rattle.ring_text.specs.Inner.Reading.{IsNumberAfter, IsNameAfter, text_at};
 ghost use Rattle.ring_words.specs.Spelling.{Reads};
-ghost use Rattle.ring_words.specs.declared.spelling.SpellingFault.TheVariants.{NoMemory};
+ghost use Rattle.ring_words.specs.declared.spelling.SpellingFault.TheVariants.{Bad, NoMemory};
 ghost use Rattle.ring_words.specs.Inner.ReadsAs.{ReadsAs};
 ghost use Rattle.ring_text.specs.Spelling.{state_word};
 
@@ -69,7 +69,8 @@ pub(crate) fn bounded_after<const LEAST: u16, const MOST: u16>(
 }
 
 pub(crate) fn name_after(alloc: Global, line: &str, key: &str) -> Result<RingName, TextFault>
-    ensures { Reads (IsNameAfter key.now line.now) result }
+    ensures read { Reads (IsNameAfter key.now line.now) result }
+    ensures bad { ((name : List ℕ) → IsNameAfter key.now line.now name → ⊥) → IsErrOf result Bad }
 {
     let rest = after(line, key)?;
     read_name(alloc, rest)
