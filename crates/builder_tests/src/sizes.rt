@@ -117,7 +117,7 @@ fn changed(reply: &Reply) -> Option<u32> {
     match reply {
         Reply::Done(
             Done {
-                deed: Deed::Rebalance { changed, .. },
+                deed: Deed::Rebalance { changed, .. } | Deed::RebalanceAs { changed, .. },
                 ..
             },
         ) => Some(*changed),
@@ -139,9 +139,10 @@ fn changes(alloc: Global, rings: &mut Rings, acts: Vec<(Hour, Act)>) -> Result<V
     Ok(changes)
 }
 
-/// Whether all seats were dealt, and later some moved, and all else was done.
+/// Whether all seats were dealt, some moved later, and some once more at the next power, and all else
+/// was done.
 fn are_changes(changes: &[u32]) -> bool {
-    changes.len() == 11 && changes[0] == 40_960 && changes[7] > 0 && changes[10] == 0
+    changes.len() == 11 && changes[0] == 40_960 && changes[7] > 0 && changes[9] > 0
 }
 
 /// How many bytes a read of the large ring shows.
