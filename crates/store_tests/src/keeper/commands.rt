@@ -5,7 +5,7 @@ use std::test::Fail;
 use test_fixtures::rows::{FIRST, WorkedRow};
 
 /// What comes behind the first rebalance of two devices, and a repeat.
-const REST: [WorkedRow; 9] = [
+const REST: [WorkedRow; 11] = [
     (
         0,
         20,
@@ -53,6 +53,18 @@ const REST: [WorkedRow; 9] = [
         27,
         "'do':'publish'",
         "200 {'done':'publish','version':9}",
+    ),
+    (
+        0,
+        28,
+        "'do':'keep','id':2",
+        "200 {'done':'keep','version':10}",
+    ),
+    (
+        0,
+        29,
+        "'do':'rebalance_as','hour':0,'seed':7,'version':11",
+        "200 {'balance':2500,'changed':3,'dispersion':0,'done':'rebalance_as','version':11}",
     ),
     (
         0,
