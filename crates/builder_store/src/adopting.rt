@@ -5,7 +5,7 @@ ghost use Rattle.sqlite_trees.specs.View.{IsClean, doubt};
 ghost use Rattle.sqlite.specs.Held.{state};
 ghost use Rattle.sqlite.specs.State.{HasCleanDisk};
 ghost use Rattle.store_tables.specs.Failing.{HasFailedSince, is_no_text, tells_failure};
-ghost use Rattle.builder_store.specs.Inner.Faults.{opening_fault};
+ghost use Rattle.builder_store.specs.Inner.Faults.{opening_fault, reading_fault};
 ghost use Rattle.builder_store.specs.Inner.Opened.{IsFresh};
 ghost use Rattle.builder_store.specs.declared.fault.OpenFault.TheVariants.{BadTexts, NoMemory};
 ghost use Rattle.builder_store.specs.Opening.{JudgesTables, TellsFault};
@@ -91,6 +91,7 @@ pub(crate) fn fault_of(error: &Error) -> OpenFault
 
 /// Why an error with which rows are read ends an opening.
 pub(crate) fn reading_fault(error: &Error) -> OpenFault
+    ensures which { result ≡ reading_fault error.now }
     ensures texts { (result ≡ BadTexts) ↔ IsTrue (is_no_text error.now) }
     ensures failed { TellsFault result → IsTrue (tells_failure error.now) }
     ensures unjudged { JudgesTables result → result ≡ BadTexts }
