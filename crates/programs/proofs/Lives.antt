@@ -565,11 +565,11 @@ module _ {K W : Type 0} (stores : Keeping K) (Begins : K → Type 0)
         | inl refused ↦ inl ((refused.0, refused.1), one)
         | inr rest ↦ elim rest [
           | inl failed ↦ inr (failed_run failed.0 (log_run stores Begins
-              (WasClosedAfter stores Ends failed.0) none _ failed.2.1))
+              (WasClosedAfter stores Ends failed.0) none _ failed.3.1))
           | inr others ↦ elim others [
             | inl closed ↦ inr (unclosed_run why (log_run stores Begins (FailedToClose Ends why) none
                 _ closed.1.1))
-            | inr unwritten ↦ inr (log_run stores Begins (WasClosed Ends) none _ unwritten.1.1)
+            | inr unwritten ↦ inr (log_run stores Begins (WasClosed Ends) none _ unwritten.2.1)
           ]
         ]
       ]

@@ -7,7 +7,7 @@ use Rattle.std.proofs.lemmas.Bool.{ltb-false, ltb-true}
 use Rattle.std.proofs.lemmas.List.{drop-drop, length-append, length-drop, length-take}
 use Rattle.builder.specs.Life.{BookContent}
 use Rattle.builder.specs.Safety.{Entries}
-use Rattle.byte_streams.specs.Counted.{writer_of}
+use Rattle.byte_streams.specs.Counted.{one_more, write_faults, writer_of}
 use Rattle.byte_streams.specs.declared.counted.CountedWriter.{CountedWriter}
 use Rattle.byte_streams.proofs.KnownLemmas.{Appends-then, beginning_of_left}
 use Rattle.request_book.specs.Content.{entries_from}
@@ -150,6 +150,15 @@ module _ {K W : Type 0} (g : Keeping K) (contents : W → Option (List ℕ)) (fo
             (so_far.text, refl, so_far.wrote) page.wrote;
       }
 
+-- a page at which it failed, behind pages at which the writer did not
+pub fails_there : {K W : Type 0} (g : Keeping K) (writer between later : CountedWriter W)
+    (why : ProgramFault) (keeper : K) → write_faults between ≡ write_faults writer
+    → FailsBy g between later why keeper → FailsBy g writer later why keeper
+fails_there g writer between later why keeper same (inl failed) =
+    inl (failed.0, failed.1, failed.2, failed.3 ∙ same)
+fails_there g writer between later why keeper same (inr unwritten) =
+    inr (unwritten.0, unwritten.1, unwritten.2 ∙ ap one_more same)
+
 -- no further page has a place of 32 bits
 pub ends_there : {K W : Type 0} (g : Keeping K) (contents : W → Option (List ℕ)) (form : LogForm)
     (from : ℕ) (old new : K) (writer later : CountedWriter W) (n : ℕ) → 0 < n
@@ -209,11 +218,13 @@ module _ {K W : Type 0} (g : Keeping K) (Begins : K → Type 0) (Ends : K → Cl
   where
     -- a log of which a beginning was written, over a store that was closed then
     pub fails_closed : (Refuses : ProgramFault → Type 0) (why : ProgramFault)
-        → FailsBy g why left × BeginsLog g (λ k. k ≡ kept) (λ k. k ≡ left) contents writer later form
-        from → FailsToLog g Begins Ends contents writer later Refuses form from why
+        → FailsBy g writer later why left
+        × BeginsLog g (λ k. k ≡ kept) (λ k. k ≡ left) contents writer later form from
+        → FailsToLog g Begins Ends contents writer later Refuses form from why
     fails_closed Refuses why (inl failed, begun) = inr (inl (
       failed.0,
       failed.1,
+      failed.3,
       (
         begun.0,
         log_closed g Begins (WasClosedAfter g Ends failed.0) kept left begins
@@ -223,6 +234,7 @@ module _ {K W : Type 0} (g : Keeping K) (Begins : K → Type 0) (Ends : K → Cl
     ))
     fails_closed Refuses why (inr unwritten, begun) = inr (inr (inr (
       unwritten.0,
+      unwritten.2,
       (
         begun.0,
         log_closed g Begins (WasClosed Ends) kept left begins (answer, ends) _ begun.1,

@@ -4,7 +4,7 @@ use Rattle.std.specs.Prelude.{if◌then◌else◌}
 use Rattle.std.specs.Borrow.{Bor}
 use Rattle.std.specs.Io.KnownBytes.{Appends}
 use Rattle.builder.specs.Safety.{Entries}
-use Rattle.byte_streams.specs.Counted.{IsFlushed, write_faults, writer_of}
+use Rattle.byte_streams.specs.Counted.{IsFlushed, one_more, write_faults, writer_of}
 use Rattle.byte_streams.specs.Writing.{WritesBeginning}
 use Rattle.byte_streams.specs.declared.counted.CountedWriter.{CountedWriter}
 use Rattle.request_book.specs.Content.{entries_from}
@@ -80,15 +80,16 @@ module _ {K W : Type 0} (g : Keeping K) (Begins : K → Type 0) (Ends : K → Cl
 
   -- This fault came of it: the store wasn't opened, for that fault, and the writer wasn't touched; or
   -- a beginning was written, and the keeper failed so; or all was, and closing the store failed so; or
-  -- the writer failed.
+  -- the writer failed once more, which it did not else.
   abbrev pub FailsToLog : (ProgramFault → Type 0) → LogForm → ℕ → ProgramFault → Type 0
   FailsToLog Refuses written from why =
       (Refuses why × IsStoreFault why × (later ≡ writer))
       ⊎ ((cause : KeepFault) × (why ≡ keep_fault cause)
+      × (write_faults later ≡ write_faults writer)
       × BeginsLog g Begins (WasClosedAfter g Ends cause) contents writer later written from)
       ⊎ (IsCloseFault why
       × WritesLog g Begins (FailedToClose Ends why) contents writer later written from)
-      ⊎ ((why ≡ fault.WriteFailed)
+      ⊎ ((why ≡ fault.WriteFailed) × (write_faults later ≡ one_more (write_faults writer))
       × BeginsLog g Begins (WasClosed Ends) contents writer later written from)
 
   -- so it is where a word gives the place

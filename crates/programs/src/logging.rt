@@ -60,7 +60,7 @@ fn write_page<W: Write, K: Keeper<RingMachine>>(
         writer.old writer.new) }
     ensures broken { OnErr result (BreaksPage K.Keeper W.contents form place keeper.old keeper.new
         writer.old writer.new) }
-    ensures cause { IfErr result (λ why. FailsBy K.Keeper why keeper.new) }
+    ensures cause { IfErr result (λ why. FailsBy K.Keeper writer.old writer.new why keeper.new) }
     ensures whole { OnOk result (HasNotFailed K.Keeper keeper.new) }
     ensures sound { K.sound keeper.new → K.sound keeper.old }
     ensures content { K.sound keeper.new → K.content keeper.new ≡ K.content keeper.old }
@@ -84,7 +84,7 @@ fn write_pages<W: Write, K: Keeper<RingMachine>>(
         writer.old writer.new) }
     ensures broken { OnErr result (BreaksPages K.Keeper W.contents form from keeper.old keeper.new
         writer.old writer.new) }
-    ensures cause { IfErr result (λ why. FailsBy K.Keeper why keeper.new) }
+    ensures cause { IfErr result (λ why. FailsBy K.Keeper writer.old writer.new why keeper.new) }
     ensures whole { OnOk result (HasNotFailed K.Keeper keeper.new) }
     ensures sound { K.sound keeper.new → K.sound keeper.old }
     ensures content { K.sound keeper.new → K.content keeper.new ≡ K.content keeper.old }
@@ -112,8 +112,9 @@ fn log_kept<W: Write, K: Keeper<RingMachine>>(
     requires { K.fault_count keeper ≡ 0 }
     ensures written { OnOk result.0 (WritesLog K.Keeper (λ k. k ≡ keeper) (λ k. k ≡ result.1)
         W.contents writer.old writer.new form from) }
-    ensures broken { IfErr result.0 (λ why. FailsBy K.Keeper why result.1 × BeginsLog K.Keeper
-        (λ k. k ≡ keeper) (λ k. k ≡ result.1) W.contents writer.old writer.new form from) }
+    ensures broken { IfErr result.0 (λ why. FailsBy K.Keeper writer.old writer.new why result.1
+        × BeginsLog K.Keeper (λ k. k ≡ keeper) (λ k. k ≡ result.1) W.contents writer.old writer.new
+        form from) }
     ensures whole { OnOk result.0 (HasNotFailed K.Keeper result.1) }
 {
     let mut keeper = keeper;

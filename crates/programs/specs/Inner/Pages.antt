@@ -2,7 +2,7 @@
 use Rattle.std.specs.Prelude.{◌≡◌, ◌⊎◌, ℕ, Bool, List, Option, length, nat_lt}
 use Rattle.std.specs.Io.KnownBytes.{Appends}
 use Rattle.builder.specs.Safety.{Entries}
-use Rattle.byte_streams.specs.Counted.{IsFlushed, write_faults, writer_of}
+use Rattle.byte_streams.specs.Counted.{IsFlushed, one_more, write_faults, writer_of}
 use Rattle.byte_streams.specs.Writing.{WritesBeginning}
 use Rattle.byte_streams.specs.declared.counted.CountedWriter.{CountedWriter}
 use Rattle.request_book.specs.Content.{entries_from}
@@ -20,11 +20,15 @@ use Rattle.programs.specs.declared.faults.ProgramFault.TheVariants as fault
 abbrev pub page_size : ℕ
 page_size = 1000
 
--- A keeper failed by this fault, or it has not failed, and the writer did.
-abbrev pub FailsBy : {K : Type 0} → Keeping K → ProgramFault → K → Type 0
-FailsBy g why keeper =
-    ((cause : KeepFault) × (why ≡ keep_fault cause) × HasFailedBy g cause keeper)
-    ⊎ ((why ≡ fault.WriteFailed) × HasNotFailed g keeper)
+-- A keeper failed by this fault, and the writer did not fail; or the keeper has not failed, and the
+-- writer failed once more.
+abbrev pub FailsBy : {K W : Type 0} → Keeping K → CountedWriter W → CountedWriter W → ProgramFault
+    → K → Type 0
+FailsBy g writer later why keeper =
+    ((cause : KeepFault) × (why ≡ keep_fault cause) × HasFailedBy g cause keeper
+    × (write_faults later ≡ write_faults writer))
+    ⊎ ((why ≡ fault.WriteFailed) × HasNotFailed g keeper
+    × (write_faults later ≡ one_more (write_faults writer)))
 
 -- The keeper and the writer are these, before and after.
 module _ {K W : Type 0} (g : Keeping K) (contents : W → Option (List ℕ)) (written : LogForm)

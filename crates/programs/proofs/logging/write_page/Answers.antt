@@ -39,7 +39,7 @@ pub returns-in_err-text-clause-cause : goal.returns-in_err-text-clause-cause
 returns-in_err-text-clause-cause g c =
     let p = err_from_is_err_and c.from_residual-in_err-text.result
     c.from_residual-in_err-text.ensures.1 in
-    rw (p.1) (inl (keep.NoMemory, p.2, c.in_ok-entries.ensures.cause ∙ c.requires))
+    rw (p.1) (inl (keep.NoMemory, p.2, c.in_ok-entries.ensures.cause ∙ c.requires, refl))
 
 pub returns-in_err-write_text-clause-broken : goal.returns-in_err-write_text-clause-broken
 returns-in_err-write_text-clause-broken g c =
@@ -65,6 +65,7 @@ returns-in_err-write_text-clause-cause g c =
     rw (p.1) (inr (
       p.2 ∙ ap stream_fault failed.0,
       c.in_ok-entries.ensures.cause ∙ c.requires,
+      c.in_err-write_text.ensures.cause,
     ))
 
 pub returns-clause-written : goal.returns-clause-written

@@ -3,7 +3,7 @@ use Rattle.std.proofs.lemmas.Result.{err_from_is_err_and}
 use Rattle.byte_streams.proofs.KnownLemmas.{Appends-none}
 use Rattle.ring_words.specs.Limits.{long_count}
 use Rattle.programs.specs.Inner.Pages.{WroteSome, page_size}
-use Rattle.programs.proofs.Logs.{breaks_here, ends_here, ends_there, goes_on}
+use Rattle.programs.proofs.Logs.{breaks_here, ends_here, ends_there, fails_there, goes_on}
 use Rattle.programs.proofs.logging.write_pages.Goals as goal
 
 pub loop-page-init : goal.loop-page-init
@@ -64,3 +64,10 @@ returns-in_err-is_last-clause-broken g c =
     c.loop-page.keeper c.write_page.new.keeper c.args.writer.now c.loop-page.writer
     c.write_page.new.writer n (c.args.from + n) refl c.loop-page.invariant
     c.write_page.ensures.sound c.write_page.ensures.content c.in_err-is_last.ensures.broken)
+
+pub returns-in_err-is_last-clause-cause : goal.returns-in_err-is_last-clause-cause
+returns-in_err-is_last-clause-cause g c =
+    let p = err_from_is_err_and c.from_residual.result c.from_residual.ensures.1 in
+    rw (p.1, p.2) (fails_there g.K.Keeper c.args.writer.now c.loop-page.writer
+    c.write_page.new.writer c.in_err-is_last.field-0.0 c.write_page.new.keeper
+    c.loop-page.invariant.same c.in_err-is_last.ensures.cause)
