@@ -15,7 +15,7 @@ use Rattle.ring_model.specs.Ring.{RingRecord, has_device, risen, reweighed, mark
 use Rattle.ring_model.specs.Ring.{partition_count}
 use Rattle.ring_words.specs.Rows.{IsProperRow, has_place, same_place}
 use Rattle.ring_words.specs.Texts.{greatest_weight}
-use Rattle.ring_model.specs.Import.{reweighed_by}
+use Rattle.ring_model.specs.Import.{after_row, reweighed_by}
 use Rattle.ring_model.specs.Valid.{AreApart, AreDevices, AreSeats, IsValid}
 use Rattle.ring_words.specs.declared.device.Device.{Device}
 use Rattle.ring_words.specs.declared.device.Row.{Row}
@@ -229,3 +229,8 @@ pub written_all : {X : Type 0} (xs ys : List X) (n : ℕ) → n ≡ length xs �
 written_all xs ys n e f = take_at ys (drop (length ys) xs) n (f ∙ sym e)
 
 -- ---- the record of changed parts
+
+-- a row whose place is free adds a device
+pub after_free : (ring : RingRecord) (row : Row) → has_place row ring.devices ≡ false →
+    after_row ring row ≡ added ring row
+after_free ring row free = rw free refl

@@ -13,3 +13,4 @@ pub mod CalmPartitions
 pub mod TierCodes
 pub mod RowDevices
 pub mod OpenDevices
+pub mod Figures

@@ -14,3 +14,6 @@ returns-in-Log c = log_told c.args.found.endpoint c.args.found.ring.now c.args.f
 pub returns-in_default : goal.returns-in_default
 returns-in_default c = ring_told c.args.found.endpoint c.args.found.ring.now
     c.args.found.version.now c.args.query.now c.read_ring_route.result c.read_ring_route.ensures
+
+pub returns-in-Metrics : goal.returns-in-Metrics
+returns-in-Metrics c = c.in-Metrics.is

@@ -1,5 +1,5 @@
-use Rattle.std.proofs.Common.{rules}
+use Rattle.std.proofs.Common.{refl}
 use Rattle.ring_messages.proofs.told.status_of.Goals as goal
 
 pub returns-in-NumberReused : goal.returns-in-NumberReused
-returns-in-NumberReused c = search rules
+returns-in-NumberReused c = rw c.in-NumberReused.is refl

@@ -1,3 +1,5 @@
+use Rattle.std.proofs.Common.{arith}
+use Rattle.std.proofs.lemmas.Grind.{common_steps}
 use Rattle.std.proofs.Common.{◌∙◌, ℕ, List, map, ap}
 use Rattle.std.proofs.lemmas.List.{take_all}
 use Rattle.serde_json.specs.Data.{Data, array}
@@ -15,3 +17,6 @@ returns c =
     ∙ ap (map (λ e. whole e.0)) (take_all c.loop-text.text-index published c.loop-text-test.false)
     ∙ versions_of published
     ∙ ap (map (λ (e : ℕ × List ℕ). whole e.0)) c.published_list-published.ensures)
+
+pub loop-text-preserved : goal.loop-text-preserved
+loop-text-preserved c = grind (arith, common_steps)

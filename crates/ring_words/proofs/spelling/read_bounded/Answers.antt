@@ -14,3 +14,10 @@ returns-in_default-clause-read g c = λ n h.
     let lower : g.row.LEAST ≤ c.in_ok-number.number = omega (arith, same, h.above) in
     let upper : c.in_ok-number.number ≤ g.row.MOST = omega (arith, same, h.below) in
     c.in_default.ensures (lower, upper)
+
+pub returns-clause-read : goal.returns-clause-read
+returns-clause-read g c = record {
+  is = rw c.in-Some.ensures.1 c.in_ok-number.ensures.read.is;
+  above = rw c.in-Some.ensures.1 c.in-Some.ensures.0.0;
+  below = rw c.in-Some.ensures.1 c.in-Some.ensures.0.1;
+}

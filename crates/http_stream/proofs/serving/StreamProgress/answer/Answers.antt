@@ -27,3 +27,6 @@ returns-clause-answered g c = λ origin before came m.
       λ last. answered_last c.args.audience gives came before origin _ _ _ e.0 ask m asks last e.1 e.2
           c.saturating_add-self.ensures,
     )
+
+pub returns-clause-shorter : goal.returns-clause-shorter
+returns-clause-shorter g c = c.consume.ensures

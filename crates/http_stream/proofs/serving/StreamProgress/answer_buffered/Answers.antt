@@ -1,4 +1,4 @@
-use Rattle.std.proofs.Common.{length, drop, ap, arith, refl}
+use Rattle.std.proofs.Common.{◌∙◌, length, drop, ap, arith, refl}
 use Rattle.std.proofs.lemmas.Result.{err_from_is_err_and}
 use Rattle.http_messages.specs.Requests.{ask_at}
 use Rattle.http_stream.specs.Answers.{ItemAnswered}
@@ -51,3 +51,11 @@ loop-wanted-smaller g c =
           c.in-Whole.ensures.2,
       ap length c.in_ok-answer-in-Whole.ensures.shorter,
     )
+
+pub loop-wanted-preserved : goal.loop-wanted-preserved
+loop-wanted-preserved g c = record {
+  midway = λ origin before came m.
+      (c.in_ok-answer-in-Whole.ensures.answered origin before came
+      (c.loop-wanted.invariant.midway origin before came m)).0 c.if-parts.false;
+  same = c.in_ok-answer-in-Whole.ensures.cause ∙ c.loop-wanted.invariant.same;
+}

@@ -10,3 +10,6 @@ returns-in_err-entries-clause-run g c = search (rules, run_one)
 
 pub returns-clause-run : goal.returns-clause-run
 returns-clause-run g c = search (rules, run_one)
+
+pub returns-clause-entries : goal.returns-clause-entries
+returns-clause-entries g c = rw (← c.self.view_is) c.in_ok-entries.ensures.entries

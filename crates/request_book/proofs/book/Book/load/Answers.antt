@@ -16,3 +16,6 @@ returns-in_err-load-clause-run g c = search (rules, run_one)
 
 pub returns-clause-run : goal.returns-clause-run
 returns-clause-run g c = search (rules, run_one)
+
+pub returns-clause-hour : goal.returns-clause-hour
+returns-clause-hour g c = rw (← c.self.view_is) (λ s. c.in_ok-hour.ensures.hour (c.in_ok-load.ensures.sound s))

@@ -1,5 +1,5 @@
-use Rattle.std.proofs.Common.{rules}
+use Rattle.std.proofs.Common.{refl}
 use Rattle.request_book.proofs.mem_keeper.MemKeeper.new.Goals as goal
 
 pub returns : goal.returns
-returns g c = search rules
+returns g c = rw c.new.ensures refl

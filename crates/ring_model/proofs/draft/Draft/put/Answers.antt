@@ -3,9 +3,10 @@ use Rattle.std.proofs.Common.{◌≡◌, map, false, ap, sym, ◌∙◌}
 use Rattle.std.proofs.lemmas.List.{length-map}
 use Rattle.ring_model.specs.Ring.{RingRecord}
 use Rattle.ring_words.specs.Rows.{has_place}
-use Rattle.ring_model.specs.Import.{reweighed_by}
+use Rattle.ring_model.specs.Import.{after_row, reweighed_by}
 use Rattle.ring_model.specs.Parts.{record_of}
-use Rattle.ring_model.proofs.Changes.{added_valid, altered_valid, reweighed_by_keeps, written_all}
+use Rattle.ring_model.proofs.Changes.{added_valid, after_free, altered_valid, reweighed_by_keeps}
+use Rattle.ring_model.proofs.Changes.{written_all}
 use Rattle.ring_words.proofs.AlikeRows.{same_row}
 use Rattle.ring_model.proofs.draft.Draft.put.Goals as goal
 
@@ -35,4 +36,10 @@ pub returns-in_err-push-clause-err : goal.returns-in_err-push-clause-err
 returns-in_err-push-clause-err c = search rules
 
 pub returns-clause-ok : goal.returns-clause-ok
-returns-clause-ok c = search rules
+returns-clause-ok c =
+    let old : RingRecord = record_of c.self.inside.parts in
+    let row : c.in_ok-clone.field-0 ≡ c.args.row.now = same_row _ _ c.in_ok-clone.ensures.cases in
+    let free : has_place c.args.row.now old.devices ≡ false =
+    ap (has_place c.args.row.now) (sym c.deref.ensures.value) ∙ sym c.if-has_place_in.ensures in
+    rw (c.in_ok-push.ensures.items, row) (sym (after_free old c.args.row.now free) ∙
+    ap (λ (r : RingRecord). after_row r c.args.row.now) c.self.view_is)

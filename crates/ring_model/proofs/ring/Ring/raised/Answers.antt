@@ -1,5 +1,7 @@
-use Rattle.std.proofs.Common.{rules}
-use Rattle.std.proofs.Common.{◌≡◌, ◌+◌, ℕ, ap, sym, ◌∙◌, subst}
+use Rattle.std.proofs.Common.{◌≡◌, ◌+◌, ◌≤◌, ◌<◌, ℕ, ap, refl, sym, ◌∙◌, subst, ⊎_elim}
+use Rattle.std.proofs.Common.{arith}
+use Rattle.std.proofs.lemmas.Bool.{cases_lt}
+use Rattle.ring_words.specs.Limits.{greatest_power}
 use Rattle.ring_model.specs.Ring.{RingRecord}
 use Rattle.ring_model.specs.Parts.{record_of}
 use Rattle.ring_model.specs.Raise.{IsRaised}
@@ -37,5 +39,16 @@ returns-clause-raised c =
     c.in_ok-parts-2.field-0.items c.in_ok-parts-3.field-0.items)) (sym c.in_ok-parts.ensures)
     raised)
 
+-- A power that can't be raised is the greatest.
+at_greatest : (g p : ℕ) → g ≤ greatest_power → g ≡ p →
+    ((1 ≤ g + 1) × (g + 1 ≤ greatest_power) → ⊥) → p ≡ greatest_power
+at_greatest g p within same refused =
+    ⊎_elim (λ (less : g < greatest_power). absurd (refused (omega arith, omega arith)))
+    (λ (more : greatest_power ≤ g). omega arith) (cases_lt g greatest_power)
+
 pub returns-in_default-clause-limit : goal.returns-in_default-clause-limit
-returns-in_default-clause-limit c = search rules
+returns-in_default-clause-limit c = (
+  λ _. at_greatest c.get.result c.args.self.now.power c.get.ensures.within.1 (c.get.ensures.value
+      ∙ ap (λ (r : RingRecord). r.power) c.self.view_is) c.in_default.ensures,
+  λ _. refl,
+)

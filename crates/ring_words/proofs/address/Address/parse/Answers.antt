@@ -1,7 +1,26 @@
-use Rattle.std.proofs.Common.{◌<◌, ◌^◌, ◌%◌, ◌/◌, ◌∙◌, sym, arith, rules}
+use Rattle.std.proofs.Common.{◌≡◌, ◌<◌, ◌^◌, ◌%◌, ◌/◌, ◌*◌, ◌+◌, ◌++◌, ◌∷◌, ℕ, List, decimal, ap}
+use Rattle.std.proofs.Common.{◌∙◌, sym, arith, rules}
+use Rattle.ring_words.specs.Texts.{address_text, address_limit}
 use Rattle.ring_words.proofs.Decimals.{First, Second, Third, first_octet, second_octet, third_octet}
 use Rattle.ring_words.proofs.Decimals.{after_second_point, same_number}
 use Rattle.ring_words.proofs.address.Address.parse.Goals as goal
+
+-- The text is that of the address with these octets.
+spelt : (t more less last : List ℕ) (k l m n p q r : ℕ) → (p ≡ k) × (q ≡ l) × (r ≡ m) →
+    (k < 256) × (t ≡ decimal k ++ 46 ∷ more) → (l < 256) × (more ≡ decimal l ++ 46 ∷ less) →
+    (m < 256) × (less ≡ decimal m ++ 46 ∷ last) → n < 256 → last ≡ decimal n →
+    (((p * 256 + q) * 256 + r) * 256 + n < address_limit) × (t ≡ address_text (((p * 256 + q) * 256
+    + r) * 256 + n))
+spelt t more less last k l m n p q r same first second third fourth end =
+    let one : (((p * 256 + q) * 256 + r) * 256 + n) / 16777216 ≡ k = omega arith in
+    let two : (((p * 256 + q) * 256 + r) * 256 + n) / 65536 % 256 ≡ l = omega arith in
+    let three : (((p * 256 + q) * 256 + r) * 256 + n) / 256 % 256 ≡ m = omega arith in
+    let four : (((p * 256 + q) * 256 + r) * 256 + n) % 256 ≡ n = omega arith in (
+      omega arith,
+      rw (one, two, three, four) (first.1 ∙ ap (λ (x : List ℕ). decimal k ++ 46 ∷ x) (second.1 ∙
+          ap (λ (x : List ℕ). decimal l ++ 46 ∷ x) (third.1 ∙ ap (λ (x : List ℕ). decimal m ++ 46
+          ∷ x) end))),
+    )
 
 pub returns-in_err-second-clause-none : goal.returns-in_err-second-clause-none
 returns-in_err-second-clause-none c = rw c.from_residual-in_err-second.ensures (λ a lt e.
@@ -79,4 +98,10 @@ pub overflow_add-result-2 : goal.overflow_add-result-2
 overflow_add-result-2 c = search rules
 
 pub returns-clause-found : goal.returns-clause-found
-returns-clause-found c = search rules
+returns-clause-found c =
+    spelt c.args.text.now c.in_ok-first.rest.now c.in_ok-second.rest.now c.in_ok-third.rest.now
+    c.in_ok-first.first c.in_ok-second.second c.in_ok-third.third c.in_ok-fourth.fourth
+    c.from.result c.from-2.result c.from-3.result
+    (c.from.ensures, c.from-2.ensures, c.from-3.ensures) c.in_ok-first.ensures.found
+    c.in_ok-second.ensures.found c.in_ok-third.ensures.found c.if-fourth-ge256.false
+    c.in_ok-fourth.ensures.found.1
