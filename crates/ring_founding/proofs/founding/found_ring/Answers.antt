@@ -12,13 +12,9 @@ next_number-requires c = rw c.devices-devices.ensures.value (has_devices c.args.
 pub unreachable-requires : goal.unreachable-requires
 unreachable-requires c =
     let snapshot = c.args.snapshot.now in
-    let devices : c.in_ok-to_vec.field-0.items ≡ snapshot.devices =
-    c.in_ok-to_vec.ensures.items_if_clones_equal (λ x y r. search rules)
-    ∙ c.devices-devices.ensures.value in
+    let devices : c.in_ok-to_vec.field-0.items ≡ snapshot.devices = search rules in
     let moved : c.in_ok-vec.field-0.items ≡ replicate (2 ^ snapshot.power) (Some c.args.terms.hour)
-    = c.in_ok-vec.ensures.items_if_clones_equal (λ y r. search rules) ∙ ap (λ (n : ℕ). replicate n
-    (Some c.args.terms.hour)) (c.partition_count.ensures.value ∙ ap (λ (p : ℕ). 2 ^ p)
-    c.power-2.ensures) in
+    = search rules in
     let ring : RingRecord = record {
       power = c.power.result;
       replicas = c.replicas.result;
@@ -47,35 +43,17 @@ unreachable-requires c =
     (bad.0 refl) (rw c.new.ensures.items valid)
 
 pub returns-in-Ok : goal.returns-in-Ok
-returns-in-Ok c =
-    let snapshot = c.args.snapshot.now in
-    let devices : c.in_ok-to_vec.field-0.items ≡ snapshot.devices =
-    c.in_ok-to_vec.ensures.items_if_clones_equal (λ x y r. search rules)
-    ∙ c.devices-devices.ensures.value in
-    let moved : c.in_ok-vec.field-0.items ≡ replicate (2 ^ snapshot.power) (Some c.args.terms.hour)
-    = c.in_ok-vec.ensures.items_if_clones_equal (λ y r. search rules) ∙ ap (λ (n : ℕ). replicate n
-    (Some c.args.terms.hour)) (c.partition_count.ensures.value ∙ ap (λ (p : ℕ). 2 ^ p)
-    c.power-2.ensures) in
-    let ring : RingRecord = record {
-      power = c.power.result;
-      replicas = c.replicas.result;
-      min_hours = c.args.terms.min_hours;
-      next_id = c.next_number.result;
-      version = c.version.result;
-      devices = c.in_ok-to_vec.field-0.items;
-      seats = c.in_ok-from_slice.field-0.items;
-      moved = c.in_ok-vec.field-0.items;
-      published = [];
-    } in
-    let is : IsFounded c.args.terms snapshot ring = record {
-      power = c.power.ensures;
-      replicas = c.replicas.ensures;
-      version = c.version.ensures;
-      devices = devices;
-      seats = c.in_ok-from_slice.ensures.items ∙ c.seats.ensures.value;
-      min_hours = refl;
-      next_id = rw c.devices-devices.ensures.value at c.next_number.ensures;
-      moved = moved;
-      published = refl;
-    } in
-    rw (c.in-Ok.ensures.built, c.new.ensures.items) is
+returns-in-Ok c = rw (c.in-Ok.ensures.built, c.new.ensures.items) record {
+  power = c.power.ensures;
+  replicas = c.replicas.ensures;
+  version = c.version.ensures;
+  devices = c.in_ok-to_vec.ensures.items_if_clones_equal (λ x y r. search rules)
+      ∙ c.devices-devices.ensures.value;
+  seats = c.in_ok-from_slice.ensures.items ∙ c.seats.ensures.value;
+  min_hours = refl;
+  next_id = rw c.devices-devices.ensures.value at c.next_number.ensures;
+  moved = c.in_ok-vec.ensures.items_if_clones_equal (λ y r. search rules) ∙ ap (λ (n : ℕ). replicate n
+      (Some c.args.terms.hour)) (c.partition_count.ensures.value ∙ ap (λ (p : ℕ). 2 ^ p)
+      c.power-2.ensures);
+  published = refl;
+}
