@@ -22,70 +22,51 @@ spelt t more less last k l m n p q r same first second third fourth end =
           ∷ x) end))),
     )
 
+-- what was read of a text's front: one octet and a point, two of them, three
+one_octet : (t rest : List ℕ) (n : ℕ) → (n < 256) × (t ≡ decimal n ++ 46 ∷ rest) → First t rest n
+one_octet t rest n found = record { below = found.0; text = found.1 }
+
+two_octets : (t between rest : List ℕ) (m n : ℕ) → (m < 256) × (t ≡ decimal m ++ 46 ∷ between) →
+    (n < 256) × (between ≡ decimal n ++ 46 ∷ rest) → Second t rest m n
+two_octets t between rest m n one two = record {
+  between = between;
+  front = one_octet t between m one;
+  last = one_octet between rest n two;
+}
+
+three_octets : (t more less rest : List ℕ) (l m n : ℕ) → (l < 256) × (t ≡ decimal l ++ 46 ∷ more) →
+    (m < 256) × (more ≡ decimal m ++ 46 ∷ less) → (n < 256) × (less ≡ decimal n ++ 46 ∷ rest) →
+    Third t rest l m n
+three_octets t more less rest l m n one two three = record {
+  between = less;
+  front = two_octets t more less l m one two;
+  last = one_octet less rest n three;
+}
+
 pub returns-in_err-second-clause-none : goal.returns-in_err-second-clause-none
 returns-in_err-second-clause-none c = rw c.from_residual-in_err-second.ensures (λ a lt e.
-    let f : First c.args.text.now c.in_ok-first.rest.now c.in_ok-first.first =
-    record { below = c.in_ok-first.ensures.found.0; text = c.in_ok-first.ensures.found.1 } in
+    let f = one_octet _ _ _ c.in_ok-first.ensures.found in
     let low : a / 65536 % 256 < 256 = omega arith in
     c.in_err-second.ensures.none (a / 65536 % 256) (after_second_point a) low
     (first_octet _ _ _ a f lt e).1)
 
 pub returns-in_err-third-clause-none : goal.returns-in_err-third-clause-none
 returns-in_err-third-clause-none c = rw c.from_residual-in_err-third.ensures (λ a lt e.
-    let f : First c.args.text.now c.in_ok-first.rest.now c.in_ok-first.first =
-    record { below = c.in_ok-first.ensures.found.0; text = c.in_ok-first.ensures.found.1 } in
-    let s : Second c.args.text.now c.in_ok-second.rest.now c.in_ok-first.first c.in_ok-second.second
-    = record {
-      between = c.in_ok-first.rest.now;
-      front = f;
-      last =
-          record { below = c.in_ok-second.ensures.found.0; text = c.in_ok-second.ensures.found.1 };
-    }
-    in
+    let s = two_octets _ _ _ _ _ c.in_ok-first.ensures.found c.in_ok-second.ensures.found in
     let low : a / 256 % 256 < 256 = omega arith in
     c.in_err-third.ensures.none (a / 256 % 256) _ low (second_octet _ _ _ _ a s lt e).2)
 
 pub returns-in_err-fourth-clause-none : goal.returns-in_err-fourth-clause-none
 returns-in_err-fourth-clause-none c = rw c.from_residual-in_err-fourth.ensures (λ a lt e.
-    let f : First c.args.text.now c.in_ok-first.rest.now c.in_ok-first.first =
-    record { below = c.in_ok-first.ensures.found.0; text = c.in_ok-first.ensures.found.1 } in
-    let s : Second c.args.text.now c.in_ok-second.rest.now c.in_ok-first.first c.in_ok-second.second
-    = record {
-      between = c.in_ok-first.rest.now;
-      front = f;
-      last =
-          record { below = c.in_ok-second.ensures.found.0; text = c.in_ok-second.ensures.found.1 };
-    }
-    in
-    let t : Third c.args.text.now c.in_ok-third.rest.now c.in_ok-first.first c.in_ok-second.second
-    c.in_ok-third.third = record {
-      between = c.in_ok-second.rest.now;
-      front = s;
-      last =
-          record { below = c.in_ok-third.ensures.found.0; text = c.in_ok-third.ensures.found.1 };
-    } in
+    let t = three_octets _ _ _ _ _ _ _ c.in_ok-first.ensures.found c.in_ok-second.ensures.found
+    c.in_ok-third.ensures.found in
     let low : a % 256 < 2 ^ 32 = omega arith in
     c.in_err-fourth.ensures.none (a % 256) low (third_octet _ _ _ _ _ a t lt e).3)
 
 pub returns-then-fourth-ge256-clause-none : goal.returns-then-fourth-ge256-clause-none
 returns-then-fourth-ge256-clause-none c = λ a lt e.
-    let f : First c.args.text.now c.in_ok-first.rest.now c.in_ok-first.first =
-    record { below = c.in_ok-first.ensures.found.0; text = c.in_ok-first.ensures.found.1 } in
-    let s : Second c.args.text.now c.in_ok-second.rest.now c.in_ok-first.first c.in_ok-second.second
-    = record {
-      between = c.in_ok-first.rest.now;
-      front = f;
-      last =
-          record { below = c.in_ok-second.ensures.found.0; text = c.in_ok-second.ensures.found.1 };
-    }
-    in
-    let t : Third c.args.text.now c.in_ok-third.rest.now c.in_ok-first.first c.in_ok-second.second
-    c.in_ok-third.third = record {
-      between = c.in_ok-second.rest.now;
-      front = s;
-      last =
-          record { below = c.in_ok-third.ensures.found.0; text = c.in_ok-third.ensures.found.1 };
-    } in
+    let t = three_octets _ _ _ _ _ _ _ c.in_ok-first.ensures.found c.in_ok-second.ensures.found
+    c.in_ok-third.ensures.found in
     let low : a % 256 < 2 ^ 32 = omega arith in
     let same = same_number c.in_ok-fourth.fourth (a % 256) c.in_ok-fourth.ensures.found.0 low
     (sym c.in_ok-fourth.ensures.found.1 ∙ (third_octet _ _ _ _ _ a t lt e).3) in
