@@ -1,5 +1,5 @@
 -- What the programs `table`, `show`, `preview`, `moves`, `nodes` and `export` show.
-use Rattle.std.specs.Prelude.{◌≡◌, ◌≢◌, ◌⊎◌, ◌==◌, ⊤, ℕ, Bool, List, [], ◌∷◌, ◌++◌, Option, true}
+use Rattle.std.specs.Prelude.{◌≡◌, ◌≢◌, ◌⊎◌, ◌==◌, ⊤, ℕ, Bool, List, Option, true}
 use Rattle.std.specs.Prelude.{if◌then◌else◌, None, Some, unwrap_or}
 use Rattle.ring_words.specs.Limits.{greatest_long}
 use Rattle.std.specs.Borrow.{Bor}
