@@ -11,7 +11,7 @@ use std::alloc::{AllocError, Global};
 
 /// The builder under limits: its states are rings, and its steps are those of the definition
 /// *Step*.
-#[derive(Clone, Copy, Debug)]
+#[derive(Clone, Copy)]
 pub struct RingMachine {
     /// How much is kept at most.
     pub limits: Limits,

@@ -21,7 +21,7 @@ pub enum OpenFault {
 }
 
 /// Why the files at a path aren't opened.
-#[derive(Clone, Copy, Debug, PartialEq, Eq)]
+#[derive(Clone, Copy, PartialEq, Eq)]
 pub enum FileFault {
     /// Another handle has them open.
     Busy,
@@ -40,7 +40,7 @@ pub enum FileFault {
 }
 
 /// Why no store is made.
-#[derive(Clone, Copy, Debug, PartialEq, Eq)]
+#[derive(Clone, Copy, PartialEq, Eq)]
 pub enum MakeFault {
     /// There is something at the path already. It stays as it was.
     PathTaken,

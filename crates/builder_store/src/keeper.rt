@@ -130,7 +130,7 @@ impl<S: Alter + Drop> SqlKeeper<S> {
         };
         match SqlKeeper::over(alloc, conn, limits) {
             Ok(keeper) => Ok(keeper),
-            Err((fault, conn)) => Err((fault, Left::Connection(conn))),
+            Err((why, conn)) => Err((why, Left::Connection(conn))),
         }
     }
 }

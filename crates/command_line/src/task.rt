@@ -135,7 +135,7 @@ pub enum Task<'a> {
 }
 
 /// Why words ask for nothing.
-#[derive(Debug, Drop)]
+#[derive(Drop)]
 pub enum ArgsFault {
     /// They are none that the program knows, or ask for help. The text says what may be written.
     Bad(String),

@@ -9,6 +9,7 @@
 //! they and `ProgramFault` are of other crates.
 #![tactic(auto)]
 
+pub mod laws;
 mod making;
 mod opening;
 mod performing;

@@ -17,7 +17,7 @@ use ring_reads::Question;
 use std::alloc::{AllocError, Global};
 
 /// What the paths of a cluster are hashed between, and whether the answer is the last.
-#[derive(Clone, Copy, Debug)]
+#[derive(Clone, Copy)]
 pub struct ReadWay<'a> {
     pub names: HashNames<'a>,
     pub is_last: bool,

@@ -8,7 +8,7 @@ use http::StatusCode;
 use std::alloc::{AllocError, Global};
 
 /// What kind of body it is.
-#[derive(Clone, Copy, Debug, PartialEq, Eq)]
+#[derive(Clone, Copy, PartialEq, Eq)]
 pub enum BodyKind {
     /// `application/json`
     Json,
@@ -40,7 +40,7 @@ impl BodyKind {
 }
 
 /// What the head of an answer tells, the length of the body aside.
-#[derive(Clone, Copy, Debug)]
+#[derive(Clone, Copy)]
 pub struct AnswerHead {
     /// The status, which is told with its phrase.
     pub status: StatusCode,

@@ -18,7 +18,7 @@ use httparse::spans::HeaderSpan;
 /// name of its own can be made to lead there. What tells such requests from a program's is the head
 /// alone: its Host, its Origin (RFC 6454) and what browsers say in Sec-Fetch-Site (W3C, Fetch
 /// Metadata Request Headers).
-#[derive(Clone, Copy, Debug)]
+#[derive(Clone, Copy)]
 pub enum Audience<'a> {
     /// Anyone's.
     Anyone,

@@ -5,7 +5,7 @@ ghost use Rattle.http_messages.specs.Answers.{no_memory_answer, refusal_answer, 
 use crate::{HeadFault, Method};
 
 /// Why a whole request gets no answer of a route.
-#[derive(Clone, Copy, Debug, PartialEq, Eq)]
+#[derive(Clone, Copy, PartialEq, Eq)]
 pub enum RouteFault {
     /// The target has no route.
     NoRoute,

@@ -9,7 +9,7 @@ ghost use Rattle.http_messages.specs.Inner.Finding.{IsFieldFound};
 use httparse::spans::{HeaderSpan, Span};
 
 /// How often a field comes.
-#[derive(Clone, Copy, Debug)]
+#[derive(Clone, Copy)]
 pub enum FieldFound {
     /// Never.
     Missing,

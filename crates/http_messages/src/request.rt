@@ -13,7 +13,7 @@ use httparse::Status;
 use httparse::spans::{EMPTY_HEADER_SPAN, HeaderSpan, RequestSpans, Span, parse_request};
 
 /// The methods that are served (RFC 9110, 9.3.1 and 9.3.3).
-#[derive(Clone, Copy, Debug, PartialEq, Eq)]
+#[derive(Clone, Copy, PartialEq, Eq)]
 pub enum Method {
     /// A read.
     Get,
@@ -22,7 +22,7 @@ pub enum Method {
 }
 
 /// Why a request is refused by its head alone, in the order in which they are looked for.
-#[derive(Clone, Copy, Debug, PartialEq, Eq)]
+#[derive(Clone, Copy, PartialEq, Eq)]
 pub enum HeadFault {
     /// No head, one of more than `MAX_HEAD` bytes, or one of more than `MAX_FIELDS` fields.
     BadHead,
@@ -45,7 +45,7 @@ pub enum HeadFault {
 }
 
 /// What follows a head: a body of so many bytes, unless the request is refused.
-#[derive(Clone, Copy, Debug)]
+#[derive(Clone, Copy)]
 pub enum Framing {
     /// The request is refused.
     Faulty(HeadFault),
@@ -54,7 +54,7 @@ pub enum Framing {
 }
 
 /// A whole request at the front of a buffer, by where its parts lie.
-#[derive(Clone, Copy, Debug)]
+#[derive(Clone, Copy)]
 pub struct RequestParts {
     /// Its method.
     pub method: Method,
@@ -67,7 +67,7 @@ pub struct RequestParts {
 }
 
 /// What is at the front of a buffer.
-#[derive(Clone, Copy, Debug)]
+#[derive(Clone, Copy)]
 pub enum Look {
     /// A part of a request: with fewer than so many bytes in all, it stays one.
     More(usize),

@@ -22,7 +22,7 @@ struct Pair {
 }
 
 /// How often a name comes in a query.
-#[derive(Clone, Copy, Debug)]
+#[derive(Clone, Copy)]
 enum ValueFound<'q> {
     Missing,
     One(&'q str),

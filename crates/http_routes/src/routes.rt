@@ -6,7 +6,7 @@ use http_messages::Method;
 use ring_reads::Plain;
 
 /// What a route leads to.
-#[derive(Clone, Copy, Debug)]
+#[derive(Clone, Copy)]
 pub enum Endpoint {
     /// A message is delivered.
     Requests,
@@ -60,7 +60,7 @@ impl Endpoint {
 
 /// The route of a path. Its segments stand as they do in the path; one that the route doesn't have
 /// is empty.
-#[derive(Clone, Copy, Debug)]
+#[derive(Clone, Copy)]
 pub struct FoundRoute<'p> {
     /// Where the route leads.
     pub endpoint: Endpoint,

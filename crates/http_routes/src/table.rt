@@ -11,7 +11,7 @@ use std::alloc::{AllocError, Global};
 use std::str;
 
 /// A row of the table.
-#[derive(Clone, Copy, Debug)]
+#[derive(Clone, Copy)]
 enum TableRow {
     /// A message is delivered.
     Requests,

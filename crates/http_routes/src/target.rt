@@ -29,7 +29,7 @@ pub enum TargetAsk {
 }
 
 /// Why a target asks for nothing.
-#[derive(Clone, Copy, Debug, PartialEq, Eq)]
+#[derive(Clone, Copy, PartialEq, Eq)]
 pub enum TargetFault {
     /// It has no route, or has it by the other method.
     Route(RouteFault),

@@ -47,7 +47,7 @@ impl From<AllocError> for ServeFault {
 }
 
 /// Why a service that goes on until it is stopped has ended by itself.
-#[derive(Clone, Copy, Debug, PartialEq, Eq)]
+#[derive(Clone, Copy, PartialEq, Eq)]
 pub enum ServiceEnd {
     /// The store failed, and the book is closed.
     StoreFailed,

@@ -12,7 +12,7 @@ use std::alloc::AllocError;
 use std::io::Write;
 
 /// Why a program ends without doing what was asked of it.
-#[derive(Clone, Copy, Debug, PartialEq, Eq)]
+#[derive(Clone, Copy, PartialEq, Eq)]
 pub enum ProgramFault {
     /// There is no ring of the name.
     NoRing,

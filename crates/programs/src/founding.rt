@@ -28,7 +28,7 @@ use std::io::Write;
 const LONGEST_RING_TEXT: u32 = 1_048_576;
 
 /// What is to be founded.
-#[derive(Clone, Copy, Debug)]
+#[derive(Clone, Copy)]
 pub(crate) struct FoundAsk<'a> {
     /// The file of the new store.
     pub new: &'a str,

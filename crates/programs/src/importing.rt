@@ -62,7 +62,7 @@ pub(crate) fn ask_import(
 }
 
 /// Why no rows are read.
-#[derive(Clone, Copy, Debug, PartialEq, Eq)]
+#[derive(Clone, Copy, PartialEq, Eq)]
 pub(crate) enum TableFault {
     /// Its file can't be opened, or has more than 65,536 bytes.
     Lost(ProgramFault),

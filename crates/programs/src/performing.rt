@@ -52,7 +52,7 @@ const NO_NAMES: HashNames<'static> = HashNames {
 };
 
 /// How a task ended that had no fault.
-#[derive(Clone, Copy, Debug, PartialEq, Eq)]
+#[derive(Clone, Copy, PartialEq, Eq)]
 pub(crate) enum Ending {
     /// It was done.
     Done,

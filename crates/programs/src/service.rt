@@ -28,7 +28,7 @@ use std::io::Write;
 const MOST_AHEAD: Hour = 24;
 
 /// What a service is asked for.
-#[derive(Clone, Copy, Debug)]
+#[derive(Clone, Copy)]
 pub(crate) struct ServiceAsk<'a> {
     /// The file of its store.
     pub file: &'a str,
@@ -43,7 +43,7 @@ pub(crate) struct ServiceAsk<'a> {
 }
 
 /// What a store holds, in figures.
-#[derive(Clone, Copy, Debug)]
+#[derive(Clone, Copy)]
 struct Figures {
     /// How many numbers of callers it keeps.
     numbers: usize,

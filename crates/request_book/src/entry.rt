@@ -2,7 +2,7 @@
 use ring_words::{Hour, Key};
 
 /// A request that was decided, with its reply.
-#[derive(Debug, Drop)]
+#[derive(Drop)]
 pub struct Entry<C, R> {
     /// Which request it is.
     pub key: Key,

@@ -11,7 +11,7 @@ use ring_words::{Hour, Key};
 use std::alloc::{AllocError, Global};
 
 /// What a look finds of a key and a command.
-#[derive(Clone, Copy, Debug)]
+#[derive(Clone, Copy)]
 pub enum Found<R> {
     /// No request of this key was decided.
     New,
@@ -22,7 +22,7 @@ pub enum Found<R> {
 }
 
 /// Why a call of a keeper fails.
-#[derive(Clone, Copy, Debug, PartialEq, Eq)]
+#[derive(Clone, Copy, PartialEq, Eq)]
 pub enum KeepFault {
     /// A growth of memory was refused. The content is as before.
     NoMemory,

@@ -10,7 +10,7 @@ use ring_words::{Device, Hour, MOST_RINGS, partition_count};
 use std::alloc::{AllocError, Global};
 
 /// How rings come in.
-#[derive(Clone, Copy, Debug)]
+#[derive(Clone, Copy)]
 pub struct Terms {
     /// For how many hours a partition that was moved stays where it is.
     pub min_hours: u16,

@@ -16,7 +16,7 @@ use std::alloc::{AllocError, Global};
 pub type LogEntry = Entry<Command, Reply>;
 
 /// The form in which entries are written, a line each.
-#[derive(Clone, Copy, Debug, PartialEq, Eq)]
+#[derive(Clone, Copy, PartialEq, Eq)]
 pub enum LogForm {
     /// Whole entries, as compact JSON, its keys in byte order: the `hour` that a request was decided
     /// at, its `place`, its `request` as a message, and the `reply` that is kept of it with its

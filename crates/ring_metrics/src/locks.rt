@@ -10,7 +10,7 @@ use ring_words::Hour;
 use std::alloc::{AllocError, Global};
 
 /// After so many hours, and no sooner, so many partitions are free.
-#[derive(Clone, Copy, Debug)]
+#[derive(Clone, Copy)]
 pub struct LockEnd {
     /// In how many hours, at least 1.
     pub hours: u64,

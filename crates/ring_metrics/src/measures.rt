@@ -16,7 +16,7 @@ use ring_words::{Device, Hour, RingName, partition_count};
 use std::alloc::{AllocError, Global};
 
 /// What is measured of a ring at an hour.
-#[derive(Clone, Copy, Debug)]
+#[derive(Clone, Copy)]
 pub(crate) struct Measured<'a> {
     /// The ring's name.
     pub(crate) name: &'a str,

@@ -13,7 +13,7 @@ use ring_words::{Hour, MOST_VERSIONS};
 use std::alloc::{AllocError, Global};
 
 /// How much a store keeps.
-#[derive(Clone, Copy, Debug)]
+#[derive(Clone, Copy)]
 pub struct StoreFigures {
     /// How many numbers of callers are kept, each with its reply.
     pub kept: usize,
@@ -24,7 +24,7 @@ pub struct StoreFigures {
 }
 
 /// A figure of a ring that is told by itself.
-#[derive(Clone, Copy, Debug)]
+#[derive(Clone, Copy)]
 pub(crate) enum Figure {
     Version,
     Partitions,
@@ -44,7 +44,7 @@ pub(crate) enum Figure {
 }
 
 /// What a figure is.
-#[derive(Clone, Copy, Debug)]
+#[derive(Clone, Copy)]
 pub(crate) enum FigureValue {
     /// As many.
     Number(u64),

@@ -23,7 +23,7 @@ use std::alloc::{AllocError, Global};
 use std::rc::RcStr;
 
 /// The parts of a ring, whether they make a valid one or not.
-#[derive(Debug, Drop)]
+#[derive(Drop)]
 pub struct RingParts {
     /// The ring has `2^power` partitions.
     pub power: Power,

@@ -17,8 +17,3 @@ mod surplus;
 
 pub use rebalances::{PlaceError, Rebalanced, rebalance};
 pub use ring_room::Room;
-
-#[cfg(test)]
-mod checker;
-#[cfg(test)]
-mod tests;

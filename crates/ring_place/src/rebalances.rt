@@ -21,7 +21,7 @@ use ring_words::{Device, DeviceId, Hour};
 use std::alloc::{AllocError, Global};
 
 /// Why a ring isn't rebalanced.
-#[derive(Clone, Copy, Debug, PartialEq, Eq)]
+#[derive(Clone, Copy, PartialEq, Eq)]
 pub enum PlaceError {
     /// It has fewer open devices than replicas.
     TooFewDevices,

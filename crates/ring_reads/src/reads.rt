@@ -128,7 +128,7 @@ impl Question {
 }
 
 /// Why nothing is shown.
-#[derive(Clone, Copy, Debug, PartialEq, Eq)]
+#[derive(Clone, Copy, PartialEq, Eq)]
 pub enum Hidden {
     /// There is no ring of the name.
     NoRing,

@@ -11,7 +11,7 @@ use ring_words::{DeviceId, Power, partition_count};
 use std::alloc::{AllocError, Global};
 
 /// A seat, and where it was and is; `None` for a ring that has no such seat.
-#[derive(Clone, Copy, Debug)]
+#[derive(Clone, Copy)]
 pub(crate) struct Move {
     pub(crate) partition: u32,
     pub(crate) replica: u16,

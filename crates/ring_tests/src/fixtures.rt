@@ -128,13 +128,13 @@ pub const OF_ONE_WEIGHT: RingRow = RingRow {
 };
 
 /// The address 10.0.0.(N+1).
-fn address(alloc: Global, number: u8) -> Result<Address, Fail> {
+pub fn address(alloc: Global, number: u8) -> Result<Address, Fail> {
     let text = format!(in alloc; "10.0.0.{}", number.saturating_add(1))?;
     Ok(Address::parse(text.as_str()).ok_or("an address")?)
 }
 
 /// The name `dN`.
-fn name(alloc: Global, number: u8) -> Result<DeviceName, Fail> {
+pub fn name(alloc: Global, number: u8) -> Result<DeviceName, Fail> {
     let text = format!(in alloc; "d{number}")?;
     Ok(DeviceName::new(alloc, text.as_str())?)
 }

@@ -20,6 +20,12 @@ mod paths;
 #[cfg(test)]
 mod previews;
 #[cfg(test)]
+mod random_rings;
+#[cfg(test)]
+mod rebalances;
+#[cfg(test)]
+mod scans;
+#[cfg(test)]
 mod share;
 #[cfg(test)]
 mod stops;

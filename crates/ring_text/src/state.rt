@@ -7,7 +7,7 @@ use std::marker::Model;
 /// What the text of a ring tells: its name, and the ring without its hours and its published texts.
 /// Each value is valid: all seats are taken, by devices of the snapshot, those of one partition by
 /// different ones, and no two devices have the same address, port and name.
-#[derive(Debug, Drop)]
+#[derive(Drop)]
 pub struct Snapshot {
     pub(crate) name: RingName,
     pub(crate) version: u32,

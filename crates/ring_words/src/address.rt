@@ -9,7 +9,7 @@ use std::marker::Model;
 
 /// An IPv4 address, four octets. Contracts see them as one number, the first octet the greatest
 /// part.
-#[derive(Clone, Copy, Debug, PartialEq, Eq)]
+#[derive(Clone, Copy, PartialEq, Eq)]
 pub struct Address {
     bits: u32,
 }

@@ -11,7 +11,7 @@ use crate::weight::Weight;
 use std::alloc::AllocError;
 
 /// What a new ring is made with.
-#[derive(Clone, Copy, Debug, PartialEq, Eq)]
+#[derive(Clone, Copy, PartialEq, Eq)]
 pub struct NewRing {
     /// The ring has `2^power` partitions.
     pub power: Power,
@@ -22,7 +22,7 @@ pub struct NewRing {
 }
 
 /// A device's new weight.
-#[derive(Clone, Copy, Debug, PartialEq, Eq)]
+#[derive(Clone, Copy, PartialEq, Eq)]
 pub struct NewWeight {
     /// The device's number.
     pub id: DeviceId,
@@ -31,7 +31,7 @@ pub struct NewWeight {
 }
 
 /// A rebalance that was foretold by a preview: it is to be this one or none.
-#[derive(Clone, Copy, Debug, PartialEq, Eq)]
+#[derive(Clone, Copy, PartialEq, Eq)]
 pub struct Foretold {
     /// The seed that it was foretold for.
     pub seed: u32,
@@ -42,7 +42,7 @@ pub struct Foretold {
 }
 
 /// Which of the commands it is, whatever it is given.
-#[derive(Clone, Copy, Debug, PartialEq, Eq)]
+#[derive(Clone, Copy, PartialEq, Eq)]
 pub enum Kind {
     Create,
     Add,
@@ -59,7 +59,7 @@ pub enum Kind {
 }
 
 /// What a command does to its ring.
-#[derive(PartialEq, Eq, Debug, Drop)]
+#[derive(PartialEq, Eq, Drop)]
 pub enum Act {
     /// Makes a ring without devices.
     Create(NewRing),
@@ -151,7 +151,7 @@ impl Act {
 }
 
 /// What a caller asks for.
-#[derive(PartialEq, Eq, Debug, Drop)]
+#[derive(PartialEq, Eq, Drop)]
 pub struct Command {
     /// The ring that it is about.
     pub ring: RingName,
@@ -179,7 +179,7 @@ impl Command {
 }
 
 /// What was done, with what its reply tells beside the version of the ring.
-#[derive(Clone, Copy, Debug, PartialEq, Eq)]
+#[derive(Clone, Copy, PartialEq, Eq)]
 pub enum Deed {
     /// The ring was made.
     Create,
@@ -244,7 +244,7 @@ impl Deed {
 }
 
 /// That a command was done.
-#[derive(Clone, Copy, Debug, PartialEq, Eq)]
+#[derive(Clone, Copy, PartialEq, Eq)]
 pub struct Done {
     /// The version of the ring after the command.
     pub version: u32,
@@ -253,7 +253,7 @@ pub struct Done {
 }
 
 /// Why a row of an import is refused, on the ring that the rows before it leave.
-#[derive(Clone, Copy, Debug, PartialEq, Eq)]
+#[derive(Clone, Copy, PartialEq, Eq)]
 pub enum RowCause {
     /// The device of its address, port and name is marked to be removed.
     DeviceRemoved,
@@ -266,7 +266,7 @@ pub enum RowCause {
 }
 
 /// Why a command wasn't done. Its ring stays as it was, and the refusal is kept as its reply.
-#[derive(Clone, Copy, Debug, PartialEq, Eq)]
+#[derive(Clone, Copy, PartialEq, Eq)]
 pub enum Refusal {
     /// There is no ring of this name.
     NoRing,
@@ -303,7 +303,7 @@ pub enum Refusal {
 }
 
 /// The answer to a command that was decided.
-#[derive(Clone, Copy, Debug, PartialEq, Eq)]
+#[derive(Clone, Copy, PartialEq, Eq)]
 pub enum Reply {
     Done(Done),
     Refused(Refusal),

@@ -12,7 +12,7 @@ use std::alloc::AllocError;
 pub type DeviceId = u16;
 
 /// A device as it is asked for: where it stands, what it is called and what it weighs.
-#[derive(Clone, PartialEq, Eq, Debug, Drop)]
+#[derive(Clone, PartialEq, Eq, Drop)]
 pub struct Row {
     /// The number of its region.
     pub region: u16,
@@ -29,7 +29,7 @@ pub struct Row {
 }
 
 /// A device of a ring.
-#[derive(Clone, PartialEq, Eq, Debug, Drop)]
+#[derive(Clone, PartialEq, Eq, Drop)]
 pub struct Device {
     /// Its number.
     pub id: DeviceId,

@@ -75,7 +75,7 @@ fn is_device_name(text: &str) -> bool
 }
 
 /// The kind of a ring's name.
-#[derive(Clone, Copy, Debug)]
+#[derive(Clone, Copy)]
 pub struct OfRing;
 
 impl NameKind for OfRing {
@@ -87,7 +87,7 @@ impl NameKind for OfRing {
 }
 
 /// The kind of a caller's name.
-#[derive(Clone, Copy, Debug)]
+#[derive(Clone, Copy)]
 pub struct OfCaller;
 
 impl NameKind for OfCaller {
@@ -99,7 +99,7 @@ impl NameKind for OfCaller {
 }
 
 /// The kind of a device's name.
-#[derive(Clone, Copy, Debug)]
+#[derive(Clone, Copy)]
 pub struct OfDevice;
 
 impl NameKind for OfDevice {
@@ -218,11 +218,5 @@ impl<K: NameKind> fmt::Display for Name<K> {
 
     fn fmt<W: fmt::Write>(&self, f: &mut fmt::Formatter<W>) -> fmt::Result {
         write!(f, "{}", self.text)
-    }
-}
-
-impl<K: NameKind> fmt::Debug for Name<K> {
-    fn fmt<W: fmt::Write>(&self, f: &mut fmt::Formatter<W>) -> fmt::Result {
-        write!(f, "{:?}", self.text)
     }
 }

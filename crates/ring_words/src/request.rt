@@ -9,7 +9,7 @@ use crate::name::Caller;
 pub type Hour = u32;
 
 /// Which request it is: the caller, and that caller's number for it.
-#[derive(Clone, PartialEq, Eq, PartialOrd, Ord, Debug, Drop)]
+#[derive(Clone, PartialEq, Eq, PartialOrd, Ord, Drop)]
 pub struct Key {
     /// Who asks.
     pub caller: Caller,
@@ -18,7 +18,7 @@ pub struct Key {
 }
 
 /// A numbered request as it comes, perhaps not for the first time.
-#[derive(Debug, Drop)]
+#[derive(Drop)]
 pub struct Delivery<C> {
     /// The hour at which it comes.
     pub hour: Hour,
@@ -44,7 +44,7 @@ pub const MOST_VERSIONS: usize = 1000;
 pub const MOST_NUMBERS: usize = 100_000;
 
 /// How much is kept at most. Tests take small limits, a service those of [`Limits::full`].
-#[derive(Clone, Copy, Debug, PartialEq, Eq)]
+#[derive(Clone, Copy, PartialEq, Eq)]
 pub struct Limits {
     /// Rings, at most [`MOST_RINGS`].
     pub rings: u32,

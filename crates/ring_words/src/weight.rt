@@ -8,7 +8,7 @@ use std::marker::Model;
 
 /// The weight of a device: its share of a ring's seats, relative to the other devices' weights.
 /// From 0.00 to 1000000.00. Contracts see it in hundredths.
-#[derive(Clone, Copy, Debug, PartialEq, Eq)]
+#[derive(Clone, Copy, PartialEq, Eq)]
 pub struct Weight {
     hundredths: u32,
 }

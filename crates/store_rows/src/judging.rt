@@ -32,7 +32,7 @@ use store_model::{
 };
 
 /// All rows of a store, each table's by rising keys.
-#[derive(Debug, Drop)]
+#[derive(Drop)]
 pub struct StoreRows {
     pub meta: Vec<MetaRow>,
     pub rings: Vec<RingRow>,

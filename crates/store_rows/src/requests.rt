@@ -26,7 +26,7 @@ use std::alloc::{AllocError, Global};
 use store_model::{KeptRequest, MetaRow, RequestRow};
 
 /// The rows that keep a decided request.
-#[derive(Debug, Drop)]
+#[derive(Drop)]
 pub struct DecidedRows {
     /// The request's own.
     pub request: RequestRow,

@@ -18,7 +18,7 @@ use std::alloc::{AllocError, Global};
 use store_model::{MovedRow, PartRow, RingRow};
 
 /// The seats of a ring, and the hours at which its partitions were moved last.
-#[derive(Debug, Drop)]
+#[derive(Drop)]
 struct Assignment {
     seats: Vec<DeviceId>,
     moved: Vec<Option<Hour>>,

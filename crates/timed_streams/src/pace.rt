@@ -26,7 +26,7 @@ const SECONDS_IN_ALL: u64 = 60;
 const LAST_MILLISECONDS: u64 = 1;
 
 /// How long a peer may hold the one who serves it.
-#[derive(Clone, Copy, Debug, PartialEq, Eq)]
+#[derive(Clone, Copy, PartialEq, Eq)]
 pub struct Patience {
     /// How long it may send nothing between two requests, and before the first.
     pub between: Duration,
@@ -95,7 +95,7 @@ impl<T: Clock> Desk for Alone<T> {
 }
 
 /// What a peer is waited for.
-#[derive(Clone, Copy, Debug, PartialEq, Eq)]
+#[derive(Clone, Copy, PartialEq, Eq)]
 enum Phase {
     /// The first byte of a request.
     BetweenRequests,

@@ -21,7 +21,7 @@ pub enum Counted {
 }
 
 /// Counts up to a bound.
-#[derive(Clone, Copy, Debug)]
+#[derive(Clone, Copy)]
 pub struct Counter {
     pub bound: u32,
 }

@@ -1,36 +1,22 @@
-//! What no contract says: worked examples, that calls succeed where there is memory, and random
-//! rings against plain scans.
-ghost use Rattle.std.specs.Prelude.{◌≡◌, ◌<◌};
+//! Rebalances of rings and the room of their devices: worked examples, rings of full size, and that
+//! the least crowded device is that of a plain scan.
+ghost use Rattle.std.specs.Prelude.{◌≡◌};
 
-use crate::checker::{check, crowd_among, has_room};
-use crate::gather::gathering;
-use crate::seats::Seats;
-use crate::{PlaceError, Rebalanced, Room, rebalance};
+use crate::fixtures::{address, name};
+use crate::random_rings::below;
+use crate::scans::{crowd_among, has_room, have};
 use rand_core::Rng;
 use rand_pcg::Pcg32;
-use ring_deal::{draws_of, shuffled_order};
+use ring_deal::draws_of;
 use ring_model::{Ring, RingParts};
+use ring_place::{PlaceError, Rebalanced, Room, rebalance};
 use ring_share::wanted;
-use ring_words::{
-    Address, Device, DeviceName, Hour, Port, Power, Replicas, Row, Weight, partition_count,
-};
+use ring_words::{Device, DeviceId, Hour, Port, Power, Replicas, Row, Weight};
 use std::alloc::Global;
 use std::test::Fail;
 
-/// The address 10.0.0.(S+1).
-fn address(alloc: Global, server: u8) -> Result<Address, Fail> {
-    let text = format!(in alloc; "10.0.0.{}", server.saturating_add(1))?;
-    Ok(Address::parse(text.as_str()).ok_or("an address")?)
-}
-
-/// The name `dN`.
-fn name(alloc: Global, number: u8) -> Result<DeviceName, Fail> {
-    let text = format!(in alloc; "d{number}")?;
-    Ok(DeviceName::new(alloc, text.as_str())?)
-}
-
 /// Device `dN` at 10.0.0.(S+1), port 6200, in a region and zone, of a weight in hundredths.
-fn device_at(
+pub fn device_at(
     alloc: Global,
     number: u8,
     region: u16,
@@ -59,7 +45,7 @@ fn device(alloc: Global, number: u8, region: u16, weight: u32) -> Result<Device,
 }
 
 /// A ring without seats, of devices of region 1 with these weights in hundredths.
-fn ring(
+pub fn ring(
     alloc: Global,
     power: u16,
     replicas: u16,
@@ -81,7 +67,7 @@ fn ring(
     Ok(ring)
 }
 
-fn with_device(alloc: Global, ring: &Ring, device: Device) -> Result<Ring, Fail> {
+pub fn with_device(alloc: Global, ring: &Ring, device: Device) -> Result<Ring, Fail> {
     let mut parts = ring.parts()?;
     parts.next_id = u32::from(device.id).saturating_add(1);
     parts.devices.push(device)?;
@@ -89,7 +75,7 @@ fn with_device(alloc: Global, ring: &Ring, device: Device) -> Result<Ring, Fail>
 }
 
 /// The ring with the device of a number marked to be removed.
-fn marked(alloc: Global, ring: &Ring, id: u16) -> Result<Ring, Fail> {
+pub fn marked(alloc: Global, ring: &Ring, id: u16) -> Result<Ring, Fail> {
     let mut parts = ring.parts()?;
     for device in parts.devices.iter_mut() {
         if device.id == id {
@@ -100,7 +86,7 @@ fn marked(alloc: Global, ring: &Ring, id: u16) -> Result<Ring, Fail> {
 }
 
 /// The ring with another weight at the device of a number.
-fn weighed(alloc: Global, ring: &Ring, id: u16, weight: u32) -> Result<Ring, Fail> {
+pub fn weighed(alloc: Global, ring: &Ring, id: u16, weight: u32) -> Result<Ring, Fail> {
     let mut parts = ring.parts()?;
     let weight = Weight::of(weight).ok_or("a weight")?;
     for device in parts.devices.iter_mut() {
@@ -111,36 +97,13 @@ fn weighed(alloc: Global, ring: &Ring, id: u16, weight: u32) -> Result<Ring, Fai
     Ok(Ring::build(alloc, parts)?)
 }
 
-fn have(ring: &Ring, id: u16) -> usize {
-    ring.seats().iter().filter(|seat| **seat == id).count()
-}
-
-/// The rebalanced ring, once it is seen to be one, with the number of changed seats.
-fn checked_rebalance(
+/// The ring rebalanced, where it has devices enough.
+pub fn ample_rebalance(
     alloc: Global,
     ring: &Ring,
     hour: Hour,
     seed: u32,
-) -> Result<(Ring, u32), Fail> {
-    let mut draws = draws_of(seed);
-    let order = shuffled_order(alloc, partition_count(ring.power()), &mut draws)?;
-    let old = Seats::of(alloc, ring)?;
-    let wanted = wanted(alloc, ring)?;
-    let was = Room::of(alloc, ring, wanted.as_slice())?;
-    let (_, lifted) = gathering(alloc, ring, hour, order.as_slice(), &was, &old)?;
-    let done = ample_rebalance(alloc, ring, hour, seed)?;
-    check(
-        alloc,
-        ring,
-        hour,
-        lifted.seats.as_slice(),
-        &done.ring,
-        done.changed,
-    )?;
-    Ok((done.ring, done.changed))
-}
-
-fn ample_rebalance(alloc: Global, ring: &Ring, hour: Hour, seed: u32) -> Result<Rebalanced, Fail> {
+) -> Result<Rebalanced, Fail> {
     match rebalance(alloc, ring, hour, seed) {
         Ok(done) => Ok(done),
         Err(PlaceError::TooFewDevices) => Ok(None.ok_or("too few devices")?),
@@ -152,9 +115,12 @@ fn ample_rebalance(alloc: Global, ring: &Ring, hour: Hour, seed: u32) -> Result<
 fn a_first_rebalance_takes_every_seat(rt: HostRuntime) -> Result<(), Fail> {
     let alloc = rt.alloc();
     let ring = ring(alloc, 1, 2, 0, [10_000, 10_000].as_slice())?;
-    let (new, changed) = checked_rebalance(alloc, &ring, 5, 7)?;
-    assert_eq!(rt; (changed, have(&new, 0), have(&new, 1)), (4, 2, 2));
-    assert_eq!(rt; new.moves(), [Some(5), Some(5)].as_slice());
+    let done = ample_rebalance(alloc, &ring, 5, 7)?;
+    assert_eq!(rt;
+        (done.changed, have(&done.ring, 0), have(&done.ring, 1)),
+        (4, 2, 2)
+    );
+    assert_eq!(rt; done.ring.moves(), [Some(5), Some(5)].as_slice());
     Ok(())
 }
 
@@ -221,13 +187,13 @@ fn takes(alloc: Global, ring: Ring, steps: &[Step]) -> Result<bool, Fail> {
     for step in steps {
         ring = after(alloc, &ring, step.before[0])?;
         ring = after(alloc, &ring, step.before[1])?;
-        let (new, changed) = checked_rebalance(alloc, &ring, step.hour, step.seed)?;
-        let devices = step.devices.unwrap_or(new.devices().len());
-        let is_so = has_seats(&new, step.seats) && new.devices().len() == devices;
-        if changed != step.changed || !is_so {
+        let done = ample_rebalance(alloc, &ring, step.hour, step.seed)?;
+        ring = done.ring;
+        let devices = step.devices.unwrap_or(ring.devices().len());
+        let is_so = has_seats(&ring, step.seats) && ring.devices().len() == devices;
+        if done.changed != step.changed || !is_so {
             return Ok(false);
         }
-        ring = new;
     }
     Ok(true)
 }
@@ -329,77 +295,6 @@ fn fewer_open_devices_than_replicas_are_too_few(rt: HostRuntime) -> Result<(), F
             Err(PlaceError::TooFewDevices)
         )
     );
-    Ok(())
-}
-
-/// A number below a bound that isn't 0.
-fn below(draws: &mut Pcg32, bound: u32) -> u32
-    requires { 0 < bound }
-    ensures { result < bound }
-{
-    draws.next_u32() % bound
-}
-
-/// A device anywhere in two regions, of some weight.
-fn any_device(alloc: Global, draws: &mut Pcg32, number: u8) -> Result<Device, Fail> {
-    let region = below(draws, 2) as u16;
-    let zone = below(draws, 2) as u16;
-    let server = below(draws, 3) as u8;
-    let weight = below(draws, 5) * 50;
-    device_at(alloc, number, region, zone, server, weight)
-}
-
-fn any_ring(alloc: Global, draws: &mut Pcg32) -> Result<Ring, Fail> {
-    let power = 1 + below(draws, 3) as u16;
-    let replicas = 1 + below(draws, 3) as u16;
-    let mut new = ring(
-        alloc,
-        power,
-        replicas,
-        below(draws, 3) as u16,
-        [].as_slice(),
-    )?;
-    for number in 0..1 + below(draws, 5) as u8 {
-        new = with_device(alloc, &new, any_device(alloc, draws, number)?)?;
-    }
-    Ok(new)
-}
-
-/// The ring with a device marked, reweighed or added.
-fn any_change(alloc: Global, draws: &mut Pcg32, ring: &Ring) -> Result<Ring, Fail> {
-    let id = below(draws, 8) as u16;
-    match below(draws, 4) {
-        0 => marked(alloc, ring, id),
-        1 => weighed(alloc, ring, id, below(draws, 4) * 50),
-        _ => {
-            let device = any_device(alloc, draws, u8::try_from(ring.next_id()).unwrap_or(255))?;
-            with_device(alloc, ring, device)
-        }
-    }
-}
-
-#[test]
-fn random_rings_meet_the_definitions(rt: HostRuntime) -> Result<(), Fail> {
-    let alloc = rt.alloc();
-    let mut draws = draws_of(1);
-    let mut rebalances = 0u32;
-    for _ in 0..20_000 {
-        let mut ring = any_ring(alloc, &mut draws)?;
-        let mut hour = 0u32;
-        for _ in 0..5 {
-            let seed = draws.next_u32();
-            if !matches!(
-                rebalance(alloc, &ring, hour, seed),
-                Err(PlaceError::TooFewDevices)
-            ) {
-                ring = checked_rebalance(alloc, &ring, hour, seed)?.0;
-                rebalances = rebalances.saturating_add(1);
-            }
-            hour = hour.saturating_add(below(&mut draws, 3));
-            ring = any_change(alloc, &mut draws, &ring)?;
-        }
-    }
-    assert!(rt; rebalances > 50_000);
     Ok(())
 }
 
