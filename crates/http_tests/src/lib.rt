@@ -1,6 +1,6 @@
 //! Tests of the service over HTTP: what no contract says. Worked examples with their bytes, hostile
-//! input, and readers and writers that fail. They stand in a crate of their own so that those below
-//! are proved once, and not once more with their tests.
+//! input, readers and writers that fail, and sockets. They stand in a crate of their own so that
+//! those below are proved once, and not once more with their tests.
 #![tactic(auto)]
 
 #[cfg(test)]
@@ -13,3 +13,5 @@ mod hostile;
 mod reads;
 #[cfg(test)]
 mod serving;
+#[cfg(test)]
+mod sockets;

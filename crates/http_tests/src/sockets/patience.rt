@@ -1,5 +1,5 @@
 //! How long a peer is waited for, by a clock that goes on while its streams wait.
-use crate::doubles::{OwnClock, OwnDesk, Slow};
+use super::doubles::{OwnClock, OwnDesk, Slow};
 use std::io::{Read, Write};
 use std::test::Fail;
 use std::time::Duration;

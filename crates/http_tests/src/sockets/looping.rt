@@ -1,6 +1,6 @@
 //! Bytes served by way of a socket.
-use crate::doubles::{NO_NAMES, StrangeNet};
-use crate::serving::{CREATE, CREATED, LAST, LAST_ANSWER, RingBook, are_joined, open};
+use super::doubles::{NO_NAMES, StrangeNet};
+use super::serving::{CREATE, CREATED, LAST, LAST_ANSWER, RingBook, are_joined, open};
 use byte_streams::{CountedWriter, StreamFault};
 use http_sockets::{HourClock, ServeFault, loop_over};
 use std::alloc::{AllocError, Global};

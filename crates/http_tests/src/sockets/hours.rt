@@ -1,5 +1,5 @@
 //! What the clock tells.
-use crate::doubles::OwnClock;
+use super::doubles::OwnClock;
 use http_api::Clock;
 use http_sockets::HourClock;
 use std::test::Fail;

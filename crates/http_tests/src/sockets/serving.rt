@@ -1,5 +1,5 @@
 //! Clients of a server.
-use crate::doubles::{NO_NAMES, ShortNet};
+use super::doubles::{NO_NAMES, ShortNet};
 use builder::RingMachine;
 use http_messages::Audience;
 use http_sockets::{HourClock, ServeFault, Server, ServiceEnd, serve_connections, serve_on};
