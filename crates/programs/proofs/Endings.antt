@@ -2,7 +2,7 @@
 use Rattle.std.proofs.Common.{◌≡◌, ◌⊎◌, inl, inr, List, Option, Result, Ok, Err, ℕ, refl, subst}
 use Rattle.std.proofs.Common.{sym}
 use Rattle.std.specs.Borrow.{Bor}
-use Rattle.std.specs.Prelude.{IfErr, IfOk}
+use Rattle.std.specs.Prelude.{IfErr, IfOk, OnOk}
 use Rattle.byte_streams.specs.declared.counted.CountedReader.{CountedReader}
 use Rattle.byte_streams.specs.declared.counted.CountedWriter.{CountedWriter}
 use Rattle.command_line.specs.declared.task.Task.{Task}
@@ -33,6 +33,12 @@ read_ill read Fails why fails is = subst (λ r. IfErr r Fails) is fails
 pub as_asked : {A E : Type 0} (read : Result A E) (Asks Work : A → Type 0) → IfOk read Asks
     → (asked : A) × (read ≡ Ok asked) × Work asked → (asked : A) × Asks asked × Work asked
 as_asked read Asks Work asks done = (done.0, read_well read Asks done.0 asks done.1, done.2)
+
+-- two things are so of what was done, and so a third
+pub both_done : {A : Type 0} (result : Result A ProgramFault) (One Two Whole : Type 0)
+    → OnOk result One → OnOk result Two → (One → Two → Whole) → OnOk result Whole
+both_done (Ok value) One Two Whole one two make = make one two
+both_done (Err why) One Two Whole one two make = tt
 
 module _ {K W : Type 0} (stores : Keeping K) (Begins : K → Type 0)
     (Ends : K → Closing → Type 0) (contents : W → Option (List ℕ))

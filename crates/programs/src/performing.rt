@@ -5,7 +5,7 @@ ghost use Rattle.command_line.specs.Tasks.{AskForNothing};
 ghost use Rattle.programs.specs.Begun.{OpensNone, OpensOne};
 ghost use Rattle.programs.specs.Performed.{DoesAskedOver, EndsBy, FailsAskedOver, FailsToRun};
 ghost use Rattle.programs.specs.Inner.Tellings.{EndsAtOver, EndsOver, FailsOver, FailsTellingOver};
-ghost use Rattle.programs.specs.Inner.Tellings.{IsTelling};
+ghost use Rattle.programs.specs.Inner.Tellings.{IsWork, IsTelling};
 ghost use Rattle.programs.specs.Performed.{ImportsFile, OpensGiven, Runs, ShowsStore};
 ghost use Rattle.programs.specs.Service.{fault_status};
 ghost use Rattle.programs.specs.Inner.Asked.{FailsToImportAsked, FailsToShowAsked};
@@ -186,6 +186,44 @@ fn import<S: Stores, W: Write>(
     }
 }
 
+/// Does a task that shows nothing of a store, imports no table, and tells nothing on its way.
+fn do_work<S: Stores, R: Read, W: Write>(
+    rt: &HostRuntime,
+    task: &Task<'_>,
+    reader: &mut CountedReader<R>,
+    writer: &mut CountedWriter<W>,
+    stores: &mut S,
+) -> Result<(), ProgramFault>
+    requires { IsWork task.now }
+    ensures done { OnOk result (EndsOver S.Stores S.Kept.Keeper
+        ⟦<MemoryKeeper as Keeper<RingMachine>>⟧ stores.old stores.new R.remaining W.contents
+        reader.old reader.new writer.old writer.new task.now Done) }
+    ensures failed { IfErr result (FailsOver S.Stores S.Kept.Keeper
+        ⟦<MemoryKeeper as Keeper<RingMachine>>⟧ stores.old stores.new R.remaining W.contents
+        reader.old reader.new writer.old writer.new task.now) }
+{
+    match task {
+        Task::Run { file } => run(rt, *file, reader, writer, stores),
+        Task::Serve {
+            file,
+            port,
+            count,
+            hour,
+            names,
+        } => serve_store(rt, rt, *file, *port, *count, *hour, *names, stores),
+        Task::Loop {
+            file,
+            input,
+            hour,
+            names,
+        } => loop_file(rt, *file, *input, *hour, *names, writer, stores),
+        Task::Log { file, from, lines } => write_log(rt, *file, *from, *lines, writer, stores),
+        Task::Renew { file, new } => renew_store(rt, *file, *new, stores),
+        Task::Version => tell_version(writer),
+        _ => unreachable!(),
+    }
+}
+
 /// Does a task that tells nothing on its way.
 fn perform_task<S: Stores, R: Read, W: Write>(
     rt: &HostRuntime,
@@ -202,46 +240,9 @@ fn perform_task<S: Stores, R: Read, W: Write>(
         ⟦<MemoryKeeper as Keeper<RingMachine>>⟧ stores.old stores.new R.remaining W.contents
         reader.old reader.new writer.old writer.new task.now) }
 {
-    let alloc = rt.alloc();
     match task {
-        Task::Run { file } => {
-            run(rt, *file, reader, writer, stores)?;
-            Ok(Ending::Done)
-        }
-        Task::Serve {
-            file,
-            port,
-            count,
-            hour,
-            names,
-        } => {
-            serve_store(rt, rt, *file, *port, *count, *hour, *names, stores)?;
-            Ok(Ending::Done)
-        }
-        Task::Service { .. } | Task::Found { .. } => unreachable!(),
-        Task::Version => {
-            tell_version(writer)?;
-            Ok(Ending::Done)
-        }
-        Task::Loop {
-            file,
-            input,
-            hour,
-            names,
-        } => {
-            loop_file(rt, *file, *input, *hour, *names, writer, stores)?;
-            Ok(Ending::Done)
-        }
         Task::Table { .. } | Task::Show { .. } | Task::Nodes { .. } | Task::Export { .. } => {
             show_task(rt, task, writer, stores)
-        }
-        Task::Log { file, from, lines } => {
-            write_log(rt, *file, *from, *lines, writer, stores)?;
-            Ok(Ending::Done)
-        }
-        Task::Renew { file, new } => {
-            renew_store(rt, *file, *new, stores)?;
-            Ok(Ending::Done)
         }
         Task::Import {
             file,
@@ -251,8 +252,13 @@ fn perform_task<S: Stores, R: Read, W: Write>(
             csv,
             hour,
         } => {
-            let asked = ask_import(alloc, *ring, *caller, *number);
+            let asked = ask_import(rt.alloc(), *ring, *caller, *number);
             import(rt, *file, *csv, asked, *hour, writer, stores)
+        }
+        Task::Service { .. } | Task::Found { .. } => unreachable!(),
+        _ => {
+            do_work(rt, task, reader, writer, stores)?;
+            Ok(Ending::Done)
         }
     }
 }

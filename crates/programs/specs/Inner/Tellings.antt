@@ -72,6 +72,17 @@ IsTelling (task.Service file port hosts hour_ok names) = ⊤
 IsTelling (task.Found fresh texts min_hours given from) = ⊤
 IsTelling _ = ⊥
 
+-- The task is work over a store or a stream: it shows nothing that a store is asked for, imports no
+-- table, and tells no lines on its way.
+abbrev pub IsWork : Task → Type 0
+IsWork (task.Run file) = ⊤
+IsWork (task.Serve file port count given names) = ⊤
+IsWork (task.Loop file input given names) = ⊤
+IsWork (task.Log file from lines) = ⊤
+IsWork (task.Renew file fresh) = ⊤
+IsWork task.Version = ⊤
+IsWork _ = ⊥
+
 -- A task failed, and its lines were told on a stream.
 abbrev pub FailsTelling : {M K R W E : Type 0} (memory : Keeping M) (stores : Keeping K)
     (Begins : List ℕ → K → Type 0) (Ends : K → Closing → Type 0) (remaining : R → Option (List ℕ))
