@@ -5,7 +5,7 @@ Usage: bench/watch_gate.py [--write] [--log FILE]      (rt ci in this repository
        bench/watch_gate.py [--write] --from FILE ..    (what earlier runs logged: of a check that several have, the last counts)
 
 Once a second it looks which checks of the toolchain run below /proc, and how many processor seconds each has used. What a check is for
-stands in its words: a library, its tests, the check that a crate's wrong bodies begin with, or the wrong body of a number. The
+stands in its words: a library, its tests, or a wrong body, of which the first of a crate proves it once more. The
 last lines are the table of docs/gate.md, and what all took. --write writes the table to the page, between its two marks.
 Checks that take less than a second may be missed; what the gate does beside checks, it copies files, is not counted.
 """
@@ -59,9 +59,9 @@ def watch(log, has_ended):
 
 
 def kind_of(check):
-    """Of which crate a check is, what for, and which wrong body it tries: a number, or None."""
+    """Of which crate a check is, what for, and the folder of the wrong body that it tries, or None."""
     name = re.search(r"--crate-name (\w+)", check["cmd"])
-    over = re.search(r"rt-edits-[^/ ]*/(seed|\d+)", check["cmd"])
+    over = re.search(r"rt-edits-", check["cmd"])
     if not name:
         return None
     if "--test" in check["cmd"].split():
@@ -70,16 +70,19 @@ def kind_of(check):
         return name[1], "link" if "--backend" in check["cmd"] else "proof", None
     if not over:
         return name[1], "anew", None
-    return (name[1], "seed", None) if over[1] == "seed" else (name[1], "edits", int(over[1]))
+    return name[1], "edits", check["cwd"]
 
 
 def figures(logs):
     """The rows of the table, and the seconds of each kind of check."""
-    last, spent = {}, collections.Counter()
+    last, spent, begun = {}, collections.Counter(), {}
     for log in logs:
         with open(log, encoding="utf-8") as it:
             for check in map(json.loads, it):
                 kind = kind_of(check)
+                if kind and kind[1] == "edits" and begun.setdefault(kind[0], kind[2]) == kind[2]:
+                    # (the first wrong body of a crate is tried over nothing, so its check proves the crate once more)
+                    kind = kind[0], "seed", None
                 if kind:
                     spent[kind[1]] += check["cpu"]
                     last[kind] = max(check["cpu"], last.get(kind, 0)) if kind[1] == "proof" else check["cpu"]
