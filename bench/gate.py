@@ -1,18 +1,15 @@
 #!/usr/bin/env python3
 """Measures what the gate costs: for each crate the processor seconds of its proof, its tests' proof and its wrong bodies.
 
-Usage: bench/gate.py [--edits | --by-hand | --write] [CRATE ..]      (all crates where none is named)
-       bench/gate.py --apply
+Usage: bench/gate.py [--edits | --write] [CRATE ..]      (all crates where none is named)
 
---edits tries and times the wrong bodies of the gate alone. --by-hand does so with those of must-fail-by-hand, which the gate
-leaves out, and fails if one is not refused. --apply looks whether each of them still fits the text that it turns.
+--edits tries and times the wrong bodies of must-fail alone, each by itself. bench/wrong_bodies.py tries the others.
 
-The crates have to be checked before (`rt all check`): a wrong body is then tried over what that check kept, as `rt ci` tries
-it over the work of those before it. A proof from nothing is timed in a copy. One line a crate, and one for each wrong body
-that takes over 20 seconds; the last lines are the table of docs/gate.md. --write writes that table to the page, between its
-two marks, and takes all crates.
+The crates have to be checked before (`rt all check`): a wrong body is then tried over a copy of what that check kept, as `rt ci`
+tries it over its own. A proof from nothing is timed in a copy. One line a crate, and one for each wrong body that takes over 20
+seconds; the last lines are the table of docs/gate.md. --write writes that table to the page, between its two marks, and takes
+all crates.
 """
-import glob
 import importlib.machinery
 import importlib.util
 import os
@@ -61,32 +58,19 @@ def proof(crate, room, *flags):
     return used if ran.returncode == 0 else None
 
 
-def by_hand(crate):
-    """The wrong bodies that the gate leaves out."""
-    return sorted(glob.glob(f"{crate.folder}/must-fail-by-hand/*.edit"))
-
-
-def apply(rt):
-    """Fails where a wrong body that the gate leaves out no longer fits its text."""
-    tried = [(it, crate.folder) for crate in rt.rtlib.crates_below(ROOT) for it in by_hand(crate)]
-    bad = [f"{os.path.relpath(it, ROOT)}: {why}" for it, folder in tried for _, why in [rt.read_edit(it, folder)] if why]
-    print("\n".join([*bad, f"{len(tried) - len(bad)} wrong bodies are tried by hand and can be applied, {len(bad)} cannot"]))
-    sys.exit(1 if bad else 0)
-
-
 def edits(rt, crate, good):
     """For each wrong body its name, whether it is refused, and the processor seconds."""
     rows = []
-    with tempfile.TemporaryDirectory(prefix="gate-") as kept:
-        shutil.copytree(f"{crate.folder}/out/incremental", kept, dirs_exist_ok=True)
-        for edit in good:
-            (refused, text), used, _ = timed(lambda: rt.must_fail(crate, edit, ["--jobs", "1"], kept))
-            name = os.path.basename(edit)[: -len(".edit")]
-            rows.append((name, refused, used))
-            by_names = "only because a proof file names" in text
-            said = ", NOT REFUSED: " + text if not refused else ", refused by names alone" if by_names else ""
-            if said or used > DEAR:
-                print(f"  {crate.name}/{name}: {used:.0f} s{said}", flush=True)
+    for edit in good:
+        with tempfile.TemporaryDirectory(prefix="gate-") as room:
+            rt.linked(f"{crate.folder}/out/incremental", f"{room}/kept")
+            (kind, text), used, _ = timed(lambda: rt.must_fail(crate, edit, ["--jobs", "1"], f"{room}/kept"))
+        name, refused = os.path.basename(edit)[: -len(".edit")], kind in (rt.REFUSED, rt.AT_LIMIT)
+        rows.append((name, refused, used))
+        by_names = "only because a proof file names" in text
+        said = f", NOT REFUSED: {text}" if not refused else ", refused by names alone" if by_names else ""
+        if said or used > DEAR:
+            print(f"  {crate.name}/{name}: {used:.0f} s{said}", flush=True)
     return rows
 
 
@@ -114,15 +98,12 @@ def write(table):
 
 
 def main(words):
-    is_by_hand, writes = "--by-hand" in words, "--write" in words
-    only_edits = is_by_hand or "--edits" in words
+    only_edits, writes = "--edits" in words, "--write" in words
     names = [it for it in words if not it.startswith("--")]
     if writes and (names or only_edits):
         sys.exit("bench/gate.py: --write takes all crates, with their proofs")
     rt = tool()
     os.chdir(ROOT)
-    if "--apply" in words:
-        apply(rt)
     table, failed, passed = [], [], []
     for crate in rt.rtlib.crates_below(ROOT):
         if names and crate.name not in names:
@@ -133,7 +114,7 @@ def main(words):
                 shutil.copytree(ROOT, room, dirs_exist_ok=True, symlinks=True)
                 proved = proof(crate, room)
                 tested = proof(crate, room, "--test") if crate.has_tests() else 0
-        rows = edits(rt, crate, by_hand(crate) if is_by_hand else rt.edits_of(crate)[0])
+        rows = edits(rt, crate, rt.edits_of(crate)[0])
         failed += [crate.name] if None in (proved, tested) else []
         table.append((crate.name, proved or 0, tested or 0, [it[2] for it in rows]))
         print(table_of(table[-1:]).splitlines()[-1], flush=True)

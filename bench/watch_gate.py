@@ -5,7 +5,7 @@ Usage: bench/watch_gate.py [--write] [--log FILE]      (rt ci in this repository
        bench/watch_gate.py [--write] --from FILE ..    (what earlier runs logged: of a check that several have, the last counts)
 
 Once a second it looks which checks of the toolchain run below /proc, and how many processor seconds each has used. What a check is for
-stands in its words: a library, its tests, or a wrong body, of which the first of a crate proves it once more. The
+stands in its words: a library, its tests, the proof that the wrong bodies of a crate begin with, or one of these. The
 last lines are the table of docs/gate.md, and what all took. --write writes the table to the page, between its two marks.
 Checks that take less than a second may be missed; what the gate does beside checks, it copies files, is not counted.
 """
@@ -61,7 +61,7 @@ def watch(log, has_ended):
 def kind_of(check):
     """Of which crate a check is, what for, and the folder of the wrong body that it tries, or None."""
     name = re.search(r"--crate-name (\w+)", check["cmd"])
-    over = re.search(r"rt-edits-", check["cmd"])
+    over = re.search(r"rt-edits-[^/\s]*/(\w+)", check["cmd"])
     if not name:
         return None
     if "--test" in check["cmd"].split():
@@ -69,27 +69,27 @@ def kind_of(check):
     if "rt-edit-" not in check["cwd"]:
         return name[1], "link" if "--backend" in check["cmd"] else "proof", None
     if not over:
-        return name[1], "anew", None
-    return name[1], "edits", check["cwd"]
+        return name[1], "anew", check["cwd"]
+    return (name[1], "seed", None) if over[1] == "seed" else (name[1], "edits", check["cwd"])
 
 
 def figures(logs):
     """The rows of the table, and the seconds of each kind of check."""
-    last, spent, begun = {}, collections.Counter(), {}
+    last, spent = {}, collections.Counter()
     for log in logs:
         with open(log, encoding="utf-8") as it:
             for check in map(json.loads, it):
                 kind = kind_of(check)
-                if kind and kind[1] == "edits" and begun.setdefault(kind[0], kind[2]) == kind[2]:
-                    # (the first wrong body of a crate is tried over nothing, so its check proves the crate once more)
-                    kind = kind[0], "seed", None
+                if kind and kind[1] == "seed" and kind in last:
+                    # (once all wrong bodies were tried, the crate has to be proved again over what they began with)
+                    kind = kind[0], "sound", None
                 if kind:
                     spent[kind[1]] += check["cpu"]
                     last[kind] = max(check["cpu"], last.get(kind, 0)) if kind[1] == "proof" else check["cpu"]
     rows = []
     for name in sorted({kind[0] for kind in last}):
         if os.path.isdir(f"crates/{name}"):
-            edits = [seconds for kind, seconds in last.items() if kind[:2] == (name, "edits")]
+            edits = [seconds for kind, seconds in last.items() if kind[0] == name and kind[1] in ("edits", "anew")]
             rows.append((name, last.get((name, "proof", None), 0), last.get((name, "tests", None), 0), edits))
     return rows, spent
 
@@ -115,7 +115,10 @@ def main(words):
         status, logs = run(log), [log]
     rows, spent = figures(logs)
     table = gate.table_of(rows)
-    told = {"proof": "proofs", "tests": "tests", "seed": "what wrong bodies begin with", "edits": "wrong bodies", "anew": "those tried anew", "link": "programs"}
+    told = {
+        "proof": "proofs", "tests": "tests", "seed": "what wrong bodies begin with", "edits": "wrong bodies",
+        "anew": "those tried from nothing", "sound": "what they began with, once more", "link": "programs",
+    }
     parts = ", ".join(f"{what} {spent[kind] / 60:.0f}" for kind, what in told.items() if spent[kind])
     print(f"{table}\nprocessor minutes of checks: {sum(spent.values()) / 60:.0f} ({parts})")
     if "--write" in words and not status:

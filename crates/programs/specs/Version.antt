@@ -9,7 +9,7 @@ use Rattle.programs.specs.declared.faults.ProgramFault.TheVariants as fault
 
 -- the version of the program, the schemas of files that it opens and writes, and what proved it
 abbrev pub version_text : List ℕ
-version_text = codes "ringd 1.0.0\nopens files of schema 1 and 2, writes schema 2\nproved with rattle-kit-13b logic dac8208d650f15bf\n"
+version_text = codes "ringd 1.0.0\nopens files of schema 1 and 2, writes schema 2\nproved with rattle-kit-13f logic dac8208d650f15bf\n"
 
 module _ {W : Type 0} (contents : W → Option (List ℕ)) (writer later : CountedWriter W) where
   -- The version was written and flushed.

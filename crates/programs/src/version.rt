@@ -8,7 +8,7 @@ use std::io::Write;
 
 /// The version of the program, the schemas of files that it opens and writes, and what proved it.
 const VERSION_TEXT: &str =
-    "ringd 1.0.0\nopens files of schema 1 and 2, writes schema 2\nproved with rattle-kit-13b logic dac8208d650f15bf\n";
+    "ringd 1.0.0\nopens files of schema 1 and 2, writes schema 2\nproved with rattle-kit-13f logic dac8208d650f15bf\n";
 
 /// Tells of which version the program is.
 pub(crate) fn tell_version<W: Write>(writer: &mut CountedWriter<W>) -> Result<(), ProgramFault>
