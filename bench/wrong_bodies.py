@@ -11,8 +11,9 @@ goals. So one is refused where the check finds an error in the function that it 
 goals, other than that a name is gone. One that is not told so, or that turns more than bodies, is tried alone, as `rt ci` does.
 
 The libraries below a crate have to be built (by `rt ci` or `rt all check`). One line a crate, and one for each wrong body that is
-not refused, or for a name alone. With --minutes no crate is begun after so many minutes, and those that are left are named.
---apply looks whether each of must-fail-together fits its text, which takes a second.
+still proved, that can't be applied, that is refused for a name alone, or of which nothing came to be known. The first two fail the
+run. With --minutes no crate is begun after so many minutes, and those that are left are named. --apply looks whether each of
+must-fail-together fits its text, which takes a second.
 """
 import glob
 import os
@@ -157,16 +158,17 @@ class Seed:
 
 
 def try_alone(rt, crate, seed, edit):
-    """What is to be said of a wrong body that was tried alone, if it is not refused as it should be."""
-    kind, told = seed.over(rt, lambda kept: rt.must_fail(crate, edit, FLAGS, kept))
-    return told if kind != rt.REFUSED or "only because a proof file names" in told else ""
+    """Whether a wrong body that was tried alone fails the run, and what is to be said of it, if anything."""
+    kind, said = seed.over(rt, lambda kept: rt.must_fail(crate, edit, FLAGS, kept))
+    is_quiet = kind in (rt.REFUSED, rt.AT_LIMIT) and "only because a proof file names" not in said
+    return kind in (rt.MISSED, rt.BAD), "" if is_quiet else said
 
 
 def try_all(rt, crate, edits):
-    """How many wrong bodies of a crate were refused beside others and alone, and what is to be said of the rest."""
+    """How many wrong bodies of a crate were refused beside others, how many were tried alone, and what is to be said."""
     seed = Seed(rt, crate)
     if not seed.at:
-        return 0, 0, [f"{crate.name}: it is not proved, so no wrong body of it was tried"]
+        return 0, 0, [(False, f"{crate.name}: the check that its wrong bodies begin with did not end well, so none was tried")]
     batches, alone = batches_of(crate, edits)
     beside = 0
     for batch in batches:
@@ -174,16 +176,16 @@ def try_all(rt, crate, edits):
         refused = batch.refused(ran.stdout)
         beside += len(refused)
         alone += [edit for edit, _ in batch.edits if edit not in refused]
-    said = [it for it in (try_alone(rt, crate, seed, edit) for edit in alone) if it]
+    said = [it for it in (try_alone(rt, crate, seed, edit) for edit in alone) if it[1]]
     seed.end()
-    return beside, len(alone) - len(said), said
+    return beside, len(alone), said
 
 
 def told(crate, found, began):
     """Says what came of the wrong bodies of a crate."""
     beside, alone, said = found
-    line = f"{crate.name}: {beside} refused beside others, {alone} alone, {len(said)} not as they should be"
-    print("\n".join([f"{line} (minute {(time.time() - began) / 60:.0f})", *said]), flush=True)
+    line = f"{crate.name}: {beside} refused beside others, {alone} tried alone, {len(said)} of these not plainly refused"
+    print("\n".join([f"{line} (minute {(time.time() - began) / 60:.0f})", *[text for _, text in said]]), flush=True)
 
 
 def main(words):
@@ -211,9 +213,11 @@ def main(words):
     }
     found = rt.in_lanes(tasks)
     left = sorted(name for (name, _), it in found.items() if it is None)
-    refused = sum(beside + alone for beside, alone, _ in filter(None, found.values()))
-    bad = sum(len(said) for _, _, said in filter(None, found.values()))
-    print(f"{refused} wrong bodies refused, {bad} not as they should be, in {(time.time() - began) / 60:.0f} minutes")
+    said = [it for of_crate in filter(None, found.values()) for it in of_crate[2]]
+    refused = sum(beside + alone for beside, alone, _ in filter(None, found.values())) - len(said)
+    bad = sum(fails for fails, _ in said)
+    took = f"in {(time.time() - began) / 60:.0f} minutes"
+    print(f"{refused} wrong bodies refused, {bad} not refused, {len(said) - bad} not plainly, {took}")
     if left:
         print(f"there was no time for those of {' '.join(left)}")
     return 1 if bad else 0
