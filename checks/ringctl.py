@@ -166,7 +166,7 @@ SESSION = [
     (f"rebalance_as cold 7 2 {HOUR}",
      refused("cold was changed since the preview: it would not have version 2. Nothing was moved; look at a new preview")),
     ("rebalance_as cold 7 3 7",
-     refused("cold: it is not hour 7 any more, so other partitions may move. Nothing was moved; look at a new preview")),
+     refused("cold: it is not hour 7, so other partitions may move. Nothing was moved; look at a new preview")),
     ("keep cold d0", refused("cold: device 0 is not marked: there is nothing to take back")),
     ("remove cold d0", done("cold: version 3, d0 is marked and leaves at the next rebalance")),
     ("keep cold r1z1-10.0.0.1:6200/sda", done("cold: version 4, d0 is marked no more, and stays")),
@@ -275,8 +275,6 @@ BAD = [
     ("publish photos --url ftp://a", "the URL is ftp://a; it is as http://127.0.0.1:8642, without a login, ? and #"),
     ("publish photos --file a.db --url http://a", "--url and --file: it is one of them"),
     ("publish photos --file a.db --ringd nothing", "there is no program nothing: --ringd PATH names it"),
-    ("rebalance photos --hours 24", "--hours is for --until-done"),
-    ("rebalance photos --until-done --hours x", whole("the number of hours", "x", 0, 65535)),
     ("rebalance photos --until-done --hour 480000", "--until-done waits by the clock, and --hour holds it"),
 ]
 
@@ -309,9 +307,6 @@ def bad_words(checks):
             told = list(workers.map(lambda it: ctl(*it[0].split()), BAD))
         for (words, want), got in zip(BAD, told):
             checks.same(words, got, (2, "", f"ringctl: {want}\n"))
-        status, shown, errors = ctl("rebalance", "photos", "--until-done")
-        want = f"ringctl: the journal {ctl.journal} has not set the hours of photos: --hours N names them\n"
-        checks.same("hours that nobody has named", (status, shown, errors), (2, "", want))
         status, shown, errors = ctl("publish", "photos", "--hour", int(time.time()))
         is_told = status == 2 and "it is in whole hours since 1970, which are" in errors
         checks.show("seconds for hours", is_told, (status, shown, errors))
@@ -376,6 +371,14 @@ def until_done(checks):
             is_told = said[0].startswith("late: version 2, 8 seats changed") and re.fullmatch(waits, said[1])
             checks.show("it says what is to come, and how long it waits", is_told, said)
             checks.same("meanwhile others change rings", ctl("set_hours", "late", 23)[0], 0)
+            Path(room, "other").mkdir()
+            other = Ctl(f"{room}/other", "--url", url(server.port))
+            again = other.start("rebalance", "late", "--until-done")
+            said = again.stdout.readline(), again.stderr.readline(), again.stderr.readline()
+            again.kill()
+            again.communicate()
+            is_told = said[0].startswith("late: version 4, 0 seats changed") and "2 of their seats: waits until" in said[-1]
+            checks.show("where all is locked it waits, though its journal has set no hours", is_told, said)
         finally:
             made.kill()
             made.communicate()
