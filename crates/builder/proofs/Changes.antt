@@ -82,9 +82,7 @@ change_of : (a : Act) (answer : Done) (name : List ℕ) (old new : RingRecord) (
     → RingEffect name hour old a answer new → Change a hour old new
 change_of (act.Add row) answer name old new hour effect =
     alike_as _ hour old _ new effect.0 (record { power = refl; min_hours = refl; moved = refl })
-change_of (act.SetWeight to) answer name old new hour effect =
-    alike_as _ hour old _ new effect.0 (record { power = refl; min_hours = refl; moved = refl })
-change_of (act.Remove id) answer name old new hour effect =
+change_of (act.OnDevice id what) answer name old new hour effect =
     alike_as _ hour old _ new effect.0 (record { power = refl; min_hours = refl; moved = refl })
 change_of (act.SetHours hours) answer name old new hour effect =
     SetHours hours refl
@@ -101,8 +99,6 @@ change_of (act.Import rows) answer name old new hour effect =
     let rest = alike_rows old rows in
     alike_as _ hour old _ new effect.0
     (record { power = rest.power; min_hours = rest.min_hours; moved = rest.moved })
-change_of (act.Keep id) answer name old new hour effect =
-    alike_as _ hour old _ new effect.0 (record { power = refl; min_hours = refl; moved = refl })
 change_of (act.Rebalance seed) answer name old new hour effect =
     Rebalance effect.0
 change_of (act.RebalanceAs told) answer name old new hour effect =
@@ -141,9 +137,7 @@ by_change old it new same is =
 rises_by : (a : Act) (answer : Done) (name : List ℕ) (old new : RingRecord) (hour : ℕ)
     → RingEffect name hour old a answer new → Rises old new
 rises_by (act.Add row) answer name old new hour effect = by_change old _ new refl effect.0
-rises_by (act.SetWeight to) answer name old new hour effect = by_change old _ new refl effect.0
-rises_by (act.Remove id) answer name old new hour effect = by_change old _ new refl effect.0
-rises_by (act.Keep id) answer name old new hour effect = by_change old _ new refl effect.0
+rises_by (act.OnDevice id what) answer name old new hour effect = by_change old _ new refl effect.0
 rises_by (act.SetHours hours) answer name old new hour effect = by_change old _ new refl effect.0
 rises_by act.PretendPassed answer name old new hour effect = by_change old _ new refl effect.0
 rises_by act.RaisePower answer name old new hour effect = inl effect.0.version

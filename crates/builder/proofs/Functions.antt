@@ -138,11 +138,7 @@ one_change : (name : List ℕ) (hour : ℕ) (old : RingRecord) (a : Act) (answer
 one_change name hour old (act.Create made) answer also new other valid one two = absurd one
 one_change name hour old (act.Add row) answer also new other valid one two =
     by_equations _ _ answer also new other one two
-one_change name hour old (act.SetWeight to) answer also new other valid one two =
-    by_equations _ _ answer also new other one two
-one_change name hour old (act.Remove id) answer also new other valid one two =
-    by_equations _ _ answer also new other one two
-one_change name hour old (act.Keep id) answer also new other valid one two =
+one_change name hour old (act.OnDevice id what) answer also new other valid one two =
     by_equations _ _ answer also new other one two
 one_change name hour old (act.SetHours hours) answer also new other valid one two =
     by_equations _ _ answer also new other one two

@@ -3,7 +3,7 @@ use Rattle.std.proofs.Common.{◌≡◌, ℕ, ◌+◌, ◌<◌, ◌^◌, Bool, t
 use Rattle.ring_words.specs.Limits.{greatest_power, long_count}
 use Rattle.std.proofs.Common.{length, replicate, filter, Option, Some, None, refl, sym, ap, subst}
 use Rattle.std.proofs.Common.{◌∙◌, ⊎_elim, arith, find, true≢false}
-use Rattle.std.specs.Prelude.{All, IsTrue, is_some, nat_eq}
+use Rattle.std.specs.Prelude.{◌==◌, All, IsTrue, is_some, nat_eq}
 use Rattle.std.specs.List.{AllByRecursion}
 use Rattle.std.specs.Option.{option_map}
 use Rattle.std.specs.Cmp.Lexicographic.{pointwise}
@@ -14,23 +14,26 @@ use Rattle.std.proofs.lemmas.List.Elements.{All-replicate, All-tail}
 use Rattle.ring_messages.specs.Commands.{IsProperAct, IsProperCommand}
 use Rattle.ring_model.proofs.Amidst.{among_valid}
 use Rattle.ring_model.proofs.ByName.{at_most_with, by_name_with}
-use Rattle.ring_model.proofs.Changes.{added_valid, altered_valid, changed_valid, marked_keeps}
-use Rattle.ring_model.proofs.Changes.{reweighed_by_keeps, reweighed_keeps}
+use Rattle.ring_model.proofs.Changes.{added_valid, altered_keeps, altered_valid, changed_valid}
+use Rattle.ring_model.proofs.Changes.{proper_each, reweighed_by_keeps, reweighed_by_proper}
 use Rattle.ring_model.proofs.Raising.{raised_valid}
 use Rattle.ring_model.specs.Import.{after_row, after_rows, reweighed_by}
 use Rattle.ring_model.specs.Publish.{among, is_published, with_published}
-use Rattle.ring_model.specs.Ring.{RingRecord, added, marked, new_ring, partition_count, reweighed}
-use Rattle.ring_model.specs.Ring.{unmarked}
+use Rattle.ring_model.specs.Ring.{RingRecord, added, altered, altered_at, new_ring}
+use Rattle.ring_model.specs.Ring.{partition_count}
 use Rattle.ring_model.specs.Rings.{is_before, ring_at, with_ring}
 use Rattle.ring_model.specs.Valid.{IsHour, IsValid}
 use Rattle.ring_words.specs.Rows.{IsProperRow, has_place}
 use Rattle.ring_words.specs.Texts.{is_label}
+use Rattle.ring_words.specs.declared.device.Device.{Device}
 use Rattle.ring_words.specs.declared.device.Row.{Row}
 use Rattle.ring_words.specs.declared.request.Limits.{Limits}
 use Rattle.ring_words.specs.declared.command.NewRing.{NewRing}
 use Rattle.ring_words.specs.declared.command.Command.{Command}
 use Rattle.ring_words.specs.declared.command.Act.{Act}
 use Rattle.ring_words.specs.declared.command.Act.TheVariants as act
+use Rattle.ring_words.specs.declared.command.DeviceAct.{DeviceAct}
+use Rattle.ring_words.specs.declared.command.DeviceAct.TheVariants as device_act
 use Rattle.ring_words.specs.declared.command.Done.{Done}
 use Rattle.ring_words.specs.declared.command.Reply.{Reply}
 use Rattle.ring_words.specs.declared.command.Reply.TheVariants as reply
@@ -96,11 +99,27 @@ made_valid n proper = record {
   };
 }
 
+-- a device to which something is done where a test says so stays such as there is
+altered_proper : (b : Bool) (id : ℕ) (what : DeviceAct) (d : Device)
+    → IsProperAct (act.OnDevice id what) → IsProperRow d.row
+    → IsProperRow (cond b (altered what d) d).row
+altered_proper false id what d proper row = row
+altered_proper true id (device_act.SetWeight weight) d proper row = record {
+  region = row.region;
+  zone = row.zone;
+  address = row.address;
+  port = row.port;
+  name = row.name;
+  weight = proper.1.0;
+}
+altered_proper true id what d proper row = row
+
 row_valid : (limits : Limits) (ring : RingRecord) (row : Row) → row_refusal limits ring row ≡ None
     → IsProperRow row → IsValid ring → IsValid (after_row ring row)
 row_valid limits ring row none proper valid =
     cond_both (has_place row ring.devices) (record ring { devices = _ }) (added ring row) IsValid
-    (λ known. altered_valid (reweighed_by row) (reweighed_by_keeps row proper) ring valid)
+    (λ known. altered_valid (reweighed_by row) (reweighed_by_keeps row) ring valid
+    (reweighed_by_proper row proper ring valid))
     (λ new. (let fits = row_fits limits ring row none new in
     added_valid ring row valid (omega (arith, fits.0, limits.devices_within))
     (omega (arith, fits.1, limits.ids_within)) new proper))
@@ -178,16 +197,11 @@ new_valid (act.Add row) answer limits name old new hour small clear proper valid
       name = proper.1.1.1.1.0;
       weight = proper.1.1.1.1.1.0;
     })))
-new_valid (act.SetWeight to) answer limits name old new hour small clear proper valid effect =
+new_valid (act.OnDevice id what) answer limits name old new hour small clear proper valid effect =
     subst IsValid (sym effect.0)
-    (changed_valid _ (altered_valid (reweighed to.id to.weight) (reweighed_keeps to.id to.weight proper.1.0)
-    old valid))
-new_valid (act.Remove id) answer limits name old new hour small clear proper valid effect =
-    subst IsValid (sym effect.0) (changed_valid _ (altered_valid (marked id) (marked_keeps true id)
-    old valid))
-new_valid (act.Keep id) answer limits name old new hour small clear proper valid effect =
-    subst IsValid (sym effect.0) (changed_valid _ (altered_valid (unmarked id)
-    (marked_keeps false id) old valid))
+    (changed_valid _ (altered_valid (altered_at id what) (altered_keeps id what) old valid
+    (proper_each (altered_at id what) (λ d row. altered_proper (d.id == id) id what d proper row)
+    old.devices valid.devices.proper)))
 new_valid (act.SetHours hours) answer limits name old new hour small clear proper valid effect =
     let most = proper.0.1 in
     subst IsValid (sym effect.0) (changed_valid _ (hours_valid old hours (omega (arith, most))

@@ -7,8 +7,9 @@ use Rattle.ring_model.specs.Import.{after_row, after_rows}
 use Rattle.ring_model.specs.Publish.{is_published, with_published}
 use Rattle.ring_model.specs.Raise.{IsRaised}
 use Rattle.ring_model.specs.Ring.{RingRecord, changed, has_device, has_present, is_assigned}
-use Rattle.ring_model.specs.Ring.{new_ring, risen, with_device, with_hours_passed, with_mark}
-use Rattle.ring_model.specs.Ring.{with_min_hours, with_weight, without_mark}
+use Rattle.ring_model.specs.Ring.{new_ring, risen, with_altered, with_device, with_hours_passed}
+use Rattle.ring_model.specs.Ring.{with_min_hours}
+use Rattle.ring_words.specs.Kinds.{device_deed}
 use Rattle.ring_words.specs.Rows.{has_place, same_place}
 use Rattle.ring_model.specs.Rings.{ring_at, with_ring}
 use Rattle.ring_place.specs.Rebalance.{IsRebalance, changed_seats}
@@ -19,6 +20,8 @@ use Rattle.ring_words.specs.declared.request.Limits.{Limits}
 use Rattle.ring_words.specs.declared.command.Command.{Command}
 use Rattle.ring_words.specs.declared.command.Act.{Act}
 use Rattle.ring_words.specs.declared.command.Act.TheVariants as act
+use Rattle.ring_words.specs.declared.command.DeviceAct.{DeviceAct}
+use Rattle.ring_words.specs.declared.command.DeviceAct.TheVariants as device_act
 use Rattle.ring_words.specs.declared.command.Done.{Done}
 use Rattle.ring_words.specs.declared.command.Deed.{Deed}
 use Rattle.ring_words.specs.declared.command.Deed.TheVariants as deed
@@ -30,7 +33,6 @@ use Rattle.ring_words.specs.declared.device.Device.{Device}
 use Rattle.ring_words.specs.declared.device.Row.{Row}
 use Rattle.ring_words.specs.declared.command.Foretold.{Foretold}
 use Rattle.ring_words.specs.declared.command.NewRing.{NewRing}
-use Rattle.ring_words.specs.declared.command.NewWeight.{NewWeight}
 use Rattle.ring_words.specs.declared.command.Reply.{Reply}
 use Rattle.ring_words.specs.declared.command.Reply.TheVariants as reply
 use Rattle.ring_text.specs.Snapshot.{snapshot_of}
@@ -47,19 +49,19 @@ pub record Cause : Type 0 where
   pub refused : Refusal
   pub stands : Bool
 
--- the causes that speak of the device of a number
-abbrev pub of_device : ℕ → RingRecord → List Cause
-of_device id ring =
-    record { refused = refusal.NoDevice; stands = not (has_device id ring.devices) }
-    ∷ record { refused = refusal.DeviceRemoved; stands = not (has_present id ring.devices) }
-    ∷ []
+-- The cause that the mark of the device of a number may be against doing this to it: a mark is taken
+-- off only where there is one, and all else is done only to a device that isn't marked.
+abbrev pub of_mark : ℕ → DeviceAct → RingRecord → Cause
+of_mark id device_act.Keep ring =
+    record { refused = refusal.NotMarked; stands = has_present id ring.devices }
+of_mark id other ring =
+    record { refused = refusal.DeviceRemoved; stands = not (has_present id ring.devices) }
 
--- the causes that may stand against taking the mark off a device
-abbrev pub of_mark : ℕ → RingRecord → List Cause
-of_mark id ring =
+-- the causes that may stand against doing this to the device of a number
+abbrev pub of_device : ℕ → DeviceAct → RingRecord → List Cause
+of_device id what ring =
     record { refused = refusal.NoDevice; stands = not (has_device id ring.devices) }
-    ∷ record { refused = refusal.NotMarked; stands = has_present id ring.devices }
-    ∷ []
+    ∷ of_mark id what ring ∷ []
 
 -- a cause for which a row of an import is refused, and whether it stands
 pub record RowTrouble : Type 0 where
@@ -165,9 +167,7 @@ abbrev pub ring_causes : Limits → ℕ → RingRecord → Act → List Cause
 ring_causes limits hour ring (act.Create new) =
     record { refused = refusal.RingExists; stands = true } ∷ []
 ring_causes limits hour ring (act.Add row) = of_addition limits row ring
-ring_causes limits hour ring (act.SetWeight to) = of_device to.id ring
-ring_causes limits hour ring (act.Remove id) = of_device id ring
-ring_causes limits hour ring (act.Keep id) = of_mark id ring
+ring_causes limits hour ring (act.OnDevice id what) = of_device id what ring
 ring_causes limits hour ring (act.SetHours hours) = []
 ring_causes limits hour ring act.PretendPassed = []
 ring_causes limits hour ring act.RaisePower = of_power ring
@@ -218,18 +218,10 @@ abbrev pub AddsDevice : Row → RingRecord → Done → RingRecord → Type 0
 AddsDevice row old answer new = (new ≡ with_device old row) ×
     (answer ≡ answer_at new (deed.Add old.next_id))
 
--- A device gets a weight.
-abbrev pub SetsWeight : NewWeight → RingRecord → Done → RingRecord → Type 0
-SetsWeight to old answer new = (new ≡ with_weight old to.id to.weight) ×
-    (answer ≡ answer_at new deed.SetWeight)
-
--- A device is marked to be removed.
-abbrev pub RemovesDevice : ℕ → RingRecord → Done → RingRecord → Type 0
-RemovesDevice id old answer new = (new ≡ with_mark old id) × (answer ≡ answer_at new deed.Remove)
-
--- The mark is taken off a device.
-abbrev pub KeepsDevice : ℕ → RingRecord → Done → RingRecord → Type 0
-KeepsDevice id old answer new = (new ≡ without_mark old id) × (answer ≡ answer_at new deed.Keep)
+-- This is done to the device of a number, and nothing to any other.
+abbrev pub AltersDevice : ℕ → DeviceAct → RingRecord → Done → RingRecord → Type 0
+AltersDevice id what old answer new = (new ≡ with_altered old id what) ×
+    (answer ≡ answer_at new (device_deed what))
 
 -- A partition that was moved stays for so many hours from now on.
 abbrev pub SetsHours : ℕ → RingRecord → Done → RingRecord → Type 0
@@ -278,9 +270,7 @@ PublishesText name old answer new = (new ≡ with_published old (spelling (snaps
 abbrev pub RingEffect : List ℕ → ℕ → RingRecord → Act → Done → RingRecord → Type 0
 RingEffect name hour old (act.Create made) = λ answer new. ⊥
 RingEffect name hour old (act.Add row) = AddsDevice row old
-RingEffect name hour old (act.SetWeight to) = SetsWeight to old
-RingEffect name hour old (act.Remove id) = RemovesDevice id old
-RingEffect name hour old (act.Keep id) = KeepsDevice id old
+RingEffect name hour old (act.OnDevice id what) = AltersDevice id what old
 RingEffect name hour old (act.SetHours hours) = SetsHours hours old
 RingEffect name hour old act.PretendPassed = PretendsPassed old
 RingEffect name hour old act.RaisePower = RaisesPower old

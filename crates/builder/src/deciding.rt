@@ -1,10 +1,9 @@
 //! Deciding commands.
-ghost use Rattle.std.specs.Prelude.{[], IfOk};
-ghost use Rattle.builder.specs.Step.{AddsDevice, KeepsDevice, NoRingEffect, PretendsPassed};
-ghost use Rattle.builder.specs.Step.{PublishesText, of_mark};
-ghost use Rattle.builder.specs.Step.{RaisesPower, RemovesDevice, RingEffect, SetsHours, SetsWeight};
-ghost use Rattle.builder.specs.Step.{Step, no_ring_causes, of_addition, of_device, of_power};
-ghost use Rattle.builder.specs.Step.{of_text, ring_causes};
+ghost use Rattle.std.specs.Prelude.{◌≡◌, ◌∷◌, [], IfOk};
+ghost use Rattle.builder.specs.Step.{AddsDevice, AltersDevice, NoRingEffect, PretendsPassed};
+ghost use Rattle.builder.specs.Step.{PublishesText, RaisesPower, RingEffect, SetsHours};
+ghost use Rattle.builder.specs.Step.{Step, first_cause, no_ring_causes, of_addition, of_device};
+ghost use Rattle.builder.specs.Step.{of_mark, of_power, of_text, ring_causes};
 ghost use Rattle.builder.specs.Inner.Outcome.{IsFirstOr, IsOutcome};
 
 use crate::importing::import;
@@ -12,7 +11,7 @@ use crate::rebalancing::{move_as_foretold, move_seats};
 use ring_model::{RaiseFault, Ring, Rings};
 use ring_text::{snapshot, write_ring};
 use ring_words::{
-    Act, Command, Deed, DeviceId, Done, Hour, Limits, NewRing, NewWeight, Refusal, Reply, RingName,
+    Act, Command, Deed, DeviceAct, DeviceId, Done, Hour, Limits, NewRing, Refusal, Reply, RingName,
     Row,
 };
 use std::alloc::{AllocError, Global};
@@ -45,46 +44,32 @@ fn add(ring: &Ring, row: &Row, limits: &Limits) -> Result<Outcome, AllocError>
     Ok(Outcome::Done(Deed::Add { id }, added))
 }
 
-/// Sets a device's weight, unless there is no such device or it is marked to be removed.
-fn set_weight(ring: &Ring, to: &NewWeight) -> Result<Outcome, AllocError>
-    ensures { IfOk result (IsFirstOr (of_device to.now.id ring.now) (SetsWeight to.now ring.now)) }
+/// Why the mark of a device is against what is done to it, if it is. A mark is taken off only where
+/// there is one, and all else is done only to a device that isn't marked.
+fn mark_refusal(ring: &Ring, id: DeviceId, what: &DeviceAct) -> Option<Refusal>
+    ensures { result ≡ first_cause (of_mark id what.now ring.now ∷ []) }
 {
-    if !ring.has_device(to.id) {
-        return Ok(Outcome::Refused(Refusal::NoDevice));
+    match (what, ring.has_present(id)) {
+        (DeviceAct::Keep, true) => Some(Refusal::NotMarked),
+        (DeviceAct::Keep, false) => None,
+        (_, true) => None,
+        (_, false) => Some(Refusal::DeviceRemoved),
     }
-    if !ring.has_present(to.id) {
-        return Ok(Outcome::Refused(Refusal::DeviceRemoved));
-    }
-    let reweighed = ring.with_weight(to.id, to.weight)?;
-    Ok(Outcome::Done(Deed::SetWeight, reweighed))
 }
 
-/// Marks a device to be removed, unless there is no such device or it is marked already.
-fn remove(ring: &Ring, id: DeviceId) -> Result<Outcome, AllocError>
-    ensures { IfOk result (IsFirstOr (of_device id ring.now) (RemovesDevice id ring.now)) }
+/// Does this to a device, unless there is no such device or its mark is against it.
+fn alter(ring: &Ring, id: DeviceId, what: &DeviceAct) -> Result<Outcome, AllocError>
+    ensures { IfOk result (IsFirstOr (of_device id what.now ring.now)
+        (AltersDevice id what.now ring.now)) }
 {
     if !ring.has_device(id) {
         return Ok(Outcome::Refused(Refusal::NoDevice));
     }
-    if !ring.has_present(id) {
-        return Ok(Outcome::Refused(Refusal::DeviceRemoved));
+    if let Some(refusal) = mark_refusal(ring, id, what) {
+        return Ok(Outcome::Refused(refusal));
     }
-    let marked = ring.with_mark(id)?;
-    Ok(Outcome::Done(Deed::Remove, marked))
-}
-
-/// Takes the mark off a device, unless there is no such device or it isn't marked.
-fn keep(ring: &Ring, id: DeviceId) -> Result<Outcome, AllocError>
-    ensures { IfOk result (IsFirstOr (of_mark id ring.now) (KeepsDevice id ring.now)) }
-{
-    if !ring.has_device(id) {
-        return Ok(Outcome::Refused(Refusal::NoDevice));
-    }
-    if ring.has_present(id) {
-        return Ok(Outcome::Refused(Refusal::NotMarked));
-    }
-    let kept = ring.without_mark(id)?;
-    Ok(Outcome::Done(Deed::Keep, kept))
+    let altered = ring.with_altered(id, *what)?;
+    Ok(Outcome::Done(what.deed(), altered))
 }
 
 /// Sets for how many hours a partition that was moved stays where it is.
@@ -152,9 +137,7 @@ fn on_ring(
     match act {
         Act::Create(_) => Ok(Outcome::Refused(Refusal::RingExists)),
         Act::Add(row) => add(ring, row, limits),
-        Act::SetWeight(to) => set_weight(ring, to),
-        Act::Remove(id) => remove(ring, *id),
-        Act::Keep(id) => keep(ring, *id),
+        Act::OnDevice(id, what) => alter(ring, *id, what),
         Act::SetHours(hours) => set_hours(ring, *hours),
         Act::PretendPassed => pretend_passed(ring),
         Act::RaisePower => raise_power(ring),

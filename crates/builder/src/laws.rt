@@ -22,6 +22,7 @@ ghost use Rattle.ring_words.specs.Limits.{greatest_long, long_count};
 ghost use Rattle.ring_words.specs.declared.request.Limits.{Limits};
 ghost use Rattle.ring_words.specs.declared.command.Command.{Command};
 ghost use Rattle.ring_words.specs.declared.command.Act.TheVariants as act;
+ghost use Rattle.ring_words.specs.declared.command.DeviceAct.TheVariants as device_act;
 ghost use Rattle.ring_words.specs.declared.command.Done.{Done};
 ghost use Rattle.ring_words.specs.declared.command.Foretold.{Foretold};
 ghost use Rattle.ring_words.specs.declared.command.Reply.{Reply};
@@ -54,8 +55,10 @@ pub fn a_kept_device_is_as_it_was()
     ensures { (limits : Limits) (rings mid after : State) (hour later : ℕ) (name : List ℕ)
         (id : ℕ) (marks unmarks : Done) (old new : RingRecord)
         → AreValid rings
-        → Step limits rings hour (record { ring = name; act = act.Remove id }) (reply.Done marks) mid
-        → Step limits mid later (record { ring = name; act = act.Keep id }) (reply.Done unmarks) after
+        → Step limits rings hour (record { ring = name; act = act.OnDevice id device_act.Remove })
+        (reply.Done marks) mid
+        → Step limits mid later (record { ring = name; act = act.OnDevice id device_act.Keep })
+        (reply.Done unmarks) after
         → ring_at name rings ≡ Some old → ring_at name after ≡ Some new
         → record new { version = old.version } ≡ old }
 {}

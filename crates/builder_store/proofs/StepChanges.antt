@@ -168,13 +168,7 @@ effect_keeps : (a : Act) (answer : Done) (name : List ℕ) (old new : RingRecord
 effect_keeps (act.Add row) answer name old new hour effect =
     kept_as old new (ap (λ (r : RingRecord). r.power) effect.0)
     (ap (λ (r : RingRecord). r.published) effect.0)
-effect_keeps (act.SetWeight to) answer name old new hour effect =
-    kept_as old new (ap (λ (r : RingRecord). r.power) effect.0)
-    (ap (λ (r : RingRecord). r.published) effect.0)
-effect_keeps (act.Remove id) answer name old new hour effect =
-    kept_as old new (ap (λ (r : RingRecord). r.power) effect.0)
-    (ap (λ (r : RingRecord). r.published) effect.0)
-effect_keeps (act.Keep id) answer name old new hour effect =
+effect_keeps (act.OnDevice id what) answer name old new hour effect =
     kept_as old new (ap (λ (r : RingRecord). r.power) effect.0)
     (ap (λ (r : RingRecord). r.published) effect.0)
 effect_keeps (act.SetHours hours) answer name old new hour effect =

@@ -4,9 +4,9 @@ use Rattle.serde_json.specs.Data.{Data}
 use Rattle.ring_words.specs.declared.device.Row.{Row}
 use Rattle.ring_words.specs.declared.command.Foretold.{Foretold}
 use Rattle.ring_words.specs.declared.command.NewRing.{NewRing}
-use Rattle.ring_words.specs.declared.command.NewWeight.{NewWeight}
 use Rattle.ring_words.specs.declared.command.Act.{Act}
-use Rattle.ring_words.specs.declared.command.Act.TheVariants.{Create, Add, RebalanceAs, SetWeight}
+use Rattle.ring_words.specs.declared.command.Act.TheVariants.{Create, Add, OnDevice, RebalanceAs}
+use Rattle.ring_words.specs.declared.command.DeviceAct.TheVariants.{SetWeight}
 use Rattle.ring_words.specs.Kinds.{act_kind}
 use Rattle.ring_messages.specs.Commands.{act_fields}
 use Rattle.ring_messages.specs.Inner.Says.{SaysAct}
@@ -24,13 +24,6 @@ equal_new_rings : (s t : NewRing) → s.power ≡ t.power → s.replicas ≡ t.r
 equal_new_rings s t a b c = ap (λ (x : ℕ). new_ring x s.replicas s.min_hours) a
     ∙ ap (λ (x : ℕ). new_ring t.power x s.min_hours) b
     ∙ ap (λ (x : ℕ). new_ring t.power t.replicas x) c
-
-abbrev new_weight : ℕ → ℕ → NewWeight
-new_weight i w = record { id = i; weight = w }
-
-equal_new_weights : (w v : NewWeight) → w.id ≡ v.id → w.weight ≡ v.weight → w ≡ v
-equal_new_weights w v a b =
-    ap (λ (x : ℕ). new_weight x w.weight) a ∙ ap (λ (x : ℕ). new_weight v.id x) b
 
 abbrev foretold : ℕ → ℕ → ℕ → Foretold
 foretold s v h = record { seed = s; version = v; hour = h }
@@ -50,26 +43,26 @@ same_new_ring s t e = equal_new_rings s t (cc) (cc) (cc)
 same_row : (r q : Row) → act_values (Add r) ≡ act_values (Add q) → r ≡ q
 same_row r q e = equal_rows r q (cc) (cc) (cc) (cc) (cc) (cc)
 
-same_new_weight : (w v : NewWeight) → act_values (SetWeight w) ≡ act_values (SetWeight v) → w ≡ v
-same_new_weight w v e = equal_new_weights w v (cc) (cc)
-
 same_foretold : (s t : Foretold) → act_values (RebalanceAs s) ≡ act_values (RebalanceAs t) → s ≡ t
 same_foretold s t e = equal_foretold s t (cc) (cc) (cc)
 
--- ---- acts of one command. An act that holds no record needs no line here.
+-- ---- acts of one command. An act that holds no record needs no line here, and none on a device.
 
 same_kinds : (a b : Act) → act_kind a ≡ act_kind b
     → kinds (act_fields a) ≡ kinds (act_fields b)
 same_kinds (Create s) (Create t) is = cc
+same_kinds (OnDevice i (SetWeight w)) (OnDevice j (SetWeight v)) is = cc
 same_kinds a (Create t) is = cc
+same_kinds a (OnDevice j (SetWeight v)) is = cc
 same_kinds a b is = cc
 
 same_values : (a b : Act) → act_kind a ≡ act_kind b → act_values a ≡ act_values b → a ≡ b
 same_values (Create s) (Create t) is e = ap Create (same_new_ring s t e)
 same_values (Add r) (Add q) is e = ap Add (same_row r q e)
-same_values (SetWeight w) (SetWeight v) is e = ap SetWeight (same_new_weight w v e)
+same_values (OnDevice i (SetWeight w)) (OnDevice j (SetWeight v)) is e = cc
 same_values (RebalanceAs s) (RebalanceAs t) is e = ap RebalanceAs (same_foretold s t e)
 same_values a (Create t) is e = cc
+same_values a (OnDevice j (SetWeight v)) is e = cc
 same_values a b is e = cc
 
 -- one object asks for one act

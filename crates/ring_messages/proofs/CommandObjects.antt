@@ -9,7 +9,8 @@ use Rattle.serde_json.specs.Written.{has_float}
 use Rattle.serde_json.proofs.Views.{get_member-put, get_member-put_other}
 use Rattle.ring_words.specs.declared.command.Command.{Command}
 use Rattle.ring_words.specs.declared.command.Act.{Act}
-use Rattle.ring_words.specs.declared.command.Act.TheVariants.{Create}
+use Rattle.ring_words.specs.declared.command.Act.TheVariants.{Create, OnDevice}
+use Rattle.ring_words.specs.declared.command.DeviceAct.TheVariants.{SetWeight}
 use Rattle.ring_messages.specs.Fields.{members}
 use Rattle.ring_messages.specs.Commands.{act_word, act_fields, act_data, command_data, canonical}
 use Rattle.ring_messages.specs.Commands.{IsProperCommand}
@@ -33,30 +34,36 @@ own_keys = codes "caller" ∷ codes "number" ∷ []
 
 pub keys_apart : (ring : List ℕ) (a : Act) → are_apart (own_keys ++ keys (act_data ring a)) ≡ true
 keys_apart ring (Create n) = refl
+keys_apart ring (OnDevice id (SetWeight to)) = refl
 keys_apart ring other = refl
 
 fields_apart : (a : Act)
     → are_apart (own_keys ++ codes "do" ∷ codes "ring" ∷ names (act_fields a)) ≡ true
 fields_apart (Create n) = refl
+fields_apart (OnDevice id (SetWeight to)) = refl
 fields_apart other = refl
 
 pub keys_count : (ring : List ℕ) (a : Act)
     → 2 + (2 + length (act_fields a)) ≡ length (own_keys ++ keys (act_data ring a))
 keys_count ring (Create n) = refl
+keys_count ring (OnDevice id (SetWeight to)) = refl
 keys_count ring other = refl
 
 pub count_is : (ring : List ℕ) (a : Act)
     → members_count (act_data ring a) ≡ 2 + length (act_fields a)
 count_is ring (Create n) = refl
+count_is ring (OnDevice id (SetWeight to)) = refl
 count_is ring other = refl
 
 pub short : (a : Act) → are_short (act_fields a) ≡ true
 short (Create n) = refl
+short (OnDevice id (SetWeight to)) = refl
 short other = refl
 
 ordered : (ring : List ℕ) (a : Act)
     → put_each (members_of (act_data ring a)) no_members ≡ members_of (act_data ring a)
 ordered ring (Create n) = refl
+ordered ring (OnDevice id (SetWeight to)) = refl
 ordered ring other = refl
 
 -- ---- the members of a command

@@ -10,7 +10,8 @@ use Rattle.ring_words.specs.Limits.{greatest_long}
 use Rattle.ring_words.specs.Texts.{is_label}
 use Rattle.ring_words.specs.declared.request.Key.{Key}
 use Rattle.ring_words.specs.declared.command.Act.{Act}
-use Rattle.ring_words.specs.declared.command.Act.TheVariants.{Create}
+use Rattle.ring_words.specs.declared.command.Act.TheVariants.{Create, OnDevice}
+use Rattle.ring_words.specs.declared.command.DeviceAct.TheVariants.{SetWeight}
 use Rattle.ring_words.specs.declared.command.Command.{Command}
 use Rattle.ring_messages.specs.Commands.{act_data, act_fields, command_data, IsProperCommand}
 use Rattle.ring_messages.specs.Fields.{whole}
@@ -36,11 +37,13 @@ ordered : (caller : List ℕ) (number : ℕ) (ring : List ℕ) (a : Act)
     → put_each (members_keyed caller number ring a) no_members
     ≡ members_keyed caller number ring a
 ordered caller number ring (Create n) = refl
+ordered caller number ring (OnDevice id (SetWeight to)) = refl
 ordered caller number ring other = refl
 
 count_keyed : (caller : List ℕ) (number : ℕ) (ring : List ℕ) (a : Act)
     → members_len (members_keyed caller number ring a) ≡ 2 + members_count (act_data ring a)
 count_keyed caller number ring (Create n) = refl
+count_keyed caller number ring (OnDevice id (SetWeight to)) = refl
 count_keyed caller number ring other = refl
 
 -- ---- the members of a request

@@ -6,9 +6,10 @@ use Rattle.serde_json.specs.Written.{compact_text}
 use Rattle.ring_words.specs.Texts.{is_label}
 use Rattle.ring_words.specs.declared.command.Command.{Command}
 use Rattle.ring_words.specs.declared.command.Act.{Act}
-use Rattle.ring_words.specs.declared.command.Act.TheVariants.{Create, Add, SetWeight, Remove}
-use Rattle.ring_words.specs.declared.command.Act.TheVariants.{SetHours, Import, Rebalance}
-use Rattle.ring_words.specs.declared.command.Act.TheVariants.{Keep, RebalanceAs}
+use Rattle.ring_words.specs.declared.command.Act.TheVariants.{Create, Add, OnDevice, SetHours}
+use Rattle.ring_words.specs.declared.command.Act.TheVariants.{Import, Rebalance, RebalanceAs}
+use Rattle.ring_words.specs.declared.command.DeviceAct.{DeviceAct}
+use Rattle.ring_words.specs.declared.command.DeviceAct.TheVariants.{SetWeight}
 use Rattle.ring_words.specs.Kinds.{act_kind}
 use Rattle.ring_messages.specs.Words.{kind_word}
 use Rattle.ring_messages.specs.Fields.{Fields, within, device_name, address, weight, rows, members}
@@ -17,6 +18,11 @@ use Rattle.ring_messages.specs.Fields.{AreProper}
 -- The word of what is to be done.
 abbrev pub act_word : Act → List ℕ
 act_word a = kind_word (act_kind a)
+
+-- What stands under the further keys of what is done to a device, beside the device's number.
+abbrev pub device_act_fields : DeviceAct → Fields
+device_act_fields (SetWeight w) = (codes "weight", weight w) ∷ []
+device_act_fields other = []
 
 -- What stands under its further keys, beside the ring and the word.
 abbrev pub act_fields : Act → Fields
@@ -29,10 +35,8 @@ act_fields (Add r) =
     ∷ (codes "zone", within 0 greatest_short r.zone)
     ∷ (codes "address", address r.address) ∷ (codes "port", within 1 greatest_short r.port)
     ∷ (codes "name", device_name r.name) ∷ (codes "weight", weight r.weight) ∷ []
-act_fields (SetWeight w) =
-    (codes "id", within 0 greatest_short w.id) ∷ (codes "weight", weight w.weight) ∷ []
-act_fields (Remove id) = (codes "id", within 0 greatest_short id) ∷ []
-act_fields (Keep id) = (codes "id", within 0 greatest_short id) ∷ []
+act_fields (OnDevice id what) =
+    (codes "id", within 0 greatest_short id) ∷ device_act_fields what
 act_fields (SetHours hours) = (codes "min_hours", within 0 greatest_short hours) ∷ []
 act_fields (Rebalance seed) = (codes "seed", within 0 greatest_long seed) ∷ []
 act_fields (RebalanceAs told) =

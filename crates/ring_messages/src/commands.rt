@@ -5,6 +5,7 @@ ghost use Rattle.serde_json.specs.Find.{get};
 ghost use Rattle.serde_json.specs.View.{view};
 ghost use Rattle.ring_words.specs.Texts.{address_text, hundredths_text};
 ghost use Rattle.ring_words.specs.declared.command.Act.TheVariants as act;
+ghost use Rattle.ring_words.specs.declared.command.DeviceAct.TheVariants as device_act;
 ghost use Rattle.ring_messages.specs.Words.{kind_word};
 ghost use Rattle.ring_messages.specs.Commands.{command_object, act_fields};
 ghost use Rattle.ring_messages.specs.Commands.{canonical, command_data, IsProperAct};
@@ -15,10 +16,12 @@ ghost use Rattle.ring_messages.specs.Inner.Says.{HasFields, SaysAct};
 use crate::MessageFault;
 use crate::objects::Scalar::{Number, Text};
 use crate::objects::{members, object};
-use crate::parts::{self, bounded, number16, number32};
+use crate::parts::{bounded, number16, number32, weight};
 use crate::rows::{device, import, row_is_proper, rows_are_proper, rows_value};
 use crate::words::{kind_at, word_of};
-use ring_words::{Act, Command, DeviceId, Foretold, Kind, NewRing, NewWeight, RingName, Row, Rows};
+use ring_words::{
+    Act, Command, DeviceAct, DeviceId, Foretold, Kind, NewRing, RingName, Row, Rows, Weight,
+};
 use serde_json::{Value, put};
 use std::alloc::{AllocError, Global};
 
@@ -81,23 +84,24 @@ fn add_value(alloc: Global, word: &str, ring: &RingName, row: &Row) -> Result<Va
     add_of_texts(alloc, word, ring, row, address.as_str(), weight.as_str())
 }
 
-/// A new weight, with its text.
+/// A device's new weight, with its text.
 fn set_weight_of_text<'a>(
     alloc: Global,
     word: &'a str,
     ring: &'a RingName,
-    to: &'a NewWeight,
+    id: DeviceId,
+    to: Weight,
     weight: &'a str,
 ) -> Result<Value, AllocError>
-    requires { weight.now ≡ hundredths_text to.now.weight }
+    requires { weight.now ≡ hundredths_text to }
     ensures { IfOk result (λ v. view v ≡ command_object word.now ring.now
-        (act_fields (act.SetWeight to.now))) }
+        (act_fields (act.OnDevice id (device_act.SetWeight to)))) }
 {
     object(
         alloc,
         &[
             ("do", Text(word)),
-            ("id", Number(to.id.into())),
+            ("id", Number(id.into())),
             ("ring", Text(ring.as_str())),
             ("weight", Text(weight)),
         ],
@@ -108,13 +112,14 @@ fn set_weight_value(
     alloc: Global,
     word: &str,
     ring: &RingName,
-    to: &NewWeight,
+    id: DeviceId,
+    to: Weight,
 ) -> Result<Value, AllocError>
     ensures { IfOk result (λ v. view v ≡ command_object word.now ring.now
-        (act_fields (act.SetWeight to.now))) }
+        (act_fields (act.OnDevice id (device_act.SetWeight to)))) }
 {
-    let weight = to.weight.to_string(alloc)?;
-    set_weight_of_text(alloc, word, ring, to, weight.as_str())
+    let weight = to.to_string(alloc)?;
+    set_weight_of_text(alloc, word, ring, id, to, weight.as_str())
 }
 
 /// A command that says nothing but a device.
@@ -125,7 +130,7 @@ fn device_value<'a>(
     id: DeviceId,
 ) -> Result<Value, AllocError>
     ensures { IfOk result (λ v. view v ≡ command_object word.now ring.now
-        (act_fields (act.Remove id))) }
+        (act_fields (act.OnDevice id device_act.Remove))) }
 {
     object(
         alloc,
@@ -135,6 +140,23 @@ fn device_value<'a>(
             ("ring", Text(ring.as_str())),
         ],
     )
+}
+
+/// A command about a device.
+fn on_device_value(
+    alloc: Global,
+    word: &str,
+    ring: &RingName,
+    id: DeviceId,
+    what: &DeviceAct,
+) -> Result<Value, AllocError>
+    ensures { IfOk result (λ v. view v ≡ command_object word.now ring.now
+        (act_fields (act.OnDevice id what.now))) }
+{
+    match what {
+        DeviceAct::SetWeight(to) => set_weight_value(alloc, word, ring, id, *to),
+        DeviceAct::Remove | DeviceAct::Keep => device_value(alloc, word, ring, id),
+    }
 }
 
 fn set_hours_value<'a>(
@@ -225,8 +247,7 @@ pub(crate) fn command_value(alloc: Global, command: &Command) -> Result<Value, A
     match &command.act {
         Act::Create(new) => create_value(alloc, word, ring, new),
         Act::Add(row) => add_value(alloc, word, ring, row),
-        Act::SetWeight(to) => set_weight_value(alloc, word, ring, to),
-        Act::Remove(id) | Act::Keep(id) => device_value(alloc, word, ring, *id),
+        Act::OnDevice(id, what) => on_device_value(alloc, word, ring, *id, what),
         Act::SetHours(hours) => set_hours_value(alloc, word, ring, *hours),
         Act::Rebalance(seed) => rebalance_value(alloc, word, ring, *seed),
         Act::RebalanceAs(told) => rebalance_as_value(alloc, word, ring, told),
@@ -253,15 +274,6 @@ fn new_ring(value: &Value) -> Result<NewRing, MessageFault>
     })
 }
 
-fn new_weight(value: &Value) -> Result<NewWeight, MessageFault>
-    ensures { Reads (λ to. HasFields (view value.now) (act_fields (act.SetWeight to))) result }
-{
-    Ok(NewWeight {
-        id: number16(value.get("id"))?,
-        weight: parts::weight(value.get("weight"))?,
-    })
-}
-
 fn foretold(value: &Value) -> Result<Foretold, MessageFault>
     ensures { Reads (λ told. HasFields (view value.now) (act_fields (act.RebalanceAs told))) result }
 {
@@ -280,9 +292,13 @@ fn act_of(alloc: Global, value: &Value, kind: Kind) -> Result<Act, MessageFault>
     match kind {
         Kind::Create => Ok(Act::Create(new_ring(value)?)),
         Kind::Add => Ok(Act::Add(device(alloc, value)?)),
-        Kind::SetWeight => Ok(Act::SetWeight(new_weight(value)?)),
-        Kind::Remove => Ok(Act::Remove(number16(value.get("id"))?)),
-        Kind::Keep => Ok(Act::Keep(number16(value.get("id"))?)),
+        Kind::SetWeight => {
+            let id = number16(value.get("id"))?;
+            let weight = weight(value.get("weight"))?;
+            Ok(Act::OnDevice(id, DeviceAct::SetWeight(weight)))
+        }
+        Kind::Remove => Ok(Act::OnDevice(number16(value.get("id"))?, DeviceAct::Remove)),
+        Kind::Keep => Ok(Act::OnDevice(number16(value.get("id"))?, DeviceAct::Keep)),
         Kind::SetHours => Ok(Act::SetHours(number16(value.get("min_hours"))?)),
         Kind::PretendPassed => Ok(Act::PretendPassed),
         Kind::RaisePower => Ok(Act::RaisePower),
@@ -311,11 +327,15 @@ fn new_ring_is_proper(new: &NewRing)
     let _min_hours = new.min_hours;
 }
 
-fn new_weight_is_proper(to: &NewWeight)
-    ensures { IsProperAct (act.SetWeight to.now) }
+fn on_device_is_proper(id: DeviceId, what: &DeviceAct)
+    ensures { IsProperAct (act.OnDevice id what.now) }
 {
-    let _id = to.id;
-    let _weight = to.weight.hundredths();
+    match what {
+        DeviceAct::SetWeight(to) => {
+            let _weight = to.hundredths();
+        }
+        DeviceAct::Remove | DeviceAct::Keep => {}
+    }
 }
 
 fn foretold_is_proper(told: &Foretold)
@@ -333,9 +353,9 @@ fn act_is_proper(act: &Act)
     match act {
         Act::Create(new) => new_ring_is_proper(new),
         Act::Add(row) => row_is_proper(row),
-        Act::SetWeight(to) => new_weight_is_proper(to),
-        Act::Remove(number) | Act::Keep(number) | Act::SetHours(number) => {
-            let _number = *number;
+        Act::OnDevice(id, what) => on_device_is_proper(*id, what),
+        Act::SetHours(hours) => {
+            let _hours = *hours;
         }
         Act::Rebalance(seed) => {
             let _seed = *seed;

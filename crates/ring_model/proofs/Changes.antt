@@ -11,12 +11,14 @@ use Rattle.std.proofs.lemmas.List.{get_or_at, map-append, get_or-map}
 use Rattle.std.proofs.lemmas.List.Folds.{list_any-append}
 use Rattle.std.proofs.lemmas.List.Elements.{All-push, All-weaker, All-map}
 use Rattle.std.proofs.lemmas.List.Quantifiers.{all_pairs_push}
-use Rattle.ring_model.specs.Ring.{RingRecord, has_device, risen, reweighed, marked_as, added, changed}
+use Rattle.ring_model.specs.Ring.{RingRecord, has_device, risen, altered, altered_at, added, changed}
 use Rattle.ring_model.specs.Ring.{partition_count}
 use Rattle.ring_words.specs.Rows.{IsProperRow, has_place, same_place}
 use Rattle.ring_words.specs.Texts.{greatest_weight}
 use Rattle.ring_model.specs.Import.{after_row, reweighed_by}
 use Rattle.ring_model.specs.Valid.{AreApart, AreDevices, AreSeats, IsValid}
+use Rattle.ring_words.specs.declared.command.DeviceAct.{DeviceAct}
+use Rattle.ring_words.specs.declared.command.DeviceAct.TheVariants.{SetWeight}
 use Rattle.ring_words.specs.declared.device.Device.{Device}
 use Rattle.ring_words.specs.declared.device.Row.{Row}
 use Rattle.ring_model.proofs.Validity.{any_fails_at}
@@ -103,12 +105,22 @@ changed_valid ring valid = record {
   published = valid.published;
 }
 
--- ---- devices that keep their numbers and places, and stay such as there are
+-- ---- devices that keep their numbers and places
 
 abbrev pub Keeps : (Device → Device) → Type 0
 Keeps f = ((d : Device) → (f d).id ≡ d.id) ×
-    ((a b : Device) → same_place (f a).row (f b).row ≡ same_place a.row b.row) ×
-    ((d : Device) → IsProperRow d.row → IsProperRow (f d).row)
+    ((a b : Device) → same_place (f a).row (f b).row ≡ same_place a.row b.row)
+
+-- each device is such as there are
+abbrev pub AreProperRows : List Device → Type 0
+AreProperRows devices = All (λ (d : Device). IsProperRow d.row) devices
+
+pub proper_each : (f : Device → Device)
+    → ((d : Device) → IsProperRow d.row → IsProperRow (f d).row)
+    → (devices : List Device) → AreProperRows devices → AreProperRows (map f devices)
+proper_each f still devices proper = All-map (λ (d : Device). IsProperRow d.row) f devices
+    (All-weaker (λ (d : Device). IsProperRow d.row) (λ (d : Device). IsProperRow (f d).row)
+    still devices proper)
 
 ids_kept : (f : Device → Device) → Keeps f → (devices : List Device) →
     map (λ (d : Device). d.id) (map f devices) ≡ map (λ (d : Device). d.id) devices
@@ -132,8 +144,8 @@ apart_kept f keeps devices apart i j d less lt =
     rw (one, two) (keeps.1 (get_or devices i d) (get_or devices j d) ∙ apart i j d less within)
 
 pub altered_valid : (f : Device → Device) → Keeps f → (ring : RingRecord) → IsValid ring →
-    IsValid (record ring { devices = map f ring.devices })
-altered_valid f keeps ring valid = record {
+    AreProperRows (map f ring.devices) → IsValid (record ring { devices = map f ring.devices })
+altered_valid f keeps ring valid proper = record {
   power = valid.power;
   replicas = valid.replicas;
   min_hours = valid.min_hours;
@@ -146,9 +158,7 @@ altered_valid f keeps ring valid = record {
         (λ d lt. rw (keeps.0 d) lt) ring.devices valid.devices.below);
     rise = rw (ids_kept f keeps ring.devices) valid.devices.rise;
     apart = apart_kept f keeps ring.devices valid.devices.apart;
-    proper = All-map (λ (d : Device). IsProperRow d.row) f ring.devices
-        (All-weaker (λ (d : Device). IsProperRow d.row) (λ (d : Device). IsProperRow (f d).row)
-        keeps.2 ring.devices valid.devices.proper);
+    proper = proper;
   };
   seats = record {
     whole = valid.seats.whole;
@@ -189,38 +199,42 @@ weighed_if-proper true weight d le proper = record {
 }
 weighed_if-proper false weight d le proper = proper
 
-pub reweighed_keeps : (id weight : ℕ) → weight ≤ greatest_weight → Keeps (reweighed id weight)
-reweighed_keeps id weight le = (
-  λ d. weighed_if-id (d.id == id) weight d,
-  λ a b. weighed_if-place (a.id == id) (b.id == id) weight weight a b,
-  λ d proper. weighed_if-proper (d.id == id) weight d le proper,
-)
-
-pub reweighed_by_keeps : (row : Row) → IsProperRow row → Keeps (reweighed_by row)
-reweighed_by_keeps row proper = (
+pub reweighed_by_keeps : (row : Row) → Keeps (reweighed_by row)
+reweighed_by_keeps row = (
   λ d. weighed_if-id (same_place d.row row) row.weight d,
   λ a b. weighed_if-place (same_place a.row row) (same_place b.row row) row.weight row.weight a b,
-  λ d old. weighed_if-proper (same_place d.row row) row.weight d proper.weight old,
 )
 
--- a device that is marked, or is not, where a test says so
-abbrev marked_if : Bool → Bool → Device → Device
-marked_if removed b d = cond b (record d { removed = removed }) d
+-- the devices of a valid ring stay such as there are, where a row's weight is put in
+pub reweighed_by_proper : (row : Row) → IsProperRow row → (ring : RingRecord) → IsValid ring →
+    AreProperRows (map (reweighed_by row) ring.devices)
+reweighed_by_proper row proper ring valid = proper_each (reweighed_by row)
+    (λ d old. weighed_if-proper (same_place d.row row) row.weight d proper.weight old)
+    ring.devices valid.devices.proper
 
-marked_if-row : (removed b : Bool) (d : Device) → (marked_if removed b d).row ≡ d.row
-marked_if-row removed true d = refl
-marked_if-row removed false d = refl
+-- a device that something was done to where a test says so
+abbrev altered_if : Bool → DeviceAct → Device → Device
+altered_if b what d = cond b (altered what d) d
 
-marked_if-id : (removed b : Bool) (d : Device) → (marked_if removed b d).id ≡ d.id
-marked_if-id removed true d = refl
-marked_if-id removed false d = refl
+altered_if-id : (b : Bool) (what : DeviceAct) (d : Device) → (altered_if b what d).id ≡ d.id
+altered_if-id false what d = refl
+altered_if-id true (SetWeight weight) d = refl
+altered_if-id true what d = refl
 
-pub marked_keeps : (removed : Bool) (id : ℕ) → Keeps (marked_as removed id)
-marked_keeps removed id = (
-  λ d. marked_if-id removed (d.id == id) d,
-  λ a b. ap₂ same_place (marked_if-row removed (a.id == id) a)
-      (marked_if-row removed (b.id == id) b),
-  λ d proper. rw (marked_if-row removed (d.id == id) d) proper,
+altered_if-place : (v w : Bool) (what : DeviceAct) (a b : Device) →
+    same_place (altered_if v what a).row (altered_if w what b).row ≡ same_place a.row b.row
+altered_if-place false false what a b = refl
+altered_if-place true true (SetWeight weight) a b = refl
+altered_if-place true false (SetWeight weight) a b = refl
+altered_if-place false true (SetWeight weight) a b = refl
+altered_if-place true true what a b = refl
+altered_if-place true false what a b = refl
+altered_if-place false true what a b = refl
+
+pub altered_keeps : (id : ℕ) (what : DeviceAct) → Keeps (altered_at id what)
+altered_keeps id what = (
+  λ d. altered_if-id (d.id == id) what d,
+  λ a b. altered_if-place (a.id == id) (b.id == id) what a b,
 )
 
 -- what a vector holds after each of its elements was written

@@ -5,6 +5,8 @@ use Rattle.std.specs.Prelude.{length, map, replicate, slice_get, slice_index_or,
 use Rattle.std.specs.Prelude.{false, true, if◌then◌else◌}
 use Rattle.std.specs.List.{list_any}
 use Rattle.std.specs.Option.{option_map}
+use Rattle.ring_words.specs.declared.command.DeviceAct.{DeviceAct}
+use Rattle.ring_words.specs.declared.command.DeviceAct.TheVariants.{SetWeight, Remove, Keep}
 use Rattle.ring_words.specs.declared.device.Row.{Row}
 use Rattle.ring_words.specs.declared.device.Device.{Device}
 
@@ -90,36 +92,22 @@ changed ring = record ring { version = risen ring.version }
 abbrev pub with_device : RingRecord → Row → RingRecord
 with_device ring row = changed (added ring row)
 
--- the device, with this weight if it has this number
-abbrev pub reweighed : ℕ → ℕ → Device → Device
-reweighed id weight device = if device.id == id then
-    record device { row = record device.row { weight = weight } } else device
+-- the device after this was done to it
+abbrev pub altered : DeviceAct → Device → Device
+-- it has this weight
+altered (SetWeight weight) device = record device { row = record device.row { weight = weight } }
+-- it is marked to be removed
+altered Remove device = record device { removed = true }
+-- it is marked no more
+altered Keep device = record device { removed = false }
 
--- the ring with this weight at the device of this number
-abbrev pub with_weight : RingRecord → ℕ → ℕ → RingRecord
-with_weight ring id weight = changed (record ring {
-  devices = map (reweighed id weight) ring.devices;
-})
+-- the device, after this was done to it if it has this number
+abbrev pub altered_at : ℕ → DeviceAct → Device → Device
+altered_at id what device = if device.id == id then altered what device else device
 
--- the device, marked to be removed or not if it has this number
-abbrev pub marked_as : Bool → ℕ → Device → Device
-marked_as removed id device = if device.id == id then record device { removed = removed } else device
-
--- the device, marked to be removed if it has this number
-abbrev pub marked : ℕ → Device → Device
-marked id device = marked_as true id device
-
--- the device, marked no more if it has this number
-abbrev pub unmarked : ℕ → Device → Device
-unmarked id device = marked_as false id device
-
--- the ring with the device of this number marked to be removed
-abbrev pub with_mark : RingRecord → ℕ → RingRecord
-with_mark ring id = changed (record ring { devices = map (marked id) ring.devices })
-
--- the ring with the mark taken off the device of this number
-abbrev pub without_mark : RingRecord → ℕ → RingRecord
-without_mark ring id = changed (record ring { devices = map (unmarked id) ring.devices })
+-- the ring after this was done to the device of this number
+abbrev pub with_altered : RingRecord → ℕ → DeviceAct → RingRecord
+with_altered ring id what = changed (record ring { devices = map (altered_at id what) ring.devices })
 
 -- the ring where a moved partition stays for so many hours
 abbrev pub with_min_hours : RingRecord → ℕ → RingRecord

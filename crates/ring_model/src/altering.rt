@@ -1,10 +1,10 @@
 //! Devices that are changed where they stand in their ring.
 ghost use Rattle.std.specs.Prelude.{◌≡◌, map};
-ghost use Rattle.ring_model.specs.Ring.{marked_as, reweighed};
+ghost use Rattle.ring_model.specs.Ring.{altered_at};
 ghost use Rattle.ring_model.specs.Import.{reweighed_by};
 ghost use Rattle.ring_words.specs.declared.device.Device.{Device};
 
-use ring_words::{Device, DeviceId, NewWeight, Row};
+use ring_words::{Device, DeviceAct, DeviceId, Row};
 
 /// A change of devices.
 pub(crate) trait Alteration {
@@ -16,32 +16,25 @@ pub(crate) trait Alteration {
         ensures { device.new ≡ altered self.now device.old };
 }
 
-/// The device of this number gets this weight.
-impl Alteration for NewWeight {
-    ghost altered = { λ to device. reweighed to.id to.weight device };
-
-    fn alter(&self, device: &mut Device) {
-        if device.id == self.id {
-            device.row.weight = self.weight;
-        }
-    }
-}
-
-/// The device of this number is marked to be removed, or is so no more.
+/// What is done to the device of a number.
 #[derive(Clone, Copy)]
-pub(crate) struct Mark {
+pub(crate) struct OnDevice {
     /// The number of the device.
     pub(crate) id: DeviceId,
-    /// Whether it is marked from now on.
-    pub(crate) removed: bool,
+    /// What is done to it.
+    pub(crate) what: DeviceAct,
 }
 
-impl Alteration for Mark {
-    ghost altered = { λ mark device. marked_as mark.removed mark.id device };
+impl Alteration for OnDevice {
+    ghost altered = { λ on device. altered_at on.id on.what device };
 
     fn alter(&self, device: &mut Device) {
         if device.id == self.id {
-            device.removed = self.removed;
+            match self.what {
+                DeviceAct::SetWeight(weight) => device.row.weight = weight,
+                DeviceAct::Remove => device.removed = true,
+                DeviceAct::Keep => device.removed = false,
+            }
         }
     }
 }

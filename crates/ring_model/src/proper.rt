@@ -1,21 +1,13 @@
 //! What is known of every part of a ring, by its type. A value's bounds come from its type, and a
 //! clause can cite them only where the value was read: these functions read, for the prover alone.
-ghost use Rattle.std.specs.Prelude.{◌<◌, ◌≤◌, All};
+ghost use Rattle.std.specs.Prelude.{◌<◌, All};
 ghost use Rattle.ring_words.specs.Limits.{long_count};
 ghost use Rattle.ring_words.specs.Rows.{IsProperRow};
-ghost use Rattle.ring_words.specs.Texts.{greatest_weight};
 ghost use Rattle.ring_model.specs.Parts.{texts_of};
 ghost use Rattle.ring_model.specs.Valid.{IsHour, IsVersioned};
 
-use ring_words::{Device, Hour, Row, Weight};
+use ring_words::{Device, Hour, Row};
 use std::rc::RcStr;
-
-/// A weight is at most the greatest.
-pub(crate) fn weight_is_proper(weight: Weight)
-    ensures { weight ≤ greatest_weight }
-{
-    let _weight = weight.hundredths();
-}
 
 /// A row has numbers within their bounds and a name.
 pub(crate) fn row_is_proper(row: &Row)

@@ -4,13 +4,11 @@ ghost use Rattle.ring_words.specs.Limits.{greatest_power, most_devices, most_ids
 ghost use Rattle.std.specs.Prelude.{length, map, Some, None};
 ghost use Rattle.std.specs.Option.{option_map, option_copied};
 
-use crate::altering::{Mark, alter_all};
+use crate::altering::{OnDevice, alter_all};
 use crate::draft::Draft;
 use crate::parts::{RingParts, has_device, has_present, risen, text_at};
-use crate::proper::weight_is_proper;
-use ring_words::{
-    Device, DeviceId, Hour, NewWeight, Power, Replicas, Row, Weight, partition_count,
-};
+use crate::proper::devices_are_proper;
+use ring_words::{Device, DeviceAct, DeviceId, Hour, Power, Replicas, Row, partition_count};
 use std::alloc::{AllocError, Global};
 use std::marker::Model;
 use std::rc::RcStr;
@@ -83,8 +81,8 @@ impl Ring {
     ghost use Rattle.std.specs.Option.{option_map, option_copied};
     ghost use Rattle.ring_model.specs.Ring.{RingRecord, new_ring, seat, moved_at, is_assigned};
     ghost use Rattle.ring_model.specs.Ring.{published_at, partition_count, has_device, has_present};
-    ghost use Rattle.ring_model.specs.Ring.{with_device, with_weight, with_mark, with_min_hours};
-    ghost use Rattle.ring_model.specs.Ring.{with_hours_passed, without_mark};
+    ghost use Rattle.ring_model.specs.Ring.{with_altered, with_device, with_min_hours};
+    ghost use Rattle.ring_model.specs.Ring.{with_hours_passed};
     ghost use Rattle.ring_model.specs.Reseat.{reseated};
     ghost use Rattle.ring_words.specs.Rows.{has_place};
     ghost use Rattle.ring_model.specs.Parts.{record_of, texts_of};
@@ -158,37 +156,14 @@ impl Ring {
         Ok(draft.finish())
     }
 
-    /// The ring with another weight at a device that isn't marked to be removed. The version rises.
-    pub fn with_weight(&self, id: DeviceId, weight: Weight) -> Result<Ring, AllocError>
-        requires { has_present id self.now.devices ≡ true }
-        ensures { IfOk result (λ ring. ring ≡ with_weight self.now id weight) }
-    {
-        weight_is_proper(weight);
-        let mut parts = self.parts.copy()?;
-        alter_all(&mut parts.devices, &NewWeight { id, weight });
-        parts.version = risen(parts.version);
-        Ok(Ring { parts })
-    }
-
-    /// The ring with a device marked to be removed, which isn't marked yet. The version rises.
-    pub fn with_mark(&self, id: DeviceId) -> Result<Ring, AllocError>
-        requires { has_present id self.now.devices ≡ true }
-        ensures { IfOk result (λ ring. ring ≡ with_mark self.now id) }
+    /// The ring after this was done to a device. The version rises.
+    pub fn with_altered(&self, id: DeviceId, what: DeviceAct) -> Result<Ring, AllocError>
+        requires { has_device id self.now.devices ≡ true }
+        ensures { IfOk result (λ ring. ring ≡ with_altered self.now id what) }
     {
         let mut parts = self.parts.copy()?;
-        alter_all(&mut parts.devices, &Mark { id, removed: true });
-        parts.version = risen(parts.version);
-        Ok(Ring { parts })
-    }
-
-    /// The ring with the mark taken off a device, which is marked. The version rises.
-    pub fn without_mark(&self, id: DeviceId) -> Result<Ring, AllocError>
-        requires there { has_device id self.now.devices ≡ true }
-        requires marked { has_present id self.now.devices ≡ false }
-        ensures { IfOk result (λ ring. ring ≡ without_mark self.now id) }
-    {
-        let mut parts = self.parts.copy()?;
-        alter_all(&mut parts.devices, &Mark { id, removed: false });
+        alter_all(&mut parts.devices, &OnDevice { id, what });
+        devices_are_proper(&parts.devices);
         parts.version = risen(parts.version);
         Ok(Ring { parts })
     }

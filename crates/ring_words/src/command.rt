@@ -1,6 +1,6 @@
 //! What is asked of the builder, and what it replies.
 ghost use Rattle.std.specs.Prelude.{◌≡◌, ◌↔◌, IfOk, IsTrue};
-ghost use Rattle.ring_words.specs.Kinds.{act_kind, deed_kind};
+ghost use Rattle.ring_words.specs.Kinds.{act_kind, deed_kind, device_deed};
 
 use crate::bounded::{Power, Replicas};
 use crate::device::{DeviceId, Row};
@@ -21,13 +21,28 @@ pub struct NewRing {
     pub min_hours: u16,
 }
 
-/// A device's new weight.
+/// What is done to a device.
 #[derive(Clone, Copy, PartialEq, Eq)]
-pub struct NewWeight {
-    /// The device's number.
-    pub id: DeviceId,
-    /// What it weighs from now on.
-    pub weight: Weight,
+pub enum DeviceAct {
+    /// Gives it this weight.
+    SetWeight(Weight),
+    /// Marks it to be removed.
+    Remove,
+    /// Takes the mark off it, so that it stays.
+    Keep,
+}
+
+impl DeviceAct {
+    /// What was done, where it was done.
+    pub fn deed(&self) -> Deed
+        ensures { result ≡ device_deed self.now }
+    {
+        match self {
+            DeviceAct::SetWeight(_) => Deed::SetWeight,
+            DeviceAct::Remove => Deed::Remove,
+            DeviceAct::Keep => Deed::Keep,
+        }
+    }
 }
 
 /// A rebalance that was foretold by a preview: it is to be this one or none.
@@ -65,12 +80,8 @@ pub enum Act {
     Create(NewRing),
     /// Adds a device.
     Add(Row),
-    /// Changes the weight of a device.
-    SetWeight(NewWeight),
-    /// Marks the device of this number to be removed.
-    Remove(DeviceId),
-    /// Takes the mark off the device of this number, so that it stays.
-    Keep(DeviceId),
+    /// Does this to the device of this number.
+    OnDevice(DeviceId, DeviceAct),
     /// Sets for how many hours a partition that was moved stays where it is.
     SetHours(u16),
     /// Lets each partition be moved as if it never had been.
@@ -96,9 +107,7 @@ impl Act {
         match self {
             Act::Create(_) => Kind::Create,
             Act::Add(_) => Kind::Add,
-            Act::SetWeight(_) => Kind::SetWeight,
-            Act::Remove(_) => Kind::Remove,
-            Act::Keep(_) => Kind::Keep,
+            Act::OnDevice(_, what) => what.deed().kind(),
             Act::SetHours(_) => Kind::SetHours,
             Act::PretendPassed => Kind::PretendPassed,
             Act::RaisePower => Kind::RaisePower,
@@ -116,9 +125,7 @@ impl Act {
         match self {
             Act::Create(new) => Ok(Act::Create(*new)),
             Act::Add(row) => Ok(Act::Add(row.copy()?)),
-            Act::SetWeight(to) => Ok(Act::SetWeight(*to)),
-            Act::Remove(id) => Ok(Act::Remove(*id)),
-            Act::Keep(id) => Ok(Act::Keep(*id)),
+            Act::OnDevice(id, what) => Ok(Act::OnDevice(*id, *what)),
             Act::SetHours(hours) => Ok(Act::SetHours(*hours)),
             Act::PretendPassed => Ok(Act::PretendPassed),
             Act::RaisePower => Ok(Act::RaisePower),
@@ -136,9 +143,9 @@ impl Act {
         match self {
             Act::Create(new) => matches!(other, Act::Create(also) if also == new),
             Act::Add(row) => matches!(other, Act::Add(also) if also == row),
-            Act::SetWeight(to) => matches!(other, Act::SetWeight(also) if also == to),
-            Act::Remove(id) => matches!(other, Act::Remove(also) if also == id),
-            Act::Keep(id) => matches!(other, Act::Keep(also) if also == id),
+            Act::OnDevice(id, what) => {
+                matches!(other, Act::OnDevice(also, same) if also == id && same == what)
+            }
             Act::SetHours(hours) => matches!(other, Act::SetHours(also) if also == hours),
             Act::PretendPassed => matches!(other, Act::PretendPassed),
             Act::RaisePower => matches!(other, Act::RaisePower),

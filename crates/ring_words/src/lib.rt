@@ -18,7 +18,7 @@ mod weight;
 pub use address::Address;
 pub use bounded::{Bounded, GREATEST_POWER, MOST_REPLICAS, Port, Power, Replicas, partition_count};
 pub use command::{
-    Act, Command, Deed, Done, Foretold, Kind, NewRing, NewWeight, Refusal, Reply, RowCause,
+    Act, Command, Deed, DeviceAct, Done, Foretold, Kind, NewRing, Refusal, Reply, RowCause,
 };
 pub use decimal::{parse_decimal, parse_decimal_up_to};
 pub use device::{Device, DeviceId, Row};

@@ -4,7 +4,7 @@ ghost use Rattle.std.specs.Prelude.{◌≡◌};
 use super::{SMALL, is_ring};
 use crate::fixtures::{DEVICE_0, DEVICE_1, DEVICE_2, DeviceRow, RingRow, spelled, spelled_ring};
 use ring_model::{Draft, Ring};
-use ring_words::{Row, Rows, Weight};
+use ring_words::{DeviceAct, Row, Rows, Weight};
 use std::alloc::Global;
 use std::test::Fail;
 
@@ -195,20 +195,18 @@ fn added(alloc: Global, ring: &Ring, row: &DeviceRow) -> Result<Ring, Fail> {
     Ok(ring.with_device(&device.row)?)
 }
 
-/// A ring in which a device has another weight.
-fn weighed(ring: &Ring, id: u16, hundredths: u32) -> Result<Ring, Fail> {
-    if !ring.has_present(id) {
+/// A ring after this was done to a device.
+fn altered(ring: &Ring, id: u16, what: DeviceAct) -> Result<Ring, Fail> {
+    if !ring.has_device(id) {
         return Err("the device is there".into());
     }
-    Ok(ring.with_weight(id, Weight::of(hundredths).ok_or("a weight")?)?)
+    Ok(ring.with_altered(id, what)?)
 }
 
-/// A ring in which a device is marked.
-fn marked(ring: &Ring, id: u16) -> Result<Ring, Fail> {
-    if !ring.has_present(id) {
-        return Err("the device is there".into());
-    }
-    Ok(ring.with_mark(id)?)
+/// A ring in which a device has another weight.
+fn weighed(ring: &Ring, id: u16, hundredths: u32) -> Result<Ring, Fail> {
+    let weight = Weight::of(hundredths).ok_or("a weight")?;
+    altered(ring, id, DeviceAct::SetWeight(weight))
 }
 
 /// A ring with a text of its version.
@@ -246,7 +244,7 @@ fn stepped(alloc: Global, ring: &Ring, step: &Step) -> Result<Ring, Fail> {
         Step::Rebuild => rebuilt(alloc, ring),
         Step::Add(row) => added(alloc, ring, row),
         Step::Weigh(id, hundredths) => weighed(ring, *id, *hundredths),
-        Step::Mark(id) => marked(ring, *id),
+        Step::Mark(id) => altered(ring, *id, DeviceAct::Remove),
         Step::SetHours(hours) => Ok(ring.with_min_hours(*hours)?),
         Step::PassHours => Ok(ring.with_hours_passed()?),
         Step::Raise => Ok(ring.raised()?),

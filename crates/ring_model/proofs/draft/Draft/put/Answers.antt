@@ -6,7 +6,7 @@ use Rattle.ring_words.specs.Rows.{has_place}
 use Rattle.ring_model.specs.Import.{after_row, reweighed_by}
 use Rattle.ring_model.specs.Parts.{record_of}
 use Rattle.ring_model.proofs.Changes.{added_valid, after_free, altered_valid, reweighed_by_keeps}
-use Rattle.ring_model.proofs.Changes.{written_all}
+use Rattle.ring_model.proofs.Changes.{reweighed_by_proper, written_all}
 use Rattle.ring_words.proofs.AlikeRows.{same_row}
 use Rattle.ring_model.proofs.draft.Draft.put.Goals as goal
 
@@ -20,7 +20,8 @@ invariant_of-self c =
       written_all parts.devices.items
           (map f parts.devices.items) parts.devices.len parts.devices.ok.0 (length-map _ _),
     )
-    (altered_valid f (reweighed_by_keeps c.args.row.now c.row_is_proper.ensures) (record_of parts) c.self.invariant)
+    (altered_valid f (reweighed_by_keeps c.args.row.now) (record_of parts) c.self.invariant
+    (reweighed_by_proper c.args.row.now c.row_is_proper.ensures (record_of parts) c.self.invariant))
 
 pub invariant_of-self-2 : goal.invariant_of-self-2
 invariant_of-self-2 c =
