@@ -15,8 +15,9 @@ from pathlib import Path
 import common
 from common import FIRST, TINY, TINY_TEXT, TOP, Checks, add, fault, files_of, has, lines, message, rows_of, run, run_whole, scratch
 
-NEW_FAULT = "another program has it, or it can't be opened, read or written: look who has it (fuser), at its folder and its rights, and " \
-            "whether the disk is full; a NEW must not be there yet"
+STORE_FAULT = "another program has it, or it can't be opened, read or written: look who has it (fuser), at its folder and its rights, and " \
+              "whether the disk is full"
+NEW_FAULT = f"a NEW that is there already is not written over; or {STORE_FAULT}"
 FORMS = "a name or a number is not of its form: names of rings and callers are 1 to 32 of a to z, 0 to 9 and -, a letter first; numbers are " \
         "0 to 4294967295, without leading zeros"
 NO_MEMORY = "there was not enough memory: look at the limits of the unit or the shell, and try again"
@@ -28,7 +29,7 @@ MEANINGS = {
     "TooFewDevices 9": "fewer of the ring's devices take seats than a partition has replicas: add devices, or give some a weight above 0",
     "NotAssigned 10": "the ring was never rebalanced, so no device holds any of it: rebalance it first",
     "Unreadable 20": FORMS,
-    "StoreFault 24": NEW_FAULT,
+    "StoreFault 24": STORE_FAULT,
     "BadStore 26": "it is no store of ringd, one of a later version, or damaged: look at its name and at 'ringd version' before you put a backup "
                    "in its place",
     "NoFile 27": "it can't be opened: look at its name and its rights",
@@ -234,7 +235,8 @@ def meanings(checks):
                                   **{"stdin": subprocess.DEVNULL, "stdout": subprocess.DEVNULL, **streams})
             for stream in streams.values():
                 os.close(stream)
-            want = [f"ringd: {name}", f"ringd: {file}: {MEANINGS[name]}" if file else f"ringd: {MEANINGS[name]}"]
+            means = NEW_FAULT if name == "StoreFault 24" and words[0] in ("renew", "found") else MEANINGS[name]
+            want = [f"ringd: {name}", f"ringd: {file}: {means}" if file else f"ringd: {means}"]
             checks.same(f"{name}, by {words[0]}", done.stderr.decode().splitlines()[-2:], want)
             met.add(name)
         checks.same("these are all that the program has, but for want of memory", met, set(MEANINGS))
@@ -244,8 +246,9 @@ def meanings(checks):
 
 def on_the_page(checks):
     """docs/commands.md shows what each fault means, in these words."""
-    rows = re.findall(r"^\| `(\w+ \d+)` \| (.+) \|$", (TOP / "docs/commands.md").read_text(), re.M)
-    checks.same("each fault has its row, and no other stands there", dict(rows), {**MEANINGS, "NoMemory 23": NO_MEMORY})
+    rows = re.findall(r"^\| (`\w+ \d+`.*?) \| (.+) \|$", (TOP / "docs/commands.md").read_text(), re.M)
+    want = {f"`{name}`": means for name, means in {**MEANINGS, "NoMemory 23": NO_MEMORY}.items()}
+    checks.same("each fault has its row, and no other stands there", dict(rows), {**want, "`StoreFault 24` of `renew` and `found`": NEW_FAULT})
 
 
 def main():

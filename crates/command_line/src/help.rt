@@ -181,9 +181,9 @@ seats it has, how many of them it gives, how many others it takes, how many it h
 request is refused, for there is no such ring (NoRing 1) or too few of its devices are open (TooFewDevices 9), this is told in
 place of it.
 
-The hour is a whole number of hours since 1970, as that of a request. Where none is given, or one that has passed, it is that of
-the machine's clock, or the greatest that was used in FILE, if that is greater. A later hour may find fewer partitions locked,
-and other seats move.";
+The hour is a whole number of hours since 1970, as that of a request: the one that --hour gives, which stands for the machine's
+clock and may have passed, or else the clock's; and where a greater one was used in FILE, it is that. A later hour may find fewer
+partitions locked, and other seats move.";
 
 /// What `ringd moves --help` tells.
 static MOVES: &str =
@@ -257,20 +257,3 @@ pub(crate) fn told_of(program: &str) -> Option<&'static str> {
         _ => None,
     }
 }
-
-/// What words are told of which an argument is not of its form.
-pub(crate) static FORMS: &str = "error: an argument is not of its form
-
-  PORT              a whole number from 1 to 65535
-  COUNT             a whole number from 0 to 65535
-  --hour <hour>     a whole number from 0 to 4294967295, the hours since 1970
-  --seed <seed>     a whole number from 0 to 4294967295
-  --min-hours <min-hours>
-                    a whole number from 0 to 65535
-  --format <format> text or swift
-  WORD              devices, balance, ring or locks
-  --status          not beside a RING
-  --metrics         beside neither of them
-
-Numbers are written in digits, without leading zeros. For more information, try '--help'.
-";

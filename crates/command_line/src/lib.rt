@@ -5,6 +5,7 @@
 #![tactic(auto)]
 
 mod commands;
+mod forms;
 mod help;
 mod reading;
 mod task;

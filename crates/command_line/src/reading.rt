@@ -12,7 +12,8 @@ ghost use Rattle.command_line.specs.Inner.Reading.{AreHours, IsFormat, IsHourWor
 ghost use Rattle.command_line.specs.Inner.Reading.{IsPlace, IsPlain, IsTask, IsToShow};
 
 use crate::commands::command;
-use crate::help::{ABOUT, FORMS};
+use crate::forms::misfit;
+use crate::help::ABOUT;
 use crate::task::{ArgsFault, Shown, Task};
 use clap::error::ErrorKind;
 use clap::{ArgMatches, Error};
@@ -467,6 +468,6 @@ pub fn task_of<'a>(alloc: Global, words: &'a [String]) -> Result<Task<'a>, ArgsF
     };
     match task_named(alloc, name, given)? {
         Some(task) => Ok(task),
-        None => Err(bad(alloc, &FORMS)),
+        None => Err(misfit(alloc, given)),
     }
 }

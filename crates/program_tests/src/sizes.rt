@@ -4,7 +4,7 @@ use path_lookup::{HashNames, Path};
 use ring_model::Rings;
 use ring_reads::{Format, Held, Hidden, Question, Read, show};
 use ring_words::{
-    Act, Address, Command, Deed, DeviceName, Done, Foretold, Hour, Limits, NewRing, NewWeight,
+    Act, Address, Command, Deed, DeviceAct, DeviceName, Done, Foretold, Hour, Limits, NewRing,
     Port, Power, Refusal, Replicas, Reply, RingName, Row, Rows, Weight,
 };
 use std::alloc::Global;
@@ -94,10 +94,10 @@ fn acts(alloc: Global) -> Result<Vec<(Hour, Act)>, Fail> {
     };
     let acts = [
         (0, Act::Rebalance(7)),
-        (1, Act::SetWeight(NewWeight { id: 150, weight })),
-        (1, Act::Remove(200)),
-        (1, Act::Keep(200)),
-        (1, Act::Remove(201)),
+        (1, Act::OnDevice(150, DeviceAct::SetWeight(weight))),
+        (1, Act::OnDevice(200, DeviceAct::Remove)),
+        (1, Act::OnDevice(200, DeviceAct::Keep)),
+        (1, Act::OnDevice(201, DeviceAct::Remove)),
         (1, Act::SetHours(12)),
         (1, Act::PretendPassed),
         (2, Act::Rebalance(8)),

@@ -186,6 +186,42 @@ static NOT_OF_ITS_FORM: [&str; 32] = [
     "export F object 7 --format json",
 ];
 
+/// What is told of an argument that is not of its form, and of two of which only one may be there.
+static TOLD_OF_FORMS: [(&str, &str); 8] = [
+    (
+        "serve F 0 1",
+        "error: '0' is not of the form of PORT, which is a whole number from 1 to 65535",
+    ),
+    (
+        "serve F 80 65536",
+        "error: '65536' is not of the form of COUNT, which is a whole number from 0 to 65535",
+    ),
+    (
+        "loop F input --hour now",
+        "error: 'now' is not of the form of --hour, which is a whole number from 0 to 4294967295, the hours since 1970",
+    ),
+    (
+        "preview F object --seed 01",
+        "error: '01' is not of the form of --seed, which is a whole number from 0 to 4294967295",
+    ),
+    (
+        "found G a.text --min-hours day",
+        "error: 'day' is not of the form of --min-hours, which is a whole number from 0 to 65535",
+    ),
+    (
+        "export F object 7 --format Swift",
+        "error: 'Swift' is not of the form of --format, which is text or swift",
+    ),
+    (
+        "show F object more",
+        "error: 'more' is not of the form of WORD, which is devices, balance, ring or locks",
+    ),
+    (
+        "show F object --status",
+        "error: only one of RING, --status and --metrics may be given",
+    ),
+];
+
 static OTHER_WORDS: [&str; 75] = [
     "",
     "ran",
@@ -303,8 +339,9 @@ fn arguments_keep_their_ranges(rt: HostRuntime) -> Result<(), Fail> {
     for line in &NOT_OF_ITS_FORM {
         assert!(rt; is_bad(rt.alloc(), line)?, "{line}");
     }
-    let told = "error: an argument is not of its form";
-    assert!(rt; is_asked(rt.alloc(), "serve F 0 1", told)?);
+    for (line, told) in &TOLD_OF_FORMS {
+        assert!(rt; is_asked(rt.alloc(), line, told)?, "{line}");
+    }
     Ok(())
 }
 

@@ -15,7 +15,7 @@ fault_meaning fault.TooFewDevices = codes "fewer of the ring's devices take seat
 fault_meaning fault.NotAssigned = codes "the ring was never rebalanced, so no device holds any of it: rebalance it first\n"
 fault_meaning fault.Unreadable = codes "a name or a number is not of its form: names of rings and callers are 1 to 32 of a to z, 0 to 9 and -, a letter first; numbers are 0 to 4294967295, without leading zeros\n"
 fault_meaning fault.NoMemory = codes "there was not enough memory: look at the limits of the unit or the shell, and try again\n"
-fault_meaning fault.StoreFault = codes "another program has it, or it can't be opened, read or written: look who has it (fuser), at its folder and its rights, and whether the disk is full; a NEW must not be there yet\n"
+fault_meaning fault.StoreFault = codes "another program has it, or it can't be opened, read or written: look who has it (fuser), at its folder and its rights, and whether the disk is full\n"
 fault_meaning fault.BadStore = codes "it is no store of ringd, one of a later version, or damaged: look at its name and at 'ringd version' before you put a backup in its place\n"
 fault_meaning fault.NoFile = codes "it can't be opened: look at its name and its rights\n"
 fault_meaning fault.NetFailed = codes "the port can't be had: look who has it (ss -ltnp); where it was served already, no more connections can be had: start again\n"
@@ -26,6 +26,16 @@ fault_meaning fault.NoVersion = codes "the ring was not published under this ver
 fault_meaning fault.ClockAhead = codes "look at this machine's clock; where it is right, start once with --hour-ok\n"
 fault_meaning fault.ReadFailed = codes "it could not be read to its end: look at the file or the pipe\n"
 fault_meaning fault.WriteFailed = codes "the output could not be written: its reader is gone, or the disk is full; what was decided stays decided\n"
+
+-- what it means where a new store can't be made, and what to look at
+abbrev pub new_store_meaning : List ℕ
+new_store_meaning = codes "a NEW that is there already is not written over; or another program has it, or it can't be opened, read or written: look who has it (fuser), at its folder and its rights, and whether the disk is full\n"
+
+-- what a fault of a task means: where it is to make a new store, that store may be there already
+abbrev pub meaning_for : Task → ProgramFault → List ℕ
+meaning_for (task.Renew file fresh) fault.StoreFault = new_store_meaning
+meaning_for (task.Found fresh texts min_hours given from) fault.StoreFault = new_store_meaning
+meaning_for t why = fault_meaning why
 
 -- Where a task has a new store and, maybe, an old one: the new one, if there is no other; the old
 -- one, if it is no store; and else either may be meant.
@@ -90,4 +100,4 @@ meaning_parts (Some file) meaning = codes "ringd: " ∷ file ∷ codes ": " ∷ 
 
 -- the line behind that of a fault, in parts: of which file it tells, if of one, and what it means
 abbrev pub meaning_texts : Task → ProgramFault → List (List ℕ)
-meaning_texts t why = meaning_parts (file_told t why) (fault_meaning why)
+meaning_texts t why = meaning_parts (file_told t why) (meaning_for t why)

@@ -1,8 +1,8 @@
 //! What faults mean to the one who reads them, and what to look at.
 ghost use Rattle.std.specs.Prelude.{◌≡◌, option_map};
 ghost use Rattle.programs.specs.Faults.{GetsTexts};
-ghost use Rattle.programs.specs.Meanings.{fault_meaning, file_told, input_named, meaning_parts};
-ghost use Rattle.programs.specs.Meanings.{meaning_texts, named_of_two, store_named};
+ghost use Rattle.programs.specs.Meanings.{fault_meaning, file_told, input_named, meaning_for};
+ghost use Rattle.programs.specs.Meanings.{meaning_parts, meaning_texts, named_of_two, store_named};
 ghost use Rattle.programs.specs.Meanings.{text_named};
 
 use crate::faults::{ProgramFault, tell_text};
@@ -32,7 +32,10 @@ const NO_MEMORY: &str =
     "there was not enough memory: look at the limits of the unit or the shell, and try again\n";
 
 const STORE_FAULT: &str =
-    "another program has it, or it can't be opened, read or written: look who has it (fuser), at its folder and its rights, and whether the disk is full; a NEW must not be there yet\n";
+    "another program has it, or it can't be opened, read or written: look who has it (fuser), at its folder and its rights, and whether the disk is full\n";
+
+const NEW_STORE_FAULT: &str =
+    "a NEW that is there already is not written over; or another program has it, or it can't be opened, read or written: look who has it (fuser), at its folder and its rights, and whether the disk is full\n";
 
 const BAD_STORE: &str =
     "it is no store of ringd, one of a later version, or damaged: look at its name and at 'ringd version' before you put a backup in its place\n";
@@ -85,6 +88,17 @@ fn meaning_of(fault: ProgramFault) -> &'static str
         ProgramFault::ClockAhead => CLOCK_AHEAD,
         ProgramFault::ReadFailed => READ_FAILED,
         ProgramFault::WriteFailed => WRITE_FAILED,
+    }
+}
+
+/// What a fault of a task means: where it is to make a new store, that store may be there already.
+fn meaning_for(task: &Task<'_>, fault: ProgramFault) -> &'static str
+    ensures { result.now ≡ meaning_for task.now fault }
+{
+    match (task, fault) {
+        (Task::Renew { .. }, ProgramFault::StoreFault) => NEW_STORE_FAULT,
+        (Task::Found { .. }, ProgramFault::StoreFault) => NEW_STORE_FAULT,
+        (_, _) => meaning_of(fault),
     }
 }
 
@@ -193,5 +207,5 @@ pub(crate) fn tell_meaning<E: Write>(
 )
     ensures { GetsTexts E.contents errors.old errors.new (meaning_texts task.now fault) }
 {
-    tell_line(errors, file_told(task, fault), meaning_of(fault));
+    tell_line(errors, file_told(task, fault), meaning_for(task, fault));
 }

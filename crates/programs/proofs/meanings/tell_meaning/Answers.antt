@@ -4,4 +4,4 @@ use Rattle.programs.proofs.meanings.tell_meaning.Goals as goal
 pub returns : goal.returns
 returns g c =
     let told = rw c.file_told.ensures at c.tell_line.ensures in
-    rw c.meaning_of.ensures at told
+    rw c.meaning_for.ensures at told
