@@ -36,6 +36,8 @@ DEVICES = """   id region  zone address          port     weight state   name
     2      1     2 10.0.0.3         6200     100.00 open    sda
     3      1     2 10.0.0.4         6200     100.00 open    sda
 """
+# What `finish` tells where nothing was left.
+NOTHING_LEFT = (0, "nothing was left without an answer\n", "")
 
 
 class Ctl:
@@ -101,7 +103,8 @@ SHOWN = """   id region  zone address          port     weight state   wanted   
 balance 0.00 dispersion 0.00 version 7
 """
 SHOWN_JSON = common.compact({
-    "ring": "photos", "version": 7, "balance": 0, "dispersion": 0,
+    "ring": "photos", "version": 7, "balance": 0, "dispersion": 0, "hour": HOUR, "locked": 16, "min_hours": 24, "next_id": 4,
+    "power": 4, "published": [], "replicas": 2, "rests": 24, "seats": 32,
     "devices": [{"id": place, "region": 1, "zone": 1 + place // 2, "address": f"10.0.0.{place + 1}", "port": 6200,
                  "name": name, "weight": "100.00", "state": "open", "wanted": 8, "has": 8}
                 for place, name in enumerate(["sda", "sdb", "sda", "sda"])]}) + "\n"
@@ -148,17 +151,20 @@ SESSION = [
     ("publish photos", done("photos: version 11, published")),
     ("--json publish photos", done('{"done":"publish","version":11}')),
     ("publish pictures --json", (1, '{"refused":"NoRing","rule":1}\n', "")),
-    ("text photos 7", refused("photos was not published as version 7")),
+    ("text photos 7", refused("photos was not published as version 7; it was as 11")),
     ("nodes photos a/b",
      refused("this is no path: an account and a container are 1 to 256 bytes without /, an object 1 to 1024")),
     ("balance pictures", refused("there is no ring pictures")),
     ("show pictures", refused("there is no ring pictures")),
     ("preview pictures", refused("there is no ring pictures")),
     ("locks pictures", refused("there is no ring pictures")),
-    ("moves photos 7 11", refused("photos was not published as version 7 or 11")),
+    ("moves photos 7 11", refused("photos was not published as version 7; it was as 11")),
+    ("rings", done(f"{'photos':<32} version 11")),
+    ("rings --json", done('{"rings":[{"ring":"photos","version":11}]}')),
+    ("balance photos --json", (2, "", "ringctl: balance is a text: show --json has the ring as JSON\n")),
     ("moves photos 11 11", done("0 seats in 0 partitions moved from version 11 to 11")),
     ("preview photos --seed x", (2, "", "ringctl: the seed is x; it is a whole number from 0 to 4294967295\n")),
-    ("finish", (0, "", "")),
+    ("finish", NOTHING_LEFT),
     ("create cold 1 1 0", done("cold: version 0, created")),
     ("add cold r1z1-10.0.0.1:6200/sda 100", done("cold: version 1, added d0")),
     (f"rebalance_as cold 7 2 {HOUR}",
@@ -167,12 +173,12 @@ SESSION = [
      refused("cold was changed since the preview: it would not have version 2. Nothing was moved; look at a new preview")),
     ("rebalance_as cold 7 3 7",
      refused("cold: it is not hour 7, so other partitions may move. Nothing was moved; look at a new preview")),
+    ("keep cold d9", refused("cold has no device 9: it has left, or never was; add makes a new one")),
     ("keep cold d0", refused("cold: device 0 is not marked: there is nothing to take back")),
     ("remove cold d0", done("cold: version 3, d0 is marked and leaves at the next rebalance")),
     ("keep cold r1z1-10.0.0.1:6200/sda", done("cold: version 4, d0 is marked no more, and stays")),
-    ("keep cold d9", refused("cold has no device 9")),
 ]
-READS = ["balance photos", "nodes photos alice", "nodes photos alice --json", "nodes photos alice cats",
+READS = ["status", "status --json", "balance photos", "nodes photos alice", "nodes photos alice --json", "nodes photos alice cats",
          "text photos 11", "nodes photos alice cats tom+&kitty.jpg", "preview photos --seed 3",
          "preview photos --seed 3 --json"]
 
@@ -205,6 +211,10 @@ def session(checks):
         for words, one_told, other_told in zip(READS, *reads):
             checks.same(f"{words}: the same both ways", one_told, other_told)
             checks.show(f"{words}: something", one_told[0] == 0 and one_told[1] and not one_told[2], one_told)
+        told, reads = [it[:2] for it in reads], [it[2:] for it in reads]
+        status = json.loads(told[0][1][1])
+        kept = f"{status['kept']} of 100000 numbers are kept, 2 rings; the greatest hour is {status['hour']}\n"
+        checks.same("the status is a line", told[0][0], (0, kept, ""))
         checks.show("balance is a table", reads[0][0][1].startswith("   id "), reads[0][0])
         nodes = r"partition \d+\nd\d r1z\d-10\.0\.0\.\d:6200/sd[ab]\nd\d r1z\d-10\.0\.0\.\d:6200/sd[ab]\n"
         checks.show("nodes are a line each", re.fullmatch(nodes, reads[0][1][1]), reads[0][1])
@@ -273,7 +283,7 @@ BAD = [
     ("text photos 08", whole("the version", "08", 0, 4294967295)),
     ("publish photos --caller 9", "the caller is 9; it is 1 to 32 of a to z, 0 to 9 and -, the first a letter"),
     ("publish photos --url ftp://a", "the URL is ftp://a; it is as http://127.0.0.1:8642, without a login, ? and #"),
-    ("publish photos --file a.db --url http://a", "--url and --file: it is one of them"),
+    ("publish photos --file a.db --url http://a", "--url and --file: give only one of them"),
     ("publish photos --file a.db --ringd nothing", "there is no program nothing: --ringd PATH names it"),
     ("rebalance photos --until-done --hour 480000", "--until-done waits by the clock, and --hour holds it"),
 ]
@@ -382,7 +392,7 @@ def until_done(checks):
         finally:
             made.kill()
             made.communicate()
-        checks.same("nothing is left where it was killed", ctl("finish"), (0, "", ""))
+        checks.same("nothing is left where it was killed", ctl("finish"), NOTHING_LEFT)
         refusal = refused("late: there are fewer open devices than replicas")
         ctl("set_weight", "late", "d0", 0)
         checks.same("a refusal ends it", ctl("rebalance", "late", "--until-done"), refusal)
@@ -433,7 +443,7 @@ def one_kill(ctl, do, ring, stop):
         told = state(ctl, ring)
         if again[0] or told != want:
             return f"devices and version after it was given again: {told}, {again}"
-    if ctl("finish") != (0, "", ""):
+    if ctl("finish") != NOTHING_LEFT:
         return "something was left at last"
     return None
 
@@ -613,7 +623,8 @@ def restarted(checks):
             checks.same(f"{what}: done once", state(ctl, "photos"), (2, version))
         servers[-1].stop()
         at = f"no answer from {url(port)} within 1 seconds (Connection refused)"
-        kept = f"the request is in the journal {ctl.journal} as number 3, and the next call finishes it"
+        kept = (f"the request is in the journal {ctl.journal} as number 3, and the next call finishes it; "
+                "to give it up, move the journal away")
         want = f"ringctl: {at}; {kept}\n"
         status, told, errors = ctl("set_hours", "photos", 3, "--wait", 1)
         checks.same("no service", (status, told, errors.splitlines(True)[-1]), (4, "", want))
@@ -636,7 +647,7 @@ def strangers(checks):
             ctl = Ctl(room, "--url", url(between.port))
             told = ctl("publish", "photos")
             checks.show(what, told[:2] == (1, "") and want in told[2] and told[2].count("\n") == 1, told)
-            checks.same(f"{what}: nothing is left", ctl("finish"), (0, "", ""))
+            checks.same(f"{what}: nothing is left", ctl("finish"), NOTHING_LEFT)
     with scratch() as room, Between(0, [lambda given, ask: plain(200, "<html>")] * 2) as between:
         ctl = Ctl(room, "--url", url(between.port))
         want = refused(f"{url(between.port)} answers 200, and not in the words of ringd")
@@ -750,6 +761,30 @@ def callers(checks):
         checks.same("nobody else reads the journal", mode, (0o600, 0o700))
 
 
+def used_caller(checks):
+    """A journal that begins with a caller who has sent requests before: no old answer is told as that of a new request."""
+    with scratch() as room, scratch() as other, Server(f"{room}/rings.db") as server:
+        to = ["--url", url(server.port)]
+        first, second = Ctl(room, *to), Ctl(other, *to)
+        for words in ("create photos 2 1 0", "add photos r1z1-10.0.0.1:6200/sda 100", "rebalance photos --seed 7"):
+            first(*words.split(), "--caller", "carol")
+        told = second("rebalance", "photos", "--seed", 7, "--caller", "carol")
+        checks.show("it goes on behind the last number of its caller", told[0] == 0 and told[1].startswith("photos: version 3, 0 seats changed")
+                    and "with the caller carol, which has used numbers up to 3; " in told[2], told)
+        checks.same("and keeps from where", second.entries()[0], {"caller": "carol", "first": 4})
+        checks.same("its request has the next number", [it["number"] for it in second.entries() if "to" in it], [4])
+        checks.same("and the one behind it the next", second("set_hours", "photos", 3)[0], 0)
+        third = Ctl(room, *to, "--journal", f"{room}/third")
+        killed, told = third("set_hours", "photos", 4, "--caller", "carol", stop=1), third("set_hours", "photos", 4)
+        is_done = killed[0] == -9 and told[0] == 0 and told[1].startswith("photos: version 5, ")
+        checks.show("killed before its first request, too", is_done, (killed, told))
+    with scratch() as room, scratch() as other:
+        over = ["--file", f"{room}/rings.db", "--hour", HOUR]
+        one, two = (Ctl(it, *over, "--ringd", program_file(room)) for it in (room, other))
+        one("create", "photos", 2, 1, 0, "--caller", "carol")
+        checks.show("over a file", "numbers up to 1; " in two("set_hours", "photos", 2, "--caller", "carol")[2], two.entries()[0])
+
+
 def busy_file(checks):
     """A file that a service has: it waits until the service has gone."""
     with scratch() as room:
@@ -771,7 +806,7 @@ def busy_file(checks):
 
 def main():
     checks = Checks("ringctl.py", 900)
-    return checks.run(session, locks, bad_words, dry, until_done, killed_by_url, killed_over_file, lost_answers, restarted,
+    return checks.run(session, locks, used_caller, bad_words, dry, until_done, killed_by_url, killed_over_file, lost_answers, restarted,
                       strangers, at_once, torn, callers, busy_file)
 
 
