@@ -22,6 +22,7 @@ import shutil
 import sys
 import tempfile
 import time
+import zlib
 
 from gate import ROOT, tool
 
@@ -30,6 +31,8 @@ ERROR = re.compile(r"(?:\./)?((?:src|proofs)/\S+?):(\d+):\d+: error: (.*)")
 # What is said of a proof that names what is gone, or that rests on another one that was refused.
 OF_NAMES = re.compile(r"has no field|is not in scope|has no `|was not admitted")
 MOST_AT_ONCE = 12
+# A crate of more lines is begun before all others.
+LARGE = 2000
 FLAGS = ["--jobs", "1"]
 
 
@@ -188,6 +191,12 @@ def told(crate, found, began):
     print("\n".join([f"{line} (minute {(time.time() - began) / 60:.0f})", *[text for _, text in said]]), flush=True)
 
 
+def rank(crate):
+    """The greater it is, the sooner a crate is begun: large ones first, the others each day in another order, so none is always left."""
+    lines = crate.count(b"\n")
+    return lines if lines > LARGE else zlib.crc32(f"{crate.name} {time.strftime('%Y-%m-%d')}".encode()) % LARGE
+
+
 def main(words):
     rt = tool()
     os.chdir(ROOT)
@@ -209,7 +218,7 @@ def main(words):
         return found
 
     tasks = {
-        (it.name, "proof"): ([], it.count(b"\n"), rt.need(it), lambda given, jobs, it=it: tried(it)) for it in crates if given[it.name]
+        (it.name, "proof"): ([], rank(it), rt.need(it), lambda given, jobs, it=it: tried(it)) for it in crates if given[it.name]
     }
     found = rt.in_lanes(tasks)
     left = sorted(name for (name, _), it in found.items() if it is None)
