@@ -15,8 +15,8 @@ from pathlib import Path
 import common
 from common import FIRST, TINY, TINY_TEXT, TOP, Checks, add, fault, files_of, has, lines, message, rows_of, run, run_whole, scratch
 
-STORE_FAULT = "another program has it, or it can't be opened, read or written: look who has it (fuser), at its folder and its rights, and " \
-              "whether the disk is full"
+STORE_FAULT = "another program has it, or it can't be opened, read or written: look who has it (fuser), whether it is a plain file " \
+              "of one name in a folder that is there, at the rights of both, and whether the disk is full"
 NEW_FAULT = f"a NEW that is there already is not written over; or {STORE_FAULT}"
 FORMS = "a name or a number is not of its form: names of rings and callers are 1 to 32 of a to z, 0 to 9 and -, a letter first; numbers are " \
         "0 to 4294967295, without leading zeros"
@@ -36,7 +36,7 @@ MEANINGS = {
     "NetFailed 28": "the port can't be had: look who has it (ss -ltnp); where it was served already, no more connections can be had: start again",
     "TooLong 29": "it is too long: a CSV table may have 65536 bytes, an INPUT 32768, and the text of a ring 1048576",
     "BadPath 30": "this is no path: an account and a container are 1 to 256 bytes without a slash, and an object is 1 to 1024 bytes and in a container",
-    "BadText 31": "a TEXT is that of no ring: the line before the fault says which, and in which line it stops being one",
+    "BadText 31": "a TEXT is not the text of a ring: the line before the fault says which TEXT, and its first line that is wrong",
     "NoVersion 32": "the ring was not published under this version: the reply to publish names it",
     "ClockAhead 33": "look at this machine's clock; where it is right, start once with --hour-ok",
     "ReadFailed 50": "it could not be read to its end: look at the file or the pipe",
@@ -157,7 +157,7 @@ def refusals(checks):
         room.put(tiny=TINY_TEXT, again=TINY_TEXT, long=TINY_TEXT.ljust(1048577, b"\n"), **{f"t{n}": text_of(f"r{n}") for n in range(17)})
         for what, (text, at) in STOPS.items():
             room.put(bad=text)
-            stop = f"ringd: {folder}/bad: line {at} is none that a ring's text has there\nringd: BadText 31\n".encode()
+            stop = f"ringd: {folder}/bad: line {at} is missing, or not what the text of a ring has there\nringd: BadText 31\n".encode()
             checks.same(f"{what}: where it stops is told", room.found("tiny bad t1"), (1, b"", stop))
         checks.same("a text that is not there", room.found("tiny none"), fault("NoFile", 27))
         checks.same("a folder", room.found("tiny ."), fault("ReadFailed", 50))

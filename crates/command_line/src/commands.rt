@@ -7,7 +7,7 @@ ghost use Rattle.command_line.specs.Shapes.{programs};
 ghost use Rattle.command_line.specs.Inner.Adding.{rule_told, shape_told, with_rules, with_shapes};
 
 use self::Argument::{Flag, Named, Needed, Optional, Possible, Repeated, Several};
-use crate::help::{ABOUT, told_of};
+use crate::help::{ABOUT, told_of, told_of_argument};
 use clap::{Arg, ArgAction, Command};
 use std::alloc::{AllocError, Global};
 
@@ -181,6 +181,19 @@ const PROGRAMS: &[Program<'static>] = &[
     },
 ];
 
+/// The name of an argument.
+fn name_of<'a>(argument: &Argument<'a>) -> &'a str {
+    match *argument {
+        Needed(name)
+        | Several(name)
+        | Possible(name)
+        | Optional(name)
+        | Named(name)
+        | Repeated(name)
+        | Flag(name) => name,
+    }
+}
+
 /// An argument, for `clap`.
 fn arg_of<'a>(alloc: Global, argument: &Argument<'a>) -> Arg<'a>
     ensures rule { rule_of result ≡ rule_told argument.now }
@@ -197,6 +210,14 @@ fn arg_of<'a>(alloc: Global, argument: &Argument<'a>) -> Arg<'a>
         Repeated(name) => Arg::new(alloc, name).long(name).action(ArgAction::Append),
         Flag(name) => Arg::new(alloc, name).long(name).action(ArgAction::SetTrue),
     }
+}
+
+/// An argument with what the help of its program tells of it, for `clap`.
+fn told_arg<'a>(alloc: Global, argument: &Argument<'a>) -> Arg<'a>
+    ensures rule { rule_of result ≡ rule_told argument.now }
+    ensures local { result.global ≡ false }
+{
+    arg_of(alloc, argument).help(told_of_argument(name_of(argument)))
 }
 
 /// The command with one argument more.
@@ -221,7 +242,7 @@ fn with_arguments<'a>(
     ensures alone { IfOk result (λ c. (out-Command c).has_globals ≡ false) }
 {
     for argument in arguments {
-        command = with_arg(command, arg_of(alloc, argument))?;
+        command = with_arg(command, told_arg(alloc, argument))?;
     }
     Ok(command)
 }

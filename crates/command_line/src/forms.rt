@@ -7,15 +7,31 @@ use std::alloc::{AllocError, Global};
 
 /// The arguments that have a form: the name of each, how it is written, and what it may be.
 static FORMS: [(&str, &str, &str); 7] = [
-    ("PORT", "PORT", "a whole number from 1 to 65535"),
-    ("COUNT", "COUNT", "a whole number from 0 to 65535"),
+    (
+        "PORT",
+        "PORT",
+        "a whole number from 1 to 65535, in digits without leading zeros",
+    ),
+    (
+        "COUNT",
+        "COUNT",
+        "a whole number from 0 to 65535, in digits without leading zeros",
+    ),
     (
         "hour",
         "--hour",
-        "a whole number from 0 to 4294967295, the hours since 1970",
+        "a whole number of hours since 1970, 0 to 4294967295, in digits without leading zeros",
     ),
-    ("seed", "--seed", "a whole number from 0 to 4294967295"),
-    ("min-hours", "--min-hours", "a whole number from 0 to 65535"),
+    (
+        "seed",
+        "--seed",
+        "a whole number from 0 to 4294967295, in digits without leading zeros",
+    ),
+    (
+        "min-hours",
+        "--min-hours",
+        "a whole number from 0 to 65535, in digits without leading zeros",
+    ),
     ("format", "--format", "text or swift"),
     ("WORD", "WORD", "devices, balance, ring or locks"),
 ];
@@ -49,7 +65,7 @@ fn told_of(alloc: Global, matches: &ArgMatches<'_>) -> Result<String, AllocError
         };
         if !is_of_form(name, text) {
             return format!(in alloc;
-                "error: '{text}' is not of the form of {written}, which is {form}\n\nNumbers are written in digits, without leading zeros. For more information, try '--help'.\n"
+                "error: '{text}' is not of the form of {written}, which is {form}\n\nFor more information, try '--help'.\n"
             );
         }
     }

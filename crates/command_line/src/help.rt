@@ -236,7 +236,7 @@ Each partition counts as moved at the hour of the machine's clock, or at the one
 none of them before --min-hours hours have passed, but for the seats of marked devices, which go at once. --from FILE
 also takes the rings, the published texts and the hour of FILE, which stays as it was.
 
-NEW must not be there. Nothing is made where a text is that of no ring (BadText 31, with the line where it stops on standard
+NEW must not be there. Nothing is made where a TEXT is not the text of a ring (BadText 31, with its first wrong line on standard
 error), is longer than 1048576 bytes (TooLong 29) or is not there (NoFile 27), where two rings have one name (RingExists 2),
 and where there are more than 16 (TooManyRings 3).";
 
@@ -256,4 +256,88 @@ pub(crate) fn told_of(program: &str) -> Option<&'static str> {
         "found" => Some(FOUND),
         _ => None,
     }
+}
+
+/// What the help of a program tells of each argument, by its name.
+static ARGUMENTS: [(&str, &str); 31] = [
+    (
+        "FILE",
+        "The file of the store, which is made if it is missing",
+    ),
+    (
+        "file",
+        "The file of the store, which is made if it is missing",
+    ),
+    ("RING", "The name of the ring"),
+    (
+        "WORD",
+        "What is shown of the ring: devices, balance, ring or locks",
+    ),
+    ("PORT", "The port, from 1 to 65535"),
+    ("COUNT", "How many connections are served, from 0 to 65535"),
+    (
+        "INPUT",
+        "The file with the requests, of 32768 bytes at most",
+    ),
+    ("CALLER", "The name of who asks"),
+    ("NUMBER", "The caller's number of this request"),
+    ("CSV", "The file with the table, of 65536 bytes at most"),
+    ("ACCOUNT", "The account of the path"),
+    ("container", "The container of the path, in its account"),
+    ("object", "The object of the path, in its container"),
+    ("VERSION", "A version under which the ring was published"),
+    (
+        "FROM",
+        "The published version that is compared with the later one",
+    ),
+    ("TO", "The later published version"),
+    ("NEW", "The file that is made, which must not be there"),
+    (
+        "TEXT",
+        "A file with the text of a ring, of 1048576 bytes at most",
+    ),
+    ("seed", "The seed of the rebalance, from 0 to 4294967295"),
+    (
+        "hour",
+        "The hour to go by, in hours since 1970, in place of the clock's",
+    ),
+    ("hour-ok", "Start though the clock is far ahead of the file"),
+    (
+        "host",
+        "A further name that clients may give as their host, such as a proxy's",
+    ),
+    ("prefix", "What the cluster hashes before each path"),
+    ("suffix", "What the cluster hashes behind each path"),
+    ("format", "How it is written: text, if left out, or swift"),
+    (
+        "min-hours",
+        "For how many hours a moved partition stays, from 0 to 65535",
+    ),
+    (
+        "from",
+        "Of log: the place at which it begins. Of found: a store whose rings are taken over too",
+    ),
+    (
+        "lines",
+        "Write lines that ringd run reads, in place of JSON",
+    ),
+    ("each", "Write a line for each seat that differs"),
+    (
+        "status",
+        "Show how much the file keeps, in place of its rings",
+    ),
+    (
+        "metrics",
+        "Show the figures of all rings, in the text format of Prometheus",
+    ),
+];
+
+/// What the help of a program tells of an argument of this name.
+pub(crate) fn told_of_argument(wanted: &str) -> &'static str {
+    for (name, told) in &ARGUMENTS {
+        if *name == wanted {
+            return *told;
+        }
+    }
+    ""
 }

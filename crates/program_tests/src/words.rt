@@ -190,23 +190,23 @@ static NOT_OF_ITS_FORM: [&str; 32] = [
 static TOLD_OF_FORMS: [(&str, &str); 8] = [
     (
         "serve F 0 1",
-        "error: '0' is not of the form of PORT, which is a whole number from 1 to 65535",
+        "error: '0' is not of the form of PORT, which is a whole number from 1 to 65535, in digits without leading zeros",
     ),
     (
         "serve F 80 65536",
-        "error: '65536' is not of the form of COUNT, which is a whole number from 0 to 65535",
+        "error: '65536' is not of the form of COUNT, which is a whole number from 0 to 65535, in digits without leading zeros",
     ),
     (
         "loop F input --hour now",
-        "error: 'now' is not of the form of --hour, which is a whole number from 0 to 4294967295, the hours since 1970",
+        "error: 'now' is not of the form of --hour, which is a whole number of hours since 1970, 0 to 4294967295, in digits without leading zeros",
     ),
     (
         "preview F object --seed 01",
-        "error: '01' is not of the form of --seed, which is a whole number from 0 to 4294967295",
+        "error: '01' is not of the form of --seed, which is a whole number from 0 to 4294967295, in digits without leading zeros",
     ),
     (
         "found G a.text --min-hours day",
-        "error: 'day' is not of the form of --min-hours, which is a whole number from 0 to 65535",
+        "error: 'day' is not of the form of --min-hours, which is a whole number from 0 to 65535, in digits without leading zeros",
     ),
     (
         "export F object 7 --format Swift",

@@ -34,7 +34,7 @@ found_fault found.NoMemory = fault.NoMemory
 -- the line that tells where the text in a file stops being that of a ring
 abbrev pub stop_line : List ℕ → ℕ → List ℕ
 stop_line name at = codes "ringd: " ++ name ++ codes ": line " ++ decimal at ++
-    codes " is none that a ring's text has there\n"
+    codes " is missing, or not what the text of a ring has there\n"
 
 -- ---- the texts
 

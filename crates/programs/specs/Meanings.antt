@@ -15,13 +15,13 @@ fault_meaning fault.TooFewDevices = codes "fewer of the ring's devices take seat
 fault_meaning fault.NotAssigned = codes "the ring was never rebalanced, so no device holds any of it: rebalance it first\n"
 fault_meaning fault.Unreadable = codes "a name or a number is not of its form: names of rings and callers are 1 to 32 of a to z, 0 to 9 and -, a letter first; numbers are 0 to 4294967295, without leading zeros\n"
 fault_meaning fault.NoMemory = codes "there was not enough memory: look at the limits of the unit or the shell, and try again\n"
-fault_meaning fault.StoreFault = codes "another program has it, or it can't be opened, read or written: look who has it (fuser), at its folder and its rights, and whether the disk is full\n"
+fault_meaning fault.StoreFault = codes "another program has it, or it can't be opened, read or written: look who has it (fuser), whether it is a plain file of one name in a folder that is there, at the rights of both, and whether the disk is full\n"
 fault_meaning fault.BadStore = codes "it is no store of ringd, one of a later version, or damaged: look at its name and at 'ringd version' before you put a backup in its place\n"
 fault_meaning fault.NoFile = codes "it can't be opened: look at its name and its rights\n"
 fault_meaning fault.NetFailed = codes "the port can't be had: look who has it (ss -ltnp); where it was served already, no more connections can be had: start again\n"
 fault_meaning fault.TooLong = codes "it is too long: a CSV table may have 65536 bytes, an INPUT 32768, and the text of a ring 1048576\n"
 fault_meaning fault.BadPath = codes "this is no path: an account and a container are 1 to 256 bytes without a slash, and an object is 1 to 1024 bytes and in a container\n"
-fault_meaning fault.BadText = codes "a TEXT is that of no ring: the line before the fault says which, and in which line it stops being one\n"
+fault_meaning fault.BadText = codes "a TEXT is not the text of a ring: the line before the fault says which TEXT, and its first line that is wrong\n"
 fault_meaning fault.NoVersion = codes "the ring was not published under this version: the reply to publish names it\n"
 fault_meaning fault.ClockAhead = codes "look at this machine's clock; where it is right, start once with --hour-ok\n"
 fault_meaning fault.ReadFailed = codes "it could not be read to its end: look at the file or the pipe\n"
@@ -29,7 +29,7 @@ fault_meaning fault.WriteFailed = codes "the output could not be written: its re
 
 -- what it means where a new store can't be made, and what to look at
 abbrev pub new_store_meaning : List ℕ
-new_store_meaning = codes "a NEW that is there already is not written over; or another program has it, or it can't be opened, read or written: look who has it (fuser), at its folder and its rights, and whether the disk is full\n"
+new_store_meaning = codes "a NEW that is there already is not written over; or another program has it, or it can't be opened, read or written: look who has it (fuser), whether it is a plain file of one name in a folder that is there, at the rights of both, and whether the disk is full\n"
 
 -- what a fault of a task means: where it is to make a new store, that store may be there already
 abbrev pub meaning_for : Task → ProgramFault → List ℕ

@@ -46,7 +46,9 @@ pub(crate) struct FoundAsk<'a> {
 fn stop_text(alloc: Global, name: &str, at: u32) -> Result<String, AllocError>
     ensures { IfOk result (λ line. string_bytes line ≡ stop_line name.now at) }
 {
-    format!(in alloc; "ringd: {name}: line {at} is none that a ring's text has there\n")
+    format!(in alloc;
+        "ringd: {name}: line {at} is missing, or not what the text of a ring has there\n"
+    )
 }
 
 /// That line for such a text.

@@ -32,10 +32,10 @@ const NO_MEMORY: &str =
     "there was not enough memory: look at the limits of the unit or the shell, and try again\n";
 
 const STORE_FAULT: &str =
-    "another program has it, or it can't be opened, read or written: look who has it (fuser), at its folder and its rights, and whether the disk is full\n";
+    "another program has it, or it can't be opened, read or written: look who has it (fuser), whether it is a plain file of one name in a folder that is there, at the rights of both, and whether the disk is full\n";
 
 const NEW_STORE_FAULT: &str =
-    "a NEW that is there already is not written over; or another program has it, or it can't be opened, read or written: look who has it (fuser), at its folder and its rights, and whether the disk is full\n";
+    "a NEW that is there already is not written over; or another program has it, or it can't be opened, read or written: look who has it (fuser), whether it is a plain file of one name in a folder that is there, at the rights of both, and whether the disk is full\n";
 
 const BAD_STORE: &str =
     "it is no store of ringd, one of a later version, or damaged: look at its name and at 'ringd version' before you put a backup in its place\n";
@@ -52,7 +52,7 @@ const BAD_PATH: &str =
     "this is no path: an account and a container are 1 to 256 bytes without a slash, and an object is 1 to 1024 bytes and in a container\n";
 
 const BAD_TEXT: &str =
-    "a TEXT is that of no ring: the line before the fault says which, and in which line it stops being one\n";
+    "a TEXT is not the text of a ring: the line before the fault says which TEXT, and its first line that is wrong\n";
 
 const NO_VERSION: &str =
     "the ring was not published under this version: the reply to publish names it\n";

@@ -10,6 +10,6 @@ loop-argument-preserved c = record {
       c.loop-argument.argument-index _ (app_of c.args.command) (app_of c.loop-argument.command)
       (app_of c.in_ok-command.command) (omega arith) c.loop-argument.invariant.app
       (c.in_ok-command.ensures.app
-      ∙ ap (with_rule (app_of c.loop-argument.command)) c.arg_of.ensures.rule);
+      ∙ ap (with_rule (app_of c.loop-argument.command)) c.told_arg.ensures.rule);
   alone = c.in_ok-command.ensures.alone;
 }
