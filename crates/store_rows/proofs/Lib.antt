@@ -7,6 +7,7 @@ pub mod OneBook
 pub mod Sameness
 pub mod Blocks
 pub mod Steps
+pub mod InTurn
 pub mod Applied
 pub mod Changing
 pub mod BookRows

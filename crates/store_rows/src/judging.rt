@@ -11,7 +11,8 @@ ghost use Rattle.store_rows.specs.Inner.Written.{part_change};
 ghost use Rattle.store_model.specs.declared.rows.PartRow.{PartRow};
 ghost use Rattle.store_rows.specs.Stands.{meta_value};
 ghost use Rattle.store_rows.specs.RingRows.{part_entries};
-ghost use Rattle.store_rows.specs.Inner.Sayings.{SayPlaces, SayRings};
+ghost use Rattle.std.specs.Option.{option_map};
+ghost use Rattle.store_rows.specs.Inner.Sayings.{AreBehindParts, SayPlaces, SayRings};
 ghost use Rattle.store_rows.specs.Judging.{AreRowsOf, Judges};
 
 use crate::all_rows::{device_rows, part_rows, published_rows, ring_rows};
@@ -19,13 +20,14 @@ use crate::books::judge_book;
 use crate::callers::Callers;
 use crate::change::push_parts;
 use crate::comparing::are_alike;
+use crate::differences::push_parts as push_ring_parts;
 use crate::first_rows::{moved_rows, seat_rows};
 use crate::naming::RingTables;
 use crate::numbers::number32;
 use crate::proper::rings_are_proper;
 use crate::rings_reading::read_rings;
-use ring_model::Rings;
-use ring_words::{Hour, SpellingFault};
+use ring_model::{Ring, Rings};
+use ring_words::{Hour, RingName, SpellingFault};
 use std::alloc::{AllocError, Global};
 use store_model::{
     DeviceRow, MetaRow, MovedRow, PartRow, PublishedRow, RequestRow, RingRow, RowChange, SeatRow,
@@ -94,15 +96,49 @@ fn are_first_places(alloc: Global, rows: &StoreRows, rings: &Rings) -> Result<bo
     Ok(are_alike(rows.moved.as_slice(), moved.as_slice()))
 }
 
+/// The rows behind those of a ring's partitions, which come first; `None` where these don't.
+fn behind_parts<'a>(
+    alloc: Global,
+    rows: &'a [PartRow],
+    name: &RingName,
+    ring: &Ring,
+) -> Result<Option<&'a [PartRow]>, AllocError>
+    ensures { IfOk result (λ behind. AreBehindParts rows.now (name.now, ring.now)
+        (option_map (λ rest. rest.now) behind)) }
+{
+    let mut parts = Vec::new(alloc);
+    push_ring_parts(alloc, &mut parts, name, None, ring)?;
+    let Some((front, behind)) = rows.split_at_checked(parts.len()) else {
+        return Ok(None);
+    };
+    if !are_alike(front, parts.as_slice()) {
+        return Ok(None);
+    }
+    Ok(Some(behind))
+}
+
+/// Whether rows of partitions are those of rings. The rows of one ring are made at a time.
+fn are_parts_of(alloc: Global, rows: &[PartRow], rings: &Rings) -> Result<bool, AllocError>
+    ensures { IfOk result (λ same. IsTrue same ↔ (map part_of rows.now ≡ part_entries rings.now)) }
+{
+    let mut rest = rows;
+    for entry in rings.list() {
+        match behind_parts(alloc, rest, &entry.0, entry.1.as_ref())? {
+            Some(behind) => rest = behind,
+            None => return Ok(false),
+        }
+    }
+    Ok(rest.is_empty())
+}
+
 /// Whether the rows of seats, moves and partitions are those of rings in a store of schema 2.
 fn are_parts(alloc: Global, rows: &StoreRows, rings: &Rings) -> Result<bool, AllocError>
     ensures { IfOk result (λ same. IsTrue same ↔ SayPlaces false rows.now rings.now) }
 {
-    let parts = part_rows(alloc, rings)?;
     if !rows.seats.is_empty() || !rows.moved.is_empty() {
         return Ok(false);
     }
-    Ok(are_alike(rows.parts.as_slice(), parts.as_slice()))
+    are_parts_of(alloc, rows.parts.as_slice(), rings)
 }
 
 /// Whether the rows of seats, moves and partitions are those of rings.
