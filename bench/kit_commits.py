@@ -2,8 +2,8 @@
 """Times commits by the kit's `sqlite` alone: bench/kit_commits.py [--small] [--write] [FOLDER]
 
 What `run --file` commits a second can be no more than what a program commits that does nothing else. This script makes that
-program, which puts one row into a file in each transaction, proves and builds it with `rt` (some four minutes, and once: it
-stays in ~/.cache/ringd-bench), and times it beside Python's sqlite3, which puts the same rows. FOLDER is where the files lie.
+program, which puts one row into a file in each transaction (see bench/kit.py), and times it beside Python's sqlite3, which puts
+the same rows. FOLDER is where the files lie.
 """
 import os
 import sqlite3
@@ -12,8 +12,8 @@ import subprocess
 import sys
 import tempfile
 import time
-from pathlib import Path
 
+from kit import built
 from program import tell
 
 SMALL = "--small" in sys.argv
@@ -21,14 +21,6 @@ COMMITS, ROUNDS = (200, 2) if SMALL else (3000, 7)
 TABLE = ("CREATE TABLE request (caller TEXT NOT NULL, number INTEGER NOT NULL, place INTEGER NOT NULL, hour INTEGER NOT NULL, "
          "command TEXT NOT NULL, reply TEXT NOT NULL, PRIMARY KEY (caller, number), UNIQUE (place)) STRICT")
 ROW = "INSERT INTO request VALUES ('bench', ?1, ?1, 0, '{\"do\":\"set_hours\",\"min_hours\":7}', '{\"done\":\"set_hours\",\"version\":7}')"
-
-BUILD = """load("@rattle//bazel/rattle:crate.bzl", "rattle_crate")
-
-rattle_crate(
-    name = "kit_commits",
-    deps = ["@rattle//sqlite", "@rattle//sqlite_std_file"],
-)
-"""
 
 SOURCE = """// Puts rows into kit.db, each in a transaction of its own, as many as its argument says.
 #![tactic(auto)]
@@ -78,17 +70,10 @@ fn main(rt: HostRuntime) -> ExitCode {
 """
 
 
-def built():
-    """The program, proved and built where it isn't there yet."""
-    crate = Path.home() / ".cache" / "ringd-bench" / "kit_commits"
-    made = crate / "out" / "kit_commits"
-    if not made.exists():
-        (crate / "src").mkdir(parents=True, exist_ok=True)
-        (crate / "BUILD.bazel").write_text(BUILD)
-        quoted = {word: text.replace('"', '\\"') for word, text in (("TABLE", TABLE), ("ROW", ROW))}
-        (crate / "src" / "main.rt").write_text(SOURCE.replace('"TABLE"', f'"{quoted["TABLE"]}"').replace('"ROW"', f'"{quoted["ROW"]}"'))
-        subprocess.run(["rt", "run", "--", "0"], cwd=crate, check=True, stdout=subprocess.DEVNULL)
-    return made
+def kit_program():
+    """The program that puts the rows."""
+    quoted = {word: text.replace('"', '\\"') for word, text in (("TABLE", TABLE), ("ROW", ROW))}
+    return built("kit_commits", SOURCE.replace('"TABLE"', f'"{quoted["TABLE"]}"').replace('"ROW"', f'"{quoted["ROW"]}"'), "0")
 
 
 def new(file):
@@ -129,11 +114,11 @@ def commits_of_sqlite(room):
 
 def main():
     folder = next((word for word in sys.argv[1:] if not word.startswith("--")), ".")
-    made = built()
+    program = kit_program()
     ours, theirs = [], []
     with tempfile.TemporaryDirectory(prefix="ringd-bench-", dir=folder) as room:
         for _ in range(ROUNDS):
-            ours.append(commits_of_kit(made, room))
+            ours.append(commits_of_kit(program, room))
             theirs.append(commits_of_sqlite(room))
     mine, other = statistics.median(ours), statistics.median(theirs)
     tell("Commits a second by the kit's sqlite alone", "bench/kit_commits.py",
