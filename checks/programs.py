@@ -1,5 +1,5 @@
 #!/usr/bin/env python3
-"""Checks what `ringd found` and `ringd version` do, and what the second line of each fault says: checks/programs.py
+"""Checks what `ringd found` and `ringd version` do, what the second line of each fault says, and the help: checks/programs.py
 
 Rings whose texts and rows are known whole are founded, and refused: what is told, what is in the new file, and that there is none
 where anything was refused. The faults of all programs are made, but for want of memory, and both of their lines are compared.
@@ -251,13 +251,29 @@ def on_the_page(checks):
     checks.same("each fault has its row, and no other stands there", dict(rows), {**want, "`StoreFault 24` of `renew` and `found`": NEW_FAULT})
 
 
+def help_of(checks):
+    """The help of each program has words for each of its arguments, and shows how many there are."""
+    told = run_whole("--help")[2].decode()
+    names = re.findall(r"^  (\w+)  ", told[told.index("Commands:"):], re.M)
+    names = [name for name in names if name != "help"]
+    checks.same("all fifteen programs are named", len(names), 15)
+    found = {}
+    for name in names:
+        told = re.sub(r"\n {10}(?=\S)", " ", run_whole(name, "--help")[2].decode())
+        found[name] = re.findall(r"^ +(?:-h, )?([<[]\w+[>\]](?:\.\.\.)?|--[\w-]+(?: <[\w-]+>)?) *(.*)$", told, re.M)
+    checks.same("each argument has its words", [(name, written) for name in names for written, words in found[name] if not words], [])
+    checks.same("as many as there are", {name: len(found[name]) for name in names},
+                {"run": 2, "serve": 7, "service": 7, "loop": 6, "import": 7, "table": 3, "show": 6, "preview": 5, "moves": 6, "log": 4, "nodes": 8,
+                 "export": 5, "renew": 3, "found": 6, "version": 1})
+
+
 def main():
     checks = Checks("programs.py", 300)
     if not has("found"):
         checks.skip("all of it", "the program has no found")
         print("0 passed, 0 failed")
         return 0
-    return checks.run(as_it_stands, rests, beside, refusals, version, meanings, on_the_page)
+    return checks.run(as_it_stands, rests, beside, refusals, version, meanings, on_the_page, help_of)
 
 
 if __name__ == "__main__":
