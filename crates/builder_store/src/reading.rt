@@ -1,12 +1,14 @@
 //! What the tables of an opened store say.
-ghost use Rattle.std.specs.Prelude.{◌≡◌, ◌↔◌, false, IsTrue, map};
+ghost use Rattle.std.specs.Prelude.{◌≡◌, ◌↔◌, false, All, IfErr, IsTrue, map};
 ghost use Rattle.std.specs.FinMap.{entries};
 ghost use Rattle.sqlite.specs.Held.{state};
 ghost use Rattle.store_model.specs.Contents.{Contents, device_of, meta_of, moved_of, part_of};
-ghost use Rattle.store_model.specs.Contents.{published_of, request_of, ring_of, seat_of};
-ghost use Rattle.store_tables.specs.Failing.{FailsForCause};
+ghost use Rattle.store_model.specs.Contents.{published_of, ring_of, seat_of};
+ghost use Rattle.sqlite.specs.State.{HasCleanDisk};
+ghost use Rattle.store_tables.specs.Failing.{FailsForCause, is_no_text};
 ghost use Rattle.store_tables.specs.Store.{ReadsContents, SeesTables, begun_contents};
-ghost use Rattle.store_rows.specs.Judging.{AreRowsOf};
+ghost use Rattle.store_tables.specs.Texts.{AreRequestTexts};
+ghost use Rattle.store_rows.specs.Judging.{AreRowsOf, SaysBook};
 ghost use Rattle.builder_store.specs.Opening.{no_contents};
 ghost use Rattle.builder_store.specs.Inner.Reading.{MeetsNoText};
 
@@ -17,7 +19,7 @@ use std::alloc::Global;
 use store_model::{
     DeviceRow, MetaRow, MovedRow, PartRow, PublishedRow, RequestRow, RingRow, SeatRow,
 };
-use store_rows::{Callers, StoreRows};
+use store_rows::{Callers, ReadBook, StoreRows, read_book};
 use store_tables::all_rows;
 
 /// What a keeper holds in memory of a content.
@@ -54,36 +56,47 @@ fn read_first<S: Alter>(
     Ok((meta, rings, devices, seats))
 }
 
-/// The moves of schema 1, the published texts, the requests and the partitions, likewise.
+/// What the requests say, whose rows are let go, likewise.
+fn read_requests<S: Alter>(
+    alloc: Global,
+    conn: &mut Connection<S>,
+    made: usize,
+) -> Result<ReadBook, Error>
+    requires mode { conn.old.in_transaction ≡ false }
+    requires begun { SeesTables made (state S.Store conn.old) }
+    ensures reads { ReadsContents (begun_contents made (state S.Store conn.old).now.trees)
+        (state S.Store conn.old) (state S.Store conn.new) result
+        (λ c book. SaysBook c.requests book) }
+    ensures mode { conn.new.in_transaction ≡ false }
+    ensures cause { FailsForCause (state S.Store conn.old) (state S.Store conn.new) result }
+    ensures no_text { HasCleanDisk (state S.Store conn.new) → IfErr result (λ e. IsTrue (is_no_text e)
+        → All AreRequestTexts (entries (begun_contents made (state S.Store conn.old).now.trees).requests) → ⊥) }
+{
+    let rows = all_rows::<RequestRow, S>(alloc, conn, made)?;
+    Ok(read_book(alloc, rows)?)
+}
+
+/// The moves of schema 1, the published texts, the book and the partitions, likewise.
 fn read_rest<S: Alter>(
     alloc: Global,
     conn: &mut Connection<S>,
     made: usize,
-) -> Result<
-    (
-        Vec<MovedRow>,
-        Vec<PublishedRow>,
-        Vec<RequestRow>,
-        Vec<PartRow>,
-    ),
-    Error,
->
+) -> Result<(Vec<MovedRow>, Vec<PublishedRow>, ReadBook, Vec<PartRow>), Error>
     requires mode { conn.old.in_transaction ≡ false }
     requires begun { SeesTables made (state S.Store conn.old) }
     ensures reads { ReadsContents (begun_contents made (state S.Store conn.old).now.trees)
         (state S.Store conn.old) (state S.Store conn.new) result
         (λ c rows. (map moved_of rows.0.items ≡ entries c.moved) × (map published_of rows.1.items ≡ entries c.published)
-        × (map request_of rows.2.items ≡ entries c.requests) ×
-        (map part_of rows.3.items ≡ entries c.parts)) }
+        × SaysBook c.requests rows.2 × (map part_of rows.3.items ≡ entries c.parts)) }
     ensures mode { conn.new.in_transaction ≡ false }
     ensures cause { FailsForCause (state S.Store conn.old) (state S.Store conn.new) result }
     ensures no_text { MeetsNoText made (state S.Store conn.old) (state S.Store conn.new) result }
 {
     let moved = all_rows::<MovedRow, S>(alloc, conn, made)?;
     let published = all_rows::<PublishedRow, S>(alloc, conn, made)?;
-    let requests = all_rows::<RequestRow, S>(alloc, conn, made)?;
+    let book = read_requests(alloc, conn, made)?;
     let parts = all_rows::<PartRow, S>(alloc, conn, made)?;
-    Ok((moved, published, requests, parts))
+    Ok((moved, published, book, parts))
 }
 
 /// All rows of a store of which the first `made` tables are there.
@@ -102,7 +115,7 @@ pub(crate) fn read_rows<S: Alter>(
     ensures no_text { MeetsNoText made (state S.Store conn.old) (state S.Store conn.new) result }
 {
     let (meta, rings, devices, seats) = read_first(alloc, conn, made)?;
-    let (moved, published, requests, parts) = read_rest(alloc, conn, made)?;
+    let (moved, published, book, parts) = read_rest(alloc, conn, made)?;
     Ok(StoreRows {
         meta,
         rings,
@@ -110,7 +123,7 @@ pub(crate) fn read_rows<S: Alter>(
         seats,
         moved,
         published,
-        requests,
+        book,
         parts,
     })
 }
@@ -125,6 +138,6 @@ pub(crate) fn is_empty(rows: &StoreRows) -> bool
         & rows.seats.is_empty()
         & rows.moved.is_empty()
         & rows.published.is_empty()
-        & rows.requests.is_empty()
+        & rows.book.is_empty
         & rows.parts.is_empty()
 }

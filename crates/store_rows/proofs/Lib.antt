@@ -28,4 +28,6 @@ pub mod AtName
 pub mod FirstRings
 pub mod OneStore
 pub mod BookPages
+pub mod BookRead
 pub mod Used
+pub mod Empty

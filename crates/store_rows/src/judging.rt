@@ -16,7 +16,7 @@ ghost use Rattle.store_rows.specs.Inner.Sayings.{AreBehindParts, SayPlaces, SayR
 ghost use Rattle.store_rows.specs.Judging.{AreRowsOf, Judges};
 
 use crate::all_rows::{device_rows, part_rows, published_rows, ring_rows};
-use crate::books::judge_book;
+use crate::books::{ReadBook, book_at};
 use crate::callers::Callers;
 use crate::change::push_parts;
 use crate::comparing::are_alike;
@@ -30,10 +30,10 @@ use ring_model::{Ring, Rings};
 use ring_words::{Hour, RingName, SpellingFault};
 use std::alloc::{AllocError, Global};
 use store_model::{
-    DeviceRow, MetaRow, MovedRow, PartRow, PublishedRow, RequestRow, RingRow, RowChange, SeatRow,
+    DeviceRow, MetaRow, MovedRow, PartRow, PublishedRow, RingRow, RowChange, SeatRow,
 };
 
-/// All rows of a store, each table's by rising keys.
+/// All rows of a store, each table's by rising keys, and what those of requests say.
 #[derive(Drop)]
 pub struct StoreRows {
     pub meta: Vec<MetaRow>,
@@ -42,7 +42,7 @@ pub struct StoreRows {
     pub seats: Vec<SeatRow>,
     pub moved: Vec<MovedRow>,
     pub published: Vec<PublishedRow>,
-    pub requests: Vec<RequestRow>,
+    pub book: ReadBook,
     pub parts: Vec<PartRow>,
 }
 
@@ -227,7 +227,7 @@ pub fn judge(alloc: Global, rows: StoreRows) -> Result<Judged, SpellingFault>
     let (is_first, hour) = read_meta(&rows.meta)?;
     let rings = judge_rings(alloc, is_first, &rows)?;
     rings_are_proper(&rings);
-    let (count, callers) = judge_book(alloc, rows.requests, hour)?;
+    let (count, callers) = book_at(rows.book, hour)?;
     let migration = migration(alloc, is_first, &rings)?;
     Ok(Judged {
         rings,

@@ -25,6 +25,7 @@ mod rings_reading;
 mod row_reading;
 mod written;
 
+pub use books::{FoundBook, ReadBook, read_book};
 pub use callers::Callers;
 pub use change::Change;
 pub use judging::{Judged, StoreRows, judge};

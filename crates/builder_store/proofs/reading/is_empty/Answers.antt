@@ -1,8 +1,9 @@
 use Rattle.std.proofs.Common.{◌∙◌, ap}
 use Rattle.std.specs.Prelude.{◌&&◌, ◌==◌}
 use Rattle.store_model.specs.Contents.{Contents, device_of, meta_of, moved_of, part_of}
-use Rattle.store_model.specs.Contents.{published_of, request_of, ring_of, seat_of}
-use Rattle.builder_store.proofs.Empty.{and_is, both, table_empty}
+use Rattle.store_model.specs.Contents.{published_of, ring_of, seat_of}
+use Rattle.store_rows.proofs.Empty.{table_empty}
+use Rattle.builder_store.proofs.Empty.{and_is, both}
 use Rattle.builder_store.proofs.reading.is_empty.Goals as goal
 
 pub returns : goal.returns
@@ -20,17 +21,16 @@ returns c = λ m is.
     (c.is_empty-5.ensures ∙ ap (λ n. n == 0) rows.moved.ok.0) in
     let t5 = table_empty rows.published.items published_of m.published c.is_empty-6.result
     is.published (c.is_empty-6.ensures ∙ ap (λ n. n == 0) rows.published.ok.0) in
-    let t6 = table_empty rows.requests.items request_of m.requests c.is_empty-7.result is.requests
-    (c.is_empty-7.ensures ∙ ap (λ n. n == 0) rows.requests.ok.0) in
-    let t7 = table_empty rows.parts.items part_of m.parts c.is_empty-8.result is.parts
-    (c.is_empty-8.ensures ∙ ap (λ n. n == 0) rows.parts.ok.0) in (
+    let t6 = is.book.none in
+    let t7 = table_empty rows.parts.items part_of m.parts c.is_empty-7.result is.parts
+    (c.is_empty-7.ensures ∙ ap (λ n. n == 0) rows.parts.ok.0) in (
       λ h.
           let b7 = both ((((((c.is_empty.result && c.is_empty-2.result) && c.is_empty-3.result) &&
           c.is_empty-4.result) && c.is_empty-5.result) && c.is_empty-6.result) &&
-          c.is_empty-7.result) c.is_empty-8.result h in
+          rows.book.is_empty) c.is_empty-7.result h in
           let b6 = both (((((c.is_empty.result && c.is_empty-2.result) && c.is_empty-3.result) &&
           c.is_empty-4.result) && c.is_empty-5.result) && c.is_empty-6.result)
-          c.is_empty-7.result b7.0 in
+          rows.book.is_empty b7.0 in
           let b5 = both ((((c.is_empty.result && c.is_empty-2.result) && c.is_empty-3.result) &&
           c.is_empty-4.result) && c.is_empty-5.result) c.is_empty-6.result b6.0 in
           let b4 = both (((c.is_empty.result && c.is_empty-2.result) && c.is_empty-3.result) &&
@@ -52,10 +52,10 @@ returns c = λ m is.
       λ none.
           (and_is ((((((c.is_empty.result && c.is_empty-2.result) && c.is_empty-3.result) &&
           c.is_empty-4.result) && c.is_empty-5.result) && c.is_empty-6.result) &&
-          c.is_empty-7.result) c.is_empty-8.result (and_is
+          rows.book.is_empty) c.is_empty-7.result (and_is
           (((((c.is_empty.result && c.is_empty-2.result) && c.is_empty-3.result) &&
           c.is_empty-4.result) && c.is_empty-5.result) && c.is_empty-6.result)
-          c.is_empty-7.result (and_is ((((c.is_empty.result && c.is_empty-2.result) &&
+          rows.book.is_empty (and_is ((((c.is_empty.result && c.is_empty-2.result) &&
           c.is_empty-3.result) && c.is_empty-4.result) && c.is_empty-5.result)
           c.is_empty-6.result (and_is (((c.is_empty.result && c.is_empty-2.result) &&
           c.is_empty-3.result) && c.is_empty-4.result) c.is_empty-5.result (and_is

@@ -1,4 +1,4 @@
-use Rattle.std.proofs.Common.{◌≡◌, List, [], ℕ, suc, drop, length, map, ap, refl, sym, subst, ◌∙◌, ◌++◌}
+use Rattle.std.proofs.Common.{List, suc, drop, length, map, ap, refl, sym, subst, ◌∙◌, ◌++◌}
 use Rattle.std.proofs.Common.{Option, None, Some, ◌==◌, arith}
 use Rattle.std.specs.Option.{option_map}
 use Rattle.std.specs.Borrow.{Bor}

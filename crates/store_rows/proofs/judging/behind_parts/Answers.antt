@@ -1,10 +1,9 @@
-use Rattle.std.proofs.Common.{◌≡◌, ◌<◌, ◌≤◌, List, [], map, length, take, drop, ap, refl, sym, subst}
+use Rattle.std.proofs.Common.{◌≡◌, ◌<◌, ◌≤◌, List, [], map, length, ap, sym}
 use Rattle.std.proofs.Common.{◌∙◌, ◌++◌, arith}
 use Rattle.std.specs.Vec.{vec_len}
 use Rattle.std.proofs.lemmas.List.{length-map, take-append-drop}
 use Rattle.store_model.specs.Contents.{part_of}
-use Rattle.store_model.specs.Entries as rows
-use Rattle.store_model.specs.Entries.{NameNumber, name_number_cmp}
+use Rattle.store_model.specs.Entries.{name_number_cmp}
 use Rattle.store_model.specs.declared.rows.PartRow.{PartRow}
 use Rattle.store_rows.specs.Differences.{is_same_part}
 use Rattle.store_rows.specs.Inner.Lacking.{lacking}

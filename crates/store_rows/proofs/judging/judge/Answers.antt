@@ -13,7 +13,7 @@ use Rattle.store_rows.proofs.judging.judge.Goals as goal
 
 pub returns : goal.returns
 returns c = λ t all.
-    let found = c.in_ok-count.ensures t.requests all.requests in
+    let found = c.in_ok-count.ensures t.requests all.book in
     let held : RingContent = record {
       state = c.in_ok-rings.rings;
       book = found.0;
@@ -77,7 +77,7 @@ returns-in_err-count c = λ t all.
     let p = err_from_is_err_and r.result r.ensures.1 in
     let meta = ap (map meta_of) (sym c.deref.ensures.value) ∙ c.in_ok-is_first.ensures.0 in
     rw (p.1, p.2) (spelling_judges _ t c.in_err-count.field-0.0 (c.in_err-count.ensures t.requests
-    all.requests) (λ content stand.
+    all.book) (λ content stand.
     let f = schema_of t content stand in
     let same = same_meta f.0 c.in_ok-is_first.is_first content.hour c.in_ok-is_first.hour
     (sym (meta_said content stand.holdable c.args.rows t all f.0 f.1) ∙ meta) in (
