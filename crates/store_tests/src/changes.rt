@@ -1,5 +1,5 @@
 //! How many rows each worked example writes.
-use crate::fixtures::{FIFTH, First, SETTLED, Shape, object};
+use crate::fixtures::{FIFTH, First, SETTLED, Shape, alone, check, object};
 use ring_model::{Ring, Rings};
 use ring_words::{Power, Replicas, RingName};
 use std::alloc::Global;
@@ -8,29 +8,45 @@ use store_model::RowChange;
 use store_rows::Change;
 
 /// How many rows of the ring `object` differ, and how many changes of rows there are.
-fn between(alloc: Global, old: &Rings, new: &Rings) -> Result<(usize, usize), Fail> {
+type Counts = (usize, usize);
+
+/// Whether a change writes as many rows as it should.
+fn is_written(alloc: Global, old: &Rings, new: &Rings, counts: Counts) -> Result<bool, Fail> {
     let change = Change::between(alloc, &RingName::new(alloc, "object")?, old, new)?;
-    Ok((change.len(), change.rows().len()))
+    Ok(change.len() == counts.0 && change.rows().len() == counts.1)
 }
 
-/// The same for the ring `object` of one shape and of another.
-fn counts(alloc: Global, old: Shape, new: Shape) -> Result<(usize, usize), Fail> {
-    between(alloc, &object(alloc, &old)?, &object(alloc, &new)?)
+/// A change of the ring `object` from one shape to another.
+struct Case {
+    old: Shape,
+    new: Shape,
+    counts: Counts,
 }
 
-/// How many rows a ring writes that is made, and how many changes of rows these are.
-fn counts_of_new(alloc: Global) -> Result<(usize, usize), Fail> {
+impl Case {
+    /// Whether it writes as many rows as it should.
+    fn holds(&self, alloc: Global) -> Result<bool, Fail> {
+        let old = object(alloc, &self.old)?;
+        is_written(alloc, &old, &object(alloc, &self.new)?, self.counts)
+    }
+}
+
+/// A ring without devices.
+fn new_ring(alloc: Global) -> Result<Ring, Fail> {
     let power = Power::new(2).ok_or("a power")?;
     let replicas = Replicas::new(1).ok_or("replicas")?;
-    let ring = Ring::new(alloc, power, replicas, 24)?;
-    let new = Rings::new(alloc).with(RingName::new(alloc, "object")?, ring)?;
-    between(alloc, &Rings::new(alloc), &new)
+    Ok(Ring::new(alloc, power, replicas, 24)?)
+}
+
+/// Whether a ring that is made writes as many rows as it should.
+fn new_ring_writes(alloc: Global, counts: Counts) -> Result<bool, Fail> {
+    let new = alone(alloc, new_ring(alloc)?)?;
+    is_written(alloc, &Rings::new(alloc), &new, counts)
 }
 
 #[test]
 fn a_new_ring_writes_itself_and_its_partitions(rt: HostRuntime) -> Result<(), Fail> {
-    assert_eq!(rt; counts_of_new(rt.alloc())?, (5, 5));
-    Ok(())
+    check(new_ring_writes(rt.alloc(), (5, 5)))
 }
 
 /// Two devices that have no seats yet.
@@ -38,106 +54,149 @@ const EMPTY: Shape = Shape {
     devices: 2,
     first: First::Stays,
     version: 2,
-    seats: None,
-    moved: [None; 4],
+    seats: &[],
+    moved: &[None, None, None, None],
     published: None,
+};
+
+/// Both devices get their first seats.
+static FIRST_REBALANCE: Case = Case {
+    old: EMPTY,
+    new: Shape {
+        version: 3,
+        seats: &[0, 1, 0, 1],
+        moved: &[Some(0), Some(0), Some(0), Some(0)],
+        ..EMPTY
+    },
+    counts: (5, 5),
 };
 
 #[test]
 fn a_first_rebalance_writes_four_partitions_and_the_ring(rt: HostRuntime) -> Result<(), Fail> {
-    let new = Shape {
-        version: 3,
-        seats: Some([0, 1, 0, 1]),
-        moved: [Some(0); 4],
-        ..EMPTY
-    };
-    assert_eq!(rt; counts(rt.alloc(), EMPTY, new)?, (5, 5));
-    Ok(())
+    check(FIRST_REBALANCE.holds(rt.alloc()))
 }
+
+/// A rebalance that finds every seat as it should be.
+static NOTHING_MOVES: Case = Case {
+    old: SETTLED,
+    new: Shape {
+        version: 6,
+        ..SETTLED
+    },
+    counts: (1, 1),
+};
 
 #[test]
 fn a_rebalance_that_moves_nothing_writes_the_ring(rt: HostRuntime) -> Result<(), Fail> {
-    let new = Shape {
-        version: 6,
-        ..SETTLED
-    };
-    assert_eq!(rt; counts(rt.alloc(), SETTLED, new)?, (1, 1));
-    Ok(())
+    check(NOTHING_MOVES.holds(rt.alloc()))
 }
+
+/// A rebalance that moves one seat.
+static SEAT_MOVES: Case = Case {
+    old: SETTLED,
+    new: Shape {
+        published: None,
+        ..FIFTH
+    },
+    counts: (2, 2),
+};
 
 #[test]
 fn a_seat_that_moves_writes_its_partition_and_the_ring(rt: HostRuntime) -> Result<(), Fail> {
-    let new = Shape {
-        published: None,
-        ..FIFTH
-    };
-    assert_eq!(rt; counts(rt.alloc(), SETTLED, new)?, (2, 2));
-    Ok(())
+    check(SEAT_MOVES.holds(rt.alloc()))
 }
+
+/// The hours of all partitions are set aside.
+static HOURS_ASIDE: Case = Case {
+    old: SETTLED,
+    new: Shape {
+        version: 6,
+        moved: &[None, None, None, None],
+        ..SETTLED
+    },
+    counts: (5, 5),
+};
 
 #[test]
 fn hours_set_aside_write_each_partition_and_the_ring(rt: HostRuntime) -> Result<(), Fail> {
-    let new = Shape {
-        version: 6,
-        moved: [None; 4],
-        ..SETTLED
-    };
-    assert_eq!(rt; counts(rt.alloc(), SETTLED, new)?, (5, 5));
-    Ok(())
+    check(HOURS_ASIDE.holds(rt.alloc()))
 }
+
+/// A device that is marked goes, and its seats go to another one.
+static DEVICE_GOES: Case = Case {
+    old: Shape {
+        first: First::Marked,
+        ..SETTLED
+    },
+    new: Shape {
+        first: First::Gone,
+        version: 6,
+        seats: &[2, 1, 2, 1],
+        moved: &[Some(1), Some(0), Some(1), Some(0)],
+        ..SETTLED
+    },
+    counts: (4, 4),
+};
 
 #[test]
 fn a_device_that_goes_counts_once(rt: HostRuntime) -> Result<(), Fail> {
-    let old = Shape {
-        first: First::Marked,
-        ..SETTLED
-    };
-    let new = Shape {
-        first: First::Gone,
-        version: 6,
-        seats: Some([2, 1, 2, 1]),
-        moved: [Some(1), Some(0), Some(1), Some(0)],
-        ..SETTLED
-    };
-    assert_eq!(rt; counts(rt.alloc(), old, new)?, (4, 4));
-    Ok(())
+    check(DEVICE_GOES.holds(rt.alloc()))
 }
+
+/// A device is marked.
+static DEVICE_CHANGES: Case = Case {
+    old: EMPTY,
+    new: Shape {
+        first: First::Marked,
+        ..EMPTY
+    },
+    counts: (1, 2),
+};
 
 #[test]
 fn a_device_that_changes_goes_and_comes_and_counts_once(rt: HostRuntime) -> Result<(), Fail> {
-    let new = Shape {
-        first: First::Marked,
-        ..EMPTY
-    };
-    assert_eq!(rt; counts(rt.alloc(), EMPTY, new)?, (1, 2));
-    Ok(())
+    check(DEVICE_CHANGES.holds(rt.alloc()))
 }
+
+/// A version is published.
+static PUBLISHED: Case = Case {
+    old: SETTLED,
+    new: Shape {
+        published: Some(5),
+        ..SETTLED
+    },
+    counts: (1, 1),
+};
 
 #[test]
 fn a_published_text_writes_one_row(rt: HostRuntime) -> Result<(), Fail> {
-    let new = Shape {
-        published: Some(5),
-        ..SETTLED
-    };
-    assert_eq!(rt; counts(rt.alloc(), SETTLED, new)?, (1, 1));
-    Ok(())
+    check(PUBLISHED.holds(rt.alloc()))
 }
+
+/// Nothing changes.
+static EQUAL: Case = Case {
+    old: FIFTH,
+    new: FIFTH,
+    counts: (0, 0),
+};
 
 #[test]
 fn equal_rings_write_nothing(rt: HostRuntime) -> Result<(), Fail> {
-    assert_eq!(rt; counts(rt.alloc(), FIFTH, FIFTH)?, (0, 0));
-    Ok(())
+    check(EQUAL.holds(rt.alloc()))
 }
 
-/// Whether the row of a ring is the first that is put.
-fn puts_the_ring_first(alloc: Global) -> Result<bool, Fail> {
-    let new = object(alloc, &FIFTH)?;
-    let change = Change::making(alloc, &new)?;
+/// Whether the row of a ring is the first that is put where rings are made.
+fn puts_the_ring_first(alloc: Global, new: &Rings) -> Result<bool, Fail> {
+    let change = Change::making(alloc, new)?;
     Ok(matches!(change.rows().first(), Some(RowChange::PutRing(_))))
+}
+
+/// The same where the ring of the fifth worked example is made.
+fn puts_the_fifth_first(alloc: Global) -> Result<bool, Fail> {
+    puts_the_ring_first(alloc, &object(alloc, &FIFTH)?)
 }
 
 #[test]
 fn a_ring_is_put_before_what_stands_in_it(rt: HostRuntime) -> Result<(), Fail> {
-    assert!(rt; puts_the_ring_first(rt.alloc())?);
-    Ok(())
+    check(puts_the_fifth_first(rt.alloc()))
 }

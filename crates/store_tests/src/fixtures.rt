@@ -1,9 +1,18 @@
-//! Rings that the tests start from, and their rows.
+//! What the tests fail by, the rings that they start from, and their rows.
 use ring_model::{Ring, RingParts, Rings};
 use ring_words::{Address, Device, DeviceName, Hour, Port, Power, Replicas, RingName, Row, Weight};
 use std::alloc::{AllocError, Global};
 use std::rc::RcStr;
 use std::test::Fail;
+
+/// Fails where what a test tells isn't so. Each test tells one thing, so its name says which.
+pub fn check(answer: Result<bool, Fail>) -> Result<(), Fail> {
+    match answer {
+        Ok(true) => Ok(()),
+        Ok(false) => Err(Fail::from("it is not so")),
+        Err(fail) => Err(fail),
+    }
+}
 
 /// The address 10.0.0.(N+1).
 fn address(alloc: Global, number: u8) -> Result<Address, Fail> {
@@ -51,8 +60,8 @@ pub struct Shape {
     pub first: First,
     pub version: u32,
     /// The device of each partition, where there are any.
-    pub seats: Option<[u16; 4]>,
-    pub moved: [Option<Hour>; 4],
+    pub seats: &'static [u16],
+    pub moved: &'static [Option<Hour>],
     /// The version of its only published text.
     pub published: Option<u32>,
 }
@@ -62,8 +71,8 @@ pub const SETTLED: Shape = Shape {
     devices: 3,
     first: First::Stays,
     version: 5,
-    seats: Some([0, 1, 0, 1]),
-    moved: [Some(0); 4],
+    seats: &[0, 1, 0, 1],
+    moved: &[Some(0), Some(0), Some(0), Some(0)],
     published: None,
 };
 
@@ -72,8 +81,8 @@ pub const FIFTH: Shape = Shape {
     devices: 3,
     first: First::Stays,
     version: 6,
-    seats: Some([0, 1, 0, 2]),
-    moved: [Some(0), Some(0), Some(0), Some(24)],
+    seats: &[0, 1, 0, 2],
+    moved: &[Some(0), Some(0), Some(0), Some(24)],
     published: Some(6),
 };
 
@@ -99,29 +108,43 @@ fn published(alloc: Global, shape: &Shape) -> Result<Vec<(u32, RcStr)>, AllocErr
     Ok(all)
 }
 
-/// The ring of a shape.
-fn ring(alloc: Global, shape: &Shape) -> Result<Ring, Fail> {
-    let parts = RingParts {
-        power: Power::new(2).ok_or("a power")?,
-        replicas: Replicas::new(1).ok_or("replicas")?,
+/// The parts of the ring of a shape.
+fn parts(
+    alloc: Global,
+    shape: &Shape,
+    power: Power,
+    replicas: Replicas,
+) -> Result<RingParts, Fail> {
+    Ok(RingParts {
+        power,
+        replicas,
         min_hours: 24,
         next_id: u32::from(shape.devices),
         version: shape.version,
         devices: devices(alloc, shape)?,
-        seats: match &shape.seats {
-            Some(seats) => Vec::from_slice(alloc, seats)?,
-            None => Vec::new(alloc),
-        },
-        moved: Vec::from_slice(alloc, &shape.moved)?,
+        seats: Vec::from_slice(alloc, shape.seats)?,
+        moved: Vec::from_slice(alloc, shape.moved)?,
         published: published(alloc, shape)?,
-    };
-    match Ring::build(alloc, parts) {
+    })
+}
+
+/// The ring of a shape.
+fn ring(alloc: Global, shape: &Shape) -> Result<Ring, Fail> {
+    let power = Power::new(2).ok_or("a power")?;
+    let replicas = Replicas::new(1).ok_or("replicas")?;
+    match Ring::build(alloc, parts(alloc, shape, power, replicas)?) {
         Ok(ring) => Ok(ring),
         Err(_) => Err(Fail::from("a ring")),
     }
 }
 
+/// This ring under the name `object`, and no other.
+pub fn alone(alloc: Global, ring: Ring) -> Result<Rings, Fail> {
+    let name = RingName::new(alloc, "object")?;
+    Ok(Rings::new(alloc).with(name, ring)?)
+}
+
 /// The ring `object` of this shape, and no other.
 pub fn object(alloc: Global, shape: &Shape) -> Result<Rings, Fail> {
-    Ok(Rings::new(alloc).with(RingName::new(alloc, "object")?, ring(alloc, shape)?)?)
+    alone(alloc, ring(alloc, shape)?)
 }

@@ -1,5 +1,4 @@
 //! The keeper at work, over memory and over files in memory.
-ghost use Rattle.std.specs.Prelude.{◌≡◌, IfOk};
 
 mod commands;
 mod deeds;
@@ -7,18 +6,20 @@ mod failing;
 mod files;
 mod making;
 mod migrating;
+mod rows;
+mod tasks;
 
+use crate::fixtures::check;
 use builder::{MessageFault, RingMachine, Told, read_delivery, status_of, told_text};
-use builder_store::{OpenFault, SqlKeeper, open_memory};
 use deeds::Run;
-use files::{in_files, new_files, with_new_log};
+use files::{Fused, in_files, new_files, with_new_log};
 use request_book::{Book, Fault, Keeper};
-use ring_log::{LogForm, entries_text};
-use ring_words::Limits;
-use sqlite::{Alter, Connection};
+use ring_words::{Command, Key, Limits};
+use rows::{AT_THE_HOUR, FIRST, FULL, LOCKED};
 use std::alloc::{AllocError, Global};
 use std::test::Fail;
-use test_fixtures::rows::{AT_THE_HOUR, FIRST, FULL, LOCKED, RUNS, WorkedRow};
+use tasks::{Deliver, ReadLog, in_memory};
+use test_fixtures::rows::{RUNS, WorkedRow};
 
 /// A text with `"` for `'`.
 fn quoted(alloc: Global, text: &str) -> Result<String, AllocError> {
@@ -48,13 +49,18 @@ fn told(answer: Result<ring_words::Reply, Fault>) -> Told {
     }
 }
 
+/// The delivery of a row.
+fn delivery(alloc: Global, row: &WorkedRow<'_>) -> Result<(Key, Command), MessageFault> {
+    read_delivery(alloc, message(alloc, row)?.as_bytes())
+}
+
 /// What a row's delivery is answered.
 fn answer<K: Keeper<RingMachine>>(
     alloc: Global,
     book: &mut Book<RingMachine, K>,
     row: &WorkedRow<'_>,
 ) -> Result<Told, MessageFault> {
-    let (key, command) = read_delivery(alloc, message(alloc, row)?.as_bytes())?;
+    let (key, command) = delivery(alloc, row)?;
     Ok(told(book.deliver(row.0, key, command)))
 }
 
@@ -69,7 +75,7 @@ fn is_answer(alloc: Global, told: &Told, row: &WorkedRow<'_>) -> Result<bool, Al
 
 /// How a run ended: every row was answered as it says, or the store failed before.
 #[derive(Clone, Copy, PartialEq, Eq)]
-enum Ended {
+pub enum Ended {
     Whole,
     Failed,
     Wrong,
@@ -102,103 +108,81 @@ fn deliver<K: Keeper<RingMachine>>(
     Ok(ended)
 }
 
-/// Runs rows over what a keeper holds, and gives the keeper as the run left it.
-fn run_kept<K: Keeper<RingMachine>>(
-    alloc: Global,
-    keeper: K,
-    limits: Limits,
-    rows: &[&[WorkedRow<'_>]],
-) -> (Result<Ended, MessageFault>, K)
-    requires { K.fault_count keeper ≡ 0 }
-{
-    let mut book = Book::open(alloc, RingMachine { limits }, keeper);
-    let ended = deliver(alloc, &mut book, rows);
-    (ended, book.into_keeper())
-}
-
-/// The keeper of what a connection's store holds.
-fn adopted<S: Alter + Drop>(alloc: Global, conn: Connection<S>) -> Result<SqlKeeper<S>, OpenFault>
-    ensures { IfOk result (λ k. k.faults ≡ 0) }
-{
-    match SqlKeeper::adopt(alloc, conn, Limits::full()) {
-        Ok(keeper) => Ok(keeper),
-        Err((fault, _)) => Err(fault),
-    }
-}
-
-/// Runs rows over a connection, and gives the connection as the run left it.
-fn run_over<S: Alter + Drop>(
-    alloc: Global,
-    conn: Connection<S>,
-    rows: &[&[WorkedRow<'_>]],
-) -> Result<(Ended, Connection<S>), Fail> {
-    let (ended, keeper) = run_kept(alloc, adopted(alloc, conn)?, Limits::full(), rows);
-    let conn = keeper.close();
-    Ok((ended?, conn))
-}
-
 /// Whether rows are answered as they say over memory that holds no more than this.
 fn runs_in_memory(alloc: Global, limits: Limits, rows: &[&[WorkedRow<'_>]]) -> Result<bool, Fail> {
-    let (ended, _) = run_kept(alloc, open_memory(alloc, limits)?, limits, rows);
-    Ok(ended? == Ended::Whole)
+    Ok(in_memory(alloc, limits, &Deliver(rows))? == Ended::Whole)
+}
+
+/// Whether the rows of each run are answered as they say, each over a memory of its own.
+fn all_run_in_memory(alloc: Global, runs: &[&[&[WorkedRow<'_>]]]) -> Result<bool, Fail> {
+    for rows in runs {
+        if !runs_in_memory(alloc, Limits::full(), rows)? {
+            return Ok(false);
+        }
+    }
+    Ok(true)
 }
 
 #[test]
 fn the_worked_rows_are_answered_over_memory(rt: HostRuntime) -> Result<(), Fail> {
-    for run in RUNS {
-        assert!(rt; runs_in_memory(rt.alloc(), Limits::full(), run)?);
-    }
-    Ok(())
+    check(all_run_in_memory(rt.alloc(), &RUNS))
 }
 
-/// What rows leave of a log over memory, a line each, read so many entries at a time.
-fn log_by(alloc: Global, rows: &[&[WorkedRow<'_>]], most: u32) -> Result<String, Fail> {
-    let limits = Limits::full();
-    let mut book = Book::open(alloc, RingMachine { limits }, open_memory(alloc, limits)?);
-    deliver(alloc, &mut book, rows)?;
-    let mut text = String::new(alloc);
-    let mut from: u32 = 0;
-    for _page in 0..100 {
-        let Ok(entries) = book.entries(from, most) else {
-            return Err(Fail::from("no log"));
-        };
-        text.push_str(entries_text(alloc, LogForm::Deliveries, from, &entries)?.as_str())?;
-        from = from.saturating_add(most);
+/// What the first example leaves of a log over memory, read so many entries at a time.
+fn log_by(alloc: Global, most: u32) -> Result<String, Fail> {
+    let task = ReadLog {
+        rows: &[&FIRST],
+        most,
+    };
+    Ok(in_memory(alloc, Limits::full(), &task)?.ok_or("no log")?)
+}
+
+/// Whether a log that is read by pages of one entry, two or three is this one.
+fn is_same_by_pages(alloc: Global, whole: &str) -> Result<bool, Fail> {
+    for most in [1, 2, 3] {
+        if log_by(alloc, most)?.as_str() != whole {
+            return Ok(false);
+        }
     }
-    Ok(text)
+    Ok(true)
+}
+
+/// Whether there is a log, and it is the same by pages of any size.
+fn logs_are_one(alloc: Global) -> Result<bool, Fail> {
+    let whole = log_by(alloc, 1000)?;
+    Ok(!whole.is_empty() && is_same_by_pages(alloc, whole.as_str())?)
 }
 
 #[test]
 fn a_log_is_the_same_by_pages_of_any_size(rt: HostRuntime) -> Result<(), Fail> {
-    let whole = log_by(rt.alloc(), &[&FIRST], 1000)?;
-    assert!(rt; !whole.is_empty());
-    for most in [1, 2, 3] {
-        let by_pages = log_by(rt.alloc(), &[&FIRST], most)?;
-        assert!(rt; by_pages.as_str() == whole.as_str());
-    }
-    Ok(())
+    check(logs_are_one(rt.alloc()))
 }
 
-/// How many runs end whole, one after the other, over a database file that is opened again for
-/// each.
-fn runs_in_turn(alloc: Global, runs: &[&[WorkedRow<'_>]]) -> Result<usize, Fail> {
+/// Whether a run over files ends whole, and the files as it left them.
+fn run_once(alloc: Global, files: Fused, rows: &[&[WorkedRow<'_>]]) -> Result<(bool, Fused), Fail> {
+    let (found, files) = in_files(alloc, files, &Run(rows))?;
+    Ok((found.ended == Ended::Whole, files))
+}
+
+/// Whether each of some runs ends whole, one after the other, over a database file that is opened
+/// again for each.
+fn all_run_in_turn(alloc: Global, runs: &[&[WorkedRow<'_>]]) -> Result<bool, Fail> {
     let mut files = new_files(alloc);
-    for (turn, rows) in runs.iter().enumerate() {
-        let (found, left) = in_files(alloc, files, &Run(&[rows]))?;
-        if found.ended != Ended::Whole {
-            return Ok(turn);
+    for rows in runs {
+        let (whole, left) = run_once(alloc, files, &[rows])?;
+        if !whole {
+            return Ok(false);
         }
         files = with_new_log(alloc, left);
     }
-    Ok(runs.len())
+    Ok(true)
 }
 
 #[test]
 fn a_file_that_is_opened_again_goes_on(rt: HostRuntime) -> Result<(), Fail> {
     // Each request that comes again gets its reply, and what is new is decided.
     let runs: [&[WorkedRow]; 4] = [&FIRST, &FIRST, &LOCKED, &AT_THE_HOUR];
-    assert_eq!(rt; runs_in_turn(rt.alloc(), &runs)?, 4);
-    Ok(())
+    check(all_run_in_turn(rt.alloc(), &runs))
 }
 
 #[test]
@@ -210,6 +194,5 @@ fn a_full_book_refuses_new_numbers(rt: HostRuntime) -> Result<(), Fail> {
         versions: 1000,
         numbers: 2,
     };
-    assert!(rt; runs_in_memory(rt.alloc(), limits, &[&FULL])?);
-    Ok(())
+    check(runs_in_memory(rt.alloc(), limits, &[&FULL]))
 }

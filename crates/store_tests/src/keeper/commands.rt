@@ -1,11 +1,13 @@
 //! The commands that the worked rows lack, over the store.
-use super::{runs_in_memory, runs_in_turn};
+use super::rows::FIRST;
+use super::{all_run_in_turn, runs_in_memory};
+use crate::fixtures::check;
 use ring_words::Limits;
 use std::test::Fail;
-use test_fixtures::rows::{FIRST, WorkedRow};
+use test_fixtures::rows::WorkedRow;
 
 /// What comes behind the first rebalance of two devices, and a repeat.
-const REST: [WorkedRow; 11] = [
+static REST: [WorkedRow<'static>; 11] = [
     (
         0,
         20,
@@ -77,13 +79,11 @@ const REST: [WorkedRow; 11] = [
 #[test]
 fn each_command_is_kept_in_the_store(rt: HostRuntime) -> Result<(), Fail> {
     let runs: [&[WorkedRow]; 2] = [&FIRST, &REST];
-    assert!(rt; runs_in_memory(rt.alloc(), Limits::full(), &runs)?);
-    Ok(())
+    check(runs_in_memory(rt.alloc(), Limits::full(), &runs))
 }
 
 #[test]
 fn each_command_is_found_where_its_file_is_opened_again(rt: HostRuntime) -> Result<(), Fail> {
     let runs: [&[WorkedRow]; 4] = [&FIRST, &REST, &FIRST, &REST];
-    assert_eq!(rt; runs_in_turn(rt.alloc(), &runs)?, 4);
-    Ok(())
+    check(all_run_in_turn(rt.alloc(), &runs))
 }

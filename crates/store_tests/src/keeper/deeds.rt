@@ -1,10 +1,7 @@
 //! What the tests do over a store.
-ghost use Rattle.std.specs.Prelude.{◌≡◌};
-
-use super::{Ended, adopted, run_over};
-use builder::RingMachine;
+use super::Ended;
+use super::tasks::{Deliver, Look, over};
 use builder_store::{MakeFault, SqlKeeper};
-use request_book::Keeper;
 use ring_model::Rings;
 use ring_words::{Hour, Limits};
 use sqlite::{Alter, Connection};
@@ -60,29 +57,6 @@ impl Found {
     }
 }
 
-/// The rings and the hour that a keeper holds.
-fn held<K: Keeper<RingMachine>>(keeper: &mut K) -> Result<(Rings, Hour), Fail>
-    requires { K.fault_count keeper.old ≡ 0 }
-{
-    let Ok(hour) = keeper.hour() else {
-        return Err(Fail::from("no hour"));
-    };
-    let Ok(()) = keeper.load() else {
-        return Err(Fail::from("not loaded"));
-    };
-    Ok((keeper.state().clone()?, hour))
-}
-
-/// The rings and the hour that a connection's store holds, and the connection.
-fn held_in<S: Alter + Drop>(
-    alloc: Global,
-    conn: Connection<S>,
-) -> Result<(Rings, Hour, Connection<S>), Fail> {
-    let mut keeper = adopted(alloc, conn)?;
-    let (rings, hour) = held(&mut keeper)?;
-    Ok((rings, hour, keeper.close()))
-}
-
 /// Runs rows, and reads what the store holds then.
 #[derive(Clone, Copy)]
 pub struct Run<'a>(pub &'a [&'a [WorkedRow<'a>]]);
@@ -95,8 +69,9 @@ impl Deed for Run<'_> {
         alloc: Global,
         conn: Connection<S>,
     ) -> Result<(Found, After<S>), Fail> {
-        let (ended, conn) = run_over(alloc, conn, self.0)?;
-        let (rings, hour, conn) = held_in(alloc, conn)?;
+        let (ended, conn) = over(alloc, conn, &Deliver(self.0))?;
+        let (held, conn) = over(alloc, conn, &Look)?;
+        let (rings, hour) = held.ok_or("not told")?;
         Ok((Found { ended, rings, hour }, After::Open(conn)))
     }
 }

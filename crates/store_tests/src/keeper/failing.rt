@@ -1,17 +1,18 @@
 //! Disks that fail at some call, and are opened again.
+use super::Ended;
 use super::deeds::{After, Deed};
-use super::files::try_in_files;
+use super::files::{Fused, try_in_files};
 use super::migrating::old_files;
-use super::{Ended, run_kept};
+use super::rows::{AT_THE_HOUR, FIRST};
+use super::tasks::{Deliver, close_after};
+use crate::fixtures::check;
 use builder_store::SqlKeeper;
 use ring_words::Limits;
 use sqlite::{Alter, Connection, Files};
 use sqlite_disk::{Disk, Fuse, Memory};
 use std::alloc::Global;
 use std::test::Fail;
-use test_fixtures::rows::{AT_THE_HOUR, FIRST, WorkedRow};
-
-type Fused = Files<Fuse<Memory>>;
+use test_fixtures::rows::WorkedRow;
 
 /// A file of these bytes, which fails after so many calls.
 fn fused(alloc: Global, bytes: &[u8], calls: u64) -> Result<Fuse<Memory>, Fail> {
@@ -57,25 +58,29 @@ impl Deed for RunUntilFailure<'_> {
             Ok(keeper) => keeper,
             Err((_, left)) => return Ok((Ended::Failed, After::Left(left.into_store()))),
         };
-        let (ended, keeper) = run_kept(alloc, keeper, Limits::full(), self.0);
-        let store = keeper.close().into_store();
-        Ok((ended?, After::Left(store)))
+        let (ended, conn) = close_after(alloc, Limits::full(), keeper, &Deliver(self.0));
+        Ok((ended, After::Left(conn.into_store())))
     }
+}
+
+/// Whether files may be used.
+fn are_usable<D: Disk>(files: &Files<D>) -> bool {
+    files.may_be_used()
 }
 
 /// Runs rows over files, and gives the files as the run left them.
 fn run(alloc: Global, files: Fused, rows: &[&[WorkedRow<'_>]]) -> Result<(Ended, Fused), Fail> {
-    if !files.may_be_used() {
+    if !are_usable(&files) {
         return Ok((Ended::Wrong, files));
     }
     let (ended, files) = try_in_files(alloc, files, &RunUntilFailure(rows))?;
     Ok((ended.unwrap_or(Ended::Failed), files))
 }
 
-/// How rows end over files of the same bytes that never fail.
-fn run_again(alloc: Global, files: &Fused, rows: &[&[WorkedRow<'_>]]) -> Result<Ended, Fail> {
-    let (ended, _) = run(alloc, repaired(alloc, files)?, rows)?;
-    Ok(ended)
+/// Whether rows end whole over files of the same bytes that never fail.
+fn goes_on_repaired(alloc: Global, files: Fused, rows: &[&[WorkedRow<'_>]]) -> Result<bool, Fail> {
+    let (ended, _) = run(alloc, repaired(alloc, &files)?, rows)?;
+    Ok(ended == Ended::Whole)
 }
 
 /// Whether, after one of two files fails at this call, each delivery that is sent again is answered
@@ -90,7 +95,7 @@ fn goes_on(
     let (ended, files) = run(alloc, failing(alloc, bytes, calls, fails_in_log)?, rows)?;
     match ended {
         Ended::Whole => Ok(None),
-        Ended::Failed => Ok(Some(run_again(alloc, &files, rows)? == Ended::Whole)),
+        Ended::Failed => Ok(Some(goes_on_repaired(alloc, files, rows)?)),
         Ended::Wrong => Ok(Some(false)),
     }
 }
@@ -116,28 +121,39 @@ fn all_go_on(
     Ok(false)
 }
 
+/// The same, from new files.
+fn new_go_on(alloc: Global, fails_in_log: bool) -> Result<bool, Fail> {
+    all_go_on(alloc, b"", fails_in_log, 17, &[&FIRST])
+}
+
+/// The same, from files with a store of schema 1.
+fn old_go_on(alloc: Global, fails_in_log: bool, step: u64) -> Result<bool, Fail> {
+    let old = old_files(alloc)?;
+    all_go_on(
+        alloc,
+        old.db.inner().bytes(),
+        fails_in_log,
+        step,
+        &[&AT_THE_HOUR],
+    )
+}
+
 #[test]
 fn a_failing_log_loses_nothing_and_acts_once(rt: HostRuntime) -> Result<(), Fail> {
-    assert!(rt; all_go_on(rt.alloc(), b"", true, 17, &[&FIRST])?);
-    Ok(())
+    check(new_go_on(rt.alloc(), true))
 }
 
 #[test]
 fn a_failing_file_loses_nothing_and_acts_once(rt: HostRuntime) -> Result<(), Fail> {
-    assert!(rt; all_go_on(rt.alloc(), b"", false, 17, &[&FIRST])?);
-    Ok(())
+    check(new_go_on(rt.alloc(), false))
 }
 
 #[test]
 fn a_failing_log_leaves_a_store_of_one_schema(rt: HostRuntime) -> Result<(), Fail> {
-    let old = old_files(rt.alloc())?;
-    assert!(rt; all_go_on(rt.alloc(), old.db.bytes(), true, 29, &[&AT_THE_HOUR])?);
-    Ok(())
+    check(old_go_on(rt.alloc(), true, 29))
 }
 
 #[test]
 fn a_failing_file_leaves_a_store_of_one_schema(rt: HostRuntime) -> Result<(), Fail> {
-    let old = old_files(rt.alloc())?;
-    assert!(rt; all_go_on(rt.alloc(), old.db.bytes(), false, 97, &[&AT_THE_HOUR])?);
-    Ok(())
+    check(old_go_on(rt.alloc(), false, 97))
 }

@@ -1,23 +1,32 @@
 //! Stores over files in memory.
 use super::deeds::{After, Deed};
 use sqlite::{Connection, Error, FileStore, Files, Options};
-use sqlite_disk::{Disk, Memory};
+use sqlite_disk::{Disk, Fuse, Memory};
 use std::alloc::Global;
 use std::test::Fail;
 
-/// New files.
-pub fn new_files(alloc: Global) -> Files<Memory> {
+/// Files in memory, each of which fails after so many calls. It is the only kind of them here, since
+/// what is done over files is proved for each kind anew.
+pub type Fused = Files<Fuse<Memory>>;
+
+/// A new file, which never fails.
+fn new_file(alloc: Global) -> Fuse<Memory> {
+    Fuse::new(Memory::new(alloc), u64::MAX)
+}
+
+/// New files, which never fail.
+pub fn new_files(alloc: Global) -> Fused {
     Files {
-        log: Memory::new(alloc),
-        db: Memory::new(alloc),
+        log: new_file(alloc),
+        db: new_file(alloc),
     }
 }
 
 /// The database file alone, beside a new log.
-pub fn with_new_log(alloc: Global, files: Files<Memory>) -> Files<Memory> {
+pub fn with_new_log(alloc: Global, files: Fused) -> Fused {
     let Files { log: _, db } = files;
     Files {
-        log: Memory::new(alloc),
+        log: new_file(alloc),
         db,
     }
 }
@@ -36,14 +45,15 @@ fn opened<D: Disk + Drop>(
     }
 }
 
-/// The files of what a deed left. Where it left a connection the database file holds all.
-fn closed<D: Disk + Drop>(after: After<FileStore<D>>) -> Result<Files<D>, Error> {
+/// The files of what a deed left, and why the connection it left couldn't be closed, if it couldn't.
+/// Where it is closed the database file holds all.
+fn closed<D: Disk + Drop>(after: After<FileStore<D>>) -> (Option<Error>, Files<D>) {
     match after {
         After::Open(conn) => match conn.close_files() {
-            Ok(files) => Ok(files),
-            Err((error, _)) => Err(error),
+            Ok(files) => (None, files),
+            Err((error, left)) => (Some(error), left.close()),
         },
-        After::Left(store) => Ok(store.close()),
+        After::Left(store) => (None, store.close()),
     }
 }
 
@@ -57,7 +67,10 @@ pub fn try_in_files<D: Disk + Drop, T: Deed>(
     match opened(alloc, files) {
         Ok(conn) => {
             let (outcome, after) = deed.done_over(alloc, conn)?;
-            Ok((Some(outcome), closed(after)?))
+            match closed(after) {
+                (None, files) => Ok((Some(outcome), files)),
+                (Some(error), _) => Err(Fail::from(error)),
+            }
         }
         Err(files) => Ok((None, files)),
     }
@@ -66,9 +79,9 @@ pub fn try_in_files<D: Disk + Drop, T: Deed>(
 /// Opens files, does a deed over them, and gives what came of it and the files.
 pub fn in_files<T: Deed>(
     alloc: Global,
-    files: Files<Memory>,
+    files: Fused,
     deed: &T,
-) -> Result<(T::Outcome, Files<Memory>), Fail> {
+) -> Result<(T::Outcome, Fused), Fail> {
     let (outcome, files) = try_in_files(alloc, files, deed)?;
     Ok((outcome.ok_or("not opened")?, files))
 }

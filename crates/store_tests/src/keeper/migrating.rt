@@ -1,16 +1,19 @@
 //! Stores of schema 1, and stores that are none.
+use super::Ended;
 use super::deeds::{After, Deed};
-use super::files::{in_files, new_files};
-use super::{Ended, adopted, run_over};
+use super::files::{Fused, in_files, new_files};
+use super::rows::{AT_THE_HOUR, FIRST, LOCKED};
+use super::tasks::{Deliver, adopted, over};
+use crate::fixtures::check;
 use builder_store::OpenFault;
-use sqlite::{Alter, Connection, Error, Files, MemStore};
-use sqlite_disk::Memory;
+use sqlite::{Alter, Connection, Error, MemStore};
 use std::alloc::Global;
 use std::test::Fail;
-use test_fixtures::rows::{AT_THE_HOUR, FIRST, LOCKED, WorkedRow};
+use test_fixtures::rows::WorkedRow;
 
-/// The tables of schema 1.
-static TABLES: [&str; 7] = [
+/// What makes a store of schema 1: its tables, and what they hold once a moved partition's hour has
+/// come. Of four partitions the last one has gone to device 2.
+static OLD_STORE: [&str; 15] = [
     "CREATE TABLE meta (one INTEGER NOT NULL, schema INTEGER NOT NULL, \
      hour INTEGER NOT NULL, UNIQUE (one)) STRICT",
     "CREATE TABLE ring (name TEXT NOT NULL, power INTEGER NOT NULL, \
@@ -33,11 +36,6 @@ static TABLES: [&str; 7] = [
     "CREATE TABLE request (caller TEXT NOT NULL, number INTEGER NOT NULL, \
      place INTEGER NOT NULL, hour INTEGER NOT NULL, command TEXT NOT NULL, \
      reply TEXT NOT NULL, PRIMARY KEY (caller, number), UNIQUE (place)) STRICT",
-];
-
-/// What they hold once a moved partition's hour has come: of four partitions the last one has gone
-/// to device 2.
-static OLD_ROWS: [&str; 8] = [
     "INSERT INTO meta VALUES (1, 1, 24)",
     "INSERT INTO ring VALUES ('object', 2, 1, 24, 3, 6)",
     "INSERT INTO device VALUES ('object', 0, 1, 1, '10.0.0.1', 6200, 'd0', 10000, 0), \
@@ -67,7 +65,7 @@ static OLD_ROWS: [&str; 8] = [
 ];
 
 /// What comes then.
-const LATER: [WorkedRow; 1] = [(
+static LATER: [WorkedRow<'static>; 1] = [(
     24,
     8,
     "'do':'rebalance','seed':7",
@@ -99,12 +97,12 @@ static BAD_TEXTS: [&str; 3] = [
     "INSERT INTO published VALUES ('object', 6, CAST(x'ff' AS TEXT))",
 ];
 
+/// A table that is none of a store.
+static OTHER_TABLES: [&str; 1] = ["CREATE TABLE other (one INTEGER NOT NULL) STRICT"];
+
 /// Carries out the statements that make a store of schema 1.
 fn execute_old<S: Alter + Drop>(conn: &mut Connection<S>) -> Result<(), Error> {
-    for text in &TABLES {
-        conn.execute(text, &[])?;
-    }
-    for text in &OLD_ROWS {
+    for text in &OLD_STORE {
         conn.execute(text, &[])?;
     }
     Ok(())
@@ -128,6 +126,12 @@ impl Deed for MakeOld {
     }
 }
 
+/// Closed files with a store of schema 1.
+pub fn old_files(alloc: Global) -> Result<Fused, Fail> {
+    let ((), files) = in_files(alloc, new_files(alloc), &MakeOld)?;
+    Ok(files)
+}
+
 /// A connection with a store of schema 1.
 fn old_store(alloc: Global) -> Result<Connection<MemStore>, Error> {
     let mut conn = Connection::open_in_memory(alloc)?;
@@ -135,24 +139,18 @@ fn old_store(alloc: Global) -> Result<Connection<MemStore>, Error> {
     Ok(conn)
 }
 
-/// Closed files with a store of schema 1.
-pub fn old_files(alloc: Global) -> Result<Files<Memory>, Fail> {
-    let ((), files) = in_files(alloc, new_files(alloc), &MakeOld)?;
-    Ok(files)
+/// Whether a store of schema 1 goes on, opened a second time too.
+fn goes_on(alloc: Global) -> Result<bool, Fail> {
+    let kept: [&[WorkedRow]; 3] = [&FIRST, &LOCKED, &AT_THE_HOUR];
+    let (first, conn) = over(alloc, old_store(alloc)?, &Deliver(&kept))?;
+    let (again, conn) = over(alloc, conn, &Deliver(&kept))?;
+    let (later, _) = over(alloc, conn, &Deliver(&[&LATER]))?;
+    Ok(first == Ended::Whole && again == Ended::Whole && later == Ended::Whole)
 }
 
 #[test]
 fn a_store_of_schema_1_goes_on_as_one_of_schema_2(rt: HostRuntime) -> Result<(), Fail> {
-    let alloc = rt.alloc();
-    let kept: [&[WorkedRow]; 3] = [&FIRST, &LOCKED, &AT_THE_HOUR];
-    let (same, conn) = run_over(alloc, old_store(alloc)?, &kept)?;
-    assert!(rt; same == Ended::Whole);
-    // Opened a second time it is the same, and goes on.
-    let (again, conn) = run_over(alloc, conn, &kept)?;
-    assert!(rt; again == Ended::Whole);
-    let (on, _) = run_over(alloc, conn, &[&LATER])?;
-    assert!(rt; on == Ended::Whole);
-    Ok(())
+    check(goes_on(rt.alloc()))
 }
 
 /// Why a store of schema 1 isn't opened after a change, if it isn't.
@@ -162,28 +160,28 @@ fn refused_after(alloc: Global, text: &str) -> Result<Option<OpenFault>, Error> 
     Ok(adopted(alloc, conn).err())
 }
 
-#[test]
-fn broken_rows_are_refused(rt: HostRuntime) -> Result<(), Fail> {
-    for text in &BREAKS {
-        let fault = refused_after(rt.alloc(), text)?;
-        assert!(rt; fault == Some(OpenFault::BadRows), "{text} {fault:?}");
+/// Fails at the first change after which a store of schema 1 isn't refused for this fault.
+fn check_refused(alloc: Global, texts: &[&str], fault: OpenFault) -> Result<(), Fail> {
+    for text in texts {
+        let found = refused_after(alloc, text)?;
+        if found != Some(fault) {
+            return Err(Fail::new(format_args!("{text} {found:?}")));
+        }
     }
     Ok(())
+}
+
+#[test]
+fn broken_rows_are_refused(rt: HostRuntime) -> Result<(), Fail> {
+    check_refused(rt.alloc(), &BREAKS, OpenFault::BadRows)
 }
 
 #[test]
 fn texts_that_are_no_utf_8_are_refused(rt: HostRuntime) -> Result<(), Fail> {
-    for text in &BAD_TEXTS {
-        let fault = refused_after(rt.alloc(), text)?;
-        assert!(rt; fault == Some(OpenFault::BadTexts), "{text} {fault:?}");
-    }
-    Ok(())
+    check_refused(rt.alloc(), &BAD_TEXTS, OpenFault::BadTexts)
 }
 
 #[test]
 fn other_tables_are_refused(rt: HostRuntime) -> Result<(), Fail> {
-    let text = "CREATE TABLE other (one INTEGER NOT NULL) STRICT";
-    let fault = refused_after(rt.alloc(), text)?;
-    assert!(rt; fault == Some(OpenFault::BadTables), "{fault:?}");
-    Ok(())
+    check_refused(rt.alloc(), &OTHER_TABLES, OpenFault::BadTables)
 }
