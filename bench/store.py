@@ -198,50 +198,67 @@ def with_texts(file, rings, texts, numbers):
     held.close()
 
 
-def changes(running, times):
-    """The seconds of changes and refusals of the first ring, by turns."""
-    took = {"set_weight": [], "refused": []}
+def opened(file):
+    """A run over a file, once it has answered a question, with the seconds until then and its memory."""
+    begun = time.perf_counter()
+    running = start(file)
+    ask(running, "? devices nothing\n")
+    return running, time.perf_counter() - begun, most_memory(running)
+
+
+def changes(runs, times):
+    """The seconds of changes and refusals of the first ring over each store: each is asked of one store after the other, so that a
+    machine that is slower for a while is so for all."""
+    took = [{"set_weight": [], "refused": []} for _ in runs]
     for it in range(times):
         number = 100000 + 10 * it
-        took["set_weight"].append(ask(running, message(number, "set_weight", ring="ring0", id=1, weight=f"{90 + it}.00"))[1])
-        took["refused"].append(ask(running, message(number + 1, "remove", ring="ring0", id=60000))[1])
+        for running, mine in zip(runs, took):
+            mine["set_weight"].append(ask(running, message(number, "set_weight", ring="ring0", id=1, weight=f"{90 + it}.00"))[1])
+        for running, mine in zip(runs, took):
+            mine["refused"].append(ask(running, message(number + 1, "remove", ring="ring0", id=60000))[1])
     return took
 
 
-def publications(running, ring, times):
-    """The seconds of publications of a ring. They stand apart from changes: what a text leaves in the log makes the next commit slower."""
-    took = []
+def publications(runs, rings, times):
+    """The seconds of publications of a ring over each store, in turns. They stand apart from changes: what a text leaves in the log makes
+    the next commit slower."""
+    took = [[] for _ in runs]
     for it in range(times):
-        ask(running, message(200000 + 10 * it, "set_hours", ring=ring, min_hours=it))
-        answer, seconds = ask(running, message(200001 + 10 * it, "publish", ring=ring))
-        if not answer.startswith("200 "):
-            raise SystemExit(f"not published: {answer}")
-        took.append(seconds)
+        for running, ring, mine in zip(runs, rings, took):
+            ask(running, message(200000 + 10 * it, "set_hours", ring=ring, min_hours=it))
+            answer, seconds = ask(running, message(200001 + 10 * it, "publish", ring=ring))
+            if not answer.startswith("200 "):
+                raise SystemExit(f"not published: {answer}")
+            mine.append(seconds)
     return took
 
 
 def published(room):
-    """A delivery by the texts that are published, by the rings beside, and by the numbers. Where the first ring can publish no more, the
-    second one does."""
-    told, times = [], 5 if SMALL else 15
-    for count, texts, numbers in [*((count, texts, 0) for count in RINGS for texts in TEXTS), (RINGS[-1], TEXTS[-1], NUMBERS - 100)]:
-        file = f"{room}/texts.db"
-        with_texts(file, count, texts, numbers)
-        size = os.path.getsize(file) / 1e6
-        begun = time.perf_counter()
-        with start(file) as running:
-            ask(running, "? devices nothing\n")
-            opened, memory = time.perf_counter() - begun, most_memory(running)
-            took = changes(running, times)
-            publishing = "ring0" if texts < 1000 else "ring1" if count > 1 else None
-            took["publish"] = publications(running, publishing, times) if publishing else []
-            running.stdin.close()
-        cells = [f"{MILLI * statistics.median(took[it]):.2f} ms" if took[it] else "" for it in took]
-        told.append([count, texts, numbers or "few", *cells, f"{size:.0f} MB", f"{MILLI * opened:.0f} ms", f"{memory:.0f} MB"])
-        for end in ("", "-wal"):
-            os.remove(file + end) if os.path.exists(file + end) else None
+    """A delivery by the texts that are published, by the rings beside, and by the numbers. A ring that has 1,000 texts can publish no
+    more: then the second one does, where there is one."""
+    sizes = [*((count, texts, 0) for count in RINGS for texts in TEXTS), (RINGS[-1], TEXTS[-1], NUMBERS - 100)]
+    files = [f"{room}/texts{count}-{texts}-{numbers}.db" for count, texts, numbers in sizes]
+    for file, size in zip(files, sizes):
+        with_texts(file, *size)
+    megabytes = [os.path.getsize(file) / 1e6 for file in files]
+    found = [opened(file) for file in files]
+    runs, times = [it[0] for it in found], 5 if SMALL else 15
+    took = changes(runs, times)
+    publishing = ["ring0" if texts < 1000 else "ring1" if count > 1 else None for count, texts, _ in sizes]
+    some = [at for at, ring in enumerate(publishing) if ring]
+    for at, mine in zip(some, publications([runs[at] for at in some], [publishing[at] for at in some], times)):
+        took[at]["publish"] = mine
+    for running in runs:
+        running.stdin.close()
+        running.wait()
+    told = []
+    for size, (count, texts, numbers), (_, seconds, memory), mine in zip(megabytes, sizes, found, took):
+        ratio = statistics.median(mine["set_weight"]) / statistics.median(took[0]["set_weight"])
+        cells = [f"{MILLI * statistics.median(mine[it]):.2f} ms" if it in mine else "" for it in ("set_weight", "refused", "publish")]
+        told.append([count, texts, numbers or "few", cells[0], f"{ratio:.2f}", *cells[1:], f"{size:.0f} MB",
+                     f"{MILLI * seconds:.0f} ms", f"{memory:.0f} MB"])
     tell(f"A delivery by the texts that are published, rings of power {POWER}", "bench/store.py",
-         ["rings", "texts", "numbers", "`set_weight`", "a refusal", "`publish`", "file", "opening", "memory"], told)
+         ["rings", "texts", "numbers", "`set_weight`", "times that of the first", "a refusal", "`publish`", "file", "opening", "memory"], told)
 
 
 def main():
