@@ -93,22 +93,6 @@ said_at rs book so_far i r said front lt is =
     (zero-add i) in
     (at.0, (there, at.2), at.3)
 
-last_alike : (h n : ℕ) (a b : List DecidedRequest) → map request_entry (enumerate_from n a) ≡
-    map request_entry (enumerate_from n b) → last_hour h a ≡ last_hour h b
-last_alike h n [] [] same = refl
-last_alike h n [] (y ∷ b) same = cc
-last_alike h n (x ∷ a) [] same = cc
-last_alike h n (x ∷ a) (y ∷ b) same =
-    let head : request_entry (n, x) ≡ request_entry (n, y) = cc in
-    let rest : map request_entry (enumerate_from (n + 1) a) ≡ map request_entry
-    (enumerate_from (n + 1) b) = cc in
-    last_alike x.hour (n + 1) a b rest ∙ ap (λ k. last_hour k b) (same_hour n n x y head)
-
--- two books that the same rows say have the same last hour
-pub one_last : (rs : List RequestRow) (a b : List DecidedRequest) → IsSaid rs a → IsSaid rs b →
-    last_hour 0 a ≡ last_hour 0 b
-one_last rs a b p q = last_alike 0 0 a b (sym p.rows_are ∙ q.rows_are)
-
 abbrev Apart : DecidedRequest → DecidedRequest → Type 0
 Apart a b = same_key a.key b.key ≡ false
 

@@ -161,3 +161,12 @@ module _ (one_text : (c d : Command) → IsProperCommand c → IsProperCommand d
       let all_b = recursion_from_All IsDecision b q.each in
       same_list a b (also_there a b p.apart all_a all_b same) (also_there b a q.apart all_b all_a
       (λ key. sym (same key)))
+
+  -- and those whose tables are one are one
+  pub one_table : (a b : List DecidedRequest) → IsBook a → IsBook b
+      → maps.from_entries {R = rows.name_number_cmp} (request_entries a)
+      ≡ maps.from_entries {R = rows.name_number_cmp} (request_entries b) → a ≡ b
+  one_table a b p q same = one_book a b p q
+      (λ key. sym (maps.get-from_entries name_number_total (request_entries a) key)
+      ∙ ap (λ m. maps.get m key) same
+      ∙ maps.get-from_entries name_number_total (request_entries b) key)

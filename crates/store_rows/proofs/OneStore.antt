@@ -17,7 +17,7 @@ use Rattle.store_rows.specs.Stands.{request_entries}
 use Rattle.store_rows.proofs.Maps.{entries_of}
 use Rattle.store_rows.proofs.Ordered.{rings_sorted, up, devices_sorted, texts_sorted}
 use Rattle.store_rows.proofs.OneRings.{one_rings}
-use Rattle.store_rows.proofs.OneBook.{one_book}
+use Rattle.store_rows.proofs.OneBook.{one_table}
 
 module _ (one_text : (c d : Command) → IsProperCommand c → IsProperCommand d →
     canonical c ≡ canonical d → c ≡ d)
@@ -52,10 +52,7 @@ module _ (one_text : (c d : Command) → IsProperCommand c → IsProperCommand d
       let state = one_rings s t (recursion_from_All IsNamedRing s p.rings.each)
       (recursion_from_All IsNamedRing t q.rings.each) (up s p.rings) (up t q.rings) rings devices
       texts (parts rings) in
-      let book = one_book one_text one_reply a.book b.book p.book q.book
-      (λ key. sym (get-from_entries name_number_total (request_entries a.book) key)
-      ∙ ap (λ m. get m key) same_requests
-      ∙ get-from_entries name_number_total (request_entries b.book) key) in
+      let book = one_table one_text one_reply a.book b.book p.book q.book same_requests in
       let metas : Some (meta_value schema a.hour) ≡ Some (meta_value schema b.hour) =
       sym (get-from_entries {R = int_cmp} int_cmp_total ((pos 1, meta_value schema a.hour) ∷ [])
       (pos 1)) ∙ ap (λ m. get m (pos 1)) same_meta
