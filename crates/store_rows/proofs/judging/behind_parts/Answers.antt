@@ -3,7 +3,7 @@ use Rattle.std.proofs.Common.{◌∙◌, ◌++◌, arith}
 use Rattle.std.specs.Vec.{vec_len}
 use Rattle.std.proofs.lemmas.List.{length-map, take-append-drop}
 use Rattle.store_model.specs.Contents.{part_of}
-use Rattle.store_model.specs.Entries.{name_number_cmp}
+use Rattle.store_model.specs.Entries.{NameNumber, Part, name_number_cmp}
 use Rattle.store_model.specs.declared.rows.PartRow.{PartRow}
 use Rattle.store_rows.specs.Differences.{is_same_part}
 use Rattle.store_rows.specs.Inner.Lacking.{lacking}
@@ -12,15 +12,25 @@ use Rattle.store_rows.proofs.InTurn.{long_enough, same_front}
 use Rattle.store_rows.proofs.Steps.{alike_by, alike_map, lacking_nothing, map_append}
 use Rattle.store_rows.proofs.judging.behind_parts.Goals as goal
 
+-- the rows that are put behind none are those of the ring
+are_made : (none rows : List PartRow) (entries : List (NameNumber × Part)) → none ≡ []
+    → map part_of rows ≡ map part_of none ++ lacking name_number_cmp is_same_part [] entries
+    → map part_of rows ≡ entries
+are_made none rows entries is put = put ∙ ap (λ (rs : List PartRow). map part_of rs ++
+    lacking name_number_cmp is_same_part [] entries) is
+    ∙ lacking_nothing name_number_cmp is_same_part entries
+
+-- and as many
+are_as_many : (rows : List PartRow) (entries : List (NameNumber × Part)) → map part_of rows ≡ entries
+    → length entries ≡ length rows
+are_as_many rows entries made = ap length (sym made) ∙ length-map rows part_of
+
 pub returns-in_default : goal.returns-in_default
 returns-in_default c = λ more is.
     let entries = part_entries_of (c.args.name.now, c.args.ring.now) in
-    let made : map part_of c.push_parts.new.into.items ≡ entries =
-    c.in_ok-push_parts.ensures ∙ ap (λ (rs : List PartRow). map part_of rs ++
-    lacking name_number_cmp is_same_part [] entries) c.new-parts.ensures.items
-    ∙ lacking_nothing name_number_cmp is_same_part entries in
-    let as_many : length entries ≡ length c.push_parts.new.into.items =
-    ap length (sym made) ∙ length-map c.push_parts.new.into.items part_of in
+    let made = are_made c.new-parts.result.items c.push_parts.new.into.items entries
+    c.new-parts.ensures.items c.in_ok-push_parts.ensures in
+    let as_many = are_as_many c.push_parts.new.into.items entries made in
     let long : length entries ≤ length c.args.rows.now =
     long_enough part_of c.args.rows.now entries more is in
     let few : length c.args.rows.now < c.len.result = c.in_default.ensures.cases in
@@ -30,15 +40,12 @@ returns-in_default c = λ more is.
 pub returns-then-not-are_alike : goal.returns-then-not-are_alike
 returns-then-not-are_alike c = λ more is.
     let entries = part_entries_of (c.args.name.now, c.args.ring.now) in
-    let made : map part_of c.push_parts.new.into.items ≡ entries =
-    c.in_ok-push_parts.ensures ∙ ap (λ (rs : List PartRow). map part_of rs ++
-    lacking name_number_cmp is_same_part [] entries) c.new-parts.ensures.items
-    ∙ lacking_nothing name_number_cmp is_same_part entries in
+    let made = are_made c.new-parts.result.items c.push_parts.new.into.items entries
+    c.new-parts.ensures.items c.in_ok-push_parts.ensures in
     let split = c.in-Some.ensures.cases in
     let whole : c.in-Some.front.now ++ c.in-Some.behind.now ≡ c.args.rows.now =
     (λ i. split.1 i ++ split.2 i) ∙ take-append-drop c.len.result c.args.rows.now in
-    let as_many : length entries ≡ length c.push_parts.new.into.items =
-    ap length (sym made) ∙ length-map c.push_parts.new.into.items part_of in
+    let as_many = are_as_many c.push_parts.new.into.items entries made in
     let cut : length c.in-Some.front.now ≡ c.len.result = split.3 in
     let len : c.len.result ≡ vec_len c.push_parts.new.into = c.len.ensures in
     let long : length c.in-Some.front.now ≡ length entries = omega arith in
@@ -53,10 +60,8 @@ returns-then-not-are_alike c = λ more is.
 pub returns : goal.returns
 returns c =
     let entries = part_entries_of (c.args.name.now, c.args.ring.now) in
-    let made : map part_of c.push_parts.new.into.items ≡ entries =
-    c.in_ok-push_parts.ensures ∙ ap (λ (rs : List PartRow). map part_of rs ++
-    lacking name_number_cmp is_same_part [] entries) c.new-parts.ensures.items
-    ∙ lacking_nothing name_number_cmp is_same_part entries in
+    let made = are_made c.new-parts.result.items c.push_parts.new.into.items entries
+    c.new-parts.ensures.items c.in_ok-push_parts.ensures in
     let split = c.in-Some.ensures.cases in
     let whole : c.in-Some.front.now ++ c.in-Some.behind.now ≡ c.args.rows.now =
     (λ i. split.1 i ++ split.2 i) ∙ take-append-drop c.len.result c.args.rows.now in
