@@ -111,6 +111,12 @@ ROWS = {
     "a table is gone": ["DROP TABLE request"],
     "a table more": ["CREATE TABLE further (a INTEGER)"],
     "a column more": ["ALTER TABLE ring ADD COLUMN further INTEGER"],
+    "a published text is cut off": ["UPDATE published SET body = substr(body, 1, length(body) - 4)"],
+    "a published text is none of a ring": ["UPDATE published SET body = 'swift-ring-text 2' || substr(body, 18)"],
+    "a published text is of another ring": ["UPDATE published SET body = replace(body, 'ring object', 'ring other')"],
+    "a published text is of another version": ["UPDATE published SET version = version + 1"],
+    "a seat of a published text is on a device that is not there": ["UPDATE published SET body = "
+     "substr(body, 1, instr(body, 'seats') + 5) || '99' || substr(body, instr(body, 'seats') + 7)"],
 }
 
 # Texts that can't be read.

@@ -48,7 +48,7 @@ use Rattle.builder.proofs.RingAt.{one_ring}
 
 -- ---- where nothing is refused, no cause stands
 
-abbrev AreClear : List Cause → Type 0
+abbrev pub AreClear : List Cause → Type 0
 AreClear causes = AllByRecursion (λ cause. cause.stands ≡ false) causes
 
 clear_first : (b : Bool) (cause : Cause) (causes : List Cause) → cause.stands ≡ b
@@ -59,7 +59,7 @@ clear_first : (b : Bool) (cause : Cause) (causes : List Cause) → cause.stands 
 clear_first true cause causes is none rest = cc
 clear_first false cause causes is none rest = (is, rest none)
 
-none_stands : (causes : List Cause) → first_cause causes ≡ None → AreClear causes
+pub none_stands : (causes : List Cause) → first_cause causes ≡ None → AreClear causes
 none_stands [] none = tt
 none_stands (cause ∷ causes) none = clear_first cause.stands cause causes refl none
     (none_stands causes)
@@ -245,7 +245,7 @@ valid_at (first ∷ rest) name ring valid found =
     (All-head (λ named. IsValid named.1) first rest valid)
     (valid_at rest name ring (All-tail (λ named. IsValid named.1) first rest valid))
 
-put_among : (P : List ℕ × RingRecord → Type 0) (rings : State) (name : List ℕ) (ring : RingRecord)
+pub put_among : (P : List ℕ × RingRecord → Type 0) (rings : State) (name : List ℕ) (ring : RingRecord)
     → All P rings → P (name, ring) → All P (with_ring rings name ring)
 put_among P rings name ring all here =
     All-append P (filter (λ e. is_before e.0 name) rings)

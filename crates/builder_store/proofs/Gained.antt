@@ -96,6 +96,7 @@ gains_in one old rings state count limit hour entry b at changes shown request m
       unknown = may.unknown;
       later = may.later;
       changed = may.changed;
+      published = may.published;
     }) in
     gained_alone one old db content (gained (with_state content state) entry) b changes request meta
     stands (written_is b content state entry changes request meta (λ t. may.reached ∙ sym (at t))

@@ -17,7 +17,7 @@ use Rattle.builder.specs.declared.machine.RingMachine.{RingMachine}
 use Rattle.store_rows.specs.Callers.{Bounds}
 use Rattle.store_rows.specs.RingRows.{NamedRings}
 use Rattle.store_rows.specs.Stands.{DecidedRequest, RingContent, gained}
-use Rattle.store_rows.specs.Differences.{IsChangedAt, with_state}
+use Rattle.store_rows.specs.Differences.{IsChangedAt, KeepsOwn, with_state}
 use Rattle.builder_store.specs.Keepers.{content_of_keeper}
 use Rattle.builder_store.specs.Standing.{Holds, IsKnown, MayLeave, StandsAlone, content_told}
 use Rattle.builder_store.specs.Standing.{stands_for_one}
@@ -29,6 +29,7 @@ use Rattle.builder_store.specs.Inner.Tables.{HasTables}
 use Rattle.builder_store.proofs.Bounding.{bounds_of}
 use Rattle.builder_store.proofs.Settled.{quiet_commit}
 use Rattle.builder_store.proofs.StepChanges.{step_changes}
+use Rattle.builder_store.proofs.StepTexts.{step_keeps_own}
 use Rattle.builder_store.specs.declared.keeper.SqlKeeper.{SqlKeeper}
 
 -- a call whose store hasn't failed answers otherwise
@@ -141,6 +142,9 @@ module _ {S : Type 0} {g : Ghosts S} (k : SqlKeeper S g) where
         changed = subst (λ rings. IsChangedAt entry.command.ring rings after) agrees.0
             (step_changes machine.limits (content_of_keeper k).state after entry.hour entry.command
             entry.reply step);
+        published = subst (λ rings. KeepsOwn rings after) agrees.0
+            (step_keeps_own machine.limits (content_of_keeper k).state after entry.hour
+            entry.command entry.reply step);
       }))
 
   -- a call that commits nothing leaves the keeper's trees

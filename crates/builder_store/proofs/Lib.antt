@@ -15,6 +15,7 @@ pub mod Bounding
 pub mod Rising
 pub mod Orders
 pub mod StepChanges
+pub mod StepTexts
 pub mod Taking
 pub mod Asking
 pub mod Paged

@@ -14,10 +14,11 @@ use Rattle.sqlite.specs.declared.error.Error.{Error}
 use Rattle.sqlite.specs.declared.error.Error.TheVariants.{SqliteFailure}
 use Rattle.sqlite.specs.declared.error.ErrorCode.TheVariants as code
 use Rattle.sqlite.specs.declared.file.Leftover.{Leftover}
+use Rattle.store_rows.specs.RingRows.{NamedRings}
 use Rattle.builder_store.specs.Faults.{file_fault}
 use Rattle.builder_store.specs.Left.{AreUnopened, HoldsNoDatabase, IfConnected, IfUnconnected}
 use Rattle.builder_store.specs.Left.{IsConnected, IsMadeOfConnection, IsOfConnection}
-use Rattle.builder_store.specs.Making.{IsFailure, IsJudgement}
+use Rattle.builder_store.specs.Making.{IsFailure, IsForeign, IsJudgement, WritesNothing}
 use Rattle.builder_store.specs.Opening.{IsBadStore, TellsOpenFault}
 use Rattle.builder_store.proofs.Judged.{files_of_connection}
 use Rattle.builder_store.specs.declared.fault.FileFault.{FileFault}
@@ -72,12 +73,27 @@ fault_of_connection file.Damaged is = is
 pub failure_of_connection : (fault : MakeFault) → IsFailure fault → IsMadeOfConnection fault
 failure_of_connection making.PathTaken is = is
 failure_of_connection making.Taken is = tt
+failure_of_connection making.ForeignText is = is
 failure_of_connection (making.Opening why) is = fault_of_connection why is
 
 pub judged_of_connection : (fault : MakeFault) → IsJudgement fault → IsMadeOfConnection fault
 judged_of_connection making.PathTaken is = is
 judged_of_connection making.Taken is = tt
+judged_of_connection making.ForeignText is = is
 judged_of_connection (making.Opening why) is = files_of_connection why is
+
+-- where a connection was made, nothing is written only where something was there, and no text is
+-- told as foreign
+pub only_taken : (fault : MakeFault) → WritesNothing fault → IsMadeOfConnection fault
+    → fault ≡ making.Taken
+only_taken making.PathTaken none is = absurd is
+only_taken making.Taken none is = refl
+only_taken making.ForeignText none is = absurd is
+only_taken (making.Opening why) none is = absurd none
+
+pub no_foreign : (rings : NamedRings) (fault : MakeFault) → IsMadeOfConnection fault
+    → IsForeign rings fault
+no_foreign rings fault is = λ told. absurd (subst IsMadeOfConnection told is)
 
 -- files are told to be no database for one of two errors
 apart : (error why : Error) → error ≡ why → file_fault error ≡ file.NoDatabase

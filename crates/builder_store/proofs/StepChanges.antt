@@ -1,6 +1,6 @@
 -- A step of the builder changes no ring but that of its command, and takes no ring, no partition and
 -- no published text away.
-use Rattle.std.proofs.Common.{◌≡◌, inl, inr, ℕ, ◌≤◌, ◌==◌, Bool, true, false, cond, List, []}
+use Rattle.std.proofs.Common.{◌≡◌, ◌⊎◌, inl, inr, ℕ, ◌≤◌, ◌==◌, Bool, true, false, cond, List, []}
 use Rattle.std.proofs.Common.{◌∷◌, Option, Some, None, is_some, filter, find, nat_eq}
 use Rattle.std.proofs.Common.{nat_lt, refl, sym, ap, subst, ◌∙◌, arith, IsSomeAnd}
 use Rattle.std.specs.Option.{option_map, option_or}
@@ -10,7 +10,7 @@ use Rattle.std.proofs.lemmas.Bool.Decides.{Decides-eqb}
 use Rattle.std.proofs.lemmas.List.Folds.{find-append}
 use Rattle.std.proofs.lemmas.Slice.Eq.{bytes_eq-Decides}
 use Rattle.ring_model.specs.Import.{after_row, after_rows}
-use Rattle.ring_model.specs.Publish.{among, is_published}
+use Rattle.ring_model.specs.Publish.{among, is_published, with_published}
 use Rattle.ring_model.specs.Ring.{RingRecord, added}
 use Rattle.ring_model.specs.Rings.{ring_at, with_ring}
 use Rattle.ring_words.specs.Rows.{has_place}
@@ -23,6 +23,8 @@ use Rattle.ring_words.specs.declared.command.Act.TheVariants as act
 use Rattle.ring_words.specs.declared.command.Done.{Done}
 use Rattle.ring_words.specs.declared.command.Reply.{Reply}
 use Rattle.ring_words.specs.declared.command.Reply.TheVariants as reply
+use Rattle.ring_text.specs.Snapshot.{snapshot_of}
+use Rattle.ring_text.specs.Spelling.{spelling}
 use Rattle.builder.specs.Step.{Effect, RingEffect, State, Step}
 use Rattle.builder.proofs.Others.{others_stay}
 use Rattle.builder.proofs.RingAt.{ring_at-with}
@@ -161,40 +163,69 @@ published_if false ring text is = (
       (unpublished ring version old is there) there,
 )
 
+-- ---- an act
+
+-- An act leaves no fewer partitions, and the published texts as they were unless it publishes.
+pub record LeavesTexts (a : Act) (name : List ℕ) (old new : RingRecord) : Type 0 where
+  pub power : old.power ≤ new.power
+  pub texts : (new.published ≡ old.published) ⊎ ((a ≡ act.Publish)
+      × (new ≡ with_published old (spelling (snapshot_of name old))))
+
+as_they_were : (a : Act) (name : List ℕ) (old new : RingRecord) → new.power ≡ old.power
+    → new.published ≡ old.published → LeavesTexts a name old new
+as_they_were a name old new power published = record {
+  power = omega (arith, power);
+  texts = inl published;
+}
+
+pub effect_leaves : (a : Act) (answer : Done) (name : List ℕ) (old new : RingRecord) (hour : ℕ)
+    → RingEffect name hour old a answer new → LeavesTexts a name old new
+effect_leaves (act.Add row) answer name old new hour effect =
+    as_they_were (act.Add row) name old new (ap (λ (r : RingRecord). r.power) effect.0)
+    (ap (λ (r : RingRecord). r.published) effect.0)
+effect_leaves (act.OnDevice id what) answer name old new hour effect =
+    as_they_were (act.OnDevice id what) name old new (ap (λ (r : RingRecord). r.power) effect.0)
+    (ap (λ (r : RingRecord). r.published) effect.0)
+effect_leaves (act.SetHours hours) answer name old new hour effect =
+    as_they_were (act.SetHours hours) name old new (ap (λ (r : RingRecord). r.power) effect.0)
+    (ap (λ (r : RingRecord). r.published) effect.0)
+effect_leaves act.PretendPassed answer name old new hour effect =
+    as_they_were act.PretendPassed name old new (ap (λ (r : RingRecord). r.power) effect.0)
+    (ap (λ (r : RingRecord). r.published) effect.0)
+effect_leaves act.RaisePower answer name old new hour effect = record {
+  power = omega (arith, effect.0.power);
+  texts = inl (ap (λ (r : RingRecord). r.published) effect.0.rest);
+}
+effect_leaves (act.Import rows) answer name old new hour effect =
+    let rest = rows_same old rows in
+    as_they_were (act.Import rows) name old new
+    (ap (λ (r : RingRecord). r.power) effect.0 ∙ rest.power)
+    (ap (λ (r : RingRecord). r.published) effect.0 ∙ rest.published)
+effect_leaves (act.Rebalance seed) answer name old new hour effect =
+    as_they_were (act.Rebalance seed) name old new
+    (ap (λ (r : RingRecord). r.power) effect.0.after.rest)
+    (ap (λ (r : RingRecord). r.published) effect.0.after.rest)
+effect_leaves (act.RebalanceAs told) answer name old new hour effect =
+    as_they_were (act.RebalanceAs told) name old new
+    (ap (λ (r : RingRecord). r.power) effect.0.after.rest)
+    (ap (λ (r : RingRecord). r.published) effect.0.after.rest)
+effect_leaves act.Publish answer name old new hour effect = record {
+  power = (subst (Kept old) (sym effect.0) (published_if (is_published old) old _ refl)).0;
+  texts = inr (refl, effect.0);
+}
+effect_leaves a answer name old new hour effect = absurd effect
+
 -- ---- a step
 
 effect_keeps : (a : Act) (answer : Done) (name : List ℕ) (old new : RingRecord) (hour : ℕ)
     → RingEffect name hour old a answer new → Kept old new
-effect_keeps (act.Add row) answer name old new hour effect =
-    kept_as old new (ap (λ (r : RingRecord). r.power) effect.0)
-    (ap (λ (r : RingRecord). r.published) effect.0)
-effect_keeps (act.OnDevice id what) answer name old new hour effect =
-    kept_as old new (ap (λ (r : RingRecord). r.power) effect.0)
-    (ap (λ (r : RingRecord). r.published) effect.0)
-effect_keeps (act.SetHours hours) answer name old new hour effect =
-    kept_as old new (ap (λ (r : RingRecord). r.power) effect.0)
-    (ap (λ (r : RingRecord). r.published) effect.0)
-effect_keeps act.PretendPassed answer name old new hour effect =
-    kept_as old new (ap (λ (r : RingRecord). r.power) effect.0)
-    (ap (λ (r : RingRecord). r.published) effect.0)
-effect_keeps act.RaisePower answer name old new hour effect =
-    let same : new.published ≡ old.published = ap (λ (r : RingRecord). r.published) effect.0.rest in (
-      omega (arith, effect.0.power),
-      λ version text there. ap (text_at version) same ∙ there,
-    )
-effect_keeps (act.Import rows) answer name old new hour effect =
-    let rest = rows_same old rows in
-    kept_as old new (ap (λ (r : RingRecord). r.power) effect.0 ∙ rest.power)
-    (ap (λ (r : RingRecord). r.published) effect.0 ∙ rest.published)
-effect_keeps (act.Rebalance seed) answer name old new hour effect =
-    kept_as old new (ap (λ (r : RingRecord). r.power) effect.0.after.rest)
-    (ap (λ (r : RingRecord). r.published) effect.0.after.rest)
-effect_keeps (act.RebalanceAs told) answer name old new hour effect =
-    kept_as old new (ap (λ (r : RingRecord). r.power) effect.0.after.rest)
-    (ap (λ (r : RingRecord). r.published) effect.0.after.rest)
-effect_keeps act.Publish answer name old new hour effect =
-    subst (Kept old) (sym effect.0) (published_if (is_published old) old _ refl)
-effect_keeps a answer name old new hour effect = absurd effect
+effect_keeps a answer name old new hour effect =
+    let leaves = effect_leaves a answer name old new hour effect in
+    elim leaves.texts [
+      | inl same ↦ (leaves.power, λ version text there. ap (text_at version) same ∙ there)
+      | inr publishes ↦ subst (Kept old) (sym publishes.1)
+          (published_if (is_published old) old _ refl)
+    ]
 
 step_grows : (limits : Limits) (old new : State) (hour : ℕ) (command : Command) (answer : Reply)
     → Step limits old hour command answer new → Grows old new

@@ -29,9 +29,11 @@ abbrev pub IsOfConnection : FileFault → Type 0
 IsOfConnection (file.Opening why) = ⊤
 IsOfConnection _ = ⊥
 
--- The fault tells that nothing was opened: something is at the path, or the files were not opened.
+-- The fault tells that nothing was opened: something is at the path, the rings published a foreign
+-- text, or the files were not opened.
 abbrev pub IsUntouched : MakeFault → Type 0
 IsUntouched making.PathTaken = ⊤
+IsUntouched making.ForeignText = ⊤
 IsUntouched (making.Opening why) = AreUnopened why
 IsUntouched making.Taken = ⊥
 
@@ -40,6 +42,7 @@ abbrev pub IsMadeOfConnection : MakeFault → Type 0
 IsMadeOfConnection making.Taken = ⊤
 IsMadeOfConnection (making.Opening why) = IsOfConnection why
 IsMadeOfConnection making.PathTaken = ⊥
+IsMadeOfConnection making.ForeignText = ⊥
 
 -- Files that held this hold no database.
 abbrev pub HoldsNoDatabase : Image → Type 0

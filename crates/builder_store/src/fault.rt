@@ -46,6 +46,9 @@ pub enum MakeFault {
     PathTaken,
     /// There are tables already. They stay as they were.
     Taken,
+    /// A text that the rings published is not their own, so an opening would refuse them. Nothing was
+    /// opened.
+    ForeignText,
     /// It couldn't be opened or written, for this cause.
     Opening(FileFault),
 }

@@ -10,7 +10,7 @@ ghost use Rattle.builder_store.specs.Inner.Tables.{HasTables, fact_prop};
 use crate::adopting::{Left, fault_of, take_over};
 use crate::calls::{look_up, read_page};
 use crate::fault::{FileFault, MakeFault, OpenFault};
-use crate::making::make_ready;
+use crate::making::{judge_rings, make_ready};
 use crate::planning::keep;
 use crate::reading::Opened;
 use crate::starting::open_ready;
@@ -139,6 +139,7 @@ impl<S: Alter + Drop> SqlKeeper<S> {
     ghost use Rattle.std.specs.Prelude.{IfErr, IfOk};
     ghost use Rattle.builder_store.specs.Inner.Begins.{BeginsOver, BeginsWith, IsJustMade};
     ghost use Rattle.builder_store.specs.Inner.Begins.{IsHolding, IsRefused, IsUnmade};
+    ghost use Rattle.store_rows.specs.OwnTexts.{HavePublishedOwn};
 
     /// A keeper over a connection whose tables stand for a content, of which this is held.
     fn holding(alloc: Global, conn: Connection<S>, opened: Opened, limits: Limits) -> SqlKeeper<S>
@@ -197,7 +198,8 @@ impl<S: Alter + Drop> SqlKeeper<S> {
         hour: Hour,
         limits: Limits,
     ) -> Result<SqlKeeper<S>, (MakeFault, Connection<S>)>
-        requires { IsJustMade S.Store conn }
+        requires made { IsJustMade S.Store conn }
+        requires own { HavePublishedOwn rings }
         ensures begins { IfOk result (BeginsWith S.Store conn rings hour limits.numbers) }
         ensures refused { IfErr result (λ e. IsUnmade S.Store conn rings hour e.0 e.1) }
     {
@@ -224,7 +226,8 @@ impl<S: Alter + Drop> SqlKeeper<S> {
     ghost use Rattle.sqlite_trees.specs.View.{doubt};
     ghost use Rattle.builder_store.specs.Keepers.{HasMetFaults, IsCleanLeft, content_of_keeper};
     ghost use Rattle.builder_store.specs.Keepers.{left_may_leave};
-    ghost use Rattle.builder_store.specs.Making.{IsFailure, IsJudgement, rings_alone};
+    ghost use Rattle.builder_store.specs.Making.{IsFailure, IsForeign, IsJudgement, rings_alone};
+    ghost use Rattle.builder_store.specs.Making.{WritesNothing};
     ghost use Rattle.builder_store.specs.Opening.{AreDeclared, Stands};
     ghost use Rattle.builder_store.specs.declared.fault.MakeFault.TheVariants.{Taken};
 
@@ -232,8 +235,8 @@ impl<S: Alter + Drop> SqlKeeper<S> {
     /// most `limits.numbers` requests. The store has no request, and its book goes on from `hour`.
     /// What the connection hasn't committed is rolled back.
     ///
-    /// All is written in one transaction. Where any table is there already, nothing is written. A
-    /// refusal gives back what is left.
+    /// All is written in one transaction. Where any table is there already, or a text that the rings
+    /// published is not their own, nothing is written. A refusal gives back what is left.
     pub fn make(
         alloc: Global,
         conn: Connection<S>,
@@ -251,19 +254,23 @@ impl<S: Alter + Drop> SqlKeeper<S> {
             → AreDeclared 0 (state S.Store conn).committed.trees) }
         ensures taken { IfErr result (λ e. e.0 ≡ Taken → IsCleanLeft S.Store e.1
             → AreDeclared 0 (state S.Store conn).committed.trees → ⊥) }
+        ensures foreign { IfErr result (λ e. IsForeign rings e.0) }
         // The store is told to have failed or to be damaged only where its disk has failed or
         // refused or given back what is no page, or where it was shut before.
         ensures failed { IfErr result (λ e. IsFailure e.0 → IsCleanLeft S.Store e.1
             → HasMetFaults S.Store e.1 ⊎ ((state S.Store conn).is_open ≡ false)) }
         // What is there is judged by nobody, so it is told as bad by nobody.
         ensures unjudged { IfErr result (λ e. IsJudgement e.0 → ⊥) }
-        ensures stays { IfErr result (λ e. e.0 ≡ Taken → IsCleanLeft S.Store e.1 → (db : Trees)
+        ensures stays { IfErr result (λ e. WritesNothing e.0 → IsCleanLeft S.Store e.1 → (db : Trees)
             → left_may_leave S.Store e.1 db → (state S.Store conn).may_leave db) }
         // A crash after a refusal leaves what it could leave before, or what was to be made.
         ensures crash { IfErr result (λ e. IsCleanLeft S.Store e.1 → (db : Trees)
             → left_may_leave S.Store e.1 db
             → (state S.Store conn).may_leave db ⊎ Stands db (rings_alone rings hour)) }
     {
+        if let Err(fault) = judge_rings(alloc, &rings) {
+            return Err((fault, Left::Connection(conn)));
+        }
         let conn = match take_over(alloc, conn) {
             Ok(conn) => conn,
             Err((error, store)) => {

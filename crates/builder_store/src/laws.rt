@@ -7,7 +7,7 @@ ghost use Rattle.ring_words.specs.declared.request.Limits.{Limits};
 ghost use Rattle.ring_words.specs.Limits.{long_count};
 ghost use Rattle.builder.specs.Safety.{AreValid};
 ghost use Rattle.builder.specs.Step.{State, Step};
-ghost use Rattle.store_rows.specs.Differences.{IsChangedAt};
+ghost use Rattle.store_rows.specs.Differences.{IsChangedAt, KeepsOwn};
 ghost use Rattle.store_rows.specs.Stands.{RingContent};
 ghost use Rattle.builder_store.specs.Opening.{IsMadeOf, IsOpenedAs, Stands};
 
@@ -41,4 +41,11 @@ pub fn what_is_opened_is_valid()
 pub fn steps_change_one_ring()
     ensures { (limits : Limits) (old new : State) (hour : ℕ) (command : Command) (reply : Reply)
         → Step limits old hour command reply new → IsChangedAt command.ring old new }
+{}
+
+/// A step of the builder publishes nothing but a ring's own text. So what a store commits opens again
+/// with all its texts.
+pub fn steps_publish_own_texts()
+    ensures { (limits : Limits) (old new : State) (hour : ℕ) (command : Command) (reply : Reply)
+        → Step limits old hour command reply new → KeepsOwn old new }
 {}

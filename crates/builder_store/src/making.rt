@@ -7,28 +7,44 @@ ghost use Rattle.store_model.specs.Changes.{prepared};
 ghost use Rattle.store_tables.specs.Failing.{HasFailed};
 ghost use Rattle.store_tables.specs.Tables.{no_tables};
 ghost use Rattle.store_rows.specs.Judging.{meta_now};
+ghost use Rattle.store_rows.specs.OwnTexts.{HavePublishedOwn};
 ghost use Rattle.store_rows.specs.Stands.{IsHoldable, contents_for};
-ghost use Rattle.builder_store.specs.Left.{IsMadeOfConnection};
-ghost use Rattle.builder_store.specs.Making.{IsJudgement, rings_alone};
+ghost use Rattle.builder_store.specs.Left.{IsMadeOfConnection, IsUntouched};
+ghost use Rattle.builder_store.specs.Making.{IsFailure, IsForeign, IsJudgement, rings_alone};
 ghost use Rattle.builder_store.specs.Opening.{Stands, no_contents};
 ghost use Rattle.builder_store.specs.Inner.Opened.{IsFresh};
 ghost use Rattle.builder_store.specs.Inner.Tables.{HasTables};
 ghost use Rattle.builder_store.specs.declared.fault.MakeFault.TheVariants.{Taken};
-ghost use Rattle.builder_store.specs.Making.{IsFailure};
 
 use crate::adopting::fault_of;
 use crate::fault::{FileFault, MakeFault, OpenFault};
 use crate::starting::get_ready;
 use ring_model::Rings;
-use ring_words::Hour;
+use ring_words::{Hour, SpellingFault};
 use sqlite::{Alter, Connection};
 use std::alloc::{AllocError, Global};
 use store_rows::laws::nothing_is_holdable;
-use store_rows::{Change, meta_row};
+use store_rows::{Change, judge_texts, meta_row};
 use store_tables::{is_blank, prepare_store};
+
+/// Judges rings of which a store is to be made: all that they published has to be their own text, as
+/// an opening asks for it.
+pub(crate) fn judge_rings(alloc: Global, rings: &Rings) -> Result<(), MakeFault>
+    ensures own { OnOk result (HavePublishedOwn rings.now) }
+    ensures foreign { IfErr result (IsForeign rings.now) }
+    ensures untouched { IfErr result IsUntouched }
+    ensures other { IfErr result (λ why. IsMadeOfConnection why → ⊥) }
+{
+    match judge_texts(alloc, rings) {
+        Ok(()) => Ok(()),
+        Err(SpellingFault::Bad) => Err(MakeFault::ForeignText),
+        Err(SpellingFault::NoMemory) => Err(MakeFault::Opening(FileFault::NoMemory)),
+    }
+}
 
 /// The rows that are written for these rings where there is none.
 fn rows_alone(alloc: Global, rings: &Rings) -> Result<Change, AllocError>
+    requires { HavePublishedOwn rings.now }
     ensures { IfOk result (λ change. (hour : ℕ) → hour < long_count
         → (prepared no_contents change.0 (meta_now hour) ≡ contents_for (rings_alone rings.now hour))
         × IsHoldable (rings_alone rings.now hour)) }
@@ -48,6 +64,7 @@ fn make_tables<S: Alter>(
 ) -> Result<(), MakeFault>
     requires mode { conn.old.in_transaction ≡ false }
     requires fresh { HasCleanDisk (state S.Store conn.old) → IsFresh (state S.Store conn.old) }
+    requires own { HavePublishedOwn rings.now }
     ensures mode { conn.new.in_transaction ≡ false }
     ensures nothing { OnOk result (conn.old.schema ≡ no_tables) }
     ensures tables { HasCleanDisk (state S.Store conn.new) → OnOk result (HasTables
@@ -85,6 +102,7 @@ pub(crate) fn make_ready<S: Alter>(
 ) -> Result<(), MakeFault>
     requires mode { conn.old.in_transaction ≡ false }
     requires fresh { HasCleanDisk (state S.Store conn.old) → IsFresh (state S.Store conn.old) }
+    requires own { HavePublishedOwn rings.now }
     ensures mode { conn.new.in_transaction ≡ false }
     ensures nothing { OnOk result (conn.old.schema ≡ no_tables) }
     ensures tables { HasCleanDisk (state S.Store conn.new) → OnOk result (HasTables

@@ -6,24 +6,26 @@ ghost use Rattle.sqlite.specs.Held.{state};
 ghost use Rattle.sqlite.specs.State.{HasCleanDisk};
 ghost use Rattle.sqlite.specs.Steps.{over_memory};
 ghost use Rattle.sqlite_wal.specs.Files.{image_at};
+ghost use Rattle.store_rows.specs.OwnTexts.{HavePublishedOwn};
 ghost use Rattle.builder_store.specs.Faults.{file_fault};
 ghost use Rattle.builder_store.specs.Keepers.{content_of_keeper};
 ghost use Rattle.builder_store.specs.Left.{AreUnopened, IfConnected, IfUnconnected, IsConnected};
 ghost use Rattle.builder_store.specs.Left.{IsConnectedAnd, IsMadeOfConnection, IsOfConnection};
 ghost use Rattle.builder_store.specs.Left.{IsUnconnected, IsUnmadeOver, IsUntouched};
-ghost use Rattle.builder_store.specs.Making.{IsFailure, IsJudgement, rings_alone};
+ghost use Rattle.builder_store.specs.Making.{IsFailure, IsForeign, IsJudgement, rings_alone};
 ghost use Rattle.builder_store.specs.Opening.{HoldsBadTexts, HoldsNoStore, HoldsNoTable, HoldsTables};
 ghost use Rattle.builder_store.specs.Opening.{IsBadStore, IsLeftOf, IsMadeOf, IsOpenedFrom};
 ghost use Rattle.builder_store.specs.Opening.{JudgesFileRows, JudgesTables, Stands};
 ghost use Rattle.builder_store.specs.Opening.{TellsFault, TellsOpenFault, nothing};
 ghost use Rattle.builder_store.specs.Inner.Begins.{IsMadeOver};
 ghost use Rattle.builder_store.specs.declared.fault.FileFault.TheVariants.{Opening};
-ghost use Rattle.builder_store.specs.declared.fault.MakeFault.TheVariants.{Taken};
+ghost use Rattle.builder_store.specs.declared.fault.MakeFault.TheVariants.{ForeignText, Taken};
 ghost use Rattle.builder_store.specs.declared.fault.OpenFault.TheVariants.{BadTexts};
 ghost use Rattle.builder_store.specs.declared.over.FilesLeft.TheVariants.{Files};
 
 use crate::fault::{FileFault, MakeFault, OpenFault};
 use crate::keeper::SqlKeeper;
+use crate::making::judge_rings;
 use ring_model::Rings;
 use ring_words::{Hour, Limits};
 use sqlite::{Alter, Connection, Error, ErrorCode, FileFrom, FileStore, Leftover, MemStore, Start};
@@ -187,13 +189,18 @@ fn is_taken(rt: &HostRuntime, path: &str) -> Result<bool, FileFault>
     }
 }
 
-/// A connection to a database file at a path where nothing was, and the log beside it.
+/// A connection to a database file at a path where nothing was, and the log beside it, of which a
+/// store of these rings is to be made. The rings are judged before anything is opened.
 fn new_files<S: Start>(
     rt: &HostRuntime,
     path: &str,
+    rings: &Rings,
     start: S,
 ) -> Result<FileConnection<S>, (MakeFault, Option<FileRest<S>>)>
     ensures made { IfOk result (IsMadeOver (image_at S.Start)) }
+    ensures own { IfOk result (λ _. HavePublishedOwn rings.now) }
+    ensures foreign { IfErr result (λ e. IsForeign rings.now e.0) }
+    ensures unopened { IfErr result (λ e. e.0 ≡ ForeignText → e.1 ≡ None) }
     ensures untouched { IfErr result (λ e. e.1 ≡ None → IsUntouched e.0) }
     ensures unmade { IfErr result (λ e. (IsMadeOfConnection e.0 → ⊥) × (IsConnected e.1 → ⊥)) }
     ensures left { IfErr result (λ e. IfUnconnected e.1 (IsUnmadeOver (image_at S.Start) e.0)) }
@@ -202,6 +209,9 @@ fn new_files<S: Start>(
         Ok(false) => {}
         Ok(true) => return Err((MakeFault::PathTaken, None)),
         Err(fault) => return Err((MakeFault::Opening(fault), None)),
+    }
+    if let Err(fault) = judge_rings(rt.alloc(), rings) {
+        return Err((fault, None));
     }
     match open_files(rt, path, start) {
         Ok(conn) => Ok(conn),
@@ -212,9 +222,9 @@ fn new_files<S: Start>(
 /// Makes a store of these rings in a file that is not there, with the log beside it. It has no
 /// request, and its book goes on from `hour`. Keeps at most `limits.numbers` requests.
 ///
-/// Whatever is at the path already stays as it was, and the answer is `PathTaken`. `start` stands
-/// for what the files hold once they are there. A refusal gives back what is left, unless the files
-/// were not opened.
+/// Whatever is at the path already stays as it was, and the answer is `PathTaken`. Where a text that
+/// the rings published is not their own, nothing is opened. `start` stands for what the files hold
+/// once they are there. A refusal gives back what is left, unless the files were not opened.
 pub fn make_at<S: Start>(
     rt: &HostRuntime,
     path: &str,
@@ -230,6 +240,8 @@ pub fn make_at<S: Start>(
     ensures nothing { IfOk result (λ k. HasCleanDisk (file_state k.conn)
         → HoldsNoTable (image_at S.Start)) }
     ensures unjudged { IfErr result (λ e. IsJudgement e.0 → ⊥) }
+    ensures foreign { IfErr result (λ e. IsForeign rings e.0) }
+    ensures unopened { IfErr result (λ e. e.0 ≡ ForeignText → e.1 ≡ None) }
     // Nothing is left only where nothing was opened, and the connection is left wherever one was
     // made.
     ensures untouched { IfErr result (λ e. e.1 ≡ None → IsUntouched e.0) }
@@ -251,7 +263,7 @@ pub fn make_at<S: Start>(
         → (db : Trees) → (file_state conn).may_leave db
         → IsLeftOf (λ _ made. Stands made (rings_alone rings hour)) (image_at S.Start) db)) }
 {
-    let conn = match new_files(rt, path, start) {
+    let conn = match new_files(rt, path, &rings, start) {
         Ok(conn) => conn,
         Err((fault, left)) => return Err((fault, left)),
     };

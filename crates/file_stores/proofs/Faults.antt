@@ -27,4 +27,5 @@ store_fault (file.Opening opening.BadTables) = tt
 pub store_unmade : (cause : MakeFault) → IsStoreFault (make_fault cause)
 store_unmade making.PathTaken = tt
 store_unmade making.Taken = tt
+store_unmade making.ForeignText = tt
 store_unmade (making.Opening cause) = store_fault cause

@@ -10,7 +10,7 @@ use Rattle.sqlite_wal.specs.Recovery.{Image}
 use Rattle.builder_store.specs.Left.{AreUnopened, IfConnected, IfUnconnected, IsConnected}
 use Rattle.builder_store.specs.Left.{IsConnectedAnd, IsMadeOfConnection, IsOfConnection}
 use Rattle.builder_store.specs.Left.{IsUnconnected, IsUnmadeOver, IsUntouched}
-use Rattle.builder_store.specs.Making.{IsFailure, IsJudgement}
+use Rattle.builder_store.specs.Making.{IsFailure, IsForeign, IsJudgement}
 use Rattle.builder_store.specs.Opening.{HoldsBadTexts, HoldsNoStore, HoldsTables, IsBadStore, IsLeftOf}
 use Rattle.builder_store.specs.Opening.{IsMadeOf, JudgesFileRows, Stands, TellsOpenFault}
 use Rattle.builder_store.specs.declared.fault.FileFault.{FileFault}
@@ -44,6 +44,7 @@ open_fault (file.Opening opening.BadTables) = fault.BadStore
 abbrev pub make_fault : MakeFault → ProgramFault
 make_fault making.PathTaken = fault.StoreFault
 make_fault making.Taken = fault.StoreFault
+make_fault making.ForeignText = fault.BadStore
 make_fault (making.Opening cause) = open_fault cause
 
 -- Where the disk under a connection over files that held this returned what was written, a crash
@@ -85,11 +86,14 @@ pub record IsNotOpened {D : Type 0} {disk : disks.Ghosts D} (image : Image) (why
 -- made. Where none was made, that has a cause; tables are told to be there only where there are any,
 -- and then a crash leaves what the files recovered to; and else it leaves that, or the store, which is
 -- told to have failed or to be damaged only where its disk met a fault. What is there is never told as
--- bad. So it is if their disk returned what was written.
+-- bad. So it is if their disk returned what was written. A text is told as foreign only where the
+-- rings published one that is not their own, and then nothing was opened.
 pub record IsNotMade {D : Type 0} {disk : disks.Ghosts D} (image : Image) (content : RingContent)
     (why : ProgramFault) (cause : MakeFault) (left : Option (FilesLeft D disk)) : Type 0 where
   pub told : why ≡ make_fault cause
   pub unjudged : IsJudgement cause → ⊥
+  pub foreign : IsForeign content.state cause
+  pub unopened : cause ≡ making.ForeignText → left ≡ None
   pub untouched : left ≡ None → IsUntouched cause
   pub connected : IsMadeOfConnection cause ↔ IsConnected left
   pub unconnected : IfUnconnected left (IsUnmadeOver image cause)

@@ -53,12 +53,13 @@ pub struct UnmadeFiles<D: Disk> {
 }
 
 /// What a store that isn't made is told as. Where something is there already the store can't be
-/// made, as where its folder is missing.
+/// made, as where its folder is missing. Rings with a foreign text are those of no store.
 fn make_fault(fault: MakeFault) -> ProgramFault
     ensures { result ≡ make_fault fault }
 {
     match fault {
         MakeFault::PathTaken | MakeFault::Taken => ProgramFault::StoreFault,
+        MakeFault::ForeignText => ProgramFault::BadStore,
         MakeFault::Opening(cause) => open_fault(cause),
     }
 }

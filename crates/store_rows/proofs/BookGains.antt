@@ -128,6 +128,7 @@ holds_more content e held few decided none later =
     let one : length (e ∷ []) ≡ 1 = omega arith in
     record {
       rings = held.rings;
+      texts = held.texts;
       book = record {
         count = omega (arith, length-append content.book (e ∷ []));
         apart = all_pairs_push (λ (a b : DecidedRequest). same_key a.key b.key ≡ false) content.book

@@ -31,3 +31,4 @@ pub mod BookPages
 pub mod BookRead
 pub mod Used
 pub mod Empty
+pub mod OwnTexts

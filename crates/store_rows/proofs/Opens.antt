@@ -1,6 +1,6 @@
 -- What the rows of a store say where its tables stand for a content.
 use Rattle.std.proofs.Common.{◌≡◌, inl, inr, ℕ, ℤ, pos, Bool, true, false, cond, List, [], ◌∷◌, map}
-use Rattle.std.proofs.Common.{Err, refl, ap, ◌∙◌, arith}
+use Rattle.std.proofs.Common.{Err, refl, sym, ap, subst, ◌∙◌, arith}
 use Rattle.std.specs.FinMap.{entries, int_cmp-IsAntisymmetric}
 use Rattle.std.specs.Cmp.{int_cmp_total}
 use Rattle.ring_words.specs.Spelling.{Reads}
@@ -10,7 +10,7 @@ use Rattle.store_model.specs.Contents.{Contents, meta_of}
 use Rattle.store_model.specs.Entries as rows
 use Rattle.store_model.proofs.Keys.{name_total, name_exact, name_number_total, name_number_exact}
 use Rattle.store_model.proofs.Keys.{seat_total, seat_exact}
-use Rattle.store_rows.specs.Stands.{RingContent, IsHoldable}
+use Rattle.store_rows.specs.Stands.{AreRings, RingContent, IsHoldable}
 use Rattle.store_rows.specs.Stands.{meta_value}
 use Rattle.store_rows.specs.Judging.{AreRowsOf, Judges, StandFor}
 use Rattle.store_rows.specs.Inner.Found.{ReadsRow}
@@ -82,6 +82,20 @@ same_meta f g h k same =
     let hours : pos h ≡ pos k = ap (λ (m : ℤ × rows.Meta). m.1.hour) row in
     let hour : h ≡ k = cc in
     (same_flag f g schema, hour)
+
+-- where the row of `meta` is read as that of a schema, the other rows say the content's rings in it
+pub rings_at : (content : RingContent) (c : Contents) (stand : StandFor c content) (sr : StoreRows)
+    (all : AreRowsOf sr c) (g : Bool) (hour : ℕ)
+    → map meta_of sr.meta.items ≡ (pos 1, meta_value (cond g 1 2) hour) ∷ []
+    → AreRings content.state × SayRings g sr content.state
+rings_at content c stand sr all g hour meta =
+    let held = stand.holdable in
+    let f = schema_of c content stand in
+    let same = same_meta f.0 g content.hour hour (sym (meta_said content held sr c all f.0 f.1) ∙ meta)
+    in (
+      held.rings,
+      subst (λ g. SayRings g sr content.state) same.0 (rings_said content held sr c all f.0 f.1),
+    )
 
 -- Judging fails where reading what each content gives fails.
 pub spelling_judges : {X : Type 0} (Spells : X → Type 0) (c : Contents) (fault : SpellingFault) →

@@ -16,8 +16,9 @@ use Rattle.store_model.specs.Entries as rows
 use Rattle.store_model.specs.Contents.{Contents, device_key, ring_of, device_of, part_of}
 use Rattle.store_model.specs.Contents.{published_of}
 use Rattle.store_model.specs.Changes.{changed_all}
+use Rattle.store_rows.specs.OwnTexts.{HavePublishedOwn}
 use Rattle.store_rows.specs.RingRows.{NamedRings}
-use Rattle.store_rows.specs.Stands.{RingContent, contents_for}
+use Rattle.store_rows.specs.Stands.{AreRings, RingContent, contents_for}
 
 -- ---- which rings a change may lead to
 
@@ -36,6 +37,11 @@ Grows old new = (name : List ℕ) (ring : RingRecord) → ring_at name old ≡ S
 pub record IsChangedAt (name : List ℕ) (old new : NamedRings) : Type 0 where
   pub others : (other : List ℕ) → (other ≡ name → ⊥) → ring_at other new ≡ ring_at other old
   pub grows : Grows old new
+
+-- Where the old rings are such as there are, and published nothing but their own texts, so did the
+-- new ones. So it is after each step of the builder.
+abbrev pub KeepsOwn : NamedRings → NamedRings → Type 0
+KeepsOwn old new = AreRings old → HavePublishedOwn old → HavePublishedOwn new
 
 -- ---- what the changes write
 

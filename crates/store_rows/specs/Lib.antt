@@ -1,5 +1,6 @@
 pub mod RingRows
 pub mod FirstRows
+pub mod OwnTexts
 pub mod Stands
 pub mod Callers
 pub mod Differences

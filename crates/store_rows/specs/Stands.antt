@@ -21,6 +21,7 @@ use Rattle.store_model.specs.Entries as rows
 use Rattle.store_rows.specs.RingRows.{NamedRings, ring_entries, device_entries, published_entries}
 use Rattle.store_rows.specs.RingRows.{part_entries}
 use Rattle.store_rows.specs.FirstRows.{seat_entries, moved_entries}
+use Rattle.store_rows.specs.OwnTexts.{HavePublishedOwn}
 
 -- ---- the book as rows
 
@@ -115,10 +116,12 @@ pub record IsBook (book : List DecidedRequest) : Type 0 where
   pub each : All IsDecision book
   pub rise : AllPairs (λ a b. a.hour ≤ b.hour) book
 
--- A store can hold this content: its rings and its book are such as there are, and its hour is that
--- of the last request. Where there is no request, the hour is the one that the book goes on from.
+-- A store can hold this content: its rings and its book are such as there are, what the rings
+-- published are their own texts, and its hour is that of the last request. Where there is no request,
+-- the hour is the one that the book goes on from.
 pub record IsHoldable (content : RingContent) : Type 0 where
   pub rings : AreRings content.state
+  pub texts : HavePublishedOwn content.state
   pub book : IsBook content.book
   pub hour : last_hour content.hour content.book ≡ content.hour
   pub small : content.hour < long_count

@@ -26,6 +26,7 @@ use crate::naming::RingTables;
 use crate::numbers::number32;
 use crate::proper::rings_are_proper;
 use crate::rings_reading::read_rings;
+use crate::texts::judge_texts;
 use ring_model::{Ring, Rings};
 use ring_words::{Hour, RingName, SpellingFault};
 use std::alloc::{AllocError, Global};
@@ -220,7 +221,8 @@ fn migration(
     Ok(Some(changes))
 }
 
-/// What a store with these rows holds. Bad where they are not those of rings and a book.
+/// What a store with these rows holds. Bad where they are not those of rings and a book, and where a
+/// published text is not its ring's own.
 pub fn judge(alloc: Global, rows: StoreRows) -> Result<Judged, SpellingFault>
     ensures { (c : Contents) → AreRowsOf rows c → Judges c result }
 {
@@ -228,6 +230,7 @@ pub fn judge(alloc: Global, rows: StoreRows) -> Result<Judged, SpellingFault>
     let rings = judge_rings(alloc, is_first, &rows)?;
     rings_are_proper(&rings);
     let (count, callers) = book_at(rows.book, hour)?;
+    judge_texts(alloc, &rings)?;
     let migration = migration(alloc, is_first, &rings)?;
     Ok(Judged {
         rings,

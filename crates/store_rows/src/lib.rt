@@ -23,6 +23,7 @@ mod ring_reading;
 mod ring_rows;
 mod rings_reading;
 mod row_reading;
+mod texts;
 mod written;
 
 pub use books::{FoundBook, ReadBook, read_book};
@@ -30,3 +31,4 @@ pub use callers::Callers;
 pub use change::Change;
 pub use judging::{Judged, StoreRows, judge};
 pub use requests::{DecidedRows, decided_rows, meta_row, read_entries, read_found};
+pub use texts::judge_texts;

@@ -8,14 +8,14 @@ use Rattle.store_model.specs.declared.change.RowChange.{RowChange}
 use Rattle.store_model.specs.declared.rows.MetaRow.{MetaRow}
 use Rattle.store_model.specs.declared.rows.RequestRow.{RequestRow}
 use Rattle.store_rows.specs.RingRows.{NamedRings}
-use Rattle.store_rows.specs.Differences.{IsChangedAt, with_state}
+use Rattle.store_rows.specs.Differences.{IsChangedAt, KeepsOwn, with_state}
 use Rattle.store_rows.specs.Stands.{DecidedRequest, IsHoldable, RingContent, contents_for, gained}
 use Rattle.builder_store.specs.Opening.{Stands}
 use Rattle.builder_store.specs.Standing.{StandsAlone}
 
 -- The content has these rings, so many requests, fewer than it may have, and this hour. The key of
--- the request is new, its hour is not before the content's, and the ring of its command is the only
--- one that the new rings may have otherwise.
+-- the request is new, its hour is not before the content's, the ring of its command is the only one
+-- that the new rings may have otherwise, and what they published are their own texts.
 pub record MayGain (content : RingContent) (rings state : NamedRings) (count limit hour : ℕ)
     (entry : DecidedRequest) : Type 0 where
   pub held : content.state ≡ rings
@@ -25,10 +25,11 @@ pub record MayGain (content : RingContent) (rings state : NamedRings) (count lim
   pub unknown : entry_of entry.key content.book ≡ None
   pub later : content.hour ≤ entry.hour
   pub changed : IsChangedAt entry.command.ring rings state
+  pub published : KeepsOwn rings state
 
 -- The request is the next in a content that a store can hold, that has these rings and so many
--- requests: its key is new, its hour is not before the content's, and the ring of its command is
--- the only one that the new rings may have otherwise.
+-- requests: its key is new, its hour is not before the content's, the ring of its command is the only
+-- one that the new rings may have otherwise, and what they published are their own texts.
 pub record IsNextIn (content : RingContent) (rings state : NamedRings) (count : ℕ)
     (entry : DecidedRequest) : Type 0 where
   pub holdable : IsHoldable content
@@ -37,6 +38,7 @@ pub record IsNextIn (content : RingContent) (rings state : NamedRings) (count : 
   pub unknown : entry_of entry.key content.book ≡ None
   pub later : content.hour ≤ entry.hour
   pub changed : IsChangedAt entry.command.ring rings state
+  pub published : KeepsOwn rings state
 
 -- Written over what stands for the one content, the changes and the rows of a request make what
 -- stands for the other, which a store can hold.

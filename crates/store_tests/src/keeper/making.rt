@@ -3,7 +3,7 @@ use super::deeds::{Make, Run};
 use super::files::{Fused, in_files, new_files};
 use super::rows::{FIRST, LOCKED, RENEWED, RISEN};
 use super::{Ended, run_once};
-use crate::fixtures::check;
+use crate::fixtures::{FIFTH, check, object};
 use builder_store::MakeFault;
 use ring_model::Rings;
 use ring_words::Hour;
@@ -80,4 +80,17 @@ fn stays_as_it_was(alloc: Global) -> Result<bool, Fail> {
 #[test]
 fn where_a_store_is_nothing_is_made(rt: HostRuntime) -> Result<(), Fail> {
     check(stays_as_it_was(rt.alloc()))
+}
+
+/// Whether nothing is made of rings whose text is none of theirs: the files hold no store.
+fn refuses_a_foreign_text(alloc: Global) -> Result<bool, Fail> {
+    let rings = object(alloc, &FIFTH)?;
+    let (fault, files) = in_files(alloc, new_files(alloc), &Make(&rings, 24))?;
+    let none = Rings::new(alloc);
+    Ok(fault == Some(MakeFault::ForeignText) && hold_and_go_on(alloc, files, &none, 0, &[])?)
+}
+
+#[test]
+fn of_rings_with_a_foreign_text_nothing_is_made(rt: HostRuntime) -> Result<(), Fail> {
+    check(refuses_a_foreign_text(rt.alloc()))
 }

@@ -13,7 +13,7 @@ use test_fixtures::rows::WorkedRow;
 
 /// What makes a store of schema 1: its tables, and what they hold once a moved partition's hour has
 /// come. Of four partitions the last one has gone to device 2.
-static OLD_STORE: [&str; 15] = [
+static OLD_STORE: [&str; 16] = [
     "CREATE TABLE meta (one INTEGER NOT NULL, schema INTEGER NOT NULL, \
      hour INTEGER NOT NULL, UNIQUE (one)) STRICT",
     "CREATE TABLE ring (name TEXT NOT NULL, power INTEGER NOT NULL, \
@@ -62,6 +62,10 @@ static OLD_STORE: [&str; 15] = [
     "INSERT INTO request VALUES \
      ('ops', 7, 6, 24, '{\"do\":\"rebalance\",\"ring\":\"object\",\"seed\":7}', \
      '{\"balance\":5000,\"changed\":1,\"dispersion\":0,\"done\":\"rebalance\",\"version\":6}')",
+    "INSERT INTO published VALUES ('object', 5, 'swift-ring-text 1\nring object\nversion 5\n\
+     power 2\nreplicas 1\ndevices 3\n0 1 1 10.0.0.1 6200 100.00 present d0\n\
+     1 1 1 10.0.0.2 6200 100.00 present d1\n2 1 1 10.0.0.3 6200 100.00 present d2\n\
+     seats\n0\n1\n0\n1\nend\n')",
 ];
 
 /// What comes then.
@@ -73,7 +77,7 @@ static LATER: [WorkedRow<'static>; 1] = [(
 )];
 
 /// Changes of one of which no store is left.
-static BREAKS: [&str; 14] = [
+static BREAKS: [&str; 20] = [
     "UPDATE meta SET schema = 3",
     "UPDATE meta SET hour = 23",
     "DELETE FROM meta",
@@ -88,6 +92,12 @@ static BREAKS: [&str; 14] = [
     "UPDATE device SET weight = -1 WHERE id = 0",
     "INSERT INTO ring VALUES ('Upper', 2, 1, 24, 0, 0)",
     "UPDATE device SET removed = 2 WHERE id = 0",
+    "UPDATE published SET version = 4",
+    "UPDATE published SET body = 'text'",
+    "UPDATE published SET body = substr(body, 1, length(body) - 4)",
+    "UPDATE published SET body = 'swift-ring-text 2' || substr(body, 18)",
+    "UPDATE published SET body = 'swift-ring-text 1\nring other' || substr(body, 30)",
+    "UPDATE published SET body = substr(body, 1, length(body) - 6) || '3\nend\n'",
 ];
 
 /// Changes of one of which a text in the rows is no UTF-8.

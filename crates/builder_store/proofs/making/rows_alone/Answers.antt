@@ -8,6 +8,7 @@ returns c = λ hour small.
       prepared_alone c.args.rings.now change.change.0 change.ensures.leads hour,
       record {
         rings = change.ensures.rings;
+        texts = c.requires;
         book = c.nothing_is_holdable.ensures.book;
         hour = refl;
         small = small;

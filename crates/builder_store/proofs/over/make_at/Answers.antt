@@ -4,11 +4,11 @@ use Rattle.sqlite.specs.State.{HasCleanDisk}
 use Rattle.builder_store.specs.Left.{IsMadeOfConnection}
 use Rattle.builder_store.specs.Opening.{AreDeclared}
 use Rattle.builder_store.proofs.Rests.{failure_of_connection, judged_of_connection}
-use Rattle.builder_store.proofs.Rests.{not_connected}
+use Rattle.builder_store.proofs.Rests.{no_foreign, not_connected}
 use Rattle.builder_store.proofs.over.make_at.Goals as goal
 
-pub make_over-requires : goal.make_over-requires
-make_over-requires g c = c.in-Ok.ensures.made.made
+pub make_over-requires-clause-made : goal.make_over-requires-clause-made
+make_over-requires-clause-made g c = c.in-Ok.ensures.made.made
 
 pub returns-in-Ok-make_over-clause-limit : goal.returns-in-Ok-make_over-clause-limit
 returns-in-Ok-make_over-clause-limit g c = c.in-Ok-make_over.ensures.begins.limit
@@ -94,3 +94,7 @@ returns-in-Err-clause-failed g c = λ is. absurd (c.in-Err.ensures.unmade.0
 pub returns-in-Err-make_over-clause-failed : goal.returns-in-Err-make_over-clause-failed
 returns-in-Err-make_over-clause-failed g c = λ is clean. omega
     (arith, c.in-Err-make_over.ensures.refused.failed is clean)
+
+pub returns-in-Err-make_over-clause-foreign : goal.returns-in-Err-make_over-clause-foreign
+returns-in-Err-make_over-clause-foreign g c = no_foreign _ c.in-Err-make_over.fault
+    c.in-Err-make_over.ensures.refused.of_connection

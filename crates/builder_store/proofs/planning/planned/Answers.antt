@@ -1,6 +1,7 @@
-use Rattle.std.proofs.Common.{◌∙◌, ap}
+use Rattle.std.proofs.Common.{◌∙◌, ap, subst}
 use Rattle.store_rows.specs.Differences.{with_state}
-use Rattle.store_rows.specs.Stands.{RingContent}
+use Rattle.store_rows.specs.OwnTexts.{HavePublishedOwn}
+use Rattle.store_rows.specs.Stands.{AreRings, RingContent}
 use Rattle.store_model.specs.Changes.{with_decided}
 use Rattle.builder_store.proofs.planning.planned.Goals as goal
 
@@ -13,6 +14,8 @@ returns c = λ content next.
     record {
       holdable = made.holdable after (record {
         rings = change.rings;
+        texts = next.published (subst AreRings next.held next.holdable.rings)
+            (subst HavePublishedOwn next.held next.holdable.texts);
         book = next.holdable.book;
         hour = next.holdable.hour;
         small = next.holdable.small;

@@ -16,6 +16,8 @@ pub returns-in-Err-clause-unmade : goal.returns-in-Err-clause-unmade
 returns-in-Err-clause-unmade g c = record {
   told = c.make_fault.ensures;
   unjudged = c.in-Err.ensures.unjudged;
+  foreign = c.in-Err.ensures.foreign;
+  unopened = c.in-Err.ensures.unopened;
   untouched = c.in-Err.ensures.untouched;
   connected = c.in-Err.ensures.connected;
   unconnected = c.in-Err.ensures.unconnected;

@@ -2,11 +2,11 @@ use Rattle.std.proofs.Common.{◌≡◌, ap, length, map, subst, sym, refl, ◌�
 use Rattle.std.proofs.lemmas.Result.{err_from_is_err_and}
 use Rattle.store_model.specs.Contents.{Contents, meta_of}
 use Rattle.request_book.specs.Run.{last_hour}
+use Rattle.store_rows.specs.OwnTexts.{HavePublishedOwn}
 use Rattle.store_rows.specs.RingRows.{NamedRings}
 use Rattle.store_rows.specs.Stands.{RingContent}
-use Rattle.store_rows.specs.Inner.Sayings.{SayRings}
 use Rattle.store_rows.proofs.FoundRows.{stands, found_in}
-use Rattle.store_rows.proofs.Opens.{meta_said, rings_said, rows_judge, same_meta, schema_of}
+use Rattle.store_rows.proofs.Opens.{meta_said, rings_at, rows_judge, same_meta, schema_of}
 use Rattle.store_rows.proofs.Opens.{spelling_judges}
 use Rattle.store_rows.proofs.Used.{some_bounds}
 use Rattle.store_rows.proofs.judging.judge.Goals as goal
@@ -27,6 +27,7 @@ returns c = λ t all.
       record {
         holdable = record {
           rings = c.rings_are_proper.ensures;
+          texts = c.in_ok-judge_texts.ensures;
           book = found.1;
           hour = found.3;
           small = omega arith;
@@ -59,16 +60,10 @@ returns-in_err-rings c = λ t all.
     let p = err_from_is_err_and r.result r.ensures.1 in
     let meta = ap (map meta_of) (sym c.deref.ensures.value) ∙ c.in_ok-is_first.ensures.0 in
     rw (p.1, p.2) (rows_judge (λ (rings : NamedRings). rings) _ t c.in_err-rings.field-0.0
-    c.in_err-rings.ensures.finds (λ content stand.
-    let f = schema_of t content stand in
-    let same = same_meta f.0 c.in_ok-is_first.is_first content.hour c.in_ok-is_first.hour
-    (sym (meta_said content stand.holdable c.args.rows t all f.0 f.1) ∙ meta) in (
+    c.in_err-rings.ensures.finds (λ content stand. (
       content.state,
-      (
-        stand.holdable.rings,
-        subst (λ g. SayRings g c.args.rows content.state) same.0 (rings_said content
-            stand.holdable c.args.rows t all f.0 f.1),
-      ),
+      rings_at content t stand
+          c.args.rows all c.in_ok-is_first.is_first c.in_ok-is_first.hour meta,
     )))
 
 pub returns-in_err-count : goal.returns-in_err-count
@@ -90,4 +85,17 @@ returns-in_err-count c = λ t all.
         refl,
         (some_bounds content.book).1,
       ),
+    )))
+
+pub returns-in_err-judge_texts : goal.returns-in_err-judge_texts
+returns-in_err-judge_texts c = λ t all.
+    let r = c.from_residual-in_err-judge_texts in
+    let p = err_from_is_err_and r.result r.ensures.1 in
+    let meta = ap (map meta_of) (sym c.deref.ensures.value) ∙ c.in_ok-is_first.ensures.0 in
+    rw (p.1, p.2) (spelling_judges (λ (_ : Unit {0}). HavePublishedOwn c.in_ok-rings.rings) t
+    c.in_err-judge_texts.field-0.0 c.in_err-judge_texts.ensures (λ content stand. (
+      tt,
+      subst
+          HavePublishedOwn (c.in_ok-rings.ensures.finds content.state (rings_at content t stand
+          c.args.rows all c.in_ok-is_first.is_first c.in_ok-is_first.hour meta)) stand.holdable.texts,
     )))

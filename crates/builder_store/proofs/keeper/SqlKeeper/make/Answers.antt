@@ -2,6 +2,7 @@ use Rattle.std.proofs.Common.{arith, inl, inr, subst, sym}
 use Rattle.sqlite.specs.Held.{state}
 use Rattle.sqlite.specs.State.{HasCleanDisk}
 use Rattle.builder_store.specs.Opening.{AreDeclared}
+use Rattle.builder_store.proofs.Rests.{no_foreign, only_taken}
 use Rattle.builder_store.proofs.Taking.{met_before}
 use Rattle.builder_store.proofs.keeper.SqlKeeper.make.Goals as goal
 
@@ -39,8 +40,10 @@ pub returns-in-Err-make_over-clause-stays : goal.returns-in-Err-make_over-clause
 returns-in-Err-make_over-clause-stays g c = λ failed clean db left.
     let mid = state g.S.Store c.in-Ok.conn in
     let before : HasCleanDisk mid = omega (arith, c.in-Err-make_over.ensures.refused.clean, clean) in
+    let taken = only_taken c.in-Err-make_over.fault failed
+    c.in-Err-make_over.ensures.refused.of_connection in
     c.in-Ok.ensures.crash before db (subst (λ t. mid.may_leave t) (sym
-    (c.in-Err-make_over.ensures.refused.stays failed clean db left))
+    (c.in-Err-make_over.ensures.refused.stays taken clean db left))
     (g.met.S.Store.stays c.in-Ok.conn.store (c.in-Ok.ensures.fresh before).is_open))
 
 pub returns-in-Err-make_over-clause-crash : goal.returns-in-Err-make_over-clause-crash
@@ -53,10 +56,14 @@ returns-in-Err-make_over-clause-crash g c = λ clean db left.
       | inr made ↦ inr made
     ]
 
-pub returns-in-Err-clause-failed : goal.returns-in-Err-clause-failed
-returns-in-Err-clause-failed g c = λ told clean. met_before (state g.S.Store c.args.conn) _
-    c.in-Err.error _ c.fault_of.ensures.which (c.in-Err.ensures.cause clean) told
+pub returns-in-Err-take_over-clause-failed : goal.returns-in-Err-take_over-clause-failed
+returns-in-Err-take_over-clause-failed g c = λ told clean. met_before (state g.S.Store c.args.conn) _
+    c.in-Err-take_over.error _ c.fault_of.ensures.which (c.in-Err-take_over.ensures.cause clean) told
 
 pub returns-in-Err-make_over-clause-failed : goal.returns-in-Err-make_over-clause-failed
 returns-in-Err-make_over-clause-failed g c = λ told clean.
     inl (omega (arith, c.in-Err-make_over.ensures.refused.failed told clean))
+
+pub returns-in-Err-make_over-clause-foreign : goal.returns-in-Err-make_over-clause-foreign
+returns-in-Err-make_over-clause-foreign g c = no_foreign _ c.in-Err-make_over.fault
+    c.in-Err-make_over.ensures.refused.of_connection

@@ -53,7 +53,7 @@ returns-in-Ok-clause-begins g c =
           let still : HasCleanDisk new = subst (λ h. HasCleanDisk (state g.S.Store h)) is.same
           clean in
           let before : HasCleanDisk old = omega (arith, c.in-Ok.ensures.survives.clean, still) in
-          let fresh = c.requires.fresh before in
+          let fresh = c.requires.made.fresh before in
           let sound = subst (λ (d : Database). IsDatabase (record {
             schema = old.now.schema;
             trees = d.trees;
@@ -75,20 +75,20 @@ returns-in-Err-clause-refused g c =
       clean = survives.clean;
       unjudged = c.in-Err.ensures.unjudged;
       of_connection = c.in-Err.ensures.of_connection;
-      failed = λ is clean. met_while_open old new (c.requires.fresh (before clean)).is_open
+      failed = λ is clean. met_while_open old new (c.requires.made.fresh (before clean)).is_open
           (c.in-Err.ensures.failed clean is);
       taken = λ is clean declared.
-          let fresh = c.requires.fresh (before clean) in
+          let fresh = c.requires.made.fresh (before clean) in
           let listed : Lists (old.now.trees catalog_tree) no_tables = subst
           (λ (d : Database). Lists (d.trees catalog_tree) no_tables) (sym fresh.committed)
           declared.1.lists in
           (c.in-Err.ensures.taken (ap Err is)).1 (lists_once (old.now.trees catalog_tree)
           old.now.schema no_tables (fresh.live fresh.is_open).0.lists listed);
-      stays = λ is clean db may. g.met.S.Store.settled c.args.conn.store db (c.requires.fresh
+      stays = λ is clean db may. g.met.S.Store.settled c.args.conn.store db (c.requires.made.fresh
           (before clean)).is_open (subst (λ conn. (state g.S.Store conn).may_leave db)
           (c.in-Err.ensures.taken (ap Err is)).0 may);
       crash = λ clean db may. elim (survives.crash clean db may) [
-        | inl was ↦ inl (g.met.S.Store.settled c.args.conn.store db (c.requires.fresh
+        | inl was ↦ inl (g.met.S.Store.settled c.args.conn.store db (c.requires.made.fresh
             (before clean)).is_open was)
         | inr made ↦ inr made
       ];
