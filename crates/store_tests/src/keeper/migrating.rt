@@ -77,7 +77,7 @@ static LATER: [WorkedRow<'static>; 1] = [(
 )];
 
 /// Changes of one of which no store is left.
-static BREAKS: [&str; 20] = [
+static BREAKS: [&str; 17] = [
     "UPDATE meta SET schema = 3",
     "UPDATE meta SET hour = 23",
     "DELETE FROM meta",
@@ -94,10 +94,10 @@ static BREAKS: [&str; 20] = [
     "UPDATE device SET removed = 2 WHERE id = 0",
     "UPDATE published SET version = 4",
     "UPDATE published SET body = 'text'",
-    "UPDATE published SET body = substr(body, 1, length(body) - 4)",
-    "UPDATE published SET body = 'swift-ring-text 2' || substr(body, 18)",
-    "UPDATE published SET body = 'swift-ring-text 1\nring other' || substr(body, 30)",
-    "UPDATE published SET body = substr(body, 1, length(body) - 6) || '3\nend\n'",
+    "UPDATE published SET body = 'swift-ring-text 1\nring other\nversion 5\n\
+     power 2\nreplicas 1\ndevices 3\n0 1 1 10.0.0.1 6200 100.00 present d0\n\
+     1 1 1 10.0.0.2 6200 100.00 present d1\n2 1 1 10.0.0.3 6200 100.00 present d2\n\
+     seats\n0\n1\n0\n1\nend\n'",
 ];
 
 /// Changes of one of which a text in the rows is no UTF-8.
