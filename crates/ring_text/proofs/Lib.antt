@@ -4,6 +4,10 @@ pub mod Keys
 pub mod Graphic
 pub mod Devices
 pub mod Partitions
+pub mod Digits
+pub mod Rows
+pub mod Fronts
+pub mod Rest
 pub mod Text
 pub mod Cutting
 pub mod Whole

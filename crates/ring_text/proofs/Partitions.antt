@@ -6,7 +6,7 @@ use Rattle.std.proofs.Common.{ap₂, ◌∙◌, arith}
 use Rattle.std.specs.Prelude.{All, ◌==◌}
 use Rattle.std.specs.List.{join_with_byte, slice_split, slice_range, range_with_len}
 use Rattle.std.proofs.lemmas.List.{get_or-map, length-map, length-append, length-take-le}
-use Rattle.std.proofs.lemmas.List.{length-drop, map_more, map_push, take_all, drop_at}
+use Rattle.std.proofs.lemmas.List.{length-drop, map_push, take_all, drop_at}
 use Rattle.std.proofs.lemmas.List.{take-append-le, drop-append-le}
 use Rattle.std.proofs.lemmas.List.Elements.{All-head, All-tail, All-get_or, All-weaker, All-map}
 use Rattle.std.proofs.lemmas.List.Elements.{All-append, All-take, All-drop}
@@ -41,7 +41,7 @@ number_inside words i word ns lt are =
     (λ (x : List (List ℕ)). text_at x i) are.are ∙ get_or-map decimal ns i 0 [] below in
     (n, record { is = at; above = omega arith; below = omega arith })
 
-graphic-numbers : (ns : List ℕ) → All (λ n. n < 2 ^ 16) ns → All AreGraphic (map decimal ns)
+pub graphic-numbers : (ns : List ℕ) → All (λ n. n < 2 ^ 16) ns → All AreGraphic (map decimal ns)
 graphic-numbers ns small = All-map AreGraphic decimal ns (All-weaker (λ (n : ℕ). n < 2 ^ 16)
     (λ n. AreGraphic (decimal n)) (λ n lt. graphic-decimal n (omega arith)) ns small)
 
@@ -200,25 +200,3 @@ same_seats replicas texts a b some h i =
         rw more (take-add (k * replicas) replicas a ∙ ap₂ (λ (x y : List ℕ). x ++
         y) (go k (omega arith)) (row k (omega arith)) ∙ sym (take-add (k * replicas) replicas
         b))
-
--- ---- while the lines are read
-
-pub seats_pushed : (replicas : ℕ) (lines : List (Bor (List ℕ))) (i : ℕ) (line : Bor (List ℕ))
-    (seats row : List ℕ) → i < length lines →
-    ArePartitionLines replicas (map (λ l. l.now) (take i lines)) seats
-    → IsPartitionLine replicas (get_or lines i line).now row →
-    ArePartitionLines replicas (map (λ l. l.now) (take (i + 1) lines)) (seats ++ row)
-seats_pushed replicas lines i line seats row lt are is =
-    rw (map_more (λ (l : Bor (List ℕ)). l.now) lines i line lt)
-    (seats_more replicas (map (λ l. l.now) (take i lines)) seats (get_or lines i line).now row are
-    is)
-
-pub partition_inside : (replicas : ℕ) (lines : List (Bor (List ℕ))) (i : ℕ) (line : Bor (List ℕ))
-    (seats : List ℕ) → i < length lines → ArePartitionLines replicas (map (λ l. l.now) lines) seats
-    → (row : List ℕ) × IsPartitionLine replicas (get_or lines i line).now row
-partition_inside replicas lines i line seats lt are =
-    let long : i < length (map (λ (l : Bor (List ℕ)). l.now) lines) = rw length-map lt in (
-      slice_range seats (i * replicas) (i * replicas + replicas),
-      rw (get_or-map (λ (l : Bor (List ℕ)). l.now) lines i line [] lt) at
-          (partition_within replicas (map (λ l. l.now) lines) seats i long are),
-    )

@@ -128,7 +128,7 @@ printed (w ∷ v ∷ words) h =
     (All-cons IsPrinted 32 (joined (v ∷ words)) (lit≤ tt, lit< tt)
     (printed (v ∷ words) (All-tail AreGraphic w (v ∷ words) h)))
 
-no_feed : (words : Words) → AreWords words → Lacks 10 (joined words)
+pub no_feed : (words : Words) → AreWords words → Lacks 10 (joined words)
 no_feed words h = All-weaker IsPrinted (λ b. (b == 10) ≡ false)
     (λ b p. ne_eqb b 10 (λ e. omega (arith, e, p.0))) (joined words) (printed words h)
 

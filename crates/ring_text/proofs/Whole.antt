@@ -1,9 +1,9 @@
 -- The first lines of a text, and what they say of the rest.
-use Rattle.std.proofs.Common.{lit<, ◌≡◌, ℕ, ◌^◌, ◌<◌, ◌≤◌, List, [], ◌∷◌, ◌++◌, length, take, drop}
+use Rattle.std.proofs.Common.{lit<, ◌≡◌, ℕ, ◌^◌, ◌<◌, List, [], ◌∷◌, ◌++◌, length, take, drop}
 use Rattle.std.proofs.Common.{map, decimal, refl, sym, ap, ap₂, subst, ◌∙◌, append_assoc, arith}
 use Rattle.std.specs.Prelude.{codes}
 use Rattle.std.specs.List.{join_with_byte}
-use Rattle.std.proofs.lemmas.List.{map-append, length-map, length-append, take_at, drop_at}
+use Rattle.std.proofs.lemmas.List.{map-append, length-map, take_at, drop_at}
 use Rattle.std.proofs.lemmas.List.{take-append-drop, append_cancel_left}
 use Rattle.std.proofs.lemmas.List.FromFn.{length-range_with_len}
 use Rattle.ring_words.proofs.Decimals.{same_number}
@@ -129,14 +129,6 @@ parts_are ts g x s tells cut are =
             seats_below s v;
       });
     }
-
-pub at_least_six : (ts : Texts) (s : SnapshotRecord) → AreRingLines ts s → 6 ≤ length ts
-at_least_six ts s are = omega (
-  arith,
-  ap (λ (t : Texts). length t) (whole_text ts s are),
-  length-append (first_texts s) (last_texts s),
-  length-first_texts s,
-)
 
 pub head_within : (ts : Texts) (s : SnapshotRecord) → AreRingLines ts s →
     IsHead (take 6 ts) (head_of s)

@@ -9,6 +9,7 @@
 mod head;
 pub mod laws;
 mod lines;
+mod partition;
 mod read;
 mod state;
 mod stops;

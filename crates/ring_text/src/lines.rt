@@ -3,7 +3,7 @@ ghost use Rattle.std.specs.Prelude.{◌≡◌, length, map};
 ghost use Rattle.ring_words.specs.Spelling.{Reads};
 ghost use Rattle.ring_words.specs.Inner.ReadsAs.{ReadsAs};
 ghost use Rattle.ring_text.specs.Inner.Reading.{IsDevice, IsDeviceLine, AreDeviceLines, AreNumbers};
-ghost use Rattle.ring_text.specs.Inner.Reading.{IsPartitionLine, ArePartitionLines};
+ghost use Rattle.ring_text.specs.Inner.Reading.{IsPartitionLine};
 
 use crate::TextFault;
 use crate::words::{parts_of, state, text_at};
@@ -86,21 +86,4 @@ pub(crate) fn partition_at(
         return Err(TextFault::Bad);
     }
     numbers_of(alloc, &words)
-}
-
-/// The seats of lines, a line for each partition.
-pub(crate) fn seats_of(
-    alloc: Global,
-    lines: &[&str],
-    replicas: Replicas,
-) -> Result<Vec<DeviceId>, TextFault>
-    ensures { ReadsAs (λ seats. seats.items) (ArePartitionLines replicas (map (λ line. line.now)
-        lines.now)) result }
-{
-    let mut seats = Vec::new(alloc);
-    for line in lines {
-        let numbers = partition_at(alloc, line, replicas)?;
-        seats.extend_from_slice(&numbers)?;
-    }
-    Ok(seats)
 }

@@ -1,50 +1,48 @@
 //! From bytes to the snapshot that they spell.
-ghost use Rattle.std.specs.Prelude.{◌^◌, ◌≤◌, map};
-ghost use Rattle.ring_words.specs.Limits.{most_partitions};
+ghost use Rattle.std.specs.Prelude.{◌≡◌, ◌==◌, ◌↔◌, ℕ, IsTrue, List, codes};
+ghost use Rattle.std.specs.List.{slice_split};
 ghost use Rattle.ring_text.specs.Spelling.{Spells};
-ghost use Rattle.ring_text.specs.Inner.Reading.{AreRingLines, IsCut, IsMadeOfLines};
+ghost use Rattle.ring_text.specs.Inner.Reading.{AreRingLines, IsMadeOfLines, IsRest};
 ghost use Rattle.ring_words.specs.Spelling.{Reads};
+ghost use Rattle.ring_words.specs.declared.device.Device.{Device};
 ghost use Rattle.ring_words.specs.Inner.ReadsAs.{ReadsAs};
 
 use crate::TextFault;
 use crate::head::{FIRST_LINES, Head, read_head};
-use crate::lines::{devices_of, seats_of};
+use crate::lines::devices_of;
+use crate::partition::seats_of;
 use crate::state::Snapshot;
 use crate::taking::snapshot;
-use crate::words::{parts_of, text_at};
+use crate::words::{after, front_lines};
 use ring_model::{BuildFault, Ring, RingParts};
 use ring_words::{Device, DeviceId, MOST_IDS, partition_count};
 use std::alloc::Global;
 
-/// The lines of the devices and those of the partitions, among the lines that follow the first.
-fn cut<'a>(
-    lines: &'a [&'a str],
-    devices: u16,
-    partitions: usize,
-) -> Result<(&'a [&'a str], &'a [&'a str]), TextFault>
-    requires { partitions ≤ most_partitions }
-    ensures { ReadsAs (λ parts. (
-      map (λ line. line.now) parts.0.now,
-      map (λ line. line.now) parts.1.now,
-    )) (IsCut devices partitions (map (λ line. line.now)
-        lines.now)) result }
+/// Whether a text is its last line alone.
+fn is_end(text: &[u8]) -> bool
+    ensures { IsTrue result ↔ (text.now ≡ codes "end\n") }
 {
-    let devices = usize::from(devices);
-    if lines.len() != devices + partitions + 3 {
+    text == b"end\n".as_slice()
+}
+
+/// The devices and the seats of the lines behind the first ones.
+fn read_rest(
+    alloc: Global,
+    text: &str,
+    head: &Head,
+) -> Result<(Vec<Device>, Vec<DeviceId>), TextFault>
+    ensures { ReadsAs {Y = List Device × List ℕ} (λ x. (x.0.items, x.1.items)) (λ x. IsRest head.now
+        (slice_split (λ b. b == 10) text.now) x.0 x.1) result }
+{
+    let (lines, rest) = front_lines(alloc, text, usize::from(head.devices))?;
+    let rest = after(rest, "seats\n")?;
+    let partitions = partition_count(head.power);
+    let (seats, rest) = seats_of(alloc, rest.as_bytes(), partitions, head.replicas)?;
+    if !is_end(rest) {
         return Err(TextFault::Bad);
     }
-    let (first, rest) = lines.split_at(devices);
-    let (middle, last) = rest.split_at(partitions + 1);
-    if text_at(middle, 0) != "seats" {
-        return Err(TextFault::Bad);
-    }
-    if text_at(last, 0) != "end" {
-        return Err(TextFault::Bad);
-    }
-    if !text_at(last, 1).is_empty() {
-        return Err(TextFault::Bad);
-    }
-    Ok((first, &middle[1..]))
+    let devices = devices_of(alloc, &lines)?;
+    Ok((devices, seats))
 }
 
 /// The snapshot of these parts, if they are those of a ring.
@@ -78,18 +76,13 @@ fn checked(
     Ok(snapshot(alloc, &head.name, &ring)?)
 }
 
-/// The snapshot of lines.
-fn read_lines(alloc: Global, lines: &[&str]) -> Result<Snapshot, TextFault>
-    ensures { Reads (AreRingLines (map (λ line. line.now) lines.now)) result }
+/// The snapshot of a text.
+fn read_text(alloc: Global, text: &str) -> Result<Snapshot, TextFault>
+    ensures { Reads (AreRingLines (slice_split (λ b. b == 10) text.now)) result }
 {
-    if lines.len() < FIRST_LINES {
-        return Err(TextFault::Bad);
-    }
-    let (first, rest) = lines.split_at(FIRST_LINES);
-    let head = read_head(alloc, first)?;
-    let (device_lines, partition_lines) = cut(rest, head.devices, partition_count(head.power))?;
-    let devices = devices_of(alloc, device_lines)?;
-    let seats = seats_of(alloc, partition_lines, head.replicas)?;
+    let (first, rest) = front_lines(alloc, text, FIRST_LINES)?;
+    let head = read_head(alloc, &first)?;
+    let (devices, seats) = read_rest(alloc, rest, &head)?;
     checked(alloc, head, devices, seats)
 }
 
@@ -100,6 +93,5 @@ pub fn read_ring(alloc: Global, bytes: &[u8]) -> Result<Snapshot, TextFault>
     let Ok(text) = str::from_utf8(bytes) else {
         return Err(TextFault::Bad);
     };
-    let lines = parts_of(alloc, text, '\n')?;
-    read_lines(alloc, &lines)
+    read_text(alloc, text)
 }

@@ -1,7 +1,7 @@
-//! The words of a line, and what follows a key at its front.
+//! The lines of a text, the words of a line, and what follows a key at its front.
 ghost use Rattle.std.specs.Prelude.{◌≡◌, ℕ, ◌<◌, ◌++◌, ◌==◌, List, [], IfOk, IsErrOf, length, map};
 ghost use Rattle.std.specs.List.{slice_split};
-ghost use Rattle.ring_text.specs.Inner.Reading.{IsNumberAfter, IsNameAfter, text_at};
+ghost use Rattle.ring_text.specs.Inner.Reading.{HasLines, IsNumberAfter, IsNameAfter, text_at};
 ghost use Rattle.ring_words.specs.Spelling.{Reads};
 ghost use Rattle.ring_words.specs.declared.spelling.SpellingFault.TheVariants.{Bad, NoMemory};
 ghost use Rattle.ring_words.specs.Inner.ReadsAs.{ReadsAs};
@@ -18,6 +18,29 @@ pub(crate) fn parts_of(alloc: Global, text: &str, separator: char) -> Result<Vec
         (λ b. b == separator) text.now) }
 {
     text.split(separator).collect(alloc)
+}
+
+/// The first lines of a text, so many, and what follows them.
+pub(crate) fn front_lines(
+    alloc: Global,
+    text: &str,
+    count: usize,
+) -> Result<(Vec<&str>, &str), TextFault>
+    ensures read { IfOk result (λ x. HasLines count text.now (map (λ line. line.now) x.0.items)
+        x.1.now) }
+    ensures bad { IsErrOf result Bad → (texts more : List (List ℕ)) → slice_split (λ b. b == 10)
+        text.now ≡ texts ++ more → 0 < length more → length texts ≡ count → ⊥ }
+{
+    let mut lines = Vec::new(alloc);
+    let mut rest = text;
+    for _line in 0..count {
+        let Some((line, next)) = rest.split_once('\n') else {
+            return Err(TextFault::Bad);
+        };
+        lines.push(line)?;
+        rest = next;
+    }
+    Ok((lines, rest))
 }
 
 /// One of some texts, by its place.
@@ -40,9 +63,9 @@ pub(crate) fn state(word: &str) -> Result<bool, TextFault>
     }
 }
 
-/// What follows a key at the front of a line. It asks for no memory, as all of this file that take
-/// no allocator.
-fn after<'a>(line: &'a str, key: &str) -> Result<&'a str, TextFault>
+/// What follows a key at the front of a line, or of a text. It asks for no memory, as all of this
+/// file that take no allocator.
+pub(crate) fn after<'a>(line: &'a str, key: &str) -> Result<&'a str, TextFault>
     ensures read { ReadsAs (λ rest. rest.now) (λ rest. line.now ≡ key.now ++ rest) result }
     ensures memory { IsErrOf result NoMemory → ⊥ }
 {

@@ -3,7 +3,9 @@ use Rattle.std.specs.Prelude.{◌≡◌, ℕ, ◌*◌, ◌≤◌, ◌<◌, ◌++
 use Rattle.ring_words.specs.Limits.{greatest_long, greatest_power, greatest_short, short_count}
 use Rattle.ring_words.specs.Limits.{most_replicas}
 use Rattle.std.specs.Prelude.{slice_index_or, IsTrue, All, codes, decimal}
-use Rattle.std.specs.List.{join_with_byte}
+use Rattle.std.specs.Prelude.{◌+◌, ◌-◌, ◌^◌, ◌==◌, drop, slice_index, take}
+use Rattle.std.specs.List.{join_with_byte, slice_split}
+use Rattle.std.specs.Str.Parse.{AllDigits, digits_value}
 use Rattle.ring_words.specs.Rows.{IsProperRow}
 use Rattle.ring_words.specs.Texts.{is_label, is_device_name}
 use Rattle.ring_words.specs.declared.device.Device.{Device}
@@ -78,6 +80,48 @@ pub record ArePartitionLines (replicas : ℕ) (texts : List (List ℕ)) (seats :
   pub count : length seats ≡ length texts * replicas
   pub limits : All (λ n. n < short_count) seats
 
+-- These are the digits from a place of a text on, and their number.
+pub record AreDigitsAt (text : List ℕ) (from end number : ℕ) : Type 0 where
+  pub after : from ≤ end
+  pub within : end ≤ length text
+  pub few : end ≤ from + 5
+  pub digits : AllDigits 10 (take (end - from) (drop from text))
+  pub value : number ≡ digits_value 10 (take (end - from) (drop from text))
+
+-- The digits from a place of a text to another are the one spelling of a number of 16 bits.
+pub record AreShort (text : List ℕ) (from end number : ℕ) : Type 0 where
+  pub some : from < end
+  pub first : slice_index text from ≡ 48 → end ≡ from + 1
+  pub below : number ≤ greatest_short
+
+-- From a place on there is this number, a separator, and what stands from another place on.
+pub record IsNumberAt (text : List ℕ) (from separator n next : ℕ) : Type 0 where
+  pub is : drop from text ≡ decimal n ++ separator ∷ drop next text
+  pub below : n ≤ greatest_short
+  pub within : next ≤ length text
+
+-- The text begins with the line of a partition with so many replicas on these devices, and goes on
+-- so.
+pub record BeginsWithPartition (replicas : ℕ) (text row rest : List ℕ) : Type 0 where
+  pub line : List ℕ
+  pub joined : text ≡ line ++ 10 ∷ rest
+  pub is : IsPartitionLine replicas line row
+
+-- From a place to another there is the line of a partition, whose devices stand behind the seats.
+pub record IsPartitionAt (replicas : ℕ) (text : List ℕ) (from next : ℕ) (old new : List ℕ) : Type 0
+  where
+    pub row : List ℕ
+    pub begins : BeginsWithPartition replicas (drop from text) row (drop next text)
+    pub pushed : new ≡ old ++ row
+    pub within : next ≤ length text
+
+-- The text begins with the lines of so many partitions with these seats, and goes on so.
+pub record HasPartitions (partitions replicas : ℕ) (text seats rest : List ℕ) : Type 0 where
+  pub texts : List (List ℕ)
+  pub lines : slice_split (λ b. b == 10) text ≡ texts ++ slice_split (λ b. b == 10) rest
+  pub count : length texts ≡ partitions
+  pub are : ArePartitionLines replicas texts seats
+
 -- What follows the first lines is so many lines of devices, so many lines of partitions, and what
 -- stands round these.
 pub record IsCut (device_count partition_count : ℕ) (texts : List (List ℕ)) (parts : List (List ℕ) ×
@@ -85,6 +129,20 @@ pub record IsCut (device_count partition_count : ℕ) (texts : List (List ℕ)) 
   pub is : texts ≡ parts.0 ++ codes "seats" ∷ (parts.1 ++ codes "end" ∷ [] ∷ [])
   pub devices : length parts.0 ≡ device_count
   pub partitions : length parts.1 ≡ partition_count
+
+-- The text has these lines in front, so many, and goes on so.
+pub record HasLines (count : ℕ) (text : List ℕ) (texts : List (List ℕ)) (rest : List ℕ) : Type 0
+  where
+    pub lines : slice_split (λ b. b == 10) text ≡ texts ++ slice_split (λ b. b == 10) rest
+    pub size : length texts ≡ count
+
+-- Behind the first lines these devices and these seats follow, and nothing else.
+pub record IsRest (head : Head) (texts : List (List ℕ)) (devices : List Device) (seats : List ℕ) :
+    Type 0 where
+  pub parts : List (List ℕ) × List (List ℕ)
+  pub cut : IsCut head.devices (2 ^ head.power) texts parts
+  pub first : AreDeviceLines parts.0 devices
+  pub second : ArePartitionLines head.replicas parts.1 seats
 
 -- the snapshot that these parts make
 abbrev pub made : Head → List Device → List ℕ → SnapshotRecord

@@ -1,3 +1,4 @@
+use Rattle.std.proofs.Common.{refl}
 use Rattle.ring_text.specs.Spelling.{Spells}
 use Rattle.ring_text.specs.Inner.Reading.{AreRingLines}
 use Rattle.ring_words.proofs.Spelled.{reads_same}
@@ -11,7 +12,6 @@ returns-in_default c = λ s spells. c.in_default.ensures.cases.0 (text_is_utf8 c
 pub returns : goal.returns
 returns c =
     let bytes = c.args.bytes.now in
-    let lines = rw c.in-Ok.ensures.cases.0 at c.in_ok-lines.ensures in
-    reads_same (AreRingLines _) (Spells bytes) c.read_lines.result (λ s. text_of_lines bytes _ s
-    lines)
-    (λ s. lines_of_text bytes _ s lines) (rw c.deref.ensures.value at c.read_lines.ensures)
+    reads_same (AreRingLines _) (Spells bytes) c.read_text.result (λ s. text_of_lines bytes _ s
+    refl)
+    (λ s. lines_of_text bytes _ s refl) (rw c.in-Ok.ensures.cases.0 at c.read_text.ensures)
