@@ -12,7 +12,7 @@ use Rattle.ring_words.specs.declared.spelling.SpellingFault.TheVariants.{Bad, No
 use Rattle.ring_words.specs.Spelling.{Reads}
 use Rattle.ring_text.specs.Snapshot.{SnapshotRecord}
 use Rattle.ring_text.specs.Inner.Reading.{AreDeviceLines, AreRingLines, HasLines, HasPartitions}
-use Rattle.ring_text.specs.Inner.Reading.{IsHead, IsRest}
+use Rattle.ring_text.specs.Inner.Reading.{FollowHead, IsHead}
 use Rattle.ring_text.specs.Inner.Stopping.{last_texts, seat_texts, texts_of_devices}
 use Rattle.ring_text.specs.Inner.Stopping.{texts_of_partitions}
 use Rattle.ring_text.specs.declared.head.Head.{Head}
@@ -48,7 +48,7 @@ last_lines = codes "end" ∷ [] ∷ []
 
 -- before the lines of partitions there is the word for seats
 pub seats_follow : (head : Head) (text rest : List ℕ) (lines : Texts) (ds : List Device)
-    (seats : List ℕ) → HasLines head.devices text lines rest → IsRest head (lines_of text) ds seats
+    (seats : List ℕ) → HasLines head.devices text lines rest → FollowHead head (lines_of text) ds seats
     → (more : List ℕ) × (rest ≡ codes "seats\n" ++ more)
 seats_follow head text rest lines ds seats has is =
     let tail : Texts = is.parts.1 ++ last_lines in
@@ -67,7 +67,7 @@ pub record AreTheParts (more : List ℕ) (lines first second : Texts) : Type 0 w
 
 pub parts_found : (head : Head) (text rest more : List ℕ) (lines : Texts) (ds : List Device)
     (seats : List ℕ) → HasLines head.devices text lines rest → rest ≡ codes "seats\n" ++ more →
-    (is : IsRest head (lines_of text) ds seats) → AreTheParts more lines is.parts.0 is.parts.1
+    (is : FollowHead head (lines_of text) ds seats) → AreTheParts more lines is.parts.0 is.parts.1
 parts_found head text rest more lines ds seats has e is =
     let cut = front_is head.devices text rest lines is.parts.0 (codes "seats" ∷
     (is.parts.1 ++ last_lines)) has is.cut.is is.cut.devices in
@@ -86,7 +86,7 @@ end_follows partitions replicas more last seats second has e size =
 pub rest_is : (head : Head) (text rest more last : List ℕ) (lines : Texts) (ds : List Device)
     (seats : List ℕ) → HasLines head.devices text lines rest → rest ≡ codes "seats\n" ++ more →
     HasPartitions (2 ^ head.power) head.replicas more seats last → last ≡ codes "end\n" →
-    AreDeviceLines lines ds → IsRest head (lines_of text) ds seats
+    AreDeviceLines lines ds → FollowHead head (lines_of text) ds seats
 rest_is head text rest more last lines ds seats has e partitions end devices = record {
   parts = (lines, partitions.texts);
   cut = record {
@@ -120,7 +120,7 @@ pub more_than_six : (s : SnapshotRecord) → 0 < length (last_texts s)
 more_than_six s = omega (arith, length-append (texts_of_devices s) (seat_texts s))
 
 pub rest_within : (texts : Texts) (head : Head) (s : SnapshotRecord) → IsHead (take 6 texts) head →
-    AreRingLines texts s → IsRest head (drop 6 texts) s.devices s.seats
+    AreRingLines texts s → FollowHead head (drop 6 texts) s.devices s.seats
 rest_within texts head s tells are =
     let pair : Texts × Texts = (texts_of_devices s, texts_of_partitions s) in
     let cut = cut_within texts head s tells are in

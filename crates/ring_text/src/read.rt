@@ -2,7 +2,7 @@
 ghost use Rattle.std.specs.Prelude.{◌≡◌, ◌==◌, ◌↔◌, ℕ, IsTrue, List, codes};
 ghost use Rattle.std.specs.List.{slice_split};
 ghost use Rattle.ring_text.specs.Spelling.{Spells};
-ghost use Rattle.ring_text.specs.Inner.Reading.{AreRingLines, IsMadeOfLines, IsRest};
+ghost use Rattle.ring_text.specs.Inner.Reading.{AreRingLines, FollowHead, IsMadeOfLines};
 ghost use Rattle.ring_words.specs.Spelling.{Reads};
 ghost use Rattle.ring_words.specs.declared.device.Device.{Device};
 ghost use Rattle.ring_words.specs.Inner.ReadsAs.{ReadsAs};
@@ -31,7 +31,7 @@ fn read_rest(
     text: &str,
     head: &Head,
 ) -> Result<(Vec<Device>, Vec<DeviceId>), TextFault>
-    ensures { ReadsAs {Y = List Device × List ℕ} (λ x. (x.0.items, x.1.items)) (λ x. IsRest head.now
+    ensures { ReadsAs {Y = List Device × List ℕ} (λ x. (x.0.items, x.1.items)) (λ x. FollowHead head.now
         (slice_split (λ b. b == 10) text.now) x.0 x.1) result }
 {
     let (lines, rest) = front_lines(alloc, text, usize::from(head.devices))?;

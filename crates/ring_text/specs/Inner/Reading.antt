@@ -137,7 +137,7 @@ pub record HasLines (count : ℕ) (text : List ℕ) (texts : List (List ℕ)) (r
     pub size : length texts ≡ count
 
 -- Behind the first lines these devices and these seats follow, and nothing else.
-pub record IsRest (head : Head) (texts : List (List ℕ)) (devices : List Device) (seats : List ℕ) :
+pub record FollowHead (head : Head) (texts : List (List ℕ)) (devices : List Device) (seats : List ℕ) :
     Type 0 where
   pub parts : List (List ℕ) × List (List ℕ)
   pub cut : IsCut head.devices (2 ^ head.power) texts parts

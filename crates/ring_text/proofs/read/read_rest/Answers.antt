@@ -5,7 +5,7 @@ use Rattle.std.specs.List.{slice_split}
 use Rattle.std.specs.declared.alloc.Global.{Global}
 use Rattle.std.proofs.lemmas.Result.{err_from_is_err_and}
 use Rattle.ring_words.specs.declared.device.Device.{Device}
-use Rattle.ring_text.specs.Inner.Reading.{AreDeviceLines, IsRest}
+use Rattle.ring_text.specs.Inner.Reading.{AreDeviceLines, FollowHead}
 use Rattle.ring_text.proofs.Rest.{none_whole, seats_follow, parts_found, end_follows, rest_is}
 use Rattle.ring_text.proofs.read.read_rest.Goals as goal
 
@@ -16,7 +16,7 @@ returns-in_err-rest c =
     let head = c.args.head.now in
     let text = c.args.text.now in
     let has = rw c.from.ensures at c.in_ok-lines.ensures.read in
-    rw (p.1, p.2) (none_whole (λ (x : Vec Device Global × Vec ℕ Global). (x.0.items, x.1.items)) (λ (x : List Device × List ℕ). IsRest head (slice_split (λ b. b == 10) text) x.0 x.1)
+    rw (p.1, p.2) (none_whole (λ (x : Vec Device Global × Vec ℕ Global). (x.0.items, x.1.items)) (λ (x : List Device × List ℕ). FollowHead head (slice_split (λ b. b == 10) text) x.0 x.1)
     c.in_err-rest.field-0.0
     (λ bad y is. let found = seats_follow head text c.in_ok-lines.rest.now _ y.0 y.1 has is in
     (rw bad at c.in_err-rest.ensures.read) found.0 found.1))
@@ -29,7 +29,7 @@ returns-in_err-seats c =
     let text = c.args.text.now in
     let has = rw c.from.ensures at c.in_ok-lines.ensures.read in
     let bytes = c.as_bytes.ensures.value in
-    rw (p.1, p.2) (none_whole (λ (x : Vec Device Global × Vec ℕ Global). (x.0.items, x.1.items)) (λ (x : List Device × List ℕ). IsRest head (slice_split (λ b. b == 10) text) x.0 x.1)
+    rw (p.1, p.2) (none_whole (λ (x : Vec Device Global × Vec ℕ Global). (x.0.items, x.1.items)) (λ (x : List Device × List ℕ). FollowHead head (slice_split (λ b. b == 10) text) x.0 x.1)
     c.in_err-seats.field-0.0
     (λ bad y is.
     let found = parts_found head text c.in_ok-lines.rest.now c.in_ok-rest.rest.now _ y.0 y.1 has
@@ -59,7 +59,7 @@ returns-in_err-devices c =
     let head = c.args.head.now in
     let text = c.args.text.now in
     let has = rw c.from.ensures at c.in_ok-lines.ensures.read in
-    rw (p.1, p.2) (none_whole (λ (x : Vec Device Global × Vec ℕ Global). (x.0.items, x.1.items)) (λ (x : List Device × List ℕ). IsRest head (slice_split (λ b. b == 10) text) x.0 x.1)
+    rw (p.1, p.2) (none_whole (λ (x : Vec Device Global × Vec ℕ Global). (x.0.items, x.1.items)) (λ (x : List Device × List ℕ). FollowHead head (slice_split (λ b. b == 10) text) x.0 x.1)
     c.in_err-devices.field-0.0
     (λ bad y is.
     let found = parts_found head text c.in_ok-lines.rest.now c.in_ok-rest.rest.now _ y.0 y.1 has

@@ -5,7 +5,7 @@ use Rattle.std.specs.declared.alloc.Global.{Global}
 use Rattle.std.proofs.lemmas.Result.{err_from_is_err_and}
 use Rattle.ring_words.specs.declared.device.Device.{Device}
 use Rattle.ring_words.proofs.Spelled.{reads_err, as_reads_err, reads_same}
-use Rattle.ring_text.specs.Inner.Reading.{AreRingLines, IsHead, IsMadeOfLines, IsRest}
+use Rattle.ring_text.specs.Inner.Reading.{AreRingLines, FollowHead, IsHead, IsMadeOfLines}
 use Rattle.ring_text.proofs.Rest.{none_read, first_six, behind_six, more_than_six, rest_within}
 use Rattle.ring_text.proofs.Whole.{first_texts, last_texts, head_of, head_within, whole_text}
 use Rattle.ring_text.proofs.Whole.{length-first_texts, lines_of_made, lines_of_parts}
@@ -53,11 +53,11 @@ returns-in_err-devices c =
     let tells = subst (λ (t : Texts). IsHead t head) (sym first) (rw c.deref.ensures.value at
     c.in_ok-head.ensures) in
     rw (p.1, p.2) (as_reads_err (λ (x : Vec Device Global × Vec ℕ Global). (x.0.items, x.1.items))
-    (λ (y : List Device × List ℕ). IsRest head (lines_of c.in_ok-first.rest.now) y.0 y.1)
+    (λ (y : List Device × List ℕ). FollowHead head (lines_of c.in_ok-first.rest.now) y.0 y.1)
     (AreRingLines texts) c.in_err-devices.field-0.0 c.in_err-devices.ensures
     (λ s are. (
       (s.devices, s.seats),
-      subst (λ (t : Texts). IsRest head t s.devices s.seats) back (rest_within texts head s tells
+      subst (λ (t : Texts). FollowHead head t s.devices s.seats) back (rest_within texts head s tells
           are),
     )))
 
@@ -72,7 +72,7 @@ returns c =
     c.in_ok-head.ensures) in
     let devices = c.in_ok-devices.devices.items in
     let seats = c.in_ok-devices.seats.items in
-    let rest = subst (λ (t : Texts). IsRest head t devices seats) (sym back) c.in_ok-devices.ensures
+    let rest = subst (λ (t : Texts). FollowHead head t devices seats) (sym back) c.in_ok-devices.ensures
     in
     reads_same (IsMadeOfLines head devices seats) (AreRingLines texts) c.checked.result
     (λ s. lines_of_parts texts head rest.parts devices seats s tells rest.cut rest.first
