@@ -21,8 +21,8 @@ DOCS = TOP / "docs"
 # behind the box of another crate.
 SLOTS = {name: int(slot) for name, slot in (word.split(":") for word in """
     ring_words:10 byte_streams:19 ring_model:8 ring_share:6 ring_room:1 ring_tables:7 ring_deal:3
-    ring_place:9 ring_text:9 swift_ring:3 ring_founding:21 path_lookup:4 ring_metrics:7 ring_reads:10
-    csv_import:10 request_book:19 ring_messages:12 builder:12 ring_log:13 ring_book:12 store_model:16
+    ring_place:1 ring_text:9 swift_ring:3 ring_founding:21 path_lookup:4 ring_metrics:2 ring_reads:10
+    csv_import:10 request_book:19 ring_messages:12 builder:6 ring_log:13 ring_book:12 store_model:16
     store_tables:6 store_rows:16 builder_store:16 line_stream:15 line_api:15 ring_page:21 http_messages:14
     http_stream:17 http_routes:14 http_api:17 timed_streams:22 http_sockets:22 command_line:19 programs:20
     file_stores:16 ringd:16
