@@ -1,41 +1,48 @@
 //! Whose requests are answered by a service for programs alone.
-use crate::serving::{NO_NAMES, clock_at, open};
+use crate::serving::{NO_NAMES, RingBook, clock_at, open};
 use byte_streams::{CountedReader, CountedWriter};
-use http_api::{Site, serve_audience};
+use http_api::{KnownClock, Site, serve_audience};
 use http_messages::Audience;
 use ring_words::Limits;
 use std::alloc::{AllocError, Global};
 use std::test::Fail;
 
 /// The answer to who is not heard.
-const NOT_ALLOWED: &str =
+static NOT_ALLOWED: &str =
     "HTTP/1.1 403 Forbidden\r\nContent-Type: application/json\r\nContent-Length: 35\r\nConnection: close\r\n\r\n{\"fault\":\"NotAllowed\",\"status\":403}";
 
 /// The answer to who is heard, and asks for what is not there.
-const HEARD: &str =
+static HEARD: &str =
     "HTTP/1.1 404 Not Found\r\nContent-Type: application/json\r\nContent-Length: 32\r\n\r\n{\"fault\":\"NoRoute\",\"status\":404}";
 
-/// What a stream of a new book is answered where the service is one for programs, which also send to
-/// `rings.example.com`.
-fn answered(alloc: Global, stream: &str) -> Result<Vec<u8>, AllocError> {
+/// Serves a stream where the service is one for programs, which also send to `rings.example.com`:
+/// whether it is served to its end, and what it is answered.
+fn serve_programs(
+    alloc: Global,
+    clock: &mut KnownClock,
+    book: &mut RingBook,
+    site: &Site<'_>,
+    stream: &str,
+) -> (bool, Vec<u8>) {
     let mut reader = CountedReader::new(stream.as_bytes());
     let mut writer = CountedWriter::new(Vec::new(alloc));
-    let mut clock = clock_at(alloc, 0)?;
-    let mut book = open(alloc, Limits::full());
     let audience = Audience::Programs(&["rings.example.com"]);
-    let told = serve_audience(
-        alloc,
-        audience,
-        &mut reader,
-        &mut writer,
-        &mut clock,
-        &mut book,
-        &Site::new(alloc, NO_NAMES),
-    );
-    match told {
-        Ok(_) => Ok(writer.into_inner()),
-        Err(_) => Err(AllocError),
-    }
+    let told = serve_audience(alloc, audience, &mut reader, &mut writer, clock, book, site);
+    (told.is_ok(), writer.into_inner())
+}
+
+/// The same of a new book.
+fn serve_programs_anew(alloc: Global, clock: &mut KnownClock, stream: &str) -> (bool, Vec<u8>) {
+    let mut book = open(alloc, Limits::full());
+    let site = Site::new(alloc, NO_NAMES);
+    serve_programs(alloc, clock, &mut book, &site, stream)
+}
+
+/// Whether a stream to a new book of such a service is answered so.
+fn is_answered(alloc: Global, stream: &str, want: &str) -> Result<bool, AllocError> {
+    let mut clock = clock_at(alloc, 0)?;
+    let (is_served, text) = serve_programs_anew(alloc, &mut clock, stream);
+    Ok(is_served && text.as_slice() == want.as_bytes())
 }
 
 /// Heads, and whether they are heard.
@@ -90,24 +97,32 @@ static HEADS: [(&str, bool); 18] = [
     ),
 ];
 
+/// The first head that is answered otherwise.
+fn first_other<'a>(
+    alloc: Global,
+    heads: &[(&'a str, bool)],
+) -> Result<Option<&'a str>, AllocError> {
+    for (head, is_heard) in heads {
+        let want = if *is_heard { HEARD } else { NOT_ALLOWED };
+        if !is_answered(alloc, head, want)? {
+            return Ok(Some(*head));
+        }
+    }
+    Ok(None)
+}
+
 #[test]
 fn pages_of_browsers_and_other_hosts_are_not_heard(rt: HostRuntime) -> Result<(), Fail> {
-    for (head, is_heard) in HEADS {
-        let want = if is_heard { HEARD } else { NOT_ALLOWED };
-        assert!(rt;
-            answered(rt.alloc(), head)?.as_slice() == want.as_bytes(),
-            "{head}"
-        );
-    }
+    assert_eq!(rt; first_other(rt.alloc(), &HEADS)?, None);
     Ok(())
 }
 
 /// A page's request that would make a ring.
-const CREATE_OF_A_PAGE: &str =
+static CREATE_OF_A_PAGE: &str =
     "POST /v1/requests HTTP/1.1\r\nHost: localhost\r\nOrigin: null\r\nContent-Length: 95\r\n\r\n{\"caller\":\"ops\",\"do\":\"create\",\"min_hours\":24,\"number\":1,\"power\":2,\"replicas\":1,\"ring\":\"object\"}";
 
 #[test]
 fn nothing_is_done_behind_a_head_that_is_not_allowed(rt: HostRuntime) -> Result<(), Fail> {
-    assert!(rt; answered(rt.alloc(), CREATE_OF_A_PAGE)?.as_slice() == NOT_ALLOWED.as_bytes());
+    assert!(rt; is_answered(rt.alloc(), CREATE_OF_A_PAGE, NOT_ALLOWED)?);
     Ok(())
 }

@@ -1,5 +1,7 @@
 //! Streams that no client should send.
-use crate::serving::{CREATED, LOST, NO_RING, Sent, Step, Told, UNREADABLE, session};
+use crate::serving::{
+    CREATED, LOST, NO_RING, Sent, Step, Told, UNREADABLE, session, session_of_one,
+};
 use std::alloc::{AllocError, Global};
 use std::test::Fail;
 
@@ -23,21 +25,18 @@ fn with_more(alloc: Global, front: &str, more: &str, count: u32) -> Result<Strin
     Ok(all)
 }
 
-const ONE_FIELD_MORE: &str = "GET /v2 HTTP/1.1\r\nHost: a\r\nX: ";
+static ONE_FIELD_MORE: &str = "GET /v2 HTTP/1.1\r\nHost: a\r\nX: ";
 
 #[test]
 fn a_head_without_an_end_is_refused_at_8192_bytes(rt: HostRuntime) -> Result<(), Fail> {
     let head = with_more(rt.alloc(), ONE_FIELD_MORE, "x", 8191 - 30)?;
-    let steps = [(Sent::Bytes(&head), Told::Bytes(""))];
-    assert!(rt; session(rt.alloc(), &steps)?);
-    Ok(())
+    session_of_one(rt.alloc(), Sent::Bytes(&head), Told::Bytes(""))
 }
 
 #[test]
 fn a_head_of_8192_bytes_without_an_end_is_refused(rt: HostRuntime) -> Result<(), Fail> {
     let head = with_more(rt.alloc(), ONE_FIELD_MORE, "x", 8192 - 30)?;
-    assert!(rt; session(rt.alloc(), &[(Sent::Bytes(&head), BAD_HEAD)])?);
-    Ok(())
+    session_of_one(rt.alloc(), Sent::Bytes(&head), BAD_HEAD)
 }
 
 /// A head of so many fields.
@@ -51,23 +50,20 @@ fn head_of(alloc: Global, count: u32) -> Result<String, AllocError> {
 #[test]
 fn a_head_of_32_fields_is_read(rt: HostRuntime) -> Result<(), Fail> {
     let head = head_of(rt.alloc(), 32)?;
-    assert!(rt; session(rt.alloc(), &[(Sent::Bytes(&head), LOST)])?);
-    Ok(())
+    session_of_one(rt.alloc(), Sent::Bytes(&head), LOST)
 }
 
 #[test]
 fn a_head_of_33_fields_is_refused(rt: HostRuntime) -> Result<(), Fail> {
     let head = head_of(rt.alloc(), 33)?;
-    assert!(rt; session(rt.alloc(), &[(Sent::Before(&head), BAD_HEAD)])?);
-    Ok(())
+    session_of_one(rt.alloc(), Sent::Before(&head), BAD_HEAD)
 }
 
 #[test]
 fn another_method_is_refused_without_a_body(rt: HostRuntime) -> Result<(), Fail> {
     let stream = "PUT /v1/requests HTTP/1.1\r\nHost: a\r\n\r\n";
     let want = "HTTP/1.1 501 Not Implemented\r\nContent-Length: 0\r\nConnection: close\r\n\r\n";
-    assert!(rt; session(rt.alloc(), &[(Sent::Before(stream), Told::Bytes(want))])?);
-    Ok(())
+    session_of_one(rt.alloc(), Sent::Before(stream), Told::Bytes(want))
 }
 
 /// Heads that end their connections: nothing behind them is answered.
@@ -131,16 +127,14 @@ static LAST_HEADS: [Step<'_>; 10] = [
 
 #[test]
 fn a_refused_head_is_the_last(rt: HostRuntime) -> Result<(), Fail> {
-    assert!(rt; session(rt.alloc(), &LAST_HEADS)?);
-    Ok(())
+    session(rt.alloc(), &LAST_HEADS)
 }
 
 #[test]
 fn a_length_may_have_leading_zeros(rt: HostRuntime) -> Result<(), Fail> {
     let stream =
         "POST /v1/requests HTTP/1.1\r\nHost: a\r\nContent-Length: 0000000095\r\n\r\n{\"caller\":\"ops\",\"do\":\"create\",\"min_hours\":24,\"number\":1,\"power\":2,\"replicas\":1,\"ring\":\"object\"}";
-    assert!(rt; session(rt.alloc(), &[(Sent::Bytes(stream), Told::Bytes(CREATED))])?);
-    Ok(())
+    session_of_one(rt.alloc(), Sent::Bytes(stream), Told::Bytes(CREATED))
 }
 
 /// A good request, and one of 65537 bytes behind it.
@@ -155,23 +149,25 @@ static TOO_LARGE: [Step<'_>; 1] = [(
 
 #[test]
 fn a_body_of_65537_bytes_is_too_large(rt: HostRuntime) -> Result<(), Fail> {
-    assert!(rt; session(rt.alloc(), &TOO_LARGE)?);
-    Ok(())
+    session(rt.alloc(), &TOO_LARGE)
 }
 
 #[test]
 fn a_body_of_65536_bytes_is_read(rt: HostRuntime) -> Result<(), Fail> {
     let body = with_more(rt.alloc(), "", " ", 65536)?;
-    assert!(rt; session(rt.alloc(), &[(Sent::Message(&body), UNREADABLE)])?);
-    Ok(())
+    session_of_one(rt.alloc(), Sent::Message(&body), UNREADABLE)
+}
+
+/// So many lists, one in another.
+fn nested(alloc: Global, count: u32) -> Result<String, AllocError> {
+    let open = with_more(alloc, "", "[", count)?;
+    with_more(alloc, &open, "]", count)
 }
 
 #[test]
 fn a_body_of_200_nested_lists_is_unreadable(rt: HostRuntime) -> Result<(), Fail> {
-    let open = with_more(rt.alloc(), "", "[", 200)?;
-    let nested = with_more(rt.alloc(), &open, "]", 200)?;
-    assert!(rt; session(rt.alloc(), &[(Sent::Message(&nested), UNREADABLE)])?);
-    Ok(())
+    let nested = nested(rt.alloc(), 200)?;
+    session_of_one(rt.alloc(), Sent::Message(&nested), UNREADABLE)
 }
 
 /// Bodies that are no messages.
@@ -201,8 +197,7 @@ static NO_MESSAGES: [Step<'_>; 5] = [
 
 #[test]
 fn bodies_that_are_no_messages_are_unreadable(rt: HostRuntime) -> Result<(), Fail> {
-    assert!(rt; session(rt.alloc(), &NO_MESSAGES)?);
-    Ok(())
+    session(rt.alloc(), &NO_MESSAGES)
 }
 
 /// Queries that name no path.
@@ -227,15 +222,13 @@ static NO_PATHS: [Step<'_>; 7] = [
 
 #[test]
 fn paths_that_are_none_are_refused(rt: HostRuntime) -> Result<(), Fail> {
-    assert!(rt; session(rt.alloc(), &NO_PATHS)?);
-    Ok(())
+    session(rt.alloc(), &NO_PATHS)
 }
 
 #[test]
 fn an_account_of_257_bytes_is_refused(rt: HostRuntime) -> Result<(), Fail> {
     let target = with_more(rt.alloc(), "/v1/rings/none/nodes?account=", "a", 257)?;
-    assert!(rt; session(rt.alloc(), &[(Sent::Get(&target), BAD_PATH)])?);
-    Ok(())
+    session_of_one(rt.alloc(), Sent::Get(&target), BAD_PATH)
 }
 
 /// Segments are taken as they stand, and empty ones are none.
@@ -276,6 +269,5 @@ static SEGMENTS: [Step<'_>; 32] = [
 
 #[test]
 fn segments_are_taken_as_they_stand(rt: HostRuntime) -> Result<(), Fail> {
-    assert!(rt; session(rt.alloc(), &SEGMENTS)?);
-    Ok(())
+    session(rt.alloc(), &SEGMENTS)
 }

@@ -1,39 +1,48 @@
 //! Rings that are read, and tables that are imported.
 use crate::serving::{
-    LOST, NO_RING, RingBook, Sent, Step, Told, UNREADABLE, are_steps, open, session,
+    LOST, NO_RING, Sent, Step, Told, UNREADABLE, session, session_of_one, session_within,
 };
-use ring_page::PAGE;
+use ring_page::page;
 use ring_words::Limits;
-use std::alloc::Global;
+use std::alloc::{AllocError, Global};
 use std::test::Fail;
+
+/// Makes the ring `tiny`.
+const CREATE_TINY: Step<'_> = (
+    Sent::Message(
+        "{\"caller\":\"ops\",\"do\":\"create\",\"min_hours\":0,\"number\":1,\"power\":1,\"replicas\":1,\"ring\":\"tiny\"}",
+    ),
+    Told::Json("200 OK", "{\"done\":\"create\",\"version\":0}"),
+);
+
+/// Gives its seats to its devices.
+const REBALANCE_TINY: Step<'_> = (
+    Sent::Message(
+        "{\"caller\":\"ops\",\"do\":\"rebalance\",\"number\":3,\"ring\":\"tiny\",\"seed\":7}",
+    ),
+    Told::Json(
+        "200 OK",
+        "{\"balance\":0,\"changed\":2,\"dispersion\":0,\"done\":\"rebalance\",\"version\":2}",
+    ),
+);
+
+/// Publishes it.
+const PUBLISH_TINY: Step<'_> = (
+    Sent::Message("{\"caller\":\"ops\",\"do\":\"publish\",\"number\":4,\"ring\":\"tiny\"}"),
+    Told::Json("200 OK", "{\"done\":\"publish\",\"version\":2}"),
+);
 
 /// A ring `tiny` of one device, its version 2 published.
 static TINY: [Step<'_>; 4] = [
-    (
-        Sent::Message(
-            "{\"caller\":\"ops\",\"do\":\"create\",\"min_hours\":0,\"number\":1,\"power\":1,\"replicas\":1,\"ring\":\"tiny\"}",
-        ),
-        Told::Json("200 OK", "{\"done\":\"create\",\"version\":0}"),
-    ),
+    CREATE_TINY,
     (
         Sent::Message(
             "{\"address\":\"10.0.0.1\",\"caller\":\"ops\",\"do\":\"add\",\"name\":\"d0\",\"number\":2,\"port\":6200,\"region\":1,\"ring\":\"tiny\",\"weight\":\"100.00\",\"zone\":1}",
         ),
         Told::Json("200 OK", "{\"done\":\"add\",\"id\":0,\"version\":1}"),
     ),
-    (
-        Sent::Message(
-            "{\"caller\":\"ops\",\"do\":\"rebalance\",\"number\":3,\"ring\":\"tiny\",\"seed\":7}",
-        ),
-        Told::Json(
-            "200 OK",
-            "{\"balance\":0,\"changed\":2,\"dispersion\":0,\"done\":\"rebalance\",\"version\":2}",
-        ),
-    ),
-    (
-        Sent::Message("{\"caller\":\"ops\",\"do\":\"publish\",\"number\":4,\"ring\":\"tiny\"}"),
-        Told::Json("200 OK", "{\"done\":\"publish\",\"version\":2}"),
-    ),
+    REBALANCE_TINY,
+    PUBLISH_TINY,
 ];
 
 /// A ring `object` of two devices, rebalanced at version 3.
@@ -71,28 +80,8 @@ static OBJECT: [Step<'_>; 4] = [
 const TWO_DEVICES: &str =
     "   id region  zone address          port     weight state   name\n    0      1     1 10.0.0.1         6200     100.00 open    d0\n    1      1     1 10.0.0.2         6200     100.00 open    d1\n";
 
-/// Whether steps over a book are answered as they say, and others behind them.
-fn are_steps_after(
-    alloc: Global,
-    book: &mut RingBook,
-    first: &[Step<'_>],
-    then: &[Step<'_>],
-) -> Result<bool, Fail> {
-    Ok(are_steps(alloc, book, first)? && are_steps(alloc, book, then)?)
-}
-
-/// Whether steps are answered as they say over a book of these limits that other steps have filled.
-fn session_within(
-    alloc: Global,
-    limits: Limits,
-    first: &[Step<'_>],
-    then: &[Step<'_>],
-) -> Result<bool, Fail> {
-    are_steps_after(alloc, &mut open(alloc, limits), first, then)
-}
-
-/// Whether steps are answered as they say over a book that these other steps have filled.
-fn session_after(alloc: Global, first: &[Step<'_>], then: &[Step<'_>]) -> Result<bool, Fail> {
+/// Fails where a step is answered otherwise over a book that these other steps have filled.
+fn session_after(alloc: Global, first: &[Step<'_>], then: &[Step<'_>]) -> Result<(), Fail> {
     session_within(alloc, Limits::full(), first, then)
 }
 
@@ -126,8 +115,7 @@ static NO_ROUTES: [Step<'_>; 4] = [
 
 #[test]
 fn what_has_no_route_is_told_so(rt: HostRuntime) -> Result<(), Fail> {
-    assert!(rt; session(rt.alloc(), &NO_ROUTES)?);
-    Ok(())
+    session(rt.alloc(), &NO_ROUTES)
 }
 
 /// Reads of the ring `tiny`: its text of 119 bytes, and nodes of 101 bytes.
@@ -155,8 +143,7 @@ static TINY_READS: [Step<'_>; 3] = [
 
 #[test]
 fn a_published_text_and_its_nodes_are_read(rt: HostRuntime) -> Result<(), Fail> {
-    assert!(rt; session_after(rt.alloc(), &TINY, &TINY_READS)?);
-    Ok(())
+    session_after(rt.alloc(), &TINY, &TINY_READS)
 }
 
 /// The device of `tiny`, under a name with which the JSON of Swift's file has 256 bytes: then all of
@@ -167,6 +154,9 @@ const NAMED_DISK: Step<'_> = (
     ),
     Told::Json("200 OK", "{\"done\":\"add\",\"id\":0,\"version\":1}"),
 );
+
+/// The ring `tiny` with that device.
+static NAMED_TINY: [Step<'_>; 4] = [CREATE_TINY, NAMED_DISK, REBALANCE_TINY, PUBLISH_TINY];
 
 /// The ring `tiny` as the file that Swift loads. What is refused of its text is refused of this too,
 /// in the same order: a ring of no form, a version of none, no such ring, no such version.
@@ -197,52 +187,61 @@ static SWIFT_READS: [Step<'_>; 6] = [
 
 #[test]
 fn a_published_ring_is_read_as_the_file_that_swift_loads(rt: HostRuntime) -> Result<(), Fail> {
-    let steps = [TINY[0], NAMED_DISK, TINY[2], TINY[3]];
-    assert!(rt; session_after(rt.alloc(), &steps, &SWIFT_READS)?);
-    Ok(())
+    session_after(rt.alloc(), &NAMED_TINY, &SWIFT_READS)
+}
+
+/// The answer that tells a page.
+fn page_answer(alloc: Global, page: &str) -> Result<String, AllocError> {
+    let length = page.len();
+    format!(in alloc;
+        "HTTP/1.1 200 OK\r\nContent-Type: text/html; charset=utf-8\r\nContent-Length: {length}\r\n\r\n{page}"
+    )
+}
+
+/// What is asked for beside the page.
+static BESIDE_THE_PAGE: [Step<'_>; 3] = [
+    (Sent::Get("/v1/page/"), LOST),
+    (Sent::Get("/v1/pages"), LOST),
+    (
+        Sent::Post("/v1/page", ""),
+        Told::Bytes(
+            "HTTP/1.1 405 Method Not Allowed\r\nContent-Type: application/json\r\nContent-Length: 36\r\nAllow: GET\r\n\r\n{\"fault\":\"WrongMethod\",\"status\":405}",
+        ),
+    ),
+];
+
+/// Fails where the page is answered otherwise, or what is beside it.
+fn page_session(alloc: Global, told: Told<'_>) -> Result<(), Fail> {
+    let steps = [
+        (Sent::Get("/v1/page"), told),
+        (Sent::Get("/v1/page?more=1"), told),
+    ];
+    session_after(alloc, &steps, &BESIDE_THE_PAGE)
 }
 
 #[test]
 fn the_page_is_told_as_it_stands(rt: HostRuntime) -> Result<(), Fail> {
-    let alloc = rt.alloc();
-    let length = PAGE.len();
-    let want = format!(in alloc;
-        "HTTP/1.1 200 OK\r\nContent-Type: text/html; charset=utf-8\r\nContent-Length: {length}\r\n\r\n{PAGE}"
-    )?;
-    let steps = [
-        (Sent::Get("/v1/page"), Told::Bytes(&want)),
-        (Sent::Get("/v1/page?more=1"), Told::Bytes(&want)),
-        (Sent::Get("/v1/page/"), LOST),
-        (Sent::Get("/v1/pages"), LOST),
-        (
-            Sent::Post("/v1/page", ""),
-            Told::Bytes(
-                "HTTP/1.1 405 Method Not Allowed\r\nContent-Type: application/json\r\nContent-Length: 36\r\nAllow: GET\r\n\r\n{\"fault\":\"WrongMethod\",\"status\":405}",
-            ),
-        ),
-    ];
-    assert!(rt; session(alloc, &steps)?);
-    Ok(())
+    let want = page_answer(rt.alloc(), page())?;
+    page_session(rt.alloc(), Told::Bytes(&want))
 }
 
 #[test]
 fn a_ring_that_is_not_there_is_not_read(rt: HostRuntime) -> Result<(), Fail> {
-    let read = [(Sent::Get("/v1/rings/object/devices"), NO_RING)];
-    assert!(rt; session(rt.alloc(), &read)?);
-    Ok(())
+    session_of_one(rt.alloc(), Sent::Get("/v1/rings/object/devices"), NO_RING)
 }
+
+/// A read of nodes where no seats are assigned.
+static UNASSIGNED: [Step<'_>; 1] = [(
+    Sent::Get("/v1/rings/object/nodes?account=a&container=c&object=o%20o"),
+    Told::Json(
+        "422 Unprocessable Entity",
+        "{\"refused\":\"NotAssigned\",\"rule\":10}",
+    ),
+)];
 
 #[test]
 fn a_ring_without_seats_has_no_nodes(rt: HostRuntime) -> Result<(), Fail> {
-    let unassigned = [(
-        Sent::Get("/v1/rings/object/nodes?account=a&container=c&object=o%20o"),
-        Told::Json(
-            "422 Unprocessable Entity",
-            "{\"refused\":\"NotAssigned\",\"rule\":10}",
-        ),
-    )];
-    assert!(rt; session_after(rt.alloc(), &OBJECT[..3], &unassigned)?);
-    Ok(())
+    session_after(rt.alloc(), &OBJECT[..3], &UNASSIGNED)
 }
 
 /// Reads of the tables and the locks of the ring `object`.
@@ -269,8 +268,7 @@ static TABLES: [Step<'_>; 4] = [
 
 #[test]
 fn tables_are_read(rt: HostRuntime) -> Result<(), Fail> {
-    assert!(rt; session_after(rt.alloc(), &OBJECT, &TABLES)?);
-    Ok(())
+    session_after(rt.alloc(), &OBJECT, &TABLES)
 }
 
 /// A read of the whole ring `tiny`, and of what is none.
@@ -287,8 +285,7 @@ static WHOLE: [Step<'_>; 2] = [
 
 #[test]
 fn a_whole_ring_is_read(rt: HostRuntime) -> Result<(), Fail> {
-    assert!(rt; session_after(rt.alloc(), &TINY, &WHOLE)?);
-    Ok(())
+    session_after(rt.alloc(), &TINY, &WHOLE)
 }
 
 /// Previews of the ring `tiny`, and of what is none.
@@ -338,9 +335,8 @@ static NO_PREVIEWS: [Step<'_>; 9] = [
 
 #[test]
 fn previews_are_read(rt: HostRuntime) -> Result<(), Fail> {
-    assert!(rt; session_after(rt.alloc(), &TINY, &PREVIEWS)?);
-    assert!(rt; session_after(rt.alloc(), &TINY, &NO_PREVIEWS)?);
-    Ok(())
+    session_after(rt.alloc(), &TINY, &PREVIEWS)?;
+    session_after(rt.alloc(), &TINY, &NO_PREVIEWS)
 }
 
 /// What moved between versions of the ring `tiny`, of which one is published.
@@ -382,18 +378,12 @@ static MOVES: [Step<'_>; 12] = [
 
 #[test]
 fn moves_are_read(rt: HostRuntime) -> Result<(), Fail> {
-    assert!(rt; session_after(rt.alloc(), &TINY, &MOVES)?);
-    Ok(())
+    session_after(rt.alloc(), &TINY, &MOVES)
 }
 
 /// A ring without devices, and the refusal of its preview.
 static EMPTY_RING: [Step<'_>; 2] = [
-    (
-        Sent::Message(
-            "{\"caller\":\"ops\",\"do\":\"create\",\"min_hours\":0,\"number\":1,\"power\":1,\"replicas\":1,\"ring\":\"tiny\"}",
-        ),
-        Told::Json("200 OK", "{\"done\":\"create\",\"version\":0}"),
-    ),
+    CREATE_TINY,
     (
         Sent::Get("/v1/rings/tiny/preview?seed=7"),
         Told::Json(
@@ -405,8 +395,7 @@ static EMPTY_RING: [Step<'_>; 2] = [
 
 #[test]
 fn a_preview_is_refused_as_a_rebalance_is(rt: HostRuntime) -> Result<(), Fail> {
-    assert!(rt; session(rt.alloc(), &EMPTY_RING)?);
-    Ok(())
+    session(rt.alloc(), &EMPTY_RING)
 }
 
 /// Reads of which rings there are and of how much is kept, with the ring `tiny` and its four numbers.
@@ -548,16 +537,14 @@ static NO_METRICS: [Step<'_>; 1] = [(
 
 #[test]
 fn the_metrics_are_read(rt: HostRuntime) -> Result<(), Fail> {
-    assert!(rt; session_after(rt.alloc(), &TINY, &METRICS)?);
-    assert!(rt; session(rt.alloc(), &NO_METRICS)?);
-    Ok(())
+    session_after(rt.alloc(), &TINY, &METRICS)?;
+    session(rt.alloc(), &NO_METRICS)
 }
 
 #[test]
 fn the_rings_and_the_status_are_read(rt: HostRuntime) -> Result<(), Fail> {
-    assert!(rt; session_after(rt.alloc(), &TINY, &STORE)?);
-    assert!(rt; session(rt.alloc(), &EMPTY_STORE)?);
-    Ok(())
+    session_after(rt.alloc(), &TINY, &STORE)?;
+    session(rt.alloc(), &EMPTY_STORE)
 }
 
 /// What is told of a log that has nothing from a place on.
@@ -602,9 +589,8 @@ static NO_LOG: [Step<'_>; 1] = [(Sent::Get("/v1/log"), NO_ENTRY)];
 
 #[test]
 fn the_log_is_read(rt: HostRuntime) -> Result<(), Fail> {
-    assert!(rt; session_after(rt.alloc(), &TINY, &LOG)?);
-    assert!(rt; session(rt.alloc(), &NO_LOG)?);
-    Ok(())
+    session_after(rt.alloc(), &TINY, &LOG)?;
+    session(rt.alloc(), &NO_LOG)
 }
 
 /// An import of two rows for one place, and its message.
@@ -632,8 +618,7 @@ static IMPORT_TWICE: [Step<'_>; 2] = [
 
 #[test]
 fn a_table_is_imported_as_its_message_is(rt: HostRuntime) -> Result<(), Fail> {
-    assert!(rt; session_after(rt.alloc(), &OBJECT, &IMPORT_TWICE)?);
-    Ok(())
+    session_after(rt.alloc(), &OBJECT, &IMPORT_TWICE)
 }
 
 /// An import into a ring that has room for two devices, and the ring behind it.
@@ -658,8 +643,7 @@ static IMPORT_TOO_MANY: [Step<'_>; 2] = [
 fn a_table_with_a_row_too_many_is_refused_whole(rt: HostRuntime) -> Result<(), Fail> {
     let mut limits = Limits::full();
     limits.devices = 2;
-    assert!(rt; session_within(rt.alloc(), limits, &OBJECT, &IMPORT_TOO_MANY)?);
-    Ok(())
+    session_within(rt.alloc(), limits, &OBJECT, &IMPORT_TOO_MANY)
 }
 
 /// What an import of a table asks for.
@@ -705,8 +689,7 @@ static BAD_TABLES: [Step<'_>; 4] = [
 
 #[test]
 fn a_table_that_is_not_read_is_not_decided(rt: HostRuntime) -> Result<(), Fail> {
-    assert!(rt; session_after(rt.alloc(), &OBJECT, &BAD_TABLES)?);
-    Ok(())
+    session_after(rt.alloc(), &OBJECT, &BAD_TABLES)
 }
 
 const HEADER: &str = "region,zone,address,port,name,weight\n";
@@ -743,6 +726,5 @@ static BAD_TARGETS: [Step<'_>; 8] = [
 
 #[test]
 fn an_import_without_its_number_is_not_decided(rt: HostRuntime) -> Result<(), Fail> {
-    assert!(rt; session_after(rt.alloc(), &OBJECT, &BAD_TARGETS)?);
-    Ok(())
+    session_after(rt.alloc(), &OBJECT, &BAD_TARGETS)
 }

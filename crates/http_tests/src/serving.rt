@@ -70,19 +70,91 @@ pub fn clock_at(alloc: Global, hour: u32) -> Result<KnownClock, AllocError> {
     Ok(KnownClock::new(vec![in alloc; hour]?))
 }
 
-/// How many answers a stream gets at hour 0, and their bytes, where reads and writes have at most so
-/// many bytes.
-fn ask_in_pieces(
+/// Texts as one.
+pub fn joined(alloc: Global, texts: &[&str]) -> Result<String, AllocError> {
+    let mut all = String::new(alloc);
+    for text in texts {
+        all.push_str(text)?;
+    }
+    Ok(all)
+}
+
+/// Whether bytes are these texts, one behind another.
+pub fn are_joined(bytes: &[u8], texts: &[&str]) -> bool {
+    let mut rest = bytes;
+    for text in texts {
+        match rest.strip_prefix(text.as_bytes()) {
+            Some(behind) => rest = behind,
+            None => return false,
+        }
+    }
+    rest.is_empty()
+}
+
+/// Whether bytes are a beginning of these texts, one behind another.
+pub fn are_beginning(bytes: &[u8], texts: &[&str]) -> bool {
+    let mut rest = bytes;
+    for text in texts {
+        match rest.strip_prefix(text.as_bytes()) {
+            Some(behind) => rest = behind,
+            None => return text.as_bytes().starts_with(rest),
+        }
+    }
+    rest.is_empty()
+}
+
+/// What serving a stream came to: how many answers it got, and their bytes.
+#[derive(Drop)]
+pub struct Outcome {
+    pub count: Result<u32, StreamFault>,
+    pub read_faults: u64,
+    pub write_faults: u64,
+    pub is_flushed: bool,
+    pub text: Vec<u8>,
+}
+
+/// Serves what is given, by a clock, on what takes it.
+fn serve_by(
+    alloc: Global,
+    clock: &mut KnownClock,
+    book: &mut RingBook,
+    giver: Giver<'_>,
+    taker: Taker,
+) -> Outcome {
+    let mut reader = CountedReader::new(giver);
+    let mut writer = CountedWriter::new(taker);
+    let count = serve_stream(alloc, &mut reader, &mut writer, clock, book, NO_NAMES);
+    Outcome {
+        count,
+        read_faults: reader.faults(),
+        write_faults: writer.faults(),
+        is_flushed: writer.is_flushed(),
+        text: writer.into_inner().taken,
+    }
+}
+
+/// Serves a stream at hour 0, read so many bytes at a time up to a read that fails, on a writer.
+pub fn serve(
+    alloc: Global,
+    book: &mut RingBook,
+    stream: &[u8],
+    reads: (usize, u32),
+    taker: Taker,
+) -> Result<Outcome, AllocError> {
+    let mut clock = clock_at(alloc, 0)?;
+    let giver = Giver::new(stream, reads.0, reads.1);
+    Ok(serve_by(alloc, &mut clock, book, giver, taker))
+}
+
+/// Serves a stream at hour 0, where reads and writes have at most so many bytes.
+fn serve_in_pieces(
     alloc: Global,
     book: &mut RingBook,
     stream: &[u8],
     size: usize,
-) -> Result<(Result<u32, StreamFault>, Vec<u8>), AllocError> {
-    let mut clock = clock_at(alloc, 0)?;
-    let mut reader = CountedReader::new(Giver::new(stream, size, u32::MAX));
-    let mut writer = CountedWriter::new(Taker::new(alloc, size, u32::MAX));
-    let count = serve_stream(alloc, &mut reader, &mut writer, &mut clock, book, NO_NAMES);
-    Ok((count, writer.into_inner().taken))
+) -> Result<Outcome, AllocError> {
+    let taker = Taker::new(alloc, size, u32::MAX);
+    serve(alloc, book, stream, (size, u32::MAX), taker)
 }
 
 /// Whether a stream gets so many answers, and these.
@@ -91,16 +163,21 @@ fn answers_in_pieces(
     book: &mut RingBook,
     stream: &[u8],
     size: usize,
-    want: (u32, &str),
-) -> Result<bool, Fail> {
-    let (count, text) = ask_in_pieces(alloc, book, stream, size)?;
-    Ok(count == Ok(want.0) && text.as_slice() == want.1.as_bytes())
+    want: (u32, &[&str]),
+) -> Result<bool, AllocError> {
+    let came = serve_in_pieces(alloc, book, stream, size)?;
+    Ok(came.count == Ok(want.0) && are_joined(&came.text, want.1))
 }
 
 /// Whether a stream is answered so at hour 0.
-pub fn answers(alloc: Global, book: &mut RingBook, stream: &str, want: &str) -> Result<bool, Fail> {
-    let (count, text) = ask_in_pieces(alloc, book, stream.as_bytes(), 1_000_000)?;
-    Ok(count.is_ok() && text.as_slice() == want.as_bytes())
+pub fn answers(
+    alloc: Global,
+    book: &mut RingBook,
+    stream: &str,
+    want: &[&str],
+) -> Result<bool, AllocError> {
+    let came = serve_in_pieces(alloc, book, stream.as_bytes(), 1_000_000)?;
+    Ok(came.count.is_ok() && are_joined(&came.text, want))
 }
 
 fn post(alloc: Global, target: &str, body: &str) -> Result<String, AllocError> {
@@ -145,25 +222,52 @@ fn answer_text(alloc: Global, what: Told<'_>) -> Result<String, AllocError> {
 }
 
 /// Whether a step is answered as it says.
-pub fn is_step(alloc: Global, book: &mut RingBook, step: &Step<'_>) -> Result<bool, Fail> {
+fn is_step(alloc: Global, book: &mut RingBook, step: &Step<'_>) -> Result<bool, AllocError> {
     let stream = request_text(alloc, step.0)?;
     let want = answer_text(alloc, step.1)?;
-    answers(alloc, book, &stream, &want)
+    answers(alloc, book, &stream, &[&want])
 }
 
-/// Whether each step over one book is answered as it says.
-pub fn are_steps(alloc: Global, book: &mut RingBook, steps: &[Step<'_>]) -> Result<bool, Fail> {
+/// Fails at the first step over one book that is answered otherwise.
+fn check_steps(alloc: Global, book: &mut RingBook, steps: &[Step<'_>]) -> Result<(), Fail> {
     for (number, step) in steps.iter().enumerate() {
         if !is_step(alloc, book, step)? {
             return Err(Fail::new(format_args!("step {number} is answered otherwise")));
         }
     }
-    Ok(true)
+    Ok(())
 }
 
-/// Whether steps over a new book, a stream each, are answered as they say.
-pub fn session(alloc: Global, steps: &[Step<'_>]) -> Result<bool, Fail> {
-    are_steps(alloc, &mut open(alloc, Limits::full()), steps)
+/// The same of other steps behind the first.
+fn check_both(
+    alloc: Global,
+    book: &mut RingBook,
+    first: &[Step<'_>],
+    then: &[Step<'_>],
+) -> Result<(), Fail> {
+    check_steps(alloc, book, first)?;
+    check_steps(alloc, book, then)
+}
+
+/// Fails where a step, a stream each, is answered otherwise over a book of these limits, or one
+/// behind these.
+pub fn session_within(
+    alloc: Global,
+    limits: Limits,
+    first: &[Step<'_>],
+    then: &[Step<'_>],
+) -> Result<(), Fail> {
+    check_both(alloc, &mut open(alloc, limits), first, then)
+}
+
+/// Fails where a step, a stream each, is answered otherwise over a new book.
+pub fn session(alloc: Global, steps: &[Step<'_>]) -> Result<(), Fail> {
+    session_within(alloc, Limits::full(), &[], steps)
+}
+
+/// Fails where what is sent to a new book is answered otherwise.
+pub fn session_of_one(alloc: Global, sent: Sent<'_>, told: Told<'_>) -> Result<(), Fail> {
+    session(alloc, &[(sent, told)])
 }
 
 /// What has no route.
@@ -183,17 +287,25 @@ pub const NO_RING: Told<'_> = Told::Json(
 
 #[test]
 fn a_request_is_answered(rt: HostRuntime) -> Result<(), Fail> {
-    let steps = [(Sent::Bytes(CREATE), Told::Bytes(CREATED))];
-    assert!(rt; session(rt.alloc(), &steps)?);
-    Ok(())
+    session_of_one(rt.alloc(), Sent::Bytes(CREATE), Told::Bytes(CREATED))
 }
 
+/// Two equal requests.
+static TWICE: [&str; 2] = [CREATE, CREATE];
+
+/// Their answers.
+static TWICE_ANSWERED: [&str; 2] = [CREATED, CREATED];
+
 /// Whether two equal requests in one stream, cut so, get the same answer.
-fn repeats(alloc: Global, size: usize) -> Result<bool, Fail> {
-    let stream = format!(in alloc; "{CREATE}{CREATE}")?;
-    let want = format!(in alloc; "{CREATED}{CREATED}")?;
-    let mut book = open(alloc, Limits::full());
-    answers_in_pieces(alloc, &mut book, stream.as_bytes(), size, (2, &want))
+fn repeats(alloc: Global, size: usize) -> Result<bool, AllocError> {
+    let stream = joined(alloc, &TWICE)?;
+    answers_in_pieces(
+        alloc,
+        &mut open(alloc, Limits::full()),
+        stream.as_bytes(),
+        size,
+        (2, &TWICE_ANSWERED),
+    )
 }
 
 #[test]
@@ -210,30 +322,31 @@ fn a_stream_is_answered_alike_however_it_is_cut(rt: HostRuntime) -> Result<(), F
     Ok(())
 }
 
-/// Whether no proper beginning of a request is answered, and none makes its ring.
-fn is_silent(alloc: Global, book: &mut RingBook) -> Result<bool, Fail> {
-    for length in 0..CREATE.len() {
-        if !answers_in_pieces(
-            alloc,
-            book,
-            &CREATE.as_bytes()[..length],
-            1_000_000,
-            (0, ""),
-        )? {
+/// Whether no proper beginning of a request is answered.
+fn are_silent(alloc: Global, book: &mut RingBook) -> Result<bool, AllocError> {
+    let request = TWICE[0].as_bytes();
+    for length in 0..request.len() {
+        if !answers_in_pieces(alloc, book, &request[..length], 1_000_000, (0, &[]))? {
             return Ok(false);
         }
     }
-    is_step(
-        alloc,
-        book,
-        &(Sent::Get("/v1/rings/object/devices"), NO_RING),
-    )
+    Ok(true)
+}
+
+/// Whether no proper beginning of a request is answered, and none makes its ring.
+fn is_silent(alloc: Global, book: &mut RingBook) -> Result<bool, AllocError> {
+    let read = (Sent::Get("/v1/rings/object/devices"), NO_RING);
+    Ok(are_silent(alloc, book)? && is_step(alloc, book, &read)?)
+}
+
+/// The same of a new book.
+fn is_silent_anew(alloc: Global) -> Result<bool, AllocError> {
+    is_silent(alloc, &mut open(alloc, Limits::full()))
 }
 
 #[test]
 fn a_proper_beginning_decides_nothing_and_is_not_answered(rt: HostRuntime) -> Result<(), Fail> {
-    let mut book = open(rt.alloc(), Limits::full());
-    assert!(rt; is_silent(rt.alloc(), &mut book)?);
+    assert!(rt; is_silent_anew(rt.alloc())?);
     Ok(())
 }
 
@@ -242,8 +355,7 @@ fn nothing_is_answered_behind_the_last(rt: HostRuntime) -> Result<(), Fail> {
     let stream =
         "GET /v2 HTTP/1.1\r\nHost: a\r\nCONNECTION: Close\r\n\r\nGET /v2 HTTP/1.1\r\nHost: a\r\n\r\n";
     let last = Told::Last("404 Not Found", "{\"fault\":\"NoRoute\",\"status\":404}");
-    assert!(rt; session(rt.alloc(), &[(Sent::Bytes(stream), last)])?);
-    Ok(())
+    session_of_one(rt.alloc(), Sent::Bytes(stream), last)
 }
 
 #[test]
@@ -252,33 +364,32 @@ fn a_body_of_a_read_is_skipped(rt: HostRuntime) -> Result<(), Fail> {
         "GET /v2 HTTP/1.1\r\nHost: a\r\nContent-Length: 3\r\n\r\nabcGET /v2 HTTP/1.1\r\nhost: b\r\n\r\n";
     let want =
         "HTTP/1.1 404 Not Found\r\nContent-Type: application/json\r\nContent-Length: 32\r\n\r\n{\"fault\":\"NoRoute\",\"status\":404}HTTP/1.1 404 Not Found\r\nContent-Type: application/json\r\nContent-Length: 32\r\n\r\n{\"fault\":\"NoRoute\",\"status\":404}";
-    assert!(rt; session(rt.alloc(), &[(Sent::Bytes(stream), Told::Bytes(want))])?);
-    Ok(())
+    session_of_one(rt.alloc(), Sent::Bytes(stream), Told::Bytes(want))
 }
+
+/// Reads, a body that is no message, and deliveries.
+static MIXED: [&str; 5] = [
+    "GET /v1/rings/object/devices HTTP/1.1\r\nHost: a\r\n\r\n",
+    "POST /v1/requests HTTP/1.1\r\nHost: a\r\nContent-Length: 2\r\n\r\n{}",
+    CREATE,
+    "GET /v1/rings/object/devices HTTP/1.1\r\nHost: a\r\n\r\n",
+    CREATE,
+];
 
 /// Serves a stream at hours 3, 4 and 5, and answers how many answers were written, and which hour
 /// comes next.
-fn hours_left(alloc: Global, stream: &str) -> Result<(u32, u32), Fail> {
+fn hours_left(alloc: Global, stream: &[u8]) -> Result<(Result<u32, StreamFault>, u32), AllocError> {
     let mut clock = KnownClock::new(vec![in alloc; 3, 4, 5]?);
-    let mut reader = CountedReader::new(stream.as_bytes());
-    let mut writer = CountedWriter::new(Vec::new(alloc));
     let mut book = open(alloc, Limits::full());
-    let count = serve_stream(
-        alloc,
-        &mut reader,
-        &mut writer,
-        &mut clock,
-        &mut book,
-        NO_NAMES,
-    )?;
+    let giver = Giver::new(stream, 1_000_000, u32::MAX);
+    let taker = Taker::new(alloc, 1_000_000, u32::MAX);
+    let count = serve_by(alloc, &mut clock, &mut book, giver, taker).count;
     Ok((count, clock.hour()))
 }
 
 #[test]
 fn hours_are_taken_by_deliveries_alone(rt: HostRuntime) -> Result<(), Fail> {
-    let read = "GET /v1/rings/object/devices HTTP/1.1\r\nHost: a\r\n\r\n";
-    let bad = "POST /v1/requests HTTP/1.1\r\nHost: a\r\nContent-Length: 2\r\n\r\n{}";
-    let stream = format!(in rt.alloc(); "{read}{bad}{CREATE}{read}{CREATE}")?;
-    assert_eq!(rt; hours_left(rt.alloc(), &stream)?, (5, 5));
+    let stream = joined(rt.alloc(), &MIXED)?;
+    assert!(rt; hours_left(rt.alloc(), stream.as_bytes())? == (Ok(5), 5));
     Ok(())
 }

@@ -1,17 +1,10 @@
 //! Sockets and clocks that are not there.
-use path_lookup::HashNames;
 use std::cell::Cell;
 use std::io::{self, ErrorKind, Read, Write};
 use std::net::{IpAddr, Net, OpenListener, OpenStream, Shutdown, SocketAddr};
 use std::os::fd::{AsRawFd, RawFd};
 use std::time::{Clock, Duration};
 use timed_streams::Desk;
-
-/// Nothing stands around the paths that are hashed.
-pub const NO_NAMES: HashNames<'static> = HashNames {
-    prefix: b"",
-    suffix: b"",
-};
 
 /// A clock that goes on where it is told to, and tells that so many seconds have passed since 1970,
 /// or nothing.
@@ -106,121 +99,8 @@ impl<'a> OpenStream for Slow<'a> {
     }
 }
 
-/// A stream whose peer has gone.
-#[derive(Drop)]
-pub struct Gone;
-
-impl Read for Gone {
-    fn read(&mut self, _buf: &mut [u8]) -> io::Result<usize> {
-        Err(ErrorKind::ConnectionReset.into())
-    }
-}
-
-impl Write for Gone {
-    fn write(&mut self, _buf: &[u8]) -> io::Result<usize> {
-        Err(ErrorKind::BrokenPipe.into())
-    }
-
-    fn flush(&mut self) -> io::Result<()> {
-        Ok(())
-    }
-}
-
-impl OpenStream for Gone {
-    fn set_read_timeout(&self, _dur: Option<Duration>) -> io::Result<()> {
-        Ok(())
-    }
-
-    fn try_clone(&self) -> io::Result<Gone> {
-        Ok(Gone)
-    }
-}
-
-impl AsRawFd for Gone {
-    fn as_raw_fd(&self) -> RawFd {
-        0
-    }
-}
-
-/// A listener whose first peer is gone, which then has so many peers, and then fails.
-#[derive(Drop)]
-pub struct ShortListener {
-    accepts: Cell<u32>,
-    peers: u32,
-}
-
-impl OpenListener for ShortListener {
-    type Stream = Gone;
-
-    fn accept(&self) -> io::Result<(Gone, SocketAddr)> {
-        let count = self.accepts.get();
-        self.accepts.set(count.saturating_add(1));
-        if count == 0 {
-            Err(ErrorKind::ConnectionAborted.into())
-        } else if count <= self.peers {
-            Ok((Gone, SocketAddr::from(([127, 0, 0, 1], 1))))
-        } else {
-            Err(ErrorKind::Other.into())
-        }
-    }
-}
-
-impl AsRawFd for ShortListener {
-    fn as_raw_fd(&self) -> RawFd {
-        0
-    }
-}
-
-/// A machine whose net is such a listener, of any port of 127.0.0.1, and whose time stands still.
-#[derive(Drop)]
-pub struct ShortNet {
-    pub peers: u32,
-    /// The port that was bound last, 0 at first.
-    pub bound: Cell<u16>,
-}
-
-impl ShortNet {
-    pub fn new(peers: u32) -> ShortNet {
-        ShortNet {
-            peers,
-            bound: Cell::new(0),
-        }
-    }
-}
-
-impl Net for ShortNet {
-    type Stream = Gone;
-
-    type Listener = ShortListener;
-
-    fn bind(&self, addr: SocketAddr) -> io::Result<ShortListener> {
-        if addr.ip() != IpAddr::from([127, 0, 0, 1]) {
-            return Err(ErrorKind::AddrNotAvailable.into());
-        }
-        self.bound.set(addr.port());
-        Ok(ShortListener {
-            accepts: Cell::new(0),
-            peers: self.peers,
-        })
-    }
-
-    fn connect(&self, _addr: SocketAddr) -> io::Result<Gone> {
-        Err(ErrorKind::Unsupported.into())
-    }
-}
-
-impl Clock for ShortNet {
-    fn monotonic(&self) -> io::Result<Duration> {
-        Ok(Duration::ZERO)
-    }
-
-    fn since_1970(&self) -> io::Result<Duration> {
-        Ok(Duration::ZERO)
-    }
-}
-
-/// A stream that has these bytes, or fails when it is read, and takes whatever is written. Both of
-/// its ends are at one port.
+/// A stream that has these bytes and takes whatever is written, or one whose peer has gone: it fails
+/// when it is read or written. Both of its ends are at one port.
 #[derive(Drop)]
 pub struct Peer {
     text: Option<&'static [u8]>,
@@ -230,7 +110,7 @@ pub struct Peer {
 impl Read for Peer {
     fn read(&mut self, buf: &mut [u8]) -> io::Result<usize> {
         let Some(text) = self.text else {
-            return Err(ErrorKind::BrokenPipe.into());
+            return Err(ErrorKind::ConnectionReset.into());
         };
         let count = text.len().min(buf.len());
         buf[..count].copy_from_slice(&text[..count]);
@@ -241,6 +121,9 @@ impl Read for Peer {
 
 impl Write for Peer {
     fn write(&mut self, buf: &[u8]) -> io::Result<usize> {
+        if self.text.is_none() {
+            return Err(ErrorKind::BrokenPipe.into());
+        }
         Ok(buf.len())
     }
 
@@ -284,31 +167,48 @@ impl AsRawFd for Peer {
     }
 }
 
-/// A listener that has so many strangers, which fail when they are read, and then the client.
-#[derive(Drop)]
-pub struct StrangeListener {
-    accepts: Cell<u32>,
-    strangers: u32,
+/// Who comes to a listener.
+#[derive(Clone, Copy)]
+pub enum Comers {
+    /// A peer that is gone before it is accepted, then so many that go later, and then none.
+    Gone(u32),
+    /// So many strangers, which go, and then the client.
+    Strangers(u32),
 }
 
-impl OpenListener for StrangeListener {
+impl Comers {
+    /// Who comes at this call, counted from 0.
+    fn at(self, count: u32) -> io::Result<Peer> {
+        match self {
+            Comers::Gone(_) if count == 0 => Err(ErrorKind::ConnectionAborted.into()),
+            Comers::Gone(peers) if count > peers => Err(ErrorKind::Other.into()),
+            Comers::Strangers(strangers) if count >= strangers => Ok(Peer {
+                text: Some(b""),
+                port: 1,
+            }),
+            _ => Ok(Peer {
+                text: None,
+                port: 2,
+            }),
+        }
+    }
+}
+
+/// A listener to which these come.
+#[derive(Drop)]
+pub struct OwnListener {
+    accepts: Cell<u32>,
+    comers: Comers,
+}
+
+impl OpenListener for OwnListener {
     type Stream = Peer;
 
     fn accept(&self) -> io::Result<(Peer, SocketAddr)> {
         let count = self.accepts.get();
         self.accepts.set(count.saturating_add(1));
-        let peer = if count < self.strangers {
-            Peer {
-                text: None,
-                port: 2,
-            }
-        } else {
-            Peer {
-                text: Some(b""),
-                port: 1,
-            }
-        };
-        let address = peer.peer_addr()?;
+        let peer = self.comers.at(count)?;
+        let address = SocketAddr::from(([127, 0, 0, 1], peer.port));
         Ok((peer, address))
     }
 
@@ -317,27 +217,43 @@ impl OpenListener for StrangeListener {
     }
 }
 
-impl AsRawFd for StrangeListener {
+impl AsRawFd for OwnListener {
     fn as_raw_fd(&self) -> RawFd {
         0
     }
 }
 
-/// A machine whose net is such a listener, and whose clients are at port 1.
+/// A machine whose net is such a listener, of any port of 127.0.0.1, whose clients are at port 1, and
+/// whose time stands still.
 #[derive(Drop)]
-pub struct StrangeNet {
-    pub strangers: u32,
+pub struct OwnNet {
+    comers: Comers,
+    /// The port that was bound last, 0 at first.
+    pub bound: Cell<u16>,
 }
 
-impl Net for StrangeNet {
+impl OwnNet {
+    pub fn new(comers: Comers) -> OwnNet {
+        OwnNet {
+            comers,
+            bound: Cell::new(0),
+        }
+    }
+}
+
+impl Net for OwnNet {
     type Stream = Peer;
 
-    type Listener = StrangeListener;
+    type Listener = OwnListener;
 
-    fn bind(&self, _addr: SocketAddr) -> io::Result<StrangeListener> {
-        Ok(StrangeListener {
+    fn bind(&self, addr: SocketAddr) -> io::Result<OwnListener> {
+        if addr.ip() != IpAddr::from([127, 0, 0, 1]) {
+            return Err(ErrorKind::AddrNotAvailable.into());
+        }
+        self.bound.set(addr.port());
+        Ok(OwnListener {
             accepts: Cell::new(0),
-            strangers: self.strangers,
+            comers: self.comers,
         })
     }
 
@@ -349,7 +265,7 @@ impl Net for StrangeNet {
     }
 }
 
-impl Clock for StrangeNet {
+impl Clock for OwnNet {
     fn monotonic(&self) -> io::Result<Duration> {
         Ok(Duration::ZERO)
     }

@@ -1,26 +1,43 @@
 //! Bytes served by way of a socket.
-use super::doubles::{NO_NAMES, StrangeNet};
-use super::serving::{CREATE, CREATED, LAST, LAST_ANSWER, RingBook, are_joined, open};
+use super::doubles::{Comers, OwnNet};
+use super::serving::{LAST, LAST_ANSWER};
+use crate::serving::{
+    CREATE, CREATED, NO_NAMES, RingBook, are_beginning, are_joined, joined, open,
+};
 use byte_streams::{CountedWriter, StreamFault};
 use http_sockets::{HourClock, ServeFault, loop_over};
+use ring_words::Limits;
 use std::alloc::{AllocError, Global};
+use std::io::Write;
+use std::net::Net;
 use std::test::Fail;
+use std::time::Clock;
 use test_fixtures::Taker;
 
-const READ: &str = "GET /v2 HTTP/1.1\r\nHost: a\r\n\r\n";
+static READ: &str = "GET /v2 HTTP/1.1\r\nHost: a\r\n\r\n";
 
-const READ_ANSWER: &str =
+static READ_ANSWER: &str =
     "HTTP/1.1 404 Not Found\r\nContent-Type: application/json\r\nContent-Length: 32\r\n\r\n{\"fault\":\"NoRoute\",\"status\":404}";
 
+/// Serves a file of these bytes at this book and at hour 7.
+fn loop_on<R: AllocGlobal + Net + Clock, W: Write>(
+    rt: &R,
+    book: &mut RingBook,
+    input: &[u8],
+    writer: &mut CountedWriter<W>,
+) -> Result<(), ServeFault> {
+    let mut clock = HourClock::new(rt, Some(7));
+    loop_over(rt, input, writer, &mut clock, book, NO_NAMES)
+}
+
 /// How the serving of a file of these bytes ends at this book, and what is written.
-fn looped(
-    rt: &HostRuntime,
+fn looped<R: AllocGlobal + Net + Clock>(
+    rt: &R,
     book: &mut RingBook,
     input: &[u8],
 ) -> (Result<(), ServeFault>, Vec<u8>) {
-    let mut clock = HourClock::new(rt, Some(7));
     let mut writer = CountedWriter::new(Vec::new(rt.alloc()));
-    let came = loop_over(rt, input, &mut writer, &mut clock, book, NO_NAMES);
+    let came = loop_on(rt, book, input, &mut writer);
     (came, writer.into_inner())
 }
 
@@ -31,25 +48,28 @@ fn loops(
     texts: &[&str],
     told: Result<(), ServeFault>,
     want: &[&str],
-) -> Result<bool, Fail> {
+) -> Result<bool, AllocError> {
     let input = joined(rt.alloc(), texts)?;
     let (came, written) = looped(rt, book, input.as_bytes());
     Ok(came == told && are_joined(&written, want))
 }
 
 /// Whether a file of these texts is served to its end at a new book, and answered so.
-fn loops_anew(rt: &HostRuntime, texts: &[&str], want: &[&str]) -> Result<bool, Fail> {
-    loops(rt, &mut open(rt.alloc()), texts, Ok(()), want)
+fn loops_anew(rt: &HostRuntime, texts: &[&str], want: &[&str]) -> Result<bool, AllocError> {
+    loops(
+        rt,
+        &mut open(rt.alloc(), Limits::full()),
+        texts,
+        Ok(()),
+        want,
+    )
 }
 
-/// Texts as one.
-fn joined(alloc: Global, texts: &[&str]) -> Result<String, AllocError> {
-    let mut all = String::new(alloc);
-    for text in texts {
-        all.push_str(text)?;
-    }
-    Ok(all)
-}
+/// A request.
+static ONE: [&str; 1] = [CREATE];
+
+/// Its answer.
+static ONE_ANSWERED: [&str; 1] = [CREATED];
 
 #[test]
 fn the_answers_to_a_file_are_written(rt: HostRuntime) -> Result<(), Fail> {
@@ -77,13 +97,13 @@ fn a_file_of_32768_bytes_is_answered(rt: HostRuntime) -> Result<(), Fail> {
 
 /// How the serving of 500 reads ends whose answers are too long, and whether what was written is
 /// the first 32,768 bytes of their answers.
-fn too_long(rt: &HostRuntime) -> Result<(Result<(), ServeFault>, bool), Fail> {
+fn too_long(rt: &HostRuntime) -> Result<(Result<(), ServeFault>, bool), AllocError> {
     let input = joined(rt.alloc(), &[READ; 500])?;
-    let all = joined(rt.alloc(), &[READ_ANSWER; 500])?;
-    let (came, text) = looped(rt, &mut open(rt.alloc()), input.as_bytes());
+    let mut book = open(rt.alloc(), Limits::full());
+    let (came, text) = looped(rt, &mut book, input.as_bytes());
     Ok((
         came,
-        text.len() == 32768 && all.as_bytes().starts_with(&text),
+        text.len() == 32768 && are_beginning(&text, &[READ_ANSWER; 500]),
     ))
 }
 
@@ -95,41 +115,34 @@ fn answers_past_32768_bytes_end_the_stream(rt: HostRuntime) -> Result<(), Fail> 
     Ok(())
 }
 
-/// How serving a request ends whose answer is written to a writer that fails, and whether the
+/// Whether serving a request, whose answer is written to a writer that fails, tells so, and the
 /// writer counts that and took a beginning of the answer.
-fn failing_writer(rt: &HostRuntime, book: &mut RingBook) -> (Result<(), ServeFault>, bool) {
-    let mut clock = HourClock::new(rt, Some(7));
+fn tells_a_failing_writer(rt: &HostRuntime, book: &mut RingBook) -> bool {
     let mut writer = CountedWriter::new(Taker::new(rt.alloc(), 30, 3));
-    let came = loop_over(
-        rt,
-        CREATE.as_bytes(),
-        &mut writer,
-        &mut clock,
-        book,
-        NO_NAMES,
-    );
+    let came = loop_on(rt, book, ONE[0].as_bytes(), &mut writer);
     let is_counted = writer.faults() == 1;
-    let taken = writer.into_inner().taken;
-    (came, is_counted && CREATED.as_bytes().starts_with(&taken))
+    came == Err(ServeFault::Stream(StreamFault::WriteFailed))
+        && is_counted
+        && are_beginning(&writer.into_inner().taken, &ONE_ANSWERED)
+}
+
+/// Whether a writer that fails is told so, and the request gets its answer when it is served again.
+fn survives_a_failing_writer(rt: &HostRuntime) -> Result<bool, AllocError> {
+    let mut book = open(rt.alloc(), Limits::full());
+    let is_told = tells_a_failing_writer(rt, &mut book);
+    Ok(is_told && loops(rt, &mut book, &ONE, Ok(()), &ONE_ANSWERED)?)
 }
 
 #[test]
 fn a_writer_that_fails_is_told(rt: HostRuntime) -> Result<(), Fail> {
-    let mut book = open(rt.alloc());
-    let (came, is_beginning) = failing_writer(&rt, &mut book);
-    let failed = Err(ServeFault::Stream(StreamFault::WriteFailed));
-    assert!(rt; came == failed && is_beginning);
-    assert!(rt; loops(&rt, &mut book, &[CREATE], Ok(()), &[CREATED])?);
+    assert!(rt; survives_a_failing_writer(&rt)?);
     Ok(())
 }
 
 /// How the serving of no bytes ends where so many strangers come before the client.
 fn looped_past(alloc: Global, strangers: u32) -> Result<(), ServeFault> {
-    let machine = (StrangeNet { strangers }, alloc);
-    let mut book = open(alloc);
-    let mut clock = HourClock::new(&machine, Some(7));
-    let mut writer = CountedWriter::new(Vec::new(alloc));
-    loop_over(&machine, b"", &mut writer, &mut clock, &mut book, NO_NAMES)
+    let machine = (OwnNet::new(Comers::Strangers(strangers)), alloc);
+    looped(&machine, &mut open(alloc, Limits::full()), b"").0
 }
 
 #[test]

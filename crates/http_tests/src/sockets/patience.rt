@@ -18,8 +18,14 @@ fn peer(clock: &OwnClock, seconds: u64) -> Slow<'_> {
     }
 }
 
+/// Reads what a slow peer sends, at a desk by its clock.
+type SlowReader<'a> = TimedReader<'a, Slow<'a>, OwnDesk<'a>>;
+
+/// Writes what a slow peer takes, at a desk by its clock.
+type SlowWriter<'a> = TimedWriter<'a, Slow<'a>, OwnDesk<'a>>;
+
 /// How many bytes a reader gives, one a read, before it fails, 100 at most.
-fn bytes_read(reader: &mut TimedReader<'_, Slow<'_>, OwnDesk<'_>>) -> u32 {
+fn bytes_read(reader: &mut SlowReader<'_>) -> u32 {
     let mut count = 0u32;
     for _ in 0..100 {
         if reader.read(&mut [0u8; 8]).is_err() {
@@ -31,7 +37,7 @@ fn bytes_read(reader: &mut TimedReader<'_, Slow<'_>, OwnDesk<'_>>) -> u32 {
 }
 
 /// How many bytes a writer takes, one a write, before it fails, 100 at most.
-fn bytes_written(writer: &mut TimedWriter<'_, Slow<'_>, OwnDesk<'_>>) -> u32 {
+fn bytes_written(writer: &mut SlowWriter<'_>) -> u32 {
     let mut count = 0u32;
     for _ in 0..100 {
         if writer.write(b"answers").is_err() {
@@ -60,17 +66,41 @@ fn a_peer_that_reads_its_answers_slowly_has_10_seconds_in_all(rt: HostRuntime) -
     Ok(())
 }
 
-#[test]
-fn each_request_and_each_answer_has_its_time(rt: HostRuntime) -> Result<(), Fail> {
+/// How many bytes are read and written, and how many after a flush; `None` where that fails.
+fn counts_around_a_flush(
+    reader: &mut SlowReader<'_>,
+    writer: &mut SlowWriter<'_>,
+) -> Option<[u32; 4]> {
+    let first = (bytes_read(reader), bytes_written(writer));
+    writer.flush().ok()?;
+    let second = (bytes_read(reader), bytes_written(writer));
+    Some([first.0, first.1, second.0, second.1])
+}
+
+/// The same of a peer whose every byte takes three seconds.
+fn slow_counts_around_a_flush() -> Option<[u32; 4]> {
     let clock = OwnClock::new();
     let pace = pace_at(&clock, false);
     let mut reader = TimedReader::new(peer(&clock, 3), &pace);
     let mut writer = TimedWriter::new(peer(&clock, 3), &pace);
-    let first = (bytes_read(&mut reader), bytes_written(&mut writer));
-    writer.flush()?;
-    let second = (bytes_read(&mut reader), bytes_written(&mut writer));
-    assert!(rt; first == (5, 4) && second == (5, 4));
-    Ok(())
+    counts_around_a_flush(&mut reader, &mut writer)
+}
+
+#[test]
+fn each_request_and_each_answer_has_its_time(rt: HostRuntime) {
+    assert!(rt; slow_counts_around_a_flush() == Some([5, 4, 5, 4]));
+}
+
+/// How many requests of one byte are answered before a read or a flush fails, 100 at most.
+fn requests_answered(reader: &mut SlowReader<'_>, writer: &mut SlowWriter<'_>) -> u32 {
+    let mut count = 0u32;
+    for _ in 0..100 {
+        if reader.read(&mut [0u8; 8]).is_err() || writer.flush().is_err() {
+            break;
+        }
+        count = count.saturating_add(1);
+    }
+    count
 }
 
 /// How many requests of one byte a peer has answered, each of which takes a second, before its turn
@@ -80,26 +110,16 @@ fn turn(others: bool) -> (u32, bool) {
     let pace = pace_at(&clock, others);
     let mut reader = TimedReader::new(peer(&clock, 1), &pace);
     let mut writer = TimedWriter::new(peer(&clock, 0), &pace);
-    let mut count = 0u32;
-    for _ in 0..100 {
-        if reader.read(&mut [0u8; 8]).is_err() || writer.flush().is_err() {
-            break;
-        }
-        count = count.saturating_add(1);
-    }
+    let count = requests_answered(&mut reader, &mut writer);
     (count, pace.is_over())
 }
 
 #[test]
-fn while_others_wait_a_turn_ends_after_10_seconds_and_what_came_before(
-    rt: HostRuntime,
-) -> Result<(), Fail> {
+fn while_others_wait_a_turn_ends_after_10_seconds_and_what_came_before(rt: HostRuntime) {
     assert!(rt; turn(true) == (11, true));
-    Ok(())
 }
 
 #[test]
-fn a_peer_alone_keeps_its_connection_for_a_minute(rt: HostRuntime) -> Result<(), Fail> {
+fn a_peer_alone_keeps_its_connection_for_a_minute(rt: HostRuntime) {
     assert!(rt; turn(false) == (61, true));
-    Ok(())
 }

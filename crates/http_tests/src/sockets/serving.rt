@@ -1,42 +1,24 @@
 //! Clients of a server.
-use super::doubles::{NO_NAMES, ShortNet};
+use super::doubles::{Comers, OwnNet};
+use crate::serving::{CREATE, CREATED, NO_NAMES, are_joined, open};
 use builder::RingMachine;
+use http_api::Clock as HourTeller;
 use http_messages::Audience;
-use http_sockets::{HourClock, ServeFault, Server, ServiceEnd, serve_connections, serve_on};
-use request_book::{Book, MemKeeper};
-use ring_model::Rings;
-use ring_words::{Command, Limits, Port, Reply};
+use http_sockets::{HourClock, Ports, ServeFault, Server, ServiceEnd, serve_connections, serve_on};
+use request_book::{Book, Keeper};
+use ring_words::{Limits, Port};
 use std::alloc::Global;
-use std::io::{Read, Write};
+use std::io::{self, Read, Write};
 use std::net::{Net, OpenStream, SocketAddr};
 use std::test::Fail;
 use std::time::{Clock, Duration, Instant};
 use timed_streams::Patience;
-
-pub type Memory = MemKeeper<Rings, Command, Reply>;
-
-pub type RingBook = Book<RingMachine, Memory>;
-
-/// A request that makes a ring, with 95 bytes of body.
-pub const CREATE: &str =
-    "POST /v1/requests HTTP/1.1\r\nHost: a\r\nContent-Length: 95\r\n\r\n{\"caller\":\"ops\",\"do\":\"create\",\"min_hours\":24,\"number\":1,\"power\":2,\"replicas\":1,\"ring\":\"object\"}";
-
-/// What it is answered.
-pub const CREATED: &str =
-    "HTTP/1.1 200 OK\r\nContent-Type: application/json\r\nContent-Length: 29\r\n\r\n{\"done\":\"create\",\"version\":0}";
 
 /// A last request of something that is not there, and its answer.
 pub const LAST: &str = "GET /v2 HTTP/1.1\r\nHost: a\r\nConnection: close\r\n\r\n";
 
 pub const LAST_ANSWER: &str =
     "HTTP/1.1 404 Not Found\r\nContent-Type: application/json\r\nContent-Length: 32\r\nConnection: close\r\n\r\n{\"fault\":\"NoRoute\",\"status\":404}";
-
-/// An empty book in memory.
-pub fn open(alloc: Global) -> RingBook {
-    let limits = Limits::full();
-    let keeper = MemKeeper::new(alloc, Rings::new(alloc), limits);
-    Book::open(alloc, RingMachine { limits }, keeper)
-}
 
 /// Patience in milliseconds.
 fn patience(between: u64, within: u64, after: u64) -> Patience {
@@ -52,71 +34,82 @@ fn patience(between: u64, within: u64, after: u64) -> Patience {
 /// What a client sends, write by write, and all that it gets.
 type Talk<'a> = (&'a [&'a str], &'a [&'a str]);
 
-/// A client that has sent these texts, and is not done.
-fn client<R: Net>(rt: &R, address: SocketAddr, texts: &[&str]) -> Result<R::Stream, Fail> {
-    let mut stream = rt.connect(address)?;
+/// Sends texts. What the other side does is waited for up to five seconds.
+fn send_all<S: Write + OpenStream>(stream: &mut S, texts: &[&str]) -> io::Result<()> {
     stream.set_read_timeout(Some(Duration::from_secs(5)))?;
     stream.set_write_timeout(Some(Duration::from_secs(5)))?;
     for text in texts {
         stream.write_all(text.as_bytes())?;
     }
+    Ok(())
+}
+
+/// A client that has sent these texts, and is not done.
+fn client<R: Net>(rt: &R, address: SocketAddr, texts: &[&str]) -> io::Result<R::Stream> {
+    let mut stream = rt.connect(address)?;
+    send_all(&mut stream, texts)?;
     Ok(stream)
 }
 
-/// Whether bytes are these texts, one behind another.
-pub fn are_joined(bytes: &[u8], texts: &[&str]) -> bool {
-    let mut rest = bytes;
-    for text in texts {
-        match rest.strip_prefix(text.as_bytes()) {
-            Some(behind) => rest = behind,
-            None => return false,
-        }
-    }
-    rest.is_empty()
-}
-
 /// Whether a client gets exactly these texts until the end.
-fn gets<S: Read + Drop>(alloc: Global, mut stream: S, want: &[&str]) -> Result<bool, Fail> {
+fn gets<S: Read>(alloc: Global, stream: &mut S, want: &[&str]) -> io::Result<bool> {
     let mut bytes = Vec::new(alloc);
     stream.read_to_end(&mut bytes)?;
     Ok(are_joined(&bytes, want))
 }
 
-/// Whether each client gets what its talk says.
-fn all_get<S: Read + Drop>(
-    alloc: Global,
-    streams: Vec<S>,
-    talks: &[Talk<'_>],
-) -> Result<bool, Fail> {
+/// A client, and what it is to get.
+type Waiting<'a, S> = (S, &'a [&'a str]);
+
+/// Whether each client gets what it is to get.
+fn all_get<S: Read>(alloc: Global, clients: &mut [Waiting<'_, S>]) -> io::Result<bool> {
     let mut all = true;
-    for (stream, talk) in streams.into_iter().zip(talks) {
-        all = gets(alloc, stream, talk.1)? && all;
+    for (stream, want) in clients {
+        all = gets(alloc, stream, *want)? && all;
     }
     Ok(all)
 }
 
-/// The clients of some talks, each of which has sent its texts.
-fn clients<R: AllocGlobal + Net>(
+/// Puts the clients of some talks, each of which has sent its texts, behind others.
+fn push_clients<'a, R: Net>(
     rt: &R,
     address: SocketAddr,
-    talks: &[Talk<'_>],
-) -> Result<Vec<R::Stream>, Fail> {
-    let mut streams = Vec::new(rt.alloc());
+    talks: &[Talk<'a>],
+    clients: &mut Vec<Waiting<'a, R::Stream>>,
+) -> io::Result<()> {
     for talk in talks {
-        streams.push(client(rt, address, talk.0)?)?;
+        clients.push((client(rt, address, talk.0)?, talk.1))?;
     }
-    Ok(streams)
+    Ok(())
 }
 
-/// Serves so many connections over a new book.
+/// How often serving went well, and how it ended.
+type Served = (usize, Result<(), ServeFault>);
+
+/// Serves so many connections by any clock and any book, then so many again, and so on.
+fn serve_counts<R: AllocGlobal + Net + Clock, C: HourTeller, K: Keeper<RingMachine>>(
+    server: &mut Server<'_, R>,
+    counts: &[u16],
+    clock: &mut C,
+    book: &mut Book<RingMachine, K>,
+) -> Served {
+    for (done, count) in counts.iter().enumerate() {
+        if let Err(fault) = server.serve(Audience::Anyone, *count, clock, book, NO_NAMES) {
+            return (done, Err(fault));
+        }
+    }
+    (counts.len(), Ok(()))
+}
+
+/// The same over a new book.
 fn serve_new_book<R: AllocGlobal + Net + Clock>(
     rt: &R,
     server: &mut Server<'_, R>,
-    count: u16,
-) -> Result<(), ServeFault> {
+    counts: &[u16],
+) -> Served {
     let mut clock = HourClock::new(rt, Some(7));
-    let mut book = open(rt.alloc());
-    server.serve(Audience::Anyone, count, &mut clock, &mut book, NO_NAMES)
+    let mut book = open(rt.alloc(), Limits::full());
+    serve_counts(server, counts, &mut clock, &mut book)
 }
 
 /// Serves so many connections over a new book, and tells how long that took.
@@ -126,22 +119,33 @@ fn time_of_serving<R: AllocGlobal + Net + Clock>(
     count: u16,
 ) -> Result<Duration, Fail> {
     let began = Instant::now(rt)?;
-    serve_new_book(rt, server, count)?;
+    serve_new_book(rt, server, &[count]).1?;
     Ok(began.elapsed(rt)?)
 }
 
 /// Serves a client for each talk over a new book: whether each gets what its talk says, and how
-/// long the serving took.
+/// long the serving took. The clients are put into an empty list.
+fn serve_clients<'a, R: AllocGlobal + Net + Clock>(
+    rt: &R,
+    server: &mut Server<'_, R>,
+    clients: &mut Vec<Waiting<'a, R::Stream>>,
+    talks: &[Talk<'a>],
+) -> Result<(bool, Duration), Fail> {
+    push_clients(rt, server.address()?, talks, clients)?;
+    let count = u16::try_from(talks.len()).unwrap_or(0);
+    let took = time_of_serving(rt, server, count)?;
+    Ok((all_get(rt.alloc(), clients)?, took))
+}
+
+/// The same by a new server.
 fn served<R: AllocGlobal + Net + Clock>(
     rt: &R,
     patience: Patience,
     talks: &[Talk<'_>],
 ) -> Result<(bool, Duration), Fail> {
     let mut server = Server::bind(rt, 0, patience)?;
-    let streams = clients(rt, server.address()?, talks)?;
-    let count = u16::try_from(talks.len()).unwrap_or(0);
-    let took = time_of_serving(rt, &mut server, count)?;
-    Ok((all_get(rt.alloc(), streams, talks)?, took))
+    let mut clients = Vec::new(rt.alloc());
+    serve_clients(rt, &mut server, &mut clients, talks)
 }
 
 /// Whether each talk goes as it says, in at least so many milliseconds and under four seconds.
@@ -214,11 +218,21 @@ fn free_port<R: Net>(rt: &R) -> Result<Port, Fail> {
     port_of(&Server::bind(rt, 0, Patience::usual())?)
 }
 
+/// Serves no connection at a port of any ports.
+fn serve_no_one<P: Ports, T: Clock + Drop>(
+    alloc: Global,
+    time: T,
+    ports: P,
+    port: Port,
+) -> Result<(), ServeFault> {
+    let mut book = open(alloc, Limits::full());
+    let mut clock = HourClock::new(time, Some(7));
+    serve_connections(ports, port, 0, &mut clock, &mut book, NO_NAMES)
+}
+
 /// Serves no connection at a port.
 fn serve_none<R: AllocGlobal + Net + Clock>(rt: &R, port: Port) -> Result<(), ServeFault> {
-    let mut book = open(rt.alloc());
-    let mut clock = HourClock::new(rt, Some(7));
-    serve_connections(rt, port, 0, &mut clock, &mut book, NO_NAMES)
+    serve_no_one(rt.alloc(), rt, rt, port)
 }
 
 #[test]
@@ -228,21 +242,31 @@ fn no_connection_is_waited_for_at_count_0(rt: HostRuntime) -> Result<(), Fail> {
     Ok(())
 }
 
+/// How the serving of no connection at a port goes, and the port that was bound.
+fn bound_by(alloc: Global, port: Port) -> (Result<(), ServeFault>, u16) {
+    let machine = (OwnNet::new(Comers::Gone(0)), alloc);
+    let served = serve_none(&machine, port);
+    (served, machine.0.bound.get())
+}
+
 #[test]
 fn the_very_port_is_bound_on_127_0_0_1(rt: HostRuntime) -> Result<(), Fail> {
-    let machine = (ShortNet::new(0), rt.alloc());
     let port = Port::new(80).ok_or("a port")?;
-    let mut book = open(rt.alloc());
-    let mut clock = HourClock::new(&machine, Some(7));
-    let served = serve_connections(&machine, port, 0, &mut clock, &mut book, NO_NAMES);
-    assert!(rt; served == Ok(()) && machine.0.bound.get() == 80);
+    assert!(rt; bound_by(rt.alloc(), port) == (Ok(()), 80));
     Ok(())
+}
+
+/// Serves no connection at the port that a server has.
+fn serve_beside<R: AllocGlobal + Net + Clock>(
+    rt: &R,
+    server: &Server<'_, R>,
+) -> Result<Result<(), ServeFault>, Fail> {
+    Ok(serve_none(rt, port_of(server)?))
 }
 
 /// Serves no connection at a port that another server has.
 fn serve_taken<R: AllocGlobal + Net + Clock>(rt: &R) -> Result<Result<(), ServeFault>, Fail> {
-    let server = Server::bind(rt, 0, Patience::usual())?;
-    Ok(serve_none(rt, port_of(&server)?))
+    serve_beside(rt, &Server::bind(rt, 0, Patience::usual())?)
 }
 
 #[test]
@@ -251,29 +275,20 @@ fn a_port_that_is_taken_is_told(rt: HostRuntime) -> Result<(), Fail> {
     Ok(())
 }
 
-/// Serves so many connections over a new book, and then so many again.
-fn served_twice(
-    alloc: Global,
-    net: ShortNet,
-    count: u16,
-    again: u16,
-) -> Result<(Result<(), ServeFault>, Result<(), ServeFault>), ServeFault> {
-    let machine = (net, alloc);
-    let mut book = open(alloc);
-    let mut clock = HourClock::new(&machine, Some(7));
+/// Serves so many connections over a new book, and then so many again, of a listener that has so many
+/// peers, which go.
+fn served_twice(alloc: Global, peers: u32, counts: [u16; 2]) -> Result<Served, ServeFault> {
+    let machine = (OwnNet::new(Comers::Gone(peers)), alloc);
     let mut server = Server::bind(&machine, 0, Patience::usual())?;
-    let first = server.serve(Audience::Anyone, count, &mut clock, &mut book, NO_NAMES);
-    let second = server.serve(Audience::Anyone, again, &mut clock, &mut book, NO_NAMES);
-    Ok((first, second))
+    Ok(serve_new_book(&machine, &mut server, &counts))
 }
 
 #[test]
 fn a_peer_that_is_gone_is_passed_over_and_a_net_that_fails_is_told(
     rt: HostRuntime,
 ) -> Result<(), Fail> {
-    let net = ShortNet::new(1);
-    let want = Ok((Ok(()), Err(ServeFault::NetFailed)));
-    assert!(rt; served_twice(rt.alloc(), net, 1, 1) == want);
+    let want = Ok((1, Err(ServeFault::NetFailed)));
+    assert!(rt; served_twice(rt.alloc(), 1, [1, 1]) == want);
     Ok(())
 }
 
@@ -281,20 +296,28 @@ fn a_peer_that_is_gone_is_passed_over_and_a_net_that_fails_is_told(
 fn as_many_connections_are_served_as_a_service_may_be_asked_for(
     rt: HostRuntime,
 ) -> Result<(), Fail> {
-    let net = ShortNet::new(131070);
-    let want = Ok((Ok(()), Ok(())));
-    assert!(rt; served_twice(rt.alloc(), net, 65535, 65535) == want);
+    assert!(rt; served_twice(rt.alloc(), 131070, [65535, 65535]) == Ok((2, Ok(()))));
     Ok(())
+}
+
+/// Why a service of programs alone over a new book ends.
+fn end_of<R: AllocGlobal + Net + Clock>(rt: &R, server: &mut Server<'_, R>) -> ServiceEnd {
+    let mut book = open(rt.alloc(), Limits::full());
+    let mut clock = HourClock::new(rt, Some(7));
+    serve_on(
+        server,
+        Audience::Programs(&[]),
+        &mut clock,
+        &mut book,
+        NO_NAMES,
+    )
 }
 
 /// Why a service over so many peers ends.
 fn served_on(alloc: Global, peers: u32) -> Result<ServiceEnd, ServeFault> {
-    let machine = (ShortNet::new(peers), alloc);
-    let mut book = open(alloc);
-    let mut clock = HourClock::new(&machine, Some(7));
+    let machine = (OwnNet::new(Comers::Gone(peers)), alloc);
     let mut server = Server::bind(&machine, 0, Patience::usual())?;
-    let audience = Audience::Programs(&[]);
-    Ok(serve_on(&mut server, audience, &mut clock, &mut book, NO_NAMES))
+    Ok(end_of(&machine, &mut server))
 }
 
 #[test]
