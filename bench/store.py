@@ -192,7 +192,9 @@ def with_texts(file, rings, texts, numbers):
         running.wait()
     with sqlite3.connect(file) as held:
         held.execute("PRAGMA journal_mode = DELETE")
-        held.executemany("INSERT INTO published SELECT ring, ?, body FROM published WHERE version > ?", ((version, texts) for version in range(1, texts)))
+        told = "char(10) || 'version ' || {} || char(10)"
+        held.executemany(f"INSERT INTO published SELECT ring, ?1, replace(body, {told.format('version')}, {told.format('?1')}) "
+                         "FROM published WHERE version > ?2", ((version, texts) for version in range(1, texts)))
         place, command, reply = held.execute("SELECT place, command, reply FROM request ORDER BY place DESC LIMIT 1").fetchone()
         held.executemany("INSERT INTO request VALUES ('others', ?, ?, 0, ?, ?)", ((at, at, command, reply) for at in range(place + 1, numbers)))
     held.close()
