@@ -87,14 +87,6 @@ pub list_err : {X Z : Type 0} (P : X → Type 0) (Q : List Z → Type 0) (e : Sp
     → ReadsAs {X = Vec Z Global} (λ v. v.items) Q (Err e)
 list_err {Z = Z} P Q e h part = reads_as_err P (λ (v : Vec Z Global). v.items) Q e h part
 
--- the same, where the part is a list too
-pub lists_err : {X Z : Type 0} (P : List X → Type 0) (Q : List Z → Type 0) (e : SpellingFault)
-    → ReadsAs {X = Vec X Global} (λ v. v.items) P (Err e)
-    → ((zs : List Z) → Q zs → (xs : List X) × P xs)
-    → ReadsAs {X = Vec Z Global} (λ v. v.items) Q (Err e)
-lists_err P Q Bad h part = λ zs q. let p = part zs q in h p.0 p.1
-lists_err P Q NoMemory h part = tt
-
 -- what is read of two facts that are one
 pub reads_same : {X : Type 0} (P Q : X → Type 0) (r : Result X SpellingFault)
     → ((x : X) → P x → Q x) → ((x : X) → Q x → P x) → Reads P r → Reads Q r

@@ -6,8 +6,15 @@ use Rattle.std.specs.declared.alloc.Global.{Global}
 use Rattle.std.proofs.lemmas.Result.{err_from_is_err_and}
 use Rattle.ring_words.specs.declared.device.Device.{Device}
 use Rattle.ring_text.specs.Inner.Reading.{AreDeviceLines, FollowHead}
+use Rattle.ring_text.specs.declared.head.Head.{Head}
 use Rattle.ring_text.proofs.Rest.{none_whole, seats_follow, parts_found, end_follows, rest_is}
 use Rattle.ring_text.proofs.read.read_rest.Goals as goal
+
+abbrev seen : Vec Device Global × Vec ℕ Global → List Device × List ℕ
+seen x = (x.0.items, x.1.items)
+
+abbrev Follow : Head → List ℕ → List Device × List ℕ → Type 0
+Follow head text x = FollowHead head (slice_split (λ b. b == 10) text) x.0 x.1
 
 pub returns-in_err-rest : goal.returns-in_err-rest
 returns-in_err-rest c =
@@ -16,7 +23,7 @@ returns-in_err-rest c =
     let head = c.args.head.now in
     let text = c.args.text.now in
     let has = rw c.from.ensures at c.in_ok-lines.ensures.read in
-    rw (p.1, p.2) (none_whole (λ (x : Vec Device Global × Vec ℕ Global). (x.0.items, x.1.items)) (λ (x : List Device × List ℕ). FollowHead head (slice_split (λ b. b == 10) text) x.0 x.1)
+    rw (p.1, p.2) (none_whole seen (Follow head text)
     c.in_err-rest.field-0.0
     (λ bad y is. let found = seats_follow head text c.in_ok-lines.rest.now _ y.0 y.1 has is in
     (rw bad at c.in_err-rest.ensures.read) found.0 found.1))
@@ -29,13 +36,14 @@ returns-in_err-seats c =
     let text = c.args.text.now in
     let has = rw c.from.ensures at c.in_ok-lines.ensures.read in
     let bytes = c.as_bytes.ensures.value in
-    rw (p.1, p.2) (none_whole (λ (x : Vec Device Global × Vec ℕ Global). (x.0.items, x.1.items)) (λ (x : List Device × List ℕ). FollowHead head (slice_split (λ b. b == 10) text) x.0 x.1)
+    rw (p.1, p.2) (none_whole seen (Follow head text)
     c.in_err-seats.field-0.0
     (λ bad y is.
     let found = parts_found head text c.in_ok-lines.rest.now c.in_ok-rest.rest.now _ y.0 y.1 has
     c.in_ok-rest.ensures.read is in
     (rw bad at c.in_err-seats.ensures.bad) refl is.parts.1 (codes "end" ∷ [] ∷ []) y.1
-    (rw bytes found.others) (omega arith) (is.cut.partitions ∙ sym c.partition_count-partitions.ensures.value) is.second))
+    (rw bytes found.others) (omega arith)
+    (is.cut.partitions ∙ sym c.partition_count-partitions.ensures.value) is.second))
 
 pub returns-then-not-is_end : goal.returns-then-not-is_end
 returns-then-not-is_end c = λ y is.
@@ -59,19 +67,21 @@ returns-in_err-devices c =
     let head = c.args.head.now in
     let text = c.args.text.now in
     let has = rw c.from.ensures at c.in_ok-lines.ensures.read in
-    rw (p.1, p.2) (none_whole (λ (x : Vec Device Global × Vec ℕ Global). (x.0.items, x.1.items)) (λ (x : List Device × List ℕ). FollowHead head (slice_split (λ b. b == 10) text) x.0 x.1)
+    rw (p.1, p.2) (none_whole seen (Follow head text)
     c.in_err-devices.field-0.0
     (λ bad y is.
     let found = parts_found head text c.in_ok-lines.rest.now c.in_ok-rest.rest.now _ y.0 y.1 has
     c.in_ok-rest.ensures.read is in
-    (rw (bad, c.deref.ensures.value) at c.in_err-devices.ensures) y.0 (subst (λ (t : List (List ℕ)). AreDeviceLines t y.0) (sym found.devices) is.first)))
+    (rw (bad, c.deref.ensures.value) at c.in_err-devices.ensures) y.0
+    (subst (λ (t : List (List ℕ)). AreDeviceLines t y.0) (sym found.devices) is.first)))
 
 pub returns : goal.returns
 returns c =
     let head = c.args.head.now in
     let has = rw c.from.ensures at c.in_ok-lines.ensures.read in
     let bytes = c.as_bytes.ensures.value in
-    let partitions = rw (bytes, c.partition_count-partitions.ensures.value) at c.in_ok-seats.ensures.read in
+    let partitions = rw (bytes, c.partition_count-partitions.ensures.value) at
+    c.in_ok-seats.ensures.read in
     rest_is head c.args.text.now c.in_ok-lines.rest.now c.in_ok-rest.rest.now
     c.in_ok-seats.rest.now _ c.in_ok-devices.devices.items c.in_ok-seats.seats.items has
     c.in_ok-rest.ensures.read partitions (c.is_end.ensures.0 c.if-not-is_end.false)
