@@ -180,9 +180,11 @@ def public_clauses(text):
 
 
 def exported(crate):
-    """The names that a library lets others name. Of a program, which has no lib.rt, none."""
+    """The names that a library lets others name. Of a program, which has no lib.rt, those of its other files that its main does."""
     source = TOP / "crates" / crate / "src"
-    top = (source / "lib.rt").read_text() if (source / "lib.rt").exists() else ""
+    if not (source / "lib.rt").exists():
+        return set(re.findall(r"(?m)^use crate::[\w:]+::(\w+);", (source / "main.rt").read_text()))
+    top = (source / "lib.rt").read_text()
     names = set(re.findall(r"\w+", " ".join(re.findall(r"(?m)^pub use [\w:]+::(\{[^}]*\}|\w+);", top))))
     for module in re.findall(r"(?m)^pub mod (\w+);", top):
         top += (source / f"{module}.rt").read_text()

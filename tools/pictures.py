@@ -1,20 +1,14 @@
 #!/usr/bin/env python3
 """Draws the pictures of docs/: tools/pictures.py [--check]
 
-docs/layers.svg comes from crates.txt, docs/request.svg from the table in docs/house.md, and docs/ring.svg from the texts
-that the built program publishes of a ring before and after a rebalance (RINGD names the program, as for checks/).
---check says whether the first two are as the script draws them, and writes nothing.
+docs/layers.svg comes from crates.txt, and docs/request.svg from the table in docs/house.md. --check says whether they are as the
+script draws them, and writes nothing.
 """
-import json
-import subprocess
 import sys
-import tempfile
 from html import escape
 from pathlib import Path
 
 TOP = Path(__file__).resolve().parent.parent
-sys.path.append(str(TOP / "checks"))
-from common import program  # noqa: E402
 
 DOCS = TOP / "docs"
 # Where each crate stands from left to right, in halves of a box, so that no box is on another and no line goes
@@ -23,9 +17,9 @@ SLOTS = {name: int(slot) for name, slot in (word.split(":") for word in """
     ring_words:10 byte_streams:19 ring_model:8 ring_share:6 ring_room:1 ring_tables:7 ring_deal:3
     ring_place:1 ring_text:9 swift_ring:3 ring_founding:21 path_lookup:4 ring_metrics:2 ring_reads:10
     csv_import:10 request_book:19 ring_messages:12 builder:6 ring_log:13 ring_book:12 store_model:16
-    store_tables:6 store_rows:16 builder_store:16 line_stream:15 line_api:15 ring_page:21 http_messages:14
+    store_tables:6 store_rows:16 builder_store:16 line_stream:15 line_api:2 ring_page:21 http_messages:14
     http_stream:17 http_routes:14 http_api:17 timed_streams:22 http_sockets:22 command_line:19 programs:20
-    file_stores:16 ringd:16
+    program_stores:3 file_stores:15 ringd:16
     """.split())}
 COLOURS = ("#4e79a7", "#f28e2b", "#59a14f", "#e15759", "#b07aa1", "#76b7b2", "#9c755f", "#edc948", "#bab0ac")
 FONT = 'font-family="DejaVu Sans, Verdana, sans-serif"'
@@ -153,48 +147,6 @@ def request():
     return drawn.whole()
 
 
-def texts():
-    """The seats of a ring before and after a device is added and the ring rebalanced, and its devices."""
-    rows = [[1, 1 + place // 2, f"10.0.{1 + place // 2}.{1 + place % 2}", 6200, "sda", "100.00"] for place in range(6)]
-    asked = [("create", {"power": 4, "replicas": 3, "min_hours": 1}), ("import", {"rows": rows}), ("rebalance", {"seed": 1}),
-             ("publish", {}), ("import", {"rows": [[1, 1, "10.0.1.3", 6200, "sda", "100.00"]]}), ("pretend_passed", {}),
-             ("rebalance", {"seed": 2}), ("publish", {})]
-    lines = "".join("0 " + json.dumps({"caller": "picture", "number": number, "do": do, "ring": "objects", **more}) + "\n"
-                    for number, (do, more) in enumerate(asked))
-    with tempfile.TemporaryDirectory() as room:
-        file = f"{room}/rings.db"
-        told = subprocess.run([*program(), "run", "--file", file], input=lines, text=True, capture_output=True, check=True).stdout
-        versions = [json.loads(line[4:])["version"] for line in told.splitlines() if '"done":"publish"' in line]
-        found = [subprocess.run([*program(), "export", file, "objects", str(version)], text=True, capture_output=True,
-                                check=True).stdout for version in versions]
-    return [[line.split() for line in text.partition("seats\n")[2].splitlines()[:-1]] for text in found]
-
-
-def ring():
-    """A ring before and after a rebalance: a column for each partition, a row for each replica."""
-    before, after = texts()
-    cell, left = 40, 110
-    drawn = Picture(left + cell * len(before) + 20, 400)
-
-    def seats(y, rows, old, title):
-        drawn.text(12, y - 12, title, 14)
-        for replica in range(len(rows[0])):
-            drawn.text(left - 10, y + 25 + cell * replica, f"replica {replica}", 12, "#666", "end")
-            for partition, row in enumerate(rows):
-                moved = old is not None and old[partition][replica] != row[replica]
-                drawn.box(left + cell * partition, y + cell * replica, cell - 4, cell - 4, COLOURS[int(row[replica])],
-                          "#000" if moved else "none", 3)
-                drawn.text(left + 18 + cell * partition, y + 23 + cell * replica, row[replica], 13, "white", "middle")
-        for partition in range(len(rows)):
-            drawn.text(left + 18 + cell * partition, y + 12 + cell * len(rows[0]), str(partition), 10, "#999", "middle")
-
-    moved = sum(a != b for old, new in zip(before, after) for a, b in zip(old, new))
-    seats(40, before, None, "Before: six devices of equal weight, 16 partitions")
-    seats(220, after, before, f"After device 6 was added: {moved} seats moved (framed), at most one of each partition")
-    drawn.text(12, 385, "Each box is a seat, and its number the device that holds it.", 11, "#777")
-    return drawn.whole()
-
-
 def main():
     drawn = {"layers": layers, "request": request}
     if "--check" in sys.argv:
@@ -202,7 +154,7 @@ def main():
         if stale:
             sys.exit(f"docs: {', '.join(stale)} not as tools/pictures.py draws them")
         return
-    for name, draw in {**drawn, "ring": ring}.items():
+    for name, draw in drawn.items():
         (DOCS / f"{name}.svg").write_text(draw())
 
 

@@ -4,7 +4,7 @@ use Rattle.builder_store.specs.declared.fault.FileFault.TheVariants as file
 use Rattle.builder_store.specs.declared.fault.MakeFault.{MakeFault}
 use Rattle.builder_store.specs.declared.fault.MakeFault.TheVariants as making
 use Rattle.builder_store.specs.declared.fault.OpenFault.TheVariants as opening
-use Rattle.programs.specs.Begun.{IsStoreFault}
+use Rattle.program_stores.specs.Faults.{IsStoreFault}
 use Rattle.file_stores.specs.Unopened.{make_fault, open_fault}
 
 -- why a store isn't opened is told as a fault of the store

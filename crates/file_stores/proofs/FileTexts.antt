@@ -11,10 +11,9 @@ use Rattle.byte_streams.specs.Counted.{IsReadFault, counted_of, one_more, read_f
 use Rattle.byte_streams.specs.declared.counted.WholeReader.{WholeReader}
 use Rattle.byte_streams.specs.declared.fault.StreamFault.{StreamFault}
 use Rattle.byte_streams.specs.declared.fault.StreamFault.TheVariants as stream
-use Rattle.programs.specs.Faults.{stream_fault}
-use Rattle.programs.specs.Tables.{IsFileFault}
-use Rattle.programs.specs.declared.faults.ProgramFault.{ProgramFault}
-use Rattle.programs.specs.declared.faults.ProgramFault.TheVariants as fault
+use Rattle.program_stores.specs.Faults.{IsFileFault, stream_fault}
+use Rattle.program_stores.specs.declared.faults.ProgramFault.{ProgramFault}
+use Rattle.program_stores.specs.declared.faults.ProgramFault.TheVariants as fault
 use Rattle.file_stores.specs.Inner.Unread.{GivesAll, GivesShort, IsUnshort}
 use Rattle.file_stores.specs.Texts.{IsTextOf, IsUnread}
 

@@ -1,5 +1,5 @@
 -- Stores that are made and closed.
-use Rattle.std.proofs.Common.{◌≡◌, Err, IfErr, Ok, OnOk, Result, inr}
+use Rattle.std.proofs.Common.{Err, IfErr, Ok, OnOk, Result, inr}
 use Rattle.sqlite.specs.declared.error.Error.{Error}
 use Rattle.sqlite_disk.specs.declared.Disk as disk
 use Rattle.sqlite_disk.specs.declared.Files.{Files}
@@ -10,7 +10,7 @@ use Rattle.store_rows.specs.Stands.{RingContent}
 use Rattle.file_stores.specs.Closed.{EndsIn}
 use Rattle.file_stores.specs.Made.{IsMadeInFiles, IsNotInFiles}
 use Rattle.file_stores.specs.Opened.{IsMade}
-use Rattle.programs.specs.Begun.{Closing}
+use Rattle.program_stores.specs.Stores.{Closing}
 
 module _ {K D : Type 0} (g : Keeping K) {d : disk.Ghosts D} (store : K → FileStore D d)
     (content : RingContent) (keeper : K) (is : IsMade g content keeper) where

@@ -14,9 +14,9 @@ use Rattle.builder_store.specs.Closing.{AreFilesOf, AreLeftWith, IsUnclosed}
 use Rattle.builder_store.specs.declared.keeper.SqlKeeper.{SqlKeeper}
 use Rattle.request_book.specs.Keeper.{LeavesOnly}
 use Rattle.ring_book.specs.Book.{Keeping}
-use Rattle.programs.specs.Begun.{Closing}
-use Rattle.programs.specs.declared.faults.ProgramFault.{ProgramFault}
-use Rattle.programs.specs.declared.faults.ProgramFault.TheVariants as fault
+use Rattle.program_stores.specs.Stores.{Closing}
+use Rattle.program_stores.specs.declared.faults.ProgramFault.{ProgramFault}
+use Rattle.program_stores.specs.declared.faults.ProgramFault.TheVariants as fault
 
 -- the store of a keeper
 abbrev pub store_of_keeper : {S : Type 0} {g : Ghosts S} → SqlKeeper S g → S

@@ -1,5 +1,5 @@
 -- The store in a file as programs make it, and as it is closed then.
-use Rattle.std.specs.Prelude.{◌≡◌, ◌⊎◌, Err, Ok, Option}
+use Rattle.std.specs.Prelude.{◌⊎◌, Err, Ok, Option}
 use Rattle.sqlite.specs.declared.error.Error.{Error}
 use Rattle.sqlite_disk.specs.declared.Disk as disk
 use Rattle.sqlite_disk.specs.declared.Files.{Files}
@@ -12,7 +12,7 @@ use Rattle.store_rows.specs.Stands.{RingContent}
 use Rattle.file_stores.specs.Closed.{EndsIn}
 use Rattle.file_stores.specs.Opened.{IsMade}
 use Rattle.file_stores.specs.Unopened.{IsNotMade}
-use Rattle.programs.specs.declared.faults.ProgramFault.{ProgramFault}
+use Rattle.program_stores.specs.declared.faults.ProgramFault.{ProgramFault}
 
 module _ {K D : Type 0} (g : Keeping K) {d : disk.Ghosts D} (store : K → FileStore D d)
     (content : RingContent) where

@@ -3,8 +3,8 @@ use Rattle.std.specs.Prelude.{◌≡◌, ◌<◌, ⊤, ℕ, IfSome, List, None, 
 use Rattle.std.specs.declared.io.traits.Take.{Take}
 use Rattle.byte_streams.specs.Counted.{counted_of, one_more, read_faults}
 use Rattle.byte_streams.specs.declared.counted.WholeReader.{WholeReader}
-use Rattle.programs.specs.declared.faults.ProgramFault.{ProgramFault}
-use Rattle.programs.specs.declared.faults.ProgramFault.TheVariants as fault
+use Rattle.program_stores.specs.declared.faults.ProgramFault.{ProgramFault}
+use Rattle.program_stores.specs.declared.faults.ProgramFault.TheVariants as fault
 
 -- The reader of a whole file has failed so often, since it was new.
 abbrev pub FailedSoOften : {R : Type 0} → WholeReader R → ℕ → Type 0

@@ -20,8 +20,8 @@ use Rattle.builder_store.specs.declared.fault.MakeFault.TheVariants as making
 use Rattle.builder_store.specs.declared.fault.OpenFault.TheVariants as opening
 use Rattle.builder_store.specs.declared.over.FilesLeft.{FilesLeft}
 use Rattle.store_rows.specs.Stands.{RingContent}
-use Rattle.programs.specs.declared.faults.ProgramFault.{ProgramFault}
-use Rattle.programs.specs.declared.faults.ProgramFault.TheVariants as fault
+use Rattle.program_stores.specs.declared.faults.ProgramFault.{ProgramFault}
+use Rattle.program_stores.specs.declared.faults.ProgramFault.TheVariants as fault
 
 -- What is told where the store in a file isn't opened: a bad store where what was read is none, and
 -- else a fault of the store, as where the system refused or failed.

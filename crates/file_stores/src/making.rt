@@ -2,7 +2,7 @@
 ghost use Rattle.std.specs.Prelude.{◌≡◌, IfErr, IfOk, OnOk};
 ghost use Rattle.sqlite_wal.specs.Files.{image_at};
 ghost use Rattle.builder_store.specs.Making.{rings_alone};
-ghost use Rattle.programs.specs.Begun.{IsStoreFault};
+ghost use Rattle.program_stores.specs.Faults.{IsStoreFault};
 ghost use Rattle.file_stores.specs.Closed.{store_of_keeper};
 ghost use Rattle.file_stores.specs.Made.{IsMadeInFiles, IsNotInFiles};
 ghost use Rattle.file_stores.specs.Opened.{IsMade};
@@ -11,7 +11,7 @@ ghost use Rattle.file_stores.specs.Unopened.{IsNotMade, make_fault};
 use crate::opening::{FileKeeper, close_store, open_fault};
 use builder::RingMachine;
 use builder_store::{FilesLeft, MakeFault, make_at};
-use programs::ProgramFault;
+use program_stores::ProgramFault;
 use request_book::Keeper;
 use ring_model::Rings;
 use ring_words::{Hour, Limits};

@@ -1,14 +1,14 @@
 //! Opening and closing the store in a file.
 ghost use Rattle.std.specs.Prelude.{◌≡◌, IfErr, IfOk};
 ghost use Rattle.sqlite_wal.specs.Files.{image_at};
-ghost use Rattle.programs.specs.Begun.{IsCloseFault, IsStoreFault};
+ghost use Rattle.program_stores.specs.Faults.{IsCloseFault, IsStoreFault};
 ghost use Rattle.file_stores.specs.Closed.{EndsIn, EndsSettled, close_fault, store_of_keeper};
 ghost use Rattle.file_stores.specs.Opened.{IsKept};
 ghost use Rattle.file_stores.specs.Unopened.{IsNotOpened, open_fault};
 
 use builder::RingMachine;
 use builder_store::{FileFault, FilesLeft, OpenFault, SqlKeeper, close_keeper, open_from};
-use programs::ProgramFault;
+use program_stores::ProgramFault;
 use request_book::Keeper;
 use ring_words::Limits;
 use sqlite::{Error, ErrorCode, FileFrom, FileStore, Files, Start};

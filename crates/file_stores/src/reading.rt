@@ -1,11 +1,11 @@
 //! Reading the files that words name beside stores.
 ghost use Rattle.std.specs.Prelude.{◌≡◌, ◌≤◌, ⊤, ℕ, IfErr, IfOk, List, MatchOption, length};
-ghost use Rattle.programs.specs.Tables.{IsFileFault};
+ghost use Rattle.program_stores.specs.Faults.{IsFileFault};
 ghost use Rattle.file_stores.specs.Texts.{IsTextOf, IsUnread};
 ghost use Rattle.file_stores.specs.Inner.Unread.{GivesShort, IsUnshort};
 
 use byte_streams::{WholeReader, read_all};
-use programs::ProgramFault;
+use program_stores::ProgramFault;
 use std::alloc::Global;
 use std::fs::File;
 use std::io::{Read, Take};

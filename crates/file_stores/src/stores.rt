@@ -12,7 +12,7 @@ use crate::making::{NewFiles, NewKeeper, make_closed};
 use crate::opening::{ClosedFiles, FileKeeper, UnopenedFiles, close_store, open_store};
 use crate::reading::{NamedFile, TextRest, read_file};
 use builder::RingMachine;
-use programs::{ProgramFault, Stores};
+use program_stores::{ProgramFault, Stores};
 use request_book::Keeper;
 use ring_model::Rings;
 use ring_words::Hour;

@@ -5,9 +5,10 @@ use Rattle.csv_import.specs.declared.fault.CsvFault.{CsvFault}
 use Rattle.csv_import.specs.declared.fault.CsvFault.TheVariants as csv
 use Rattle.programs.specs.Inner.Forms.{HasNoRows, text_fault, unread_table}
 use Rattle.ring_words.specs.declared.device.Row.{Row}
-use Rattle.programs.specs.Tables.{HoldsShort, HoldsTable, IsBadTable, IsFileFault, longest_table}
-use Rattle.programs.specs.declared.faults.ProgramFault.{ProgramFault}
-use Rattle.programs.specs.declared.faults.ProgramFault.TheVariants as fault
+use Rattle.program_stores.specs.Faults.{IsFileFault}
+use Rattle.programs.specs.Tables.{HoldsShort, HoldsTable, IsBadTable, longest_table}
+use Rattle.program_stores.specs.declared.faults.ProgramFault.{ProgramFault}
+use Rattle.program_stores.specs.declared.faults.ProgramFault.TheVariants as fault
 
 module _ (Holds : List ℕ → Type 0) (IsUnread : ℕ → ProgramFault → Type 0) where
   wrong_text : (text : List ℕ) (why : CsvFault) → HoldsShort Holds longest_table text →

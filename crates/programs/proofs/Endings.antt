@@ -8,11 +8,11 @@ use Rattle.byte_streams.specs.declared.counted.CountedWriter.{CountedWriter}
 use Rattle.command_line.specs.declared.task.Task.{Task}
 use Rattle.command_line.specs.declared.task.Task.TheVariants as task
 use Rattle.builder.specs.Step.{State}
-use Rattle.programs.specs.Begun.{Closing}
+use Rattle.program_stores.specs.Stores.{Closing}
 use Rattle.programs.specs.Importing.{AsksImport}
 use Rattle.programs.specs.Performed.{EndsBy, EndsSo, FailsSo, ImportsFile, ShowsStore}
 use Rattle.programs.specs.Inner.Showing.{FailsToShowTask, IsShowing}
-use Rattle.programs.specs.declared.faults.ProgramFault.{ProgramFault}
+use Rattle.program_stores.specs.declared.faults.ProgramFault.{ProgramFault}
 use Rattle.programs.specs.declared.importing.ImportAsk.{ImportAsk}
 use Rattle.programs.specs.declared.performing.Ending.{Ending}
 use Rattle.programs.specs.declared.performing.Ending.TheVariants.{Done, Refused}

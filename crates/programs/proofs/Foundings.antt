@@ -14,13 +14,15 @@ use Rattle.ring_founding.specs.declared.founding.FoundFault.{FoundFault}
 use Rattle.ring_founding.specs.declared.founding.Terms.{Terms}
 use Rattle.ring_text.specs.Snapshot.{SnapshotRecord}
 use Rattle.programs.proofs.Renewals.{renews}
-use Rattle.programs.specs.Begun.{Closing, IsClosedWhole, IsStoreFault, OpensNone, OpensOne, OpensTwo}
-use Rattle.programs.specs.Founding.{HoldRings, found_fault}
+use Rattle.program_stores.specs.Faults.{IsStoreFault, found_fault}
+use Rattle.program_stores.specs.Stores.{Closing}
+use Rattle.programs.specs.Begun.{IsClosedWhole, OpensNone, OpensOne, OpensTwo}
+use Rattle.programs.specs.Founding.{HoldRings}
 use Rattle.programs.specs.Inner.Founding.{FailsOverFound, FailsTellingNoRing, FailsTellingNoRings}
 use Rattle.programs.specs.Performed.{texts_given}
 use Rattle.programs.specs.Renewing.{IsRead}
-use Rattle.programs.specs.declared.faults.ProgramFault.{ProgramFault}
-use Rattle.programs.specs.declared.faults.ProgramFault.TheVariants as fault
+use Rattle.program_stores.specs.declared.faults.ProgramFault.{ProgramFault}
+use Rattle.program_stores.specs.declared.faults.ProgramFault.TheVariants as fault
 
 -- ---- texts of files
 

@@ -8,11 +8,12 @@ use Rattle.ring_reads.specs.Holding.{Holding}
 use Rattle.ring_messages.specs.declared.told.Told.{Told}
 use Rattle.ring_words.specs.declared.device.Row.{Row}
 use Rattle.programs.specs.Importing.{Imports}
-use Rattle.programs.specs.Begun.{Closing, IsCloseFault, IsStoreFault}
+use Rattle.program_stores.specs.Faults.{IsCloseFault, IsStoreFault}
+use Rattle.program_stores.specs.Stores.{Closing}
 use Rattle.programs.specs.Running.{AnswersLines, StopsLines}
 use Rattle.programs.specs.Showing.{IsAsked}
-use Rattle.programs.specs.declared.faults.ProgramFault.{ProgramFault}
-use Rattle.programs.specs.declared.faults.ProgramFault.TheVariants as fault
+use Rattle.program_stores.specs.declared.faults.ProgramFault.{ProgramFault}
+use Rattle.program_stores.specs.declared.faults.ProgramFault.TheVariants as fault
 use Rattle.programs.specs.declared.importing.ImportAsk.{ImportAsk}
 use Rattle.programs.proofs.Runs.{answers, asked, imports, stops}
 use Rattle.ring_book.specs.Book.{Keeping}

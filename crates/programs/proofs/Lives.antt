@@ -53,9 +53,11 @@ use Rattle.ring_messages.specs.declared.told.Told.TheVariants as told
 use Rattle.ring_reads.specs.Holding.{Holding}
 use Rattle.ring_reads.specs.declared.reads.Question.{Question}
 use Rattle.http_sockets.specs.Listening.{AcceptsNone, HasAcceptedNone}
-use Rattle.programs.specs.Begun.{AreServiceLimits, Closing, FailedToClose, IsBegun, IsClosed}
+use Rattle.program_stores.specs.Stores.{Closing}
+use Rattle.programs.specs.Begun.{AreServiceLimits, FailedToClose, IsBegun, IsClosed}
 use Rattle.programs.specs.Begun.{HasNotFailed, IsClosedWhole}
-use Rattle.programs.specs.Begun.{IsStoreFault, OpensNone, OpensOne, OpensTwo, WasClosed}
+use Rattle.program_stores.specs.Faults.{IsStoreFault, found_fault}
+use Rattle.programs.specs.Begun.{OpensNone, OpensOne, OpensTwo, WasClosed}
 use Rattle.programs.specs.Begun.{WasClosedAfter}
 use Rattle.programs.specs.Importing.{FailsTold, FailsToDeliver, FailsToImport, Imports, IsToldAs, TellsImport}
 use Rattle.programs.specs.Importing.{TellsNothing, WritesTold}
@@ -69,7 +71,7 @@ use Rattle.programs.specs.Calls.{unimported_calls, until_calls, untold_calls, wo
 use Rattle.programs.specs.Logging.{FailsToLogStore, IsLogged, LogsStore}
 use Rattle.programs.specs.Performed.{EndsBy, EndsSo, FailsSo, FailsToDo, FailsToShowStore}
 use Rattle.programs.specs.Performed.{ImportsFile, ShowsStore, texts_given}
-use Rattle.programs.specs.Founding.{AreNoRings, FailsToFound, IsMissing, found_fault}
+use Rattle.programs.specs.Founding.{AreNoRings, FailsToFound, IsMissing}
 use Rattle.programs.specs.Renewing.{FailsToRead, FailsToRenew, IsRead}
 use Rattle.ring_founding.specs.Founding.{AreFounded, AreUnfounded}
 use Rattle.ring_founding.specs.declared.founding.FoundFault.{FoundFault}
@@ -80,8 +82,8 @@ use Rattle.programs.specs.Serving.{FailsToLoop, FailsToLoopInput, FailsToServePo
 use Rattle.programs.specs.Serving.{ServesFewer, ServesOne, ServesPort, accepts_tcp, shuts_tcp}
 use Rattle.programs.specs.Serving.{tcp_remaining}
 use Rattle.programs.specs.Showing.{AsksShown, IsAsked, ShowsNothing}
-use Rattle.programs.specs.declared.faults.ProgramFault.{ProgramFault}
-use Rattle.programs.specs.declared.faults.ProgramFault.TheVariants as fault
+use Rattle.program_stores.specs.declared.faults.ProgramFault.{ProgramFault}
+use Rattle.program_stores.specs.declared.faults.ProgramFault.TheVariants as fault
 use Rattle.programs.specs.declared.importing.ImportAsk.{ImportAsk}
 use Rattle.programs.specs.declared.service.ServiceAsk.{ServiceAsk}
 use Rattle.programs.specs.declared.performing.Ending.TheVariants.{Done, Refused}

@@ -16,9 +16,10 @@ use Rattle.ring_log.specs.Log.{entries_text}
 use Rattle.ring_log.specs.declared.text.LogForm.{LogForm}
 use Rattle.ring_log.proofs.Entries.{text_append}
 use Rattle.ring_words.specs.Limits.{long_count}
-use Rattle.programs.specs.Begun.{Closing, WasClosed, WasClosedAfter}
+use Rattle.program_stores.specs.Stores.{Closing}
+use Rattle.programs.specs.Begun.{WasClosed, WasClosedAfter}
 use Rattle.programs.specs.Logging.{BeginsLog, FailsToLog, IsLogged, WritesLog}
-use Rattle.programs.specs.declared.faults.ProgramFault.{ProgramFault}
+use Rattle.program_stores.specs.declared.faults.ProgramFault.{ProgramFault}
 use Rattle.programs.specs.Inner.Pages.{BreaksPage, BreaksPages, FailsBy, WritesPage, WritesPages}
 use Rattle.programs.specs.Inner.Pages.{WroteSome, page_size}
 

@@ -29,7 +29,8 @@ use Rattle.ring_words.specs.declared.command.Command.{Command}
 use Rattle.ring_words.specs.declared.command.Reply.{Reply}
 use Rattle.ring_words.specs.declared.request.Limits.{Limits}
 use Rattle.programs.proofs.Lives.{same_limits}
-use Rattle.programs.specs.Begun.{AreServiceLimits, Closing}
+use Rattle.program_stores.specs.Stores.{Closing}
+use Rattle.programs.specs.Begun.{AreServiceLimits}
 use Rattle.programs.specs.Life.{EndsItself, WasCutOff, IsLeftIn, ProgramsAreOneRun, ProgramsLive}
 use Rattle.programs.specs.Founding.{HoldRings}
 use Rattle.programs.specs.Life.{FoundedStayValid, ProgramsStayValid, made_content}

@@ -2,9 +2,11 @@
 use Rattle.std.proofs.Common.{◌≡◌, inr, Err, Ok, Result, ℕ, subst, sym}
 use Rattle.std.specs.Prelude.{IfErr, ⊤}
 use Rattle.builder.specs.Step.{State}
-use Rattle.programs.specs.Begun.{Closing, IsClosedWhole, IsStoreFault, OpensTwo}
+use Rattle.program_stores.specs.Faults.{IsStoreFault}
+use Rattle.program_stores.specs.Stores.{Closing}
+use Rattle.programs.specs.Begun.{IsClosedWhole, OpensTwo}
 use Rattle.programs.specs.Renewing.{FailsToRenew, IsRead, Renews}
-use Rattle.programs.specs.declared.faults.ProgramFault.{ProgramFault}
+use Rattle.program_stores.specs.declared.faults.ProgramFault.{ProgramFault}
 use Rattle.ring_book.specs.Book.{Keeping}
 
 -- keepers that are known were read and left, and less is known of them

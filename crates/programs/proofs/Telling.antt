@@ -8,13 +8,13 @@ use Rattle.builder.specs.Step.{State}
 use Rattle.command_line.specs.declared.task.Task.{Task}
 use Rattle.command_line.specs.declared.task.Task.TheVariants as task
 use Rattle.ring_book.specs.Book.{Keeping}
-use Rattle.programs.specs.Begun.{Closing}
+use Rattle.program_stores.specs.Stores.{Closing}
 use Rattle.programs.specs.Faults.{GetsText, GetsTexts}
 use Rattle.programs.specs.Inner.Tellings.{EndsTelling, FailsTelling, IsTelling}
 use Rattle.programs.specs.Performed.{FailsSo}
 use Rattle.programs.specs.Service.{NeverServes, ServesPrograms, fault_status}
 use Rattle.programs.specs.Service.{is_lasting, service_status}
-use Rattle.programs.specs.declared.faults.ProgramFault.{ProgramFault}
+use Rattle.program_stores.specs.declared.faults.ProgramFault.{ProgramFault}
 use Rattle.programs.specs.declared.service.ServiceAsk.{ServiceAsk}
 use Rattle.http_sockets.specs.declared.fault.ServiceEnd.{ServiceEnd}
 

@@ -1,5 +1,5 @@
 -- Books as programs open them.
-use Rattle.std.specs.Prelude.{◌<◌, ◌≡◌, ⊤, [], Err, Ok, Result, ℕ}
+use Rattle.std.specs.Prelude.{◌<◌, ◌≡◌, ⊤, [], Err, Ok, ℕ}
 use Rattle.ring_words.specs.Limits.{most_devices, most_ids, most_numbers, most_rings, most_versions}
 use Rattle.ring_words.specs.declared.request.Limits.{Limits}
 use Rattle.builder.specs.declared.machine.RingMachine.{RingMachine}
@@ -8,8 +8,8 @@ use Rattle.request_book.specs.Book.{Parts}
 use Rattle.request_book.specs.declared.keeper.KeepFault.{KeepFault}
 use Rattle.request_book.specs.declared.keeper.KeepFault.TheVariants as keep
 use Rattle.ring_book.specs.Book.{Keeping}
-use Rattle.programs.specs.declared.faults.ProgramFault.{ProgramFault}
-use Rattle.programs.specs.declared.faults.ProgramFault.TheVariants as fault
+use Rattle.program_stores.specs.Stores.{Closing}
+use Rattle.program_stores.specs.declared.faults.ProgramFault.{ProgramFault}
 
 -- These are the limits of a service, the greatest that there are.
 pub record AreServiceLimits (limits : Limits) : Type 0 where
@@ -28,10 +28,6 @@ pub record IsBegun {K : Type 0} (Begins : K → Type 0) (book : Parts RingMachin
 -- Nothing is said of the keeper.
 abbrev pub IsAny : {K : Type 0} → K → Type 0
 IsAny keeper = ⊤
-
--- what closing a store answers
-abbrev pub Closing : Type 0
-Closing = Result (Unit {0}) ProgramFault
 
 -- The keeper was closed, and all that it holds is in its place.
 abbrev pub IsClosed : {K : Type 0} → (K → Closing → Type 0) → K → Type 0
@@ -81,17 +77,3 @@ pub record IsNew {K : Type 0} (g : Keeping K) (keeper : K) : Type 0 where
   pub book : (g.content keeper).book ≡ []
   pub hour : (g.content keeper).hour ≡ 0
   pub limit : g.limit keeper ≡ most_numbers
-
--- The fault is one of the store's: its files can't be opened or made, it failed, they hold none, or
--- there is no memory.
-abbrev pub IsStoreFault : ProgramFault → Type 0
-IsStoreFault fault.StoreFault = ⊤
-IsStoreFault fault.BadStore = ⊤
-IsStoreFault fault.NoMemory = ⊤
-IsStoreFault _ = ⊥
-
--- The fault is one of closing a store: its files failed, or there was no memory.
-abbrev pub IsCloseFault : ProgramFault → Type 0
-IsCloseFault fault.StoreFault = ⊤
-IsCloseFault fault.NoMemory = ⊤
-IsCloseFault _ = ⊥

@@ -25,7 +25,8 @@ use Rattle.ring_book.specs.Book.{Keeping}
 use Rattle.ring_messages.specs.declared.told.Told.{Told}
 use Rattle.ring_words.specs.declared.command.Act.TheVariants as act
 use Rattle.ring_words.specs.declared.device.Row.{Row}
-use Rattle.programs.specs.Begun.{Closing, FailedToClose, IsClosed, WasClosed}
+use Rattle.program_stores.specs.Stores.{Closing}
+use Rattle.programs.specs.Begun.{FailedToClose, IsClosed, WasClosed}
 use Rattle.programs.specs.Importing.{FailsToDeliver, FailsToImport, Imports, TellsImport}
 use Rattle.programs.specs.Importing.{TellsNothing}
 use Rattle.programs.specs.Performed.{EndsSo, FailsSo, FailsToDo}
@@ -34,7 +35,7 @@ use Rattle.programs.specs.Service.{ServesPrograms, StopsOnMachine, StopsService,
 use Rattle.programs.specs.Serving.{FailsToLoop, FailsToLoopInput, FailsToServePort, ServesFewer}
 use Rattle.programs.specs.Serving.{ServesOne, ServesPort, Service, accepts_tcp, shuts_tcp}
 use Rattle.programs.specs.Serving.{tcp_remaining}
-use Rattle.programs.specs.declared.faults.ProgramFault.{ProgramFault}
+use Rattle.program_stores.specs.declared.faults.ProgramFault.{ProgramFault}
 use Rattle.programs.specs.declared.importing.ImportAsk.{ImportAsk}
 use Rattle.programs.specs.declared.service.ServiceAsk.{ServiceAsk}
 use Rattle.programs.specs.declared.performing.Ending.{Ending}

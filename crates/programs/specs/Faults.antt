@@ -4,16 +4,11 @@ use Rattle.std.specs.Io.KnownBytes.{Appends}
 use Rattle.byte_streams.specs.Counted.{IsFlushed, one_more, write_faults, writer_of}
 use Rattle.byte_streams.specs.Writing.{WritesBeginning}
 use Rattle.byte_streams.specs.declared.counted.CountedWriter.{CountedWriter}
-use Rattle.byte_streams.specs.declared.fault.StreamFault.{StreamFault}
-use Rattle.byte_streams.specs.declared.fault.StreamFault.TheVariants as stream
 use Rattle.http_sockets.specs.declared.fault.ServeFault.{ServeFault}
 use Rattle.http_sockets.specs.declared.fault.ServeFault.TheVariants as serve
-use Rattle.request_book.specs.declared.keeper.KeepFault.{KeepFault}
-use Rattle.request_book.specs.declared.keeper.KeepFault.TheVariants as keep
-use Rattle.ring_words.specs.declared.spelling.SpellingFault.{SpellingFault}
-use Rattle.ring_words.specs.declared.spelling.SpellingFault.TheVariants as spelling
-use Rattle.programs.specs.declared.faults.ProgramFault.{ProgramFault}
-use Rattle.programs.specs.declared.faults.ProgramFault.TheVariants as fault
+use Rattle.program_stores.specs.Faults.{stream_fault}
+use Rattle.program_stores.specs.declared.faults.ProgramFault.{ProgramFault}
+use Rattle.program_stores.specs.declared.faults.ProgramFault.TheVariants as fault
 
 -- the name of a fault
 abbrev pub program_fault_name : ProgramFault → List ℕ
@@ -61,22 +56,6 @@ fault_number fault.WriteFailed = 51
 abbrev pub fault_line : ProgramFault → List ℕ
 fault_line why = codes "ringd: " ++ program_fault_name why ++ 32
     ∷ decimal (fault_number why) ++ 10 ∷ []
-
--- what a word that isn't of its form is told as
-abbrev pub form_fault : SpellingFault → ProgramFault
-form_fault spelling.Bad = fault.Unreadable
-form_fault spelling.NoMemory = fault.NoMemory
-
--- what the fault of a keeper is told as
-abbrev pub keep_fault : KeepFault → ProgramFault
-keep_fault keep.Store = fault.StoreFault
-keep_fault keep.NoMemory = fault.NoMemory
-
--- what the fault of a stream is told as
-abbrev pub stream_fault : StreamFault → ProgramFault
-stream_fault stream.ReadFailed = fault.ReadFailed
-stream_fault stream.WriteFailed = fault.WriteFailed
-stream_fault stream.NoMemory = fault.NoMemory
 
 -- what the fault of a service is told as
 abbrev pub serve_fault : ServeFault → ProgramFault

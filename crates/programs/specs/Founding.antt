@@ -7,7 +7,6 @@ use Rattle.builder.specs.Step.{State}
 use Rattle.ring_book.specs.Book.{Keeping}
 use Rattle.ring_founding.specs.Founding.{AreFounded, AreUnfounded, IsFounded}
 use Rattle.ring_founding.specs.declared.founding.FoundFault.{FoundFault}
-use Rattle.ring_founding.specs.declared.founding.FoundFault.TheVariants as found
 use Rattle.ring_founding.specs.declared.founding.Terms.{Terms}
 use Rattle.ring_model.specs.Ring.{RingRecord, is_assigned}
 use Rattle.ring_model.specs.Valid.{IsValid}
@@ -16,20 +15,16 @@ use Rattle.ring_text.specs.Snapshot.{SnapshotRecord, snapshot_of}
 use Rattle.ring_text.specs.Spelling.{Spells, spelling}
 use Rattle.ring_text.specs.Stops.{IsStop}
 use Rattle.ring_words.specs.Texts.{is_label}
-use Rattle.programs.specs.Begun.{Closing, IsClosedWhole, IsStoreFault, OpensNone, OpensOne, OpensTwo}
+use Rattle.program_stores.specs.Faults.{IsFileFault, IsStoreFault, found_fault}
+use Rattle.program_stores.specs.Stores.{Closing}
+use Rattle.programs.specs.Begun.{IsClosedWhole, OpensNone, OpensOne, OpensTwo}
 use Rattle.programs.specs.Renewing.{FailsToRead, IsRead}
 use Rattle.programs.specs.Serving.{TellsHour}
-use Rattle.programs.specs.Tables.{HoldsShort, IsFileFault}
-use Rattle.programs.specs.declared.faults.ProgramFault.{ProgramFault}
-use Rattle.programs.specs.declared.faults.ProgramFault.TheVariants as fault
+use Rattle.programs.specs.Tables.{HoldsShort}
+use Rattle.program_stores.specs.declared.faults.ProgramFault.{ProgramFault}
+use Rattle.program_stores.specs.declared.faults.ProgramFault.TheVariants as fault
 
 -- ---- what is told
-
--- what the fault of a founding is told as
-abbrev pub found_fault : FoundFault → ProgramFault
-found_fault found.RingExists = fault.RingExists
-found_fault found.TooManyRings = fault.TooManyRings
-found_fault found.NoMemory = fault.NoMemory
 
 -- the line that tells where the text in a file stops being that of a ring
 abbrev pub stop_line : List ℕ → ℕ → List ℕ

@@ -24,13 +24,14 @@ use Rattle.ring_words.specs.Texts.{is_label}
 use Rattle.ring_words.specs.declared.command.Act.TheVariants as act
 use Rattle.ring_words.specs.declared.command.Reply.{Reply}
 use Rattle.ring_words.specs.declared.device.Row.{Row}
-use Rattle.programs.specs.Begun.{Closing, FailedToClose, IsBegun, IsCloseFault, IsClosed}
-use Rattle.programs.specs.Begun.{IsStoreFault}
+use Rattle.program_stores.specs.Faults.{IsCloseFault, IsStoreFault}
+use Rattle.program_stores.specs.Stores.{Closing}
+use Rattle.programs.specs.Begun.{FailedToClose, IsBegun, IsClosed}
 use Rattle.programs.specs.Begun.{OpensNone, OpensOne}
 use Rattle.programs.specs.Serving.{TellsHour}
 use Rattle.programs.specs.Tables.{HoldsTable, IsBadTable, IsNoTable}
-use Rattle.programs.specs.declared.faults.ProgramFault.{ProgramFault}
-use Rattle.programs.specs.declared.faults.ProgramFault.TheVariants as fault
+use Rattle.program_stores.specs.declared.faults.ProgramFault.{ProgramFault}
+use Rattle.program_stores.specs.declared.faults.ProgramFault.TheVariants as fault
 use Rattle.programs.specs.declared.importing.ImportAsk.{ImportAsk}
 
 -- Words ask for an import into the ring of this name, as this caller's request of this number.

@@ -1,9 +1,10 @@
 -- Stores and files of which programs keep what a call answered, and drop what it gave back beside that.
 use Rattle.std.specs.Prelude.{◌⊎◌, ℕ, List, Err, Ok}
 use Rattle.builder.specs.Step.{State}
-use Rattle.programs.specs.Begun.{Closing, IsCloseFault}
-use Rattle.programs.specs.declared.faults.ProgramFault.{ProgramFault}
-use Rattle.programs.specs.declared.stores.Stores as store_calls
+use Rattle.program_stores.specs.Faults.{IsCloseFault}
+use Rattle.program_stores.specs.Stores.{Closing}
+use Rattle.program_stores.specs.declared.faults.ProgramFault.{ProgramFault}
+use Rattle.program_stores.specs.declared.stores.Stores as store_calls
 
 -- Stores are these. What their calls give back is: keepers, what is left of those that were not opened
 -- and of those that were closed; and stores that were made, and the same of them; and readers.

@@ -32,16 +32,18 @@ use Rattle.ring_words.specs.Limits.{greatest_short, long_count, most_numbers}
 use Rattle.ring_words.specs.declared.command.Command.{Command}
 use Rattle.ring_words.specs.declared.command.Reply.{Reply}
 use Rattle.ring_words.specs.declared.request.Limits.{Limits}
-use Rattle.programs.specs.Begun.{AreServiceLimits, Closing, IsBegun, IsClosed, IsStoreFault}
+use Rattle.program_stores.specs.Faults.{IsFileFault, IsStoreFault}
+use Rattle.program_stores.specs.Stores.{Closing}
+use Rattle.programs.specs.Begun.{AreServiceLimits, IsBegun, IsClosed}
 use Rattle.programs.specs.Begun.{OpensNone, OpensOne, WasClosed}
 use Rattle.programs.specs.Calls.{ended_calls, failed_calls}
 use Rattle.programs.specs.Importing.{FailsTold, WritesTold}
 use Rattle.programs.specs.Founding.{AreNoRings, HoldRings, IsMissing}
 use Rattle.programs.specs.Performed.{EndsSo, FailsSo, texts_given}
 use Rattle.programs.specs.Showing.{HasBadWord, IsFormFault, IsPathless}
-use Rattle.programs.specs.Tables.{IsBadTable, IsFileFault, IsNoTable}
-use Rattle.programs.specs.declared.faults.ProgramFault.{ProgramFault}
-use Rattle.programs.specs.declared.faults.ProgramFault.TheVariants as fault
+use Rattle.programs.specs.Tables.{IsBadTable, IsNoTable}
+use Rattle.program_stores.specs.declared.faults.ProgramFault.{ProgramFault}
+use Rattle.program_stores.specs.declared.faults.ProgramFault.TheVariants as fault
 use Rattle.programs.specs.declared.performing.Ending.TheVariants.{Done, Refused}
 
 -- ---- one run

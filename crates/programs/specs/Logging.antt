@@ -15,11 +15,12 @@ use Rattle.ring_log.specs.declared.text.LogForm.{LogForm}
 use Rattle.ring_log.specs.declared.text.LogForm.TheVariants as form
 use Rattle.ring_words.specs.Limits.{greatest_long, long_count}
 use Rattle.ring_words.specs.Spelling.{SpellsNumber}
-use Rattle.programs.specs.Begun.{Closing, FailedToClose, IsCloseFault, IsClosedWhole}
-use Rattle.programs.specs.Begun.{IsStoreFault, WasClosed, WasClosedAfter}
-use Rattle.programs.specs.Faults.{keep_fault}
-use Rattle.programs.specs.declared.faults.ProgramFault.{ProgramFault}
-use Rattle.programs.specs.declared.faults.ProgramFault.TheVariants as fault
+use Rattle.program_stores.specs.Faults.{IsCloseFault, IsStoreFault, keep_fault}
+use Rattle.program_stores.specs.Stores.{Closing}
+use Rattle.programs.specs.Begun.{FailedToClose, IsClosedWhole}
+use Rattle.programs.specs.Begun.{WasClosed, WasClosedAfter}
+use Rattle.program_stores.specs.declared.faults.ProgramFault.{ProgramFault}
+use Rattle.program_stores.specs.declared.faults.ProgramFault.TheVariants as fault
 
 -- ---- what is asked
 

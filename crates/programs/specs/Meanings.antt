@@ -3,8 +3,8 @@ use Rattle.std.specs.Prelude.{◌∷◌, [], ℕ, List, None, Option, Some, code
 use Rattle.std.specs.Borrow.{Bor}
 use Rattle.command_line.specs.declared.task.Task.{Task}
 use Rattle.command_line.specs.declared.task.Task.TheVariants as task
-use Rattle.programs.specs.declared.faults.ProgramFault.{ProgramFault}
-use Rattle.programs.specs.declared.faults.ProgramFault.TheVariants as fault
+use Rattle.program_stores.specs.declared.faults.ProgramFault.{ProgramFault}
+use Rattle.program_stores.specs.declared.faults.ProgramFault.TheVariants as fault
 
 -- what a fault means, and what to look at
 abbrev pub fault_meaning : ProgramFault → List ℕ

@@ -8,10 +8,12 @@ use Rattle.byte_streams.specs.declared.fault.StreamFault.{StreamFault}
 use Rattle.command_line.specs.Tasks.{AskFor}
 use Rattle.command_line.specs.declared.task.Task.{Task}
 use Rattle.command_line.specs.declared.task.Task.TheVariants as task
-use Rattle.programs.specs.Faults.{GetsText, GetsTexts, fault_line, stream_fault}
+use Rattle.program_stores.specs.Faults.{stream_fault}
+use Rattle.programs.specs.Faults.{GetsText, GetsTexts, fault_line}
 use Rattle.programs.specs.Meanings.{meaning_texts}
 use Rattle.programs.specs.Importing.{AnswersImport, AsksImport, FailsToImport}
-use Rattle.programs.specs.Begun.{Closing, IsAny, IsClosed, IsClosedWhole, IsNew, OpensNone}
+use Rattle.program_stores.specs.Stores.{Closing}
+use Rattle.programs.specs.Begun.{IsAny, IsClosed, IsClosedWhole, IsNew, OpensNone}
 use Rattle.programs.specs.Begun.{OpensOne}
 use Rattle.programs.specs.Begun.{OpensTwo}
 use Rattle.builder.specs.Step.{State}
@@ -27,12 +29,12 @@ use Rattle.programs.specs.Serving.{ServesPort}
 use Rattle.programs.specs.Showing.{AsksShown, FailsToShow, IsFormFault, HasBadWord}
 use Rattle.programs.specs.Showing.{IsPathless, ShowsRead}
 use Rattle.programs.specs.Version.{FailsToTellVersion, TellsVersion}
-use Rattle.programs.specs.declared.faults.ProgramFault.{ProgramFault}
-use Rattle.programs.specs.declared.faults.ProgramFault.TheVariants as fault
+use Rattle.program_stores.specs.declared.faults.ProgramFault.{ProgramFault}
+use Rattle.program_stores.specs.declared.faults.ProgramFault.TheVariants as fault
 use Rattle.programs.specs.declared.importing.ImportAsk.{ImportAsk}
 use Rattle.programs.specs.declared.performing.Ending.{Ending}
 use Rattle.programs.specs.declared.performing.Ending.TheVariants.{Done, Refused}
-use Rattle.programs.specs.declared.stores.Stores as store_calls
+use Rattle.program_stores.specs.declared.stores.Stores as store_calls
 use Rattle.ring_reads.specs.declared.reads.Question.{Question}
 use Rattle.ring_book.specs.Book.{Keeping}
 

@@ -4,11 +4,12 @@ use Rattle.builder.specs.Step.{State}
 use Rattle.request_book.specs.Keeper.{LeavesOnly}
 use Rattle.request_book.specs.declared.keeper.KeepFault.{KeepFault}
 use Rattle.ring_book.specs.Book.{Keeping}
-use Rattle.programs.specs.Begun.{Closing, FailedToClose, IsCloseFault, IsClosedWhole, IsStoreFault}
+use Rattle.program_stores.specs.Faults.{IsCloseFault, IsStoreFault, keep_fault}
+use Rattle.program_stores.specs.Stores.{Closing}
+use Rattle.programs.specs.Begun.{FailedToClose, IsClosedWhole}
 use Rattle.programs.specs.Begun.{OpensOne}
 use Rattle.programs.specs.Begun.{OpensTwo, WasClosedAfter}
-use Rattle.programs.specs.Faults.{keep_fault}
-use Rattle.programs.specs.declared.faults.ProgramFault.{ProgramFault}
+use Rattle.program_stores.specs.declared.faults.ProgramFault.{ProgramFault}
 
 -- A keeper that begins so is read and left so, and this is so of its rings and its hour. It keeps
 -- its content, and a crash leaves that and nothing else.

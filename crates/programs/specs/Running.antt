@@ -10,10 +10,11 @@ use Rattle.builder.specs.declared.machine.RingMachine.{RingMachine}
 use Rattle.line_stream.specs.Serving.{LinesServed, LinesStopped}
 use Rattle.line_api.specs.Served.{ServesLines}
 use Rattle.request_book.specs.Book.{Parts}
-use Rattle.programs.specs.Faults.{stream_fault}
-use Rattle.programs.specs.Begun.{Closing, FailedToClose, IsBegun, IsCloseFault, IsStoreFault}
+use Rattle.program_stores.specs.Faults.{IsCloseFault, IsStoreFault, stream_fault}
+use Rattle.program_stores.specs.Stores.{Closing}
+use Rattle.programs.specs.Begun.{FailedToClose, IsBegun}
 use Rattle.programs.specs.Begun.{WasClosed}
-use Rattle.programs.specs.declared.faults.ProgramFault.{ProgramFault}
+use Rattle.program_stores.specs.declared.faults.ProgramFault.{ProgramFault}
 use Rattle.ring_book.specs.Book.{Keeping}
 
 -- The lines of a stream were answered by a book that was opened for them over a keeper that begins

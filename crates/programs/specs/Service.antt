@@ -19,12 +19,13 @@ use Rattle.request_book.specs.Book.{Parts}
 use Rattle.request_book.specs.Keeper.{LeavesOnly}
 use Rattle.request_book.specs.declared.keeper.KeepFault.{KeepFault}
 use Rattle.ring_book.specs.Book.{Keeping}
-use Rattle.programs.specs.Begun.{AreServiceLimits, Closing, HasFailedBy, HasNotFailed, IsStoreFault}
+use Rattle.program_stores.specs.Faults.{IsStoreFault, keep_fault}
+use Rattle.program_stores.specs.Stores.{Closing}
+use Rattle.programs.specs.Begun.{AreServiceLimits, HasFailedBy, HasNotFailed}
 use Rattle.programs.specs.Begun.{WasClosed}
-use Rattle.programs.specs.Faults.{keep_fault}
 use Rattle.programs.specs.Serving.{IsSet, MachineClock, accepts_tcp, shuts_tcp, tcp_remaining}
-use Rattle.programs.specs.declared.faults.ProgramFault.{ProgramFault}
-use Rattle.programs.specs.declared.faults.ProgramFault.TheVariants as fault
+use Rattle.program_stores.specs.declared.faults.ProgramFault.{ProgramFault}
+use Rattle.program_stores.specs.declared.faults.ProgramFault.TheVariants as fault
 use Rattle.programs.specs.declared.service.Figures.{Figures}
 use Rattle.programs.specs.declared.service.ServiceAsk.{ServiceAsk}
 

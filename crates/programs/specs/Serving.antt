@@ -20,12 +20,14 @@ use Rattle.http_sockets.specs.declared.server.Server.{Server}
 use Rattle.path_lookup.specs.declared.hash.HashNames.{HashNames}
 use Rattle.request_book.specs.Book.{Parts}
 use Rattle.programs.specs.Faults.{serve_fault}
-use Rattle.programs.specs.Begun.{Closing, FailedToClose, IsBegun, IsCloseFault, IsStoreFault}
+use Rattle.program_stores.specs.Faults.{IsCloseFault, IsFileFault, IsStoreFault}
+use Rattle.program_stores.specs.Stores.{Closing}
+use Rattle.programs.specs.Begun.{FailedToClose, IsBegun}
 use Rattle.programs.specs.Begun.{OpensNone}
 use Rattle.programs.specs.Begun.{OpensOne, WasClosed}
-use Rattle.programs.specs.Tables.{HoldsShort, IsFileFault}
-use Rattle.programs.specs.declared.faults.ProgramFault.{ProgramFault}
-use Rattle.programs.specs.declared.faults.ProgramFault.TheVariants as fault
+use Rattle.programs.specs.Tables.{HoldsShort}
+use Rattle.program_stores.specs.declared.faults.ProgramFault.{ProgramFault}
+use Rattle.program_stores.specs.declared.faults.ProgramFault.TheVariants as fault
 use Rattle.ring_book.specs.Book.{Keeping}
 
 -- a clock that tells the hours of this machine, or always one

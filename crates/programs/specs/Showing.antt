@@ -11,7 +11,6 @@ use Rattle.byte_streams.specs.declared.counted.CountedWriter.{CountedWriter}
 use Rattle.path_lookup.specs.Names.{PathNames, is_path, names_of}
 use Rattle.ring_reads.specs.declared.reads.Format.{Format}
 use Rattle.ring_reads.specs.declared.reads.Hidden.{Hidden}
-use Rattle.ring_reads.specs.declared.reads.Hidden.TheVariants as hidden
 use Rattle.ring_reads.specs.declared.reads.Question.{Question}
 use Rattle.ring_reads.specs.declared.reads.Question.TheVariants as asking
 use Rattle.ring_reads.specs.declared.reads.Read.{Read}
@@ -27,12 +26,13 @@ use Rattle.command_line.specs.declared.task.Task.TheVariants as task
 use Rattle.ring_words.specs.Spelling.{SpellsName, SpellsNumber}
 use Rattle.ring_words.specs.Texts.{is_label}
 use Rattle.request_book.specs.declared.keeper.KeepFault.{KeepFault}
-use Rattle.programs.specs.Begun.{Closing, FailedToClose, IsCloseFault, IsClosedWhole, IsStoreFault}
+use Rattle.program_stores.specs.Faults.{IsCloseFault, IsStoreFault, hidden_fault, keep_fault}
+use Rattle.program_stores.specs.Stores.{Closing}
+use Rattle.programs.specs.Begun.{FailedToClose, IsClosedWhole}
 use Rattle.programs.specs.Begun.{WasClosed, WasClosedAfter}
-use Rattle.programs.specs.Faults.{keep_fault}
 use Rattle.programs.specs.Serving.{TellsHour}
-use Rattle.programs.specs.declared.faults.ProgramFault.{ProgramFault}
-use Rattle.programs.specs.declared.faults.ProgramFault.TheVariants as fault
+use Rattle.program_stores.specs.declared.faults.ProgramFault.{ProgramFault}
+use Rattle.program_stores.specs.declared.faults.ProgramFault.TheVariants as fault
 use Rattle.ring_book.specs.Book.{Keeping, holding}
 
 -- ---- what is asked
@@ -153,15 +153,6 @@ IsPathless (task.Nodes file ring account container object names) = is_path (name
 IsPathless _ = ⊥
 
 -- ---- what is shown
-
--- the fault that tells why nothing is shown
-abbrev pub hidden_fault : Hidden → ProgramFault
-hidden_fault hidden.NoRing = fault.NoRing
-hidden_fault hidden.NotAssigned = fault.NotAssigned
-hidden_fault hidden.NoVersion = fault.NoVersion
-hidden_fault hidden.BadText = fault.BadStore
-hidden_fault hidden.TooFewDevices = fault.TooFewDevices
-hidden_fault hidden.NoMemory = fault.NoMemory
 
 -- The text is what is written of what is shown of a question where this is held. Paths are hashed
 -- between a prefix and a suffix.

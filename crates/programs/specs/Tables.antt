@@ -4,17 +4,8 @@ use Rattle.csv_import.specs.Rows.{AreRows, IsWrong, records_of}
 use Rattle.csv_import.specs.declared.fault.CsvFault.{CsvFault}
 use Rattle.csv_import.specs.declared.fault.CsvFault.TheVariants as csv
 use Rattle.ring_words.specs.declared.device.Row.{Row}
-use Rattle.programs.specs.declared.faults.ProgramFault.{ProgramFault}
-use Rattle.programs.specs.declared.faults.ProgramFault.TheVariants as fault
-
--- The fault is one of a file that is read: it can't be opened, reading it failed, it has too many
--- bytes, or there is no memory for them.
-abbrev pub IsFileFault : ProgramFault → Type 0
-IsFileFault fault.NoFile = ⊤
-IsFileFault fault.ReadFailed = ⊤
-IsFileFault fault.TooLong = ⊤
-IsFileFault fault.NoMemory = ⊤
-IsFileFault _ = ⊥
+use Rattle.program_stores.specs.declared.faults.ProgramFault.{ProgramFault}
+use Rattle.program_stores.specs.declared.faults.ProgramFault.TheVariants as fault
 
 -- how many bytes a table of rows has at most
 abbrev pub longest_table : ℕ

@@ -1,13 +1,12 @@
 //! What programs ask of stores. They keep the answer, and drop what is left beside it: that it is as
 //! the answer says stays in the clauses.
 ghost use Rattle.std.specs.Prelude.{◌≡◌, ◌≤◌, IfErr, IfOk, OnOk, length};
-ghost use Rattle.programs.specs.Begun.{IsCloseFault, IsStoreFault, OpensOne};
+ghost use Rattle.program_stores.specs.Faults.{IsCloseFault, IsFileFault, IsStoreFault};
+ghost use Rattle.programs.specs.Begun.{OpensOne};
 ghost use Rattle.programs.specs.Left.{Closes, FailsToMake, GivesNoText, GivesText, MakesStore};
 ghost use Rattle.programs.specs.Left.{RefusesToOpen};
-ghost use Rattle.programs.specs.Tables.{IsFileFault};
 
-use crate::faults::ProgramFault;
-use crate::stores::Stores;
+use program_stores::{ProgramFault, Stores};
 use request_book::Keeper;
 use ring_model::Rings;
 use ring_words::Hour;

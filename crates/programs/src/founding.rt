@@ -1,7 +1,7 @@
 //! The program `found`: a new store of rings that hold data already, as they stand.
 ghost use Rattle.std.specs.Prelude.{◌≡◌, ◌∷◌, [], ℕ, IfErr, IfOk, OnOk, string_bytes};
-ghost use Rattle.programs.specs.Begun.{IsClosedWhole, OpensNone, OpensOne};
-ghost use Rattle.programs.specs.Founding.{AsksTerms, HoldRings, HoldsNoRing, stop_line};
+ghost use Rattle.programs.specs.Begun.{OpensOne};
+ghost use Rattle.programs.specs.Founding.{HoldRings, stop_line};
 ghost use Rattle.programs.specs.Inner.Founding.{FoundsOver, FailsOverFound, FailsTellingNoRing};
 ghost use Rattle.programs.specs.Inner.Founding.{FailsTellingNoRings, FailsTellingToFound};
 ghost use Rattle.programs.specs.Left.{Closes, FailsToMake, GivesNoText, GivesText, MakesStore};
@@ -12,11 +12,11 @@ ghost use Rattle.programs.specs.Founding.{IsThere};
 ghost use Rattle.ring_text.specs.Stops.{IsStop};
 
 use crate::dropping::{make_store, read_text};
-use crate::faults::{ProgramFault, tell_text};
+use crate::faults::tell_text;
 use crate::hours::hour_of;
 use crate::renewing::read_store;
-use crate::stores::Stores;
 use byte_streams::CountedWriter;
+use program_stores::{ProgramFault, Stores};
 use ring_founding::{Terms, found_rings};
 use ring_model::Rings;
 use ring_text::{Snapshot, read_ring, stop_line};

@@ -13,14 +13,13 @@ ghost use Rattle.programs.specs.Left.{Closes, GivesNoText, GivesText, RefusesToO
 
 use crate::book::open_book;
 use crate::dropping::{close_store, open_store, read_text};
-use crate::faults::ProgramFault;
 use crate::hours::hour_of;
-use crate::stores::Stores;
 use builder::{RingMachine, Told, status_of};
 use byte_streams::{CountedWriter, StreamFault, WholeReader, write_text};
 use csv_import::{CsvFault, read_rows};
 use http_api::told_csv;
 use line_api::answer_text;
+use program_stores::{ProgramFault, Stores};
 use request_book::Keeper;
 use ring_book::told_of;
 use ring_messages::command_is_proper;

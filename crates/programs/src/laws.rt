@@ -10,8 +10,8 @@ ghost use Rattle.programs.specs.Left.{Closes, FailsToMake, GivesNoText, GivesTex
 ghost use Rattle.programs.specs.Left.{RefusesToOpen};
 
 use crate::lines::MemoryKeeper;
-use crate::stores::Stores;
 use builder::RingMachine;
+use program_stores::Stores;
 use request_book::Keeper;
 use request_book::laws::{calls_go_on, run_goes_on};
 use std::io::{Read, Write};

@@ -23,10 +23,7 @@ mod renewing;
 mod service;
 mod serving;
 mod showing;
-mod stores;
 mod version;
 
-pub use faults::ProgramFault;
 pub use lines::MemoryKeeper;
 pub use performing::perform;
-pub use stores::Stores;

@@ -6,11 +6,10 @@ ghost use Rattle.programs.specs.Left.{Closes, RefusesToOpen};
 
 use crate::book::open_book;
 use crate::dropping::{close_store, open_store};
-use crate::faults::ProgramFault;
-use crate::stores::Stores;
 use builder::RingMachine;
 use byte_streams::{CountedReader, CountedWriter, StreamFault};
 use line_api::run_lines;
+use program_stores::{ProgramFault, Stores};
 use request_book::{Keeper, MemKeeper};
 use ring_model::Rings;
 use ring_words::{Command, Limits, Reply};

@@ -9,10 +9,9 @@ ghost use Rattle.programs.specs.Inner.Pages.{WritesPages};
 ghost use Rattle.programs.specs.Showing.{HasNoPlace, IsFormFault};
 
 use crate::dropping::{close_store, open_store};
-use crate::faults::ProgramFault;
-use crate::stores::Stores;
 use builder::RingMachine;
 use byte_streams::{CountedWriter, write_text};
+use program_stores::{ProgramFault, Stores};
 use request_book::Keeper;
 use ring_log::{LogForm, entries_text};
 use ring_words::read_number;

@@ -5,9 +5,10 @@ ghost use Rattle.programs.specs.Meanings.{fault_meaning, file_told, input_named,
 ghost use Rattle.programs.specs.Meanings.{meaning_parts, meaning_texts, named_of_two, store_named};
 ghost use Rattle.programs.specs.Meanings.{text_named};
 
-use crate::faults::{ProgramFault, tell_text};
+use crate::faults::tell_text;
 use byte_streams::CountedWriter;
 use command_line::Task;
+use program_stores::ProgramFault;
 use std::io::Write;
 
 const NO_RING: &str =

@@ -1,5 +1,5 @@
 //! What the program does over three streams.
-ghost use Rattle.std.specs.Prelude.{◌≡◌, ◌≢◌, ◌⊎◌, ◌≤◌, Err, IfErr, IfOk, Ok, OnOk, map};
+ghost use Rattle.std.specs.Prelude.{◌≡◌, ◌⊎◌, ◌≤◌, Err, IfErr, IfOk, Ok, OnOk, map};
 ghost use Rattle.std.specs.Prelude.{string_bytes};
 ghost use Rattle.command_line.specs.Tasks.{AskForNothing};
 ghost use Rattle.programs.specs.Begun.{OpensNone, OpensOne};
@@ -11,10 +11,10 @@ ghost use Rattle.programs.specs.Service.{fault_status};
 ghost use Rattle.programs.specs.Inner.Asked.{FailsToImportAsked, FailsToShowAsked};
 ghost use Rattle.programs.specs.Inner.Showing.{FailsToShowTask, IsShowing, ShowsTask};
 ghost use Rattle.programs.specs.declared.performing.Ending.TheVariants.{Done};
-ghost use Rattle.programs.specs.Left.{Closes, FailsToMake, GivesNoText, GivesText, MakesStore};
+ghost use Rattle.programs.specs.Left.{Closes, GivesNoText, GivesText};
 ghost use Rattle.programs.specs.Left.{RefusesToOpen};
 
-use crate::faults::{ProgramFault, tell_fault};
+use crate::faults::tell_fault;
 use crate::founding::{FoundAsk, found_store};
 use crate::hours::new_clock;
 use crate::importing::{ImportAsk, ask_import, import_table};
@@ -25,12 +25,12 @@ use crate::renewing::renew_store;
 use crate::service::{ServiceAsk, is_lasting, serve_programs};
 use crate::serving::{loop_file, serve_store};
 use crate::showing::{ask_nodes, ask_published, ask_shown, ask_tables, show};
-use crate::stores::Stores;
 use crate::version::tell_version;
 use builder::RingMachine;
 use byte_streams::{CountedReader, CountedWriter, write_text};
 use command_line::{ArgsFault, Task, task_of};
 use path_lookup::HashNames;
+use program_stores::{ProgramFault, Stores};
 use request_book::Keeper;
 use ring_reads::Question;
 use ring_words::Hour;

@@ -4,14 +4,13 @@ ghost use Rattle.request_book.specs.Keeper.{LeavesOnly};
 ghost use Rattle.request_book.specs.declared.keeper.KeepFault.{KeepFault};
 ghost use Rattle.programs.specs.Begun.{HasFailedBy, HasNotFailed, IsClosedWhole, OpensOne};
 ghost use Rattle.programs.specs.Begun.{OpensTwo};
-ghost use Rattle.programs.specs.Faults.{keep_fault};
+ghost use Rattle.program_stores.specs.Faults.{keep_fault};
 ghost use Rattle.programs.specs.Renewing.{FailsToRead, FailsToRenew, IsRead, Renews};
 ghost use Rattle.programs.specs.Left.{Closes, FailsToMake, MakesStore, RefusesToOpen};
 
 use crate::dropping::{close_store, make_store, open_store};
-use crate::faults::ProgramFault;
-use crate::stores::Stores;
 use builder::RingMachine;
+use program_stores::{ProgramFault, Stores};
 use request_book::Keeper;
 use ring_model::Rings;
 use ring_words::Hour;

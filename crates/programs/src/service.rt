@@ -11,14 +11,14 @@ ghost use Rattle.programs.specs.Service.{is_ahead, is_lasting, may_begin, place_
 
 use crate::book::open_book;
 use crate::dropping::{close_store, open_store};
-use crate::faults::{ProgramFault, tell_text};
-use crate::stores::Stores;
+use crate::faults::{serve_fault, tell_text};
 use builder::RingMachine;
 use byte_streams::CountedWriter;
 use http_api::Clock;
 use http_messages::Audience;
 use http_sockets::{Door, Ports, ServiceEnd, serve_on};
 use path_lookup::HashNames;
+use program_stores::{ProgramFault, Stores};
 use request_book::{KeepFault, Keeper};
 use ring_words::{Hour, MOST_NUMBERS, Port};
 use std::alloc::{AllocError, Global};
@@ -161,7 +161,10 @@ fn begin<P: Ports + Drop, K: Keeper<RingMachine>, C: Clock, E: Write>(
         return Err(ProgramFault::ClockAhead);
     }
     let line = serving_line(alloc, ask, &figures)?;
-    let door = ports.open(ask.port)?;
+    let door = match ports.open(ask.port) {
+        Ok(door) => door,
+        Err(fault) => return Err(serve_fault(fault)),
+    };
     tell_text(errors, &line);
     Ok(door)
 }

@@ -8,13 +8,13 @@ ghost use Rattle.programs.specs.Left.{Closes, GivesNoText, GivesText, RefusesToO
 
 use crate::book::open_book;
 use crate::dropping::{close_store, open_store, read_text};
-use crate::faults::ProgramFault;
+use crate::faults::serve_fault;
 use crate::hours::new_clock;
-use crate::stores::Stores;
 use builder::RingMachine;
 use byte_streams::CountedWriter;
 use http_sockets::{MOST_LOOPED, Ports, ServeFault, loop_over, serve_connections};
 use path_lookup::HashNames;
+use program_stores::{ProgramFault, Stores};
 use request_book::Keeper;
 use ring_words::{Hour, Port};
 use std::io::Write;
@@ -86,7 +86,10 @@ pub(crate) fn serve_store<S: Stores, P: Ports + Drop>(
     let keeper = open_store(rt, file, stores)?;
     let (served, keeper) = serve_port(rt, ports, keeper, port, count, given, names);
     let closed = close_store::<S>(keeper);
-    served?;
+    match served {
+        Ok(()) => {}
+        Err(fault) => return Err(serve_fault(fault)),
+    }
     closed
 }
 
@@ -109,7 +112,10 @@ fn loop_store<S: Stores, W: Write>(
     let keeper = open_store(rt, file, stores)?;
     let (looped, keeper) = loop_input(rt, keeper, input, given, names, writer);
     let closed = close_store::<S>(keeper);
-    looped?;
+    match looped {
+        Ok(()) => {}
+        Err(fault) => return Err(serve_fault(fault)),
+    }
     closed
 }
 

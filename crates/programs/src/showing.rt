@@ -3,9 +3,9 @@
 ghost use Rattle.std.specs.Prelude.{◌≡◌, ◌≢◌, ◌⊎◌, ◌++◌, ◌∷◌, [], ⊤, IfErr, IfOk, OnOk, true};
 ghost use Rattle.path_lookup.specs.Names.{is_path};
 ghost use Rattle.request_book.specs.declared.keeper.KeepFault.{KeepFault};
-ghost use Rattle.programs.specs.Begun.{HasFailedBy, HasNotFailed, IsClosedWhole, IsStoreFault};
+ghost use Rattle.program_stores.specs.Faults.{IsStoreFault, keep_fault};
+ghost use Rattle.programs.specs.Begun.{HasFailedBy, HasNotFailed, IsClosedWhole};
 ghost use Rattle.programs.specs.Begun.{OpensOne};
-ghost use Rattle.programs.specs.Faults.{keep_fault};
 ghost use Rattle.programs.specs.Showing.{AsksMoves, AsksNodes, AsksPreview, AsksPublished};
 ghost use Rattle.programs.specs.Showing.{AsksRing};
 ghost use Rattle.programs.specs.Showing.{AsksTables};
@@ -13,21 +13,20 @@ ghost use Rattle.programs.specs.Showing.{AsksToShow, FailsToShow, HasNoName, Hid
 ghost use Rattle.programs.specs.Showing.{IsAsked, IsFormFault, IsNoName, IsNoNumber, ShowsAs};
 ghost use Rattle.programs.specs.Serving.{TellsHour};
 ghost use Rattle.programs.specs.Showing.{ShowsNow, ShowsRead, named_hour};
-ghost use Rattle.programs.specs.Showing.{hidden_fault, moves_read, names_given};
+ghost use Rattle.programs.specs.Showing.{moves_read, names_given};
 ghost use Rattle.programs.specs.Left.{Closes, RefusesToOpen};
 ghost use Rattle.ring_book.specs.Book.{holding};
 ghost use Rattle.ring_reads.specs.Holding.{holding_of};
 
 use crate::dropping::{close_store, open_store};
-use crate::faults::ProgramFault;
 use crate::hours::hour_of;
-use crate::stores::Stores;
 use builder::RingMachine;
 use byte_streams::{CountedWriter, write_text};
 use command_line::Shown;
 use path_lookup::{HashNames, Path, PathFault};
+use program_stores::{ProgramFault, Stores};
 use request_book::Keeper;
-use ring_reads::{Format, Held, Hidden, Plain, Question, Read, show as show_held};
+use ring_reads::{Format, Held, Plain, Question, Read, show as show_held};
 use ring_words::{Hour, read_name, read_number};
 use std::alloc::{AllocError, Global};
 use std::io::Write;
@@ -164,21 +163,6 @@ pub(crate) fn ask_nodes(
     let name = read_name(alloc, ring)?;
     let path = path_given(alloc, account, container, object)?;
     Ok(Question::Ring(name, Read::Nodes(path)))
-}
-
-impl From<Hidden> for ProgramFault {
-    ghost from_gives = { λ why fault. fault ≡ hidden_fault why };
-
-    fn from(why: Hidden) -> ProgramFault {
-        match why {
-            Hidden::NoRing => ProgramFault::NoRing,
-            Hidden::NotAssigned => ProgramFault::NotAssigned,
-            Hidden::NoVersion => ProgramFault::NoVersion,
-            Hidden::BadText => ProgramFault::BadStore,
-            Hidden::TooFewDevices => ProgramFault::TooFewDevices,
-            Hidden::NoMemory => ProgramFault::NoMemory,
-        }
-    }
 }
 
 /// Ends a line.

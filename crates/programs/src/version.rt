@@ -2,8 +2,8 @@
 ghost use Rattle.std.specs.Prelude.{IfErr, OnOk};
 ghost use Rattle.programs.specs.Version.{FailsToTellVersion, TellsVersion};
 
-use crate::faults::ProgramFault;
 use byte_streams::{CountedWriter, write_text};
+use program_stores::ProgramFault;
 use std::io::Write;
 
 /// The version of the program, the schemas of files that it opens and writes, and what proved it.

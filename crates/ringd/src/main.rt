@@ -2,8 +2,11 @@
 //! request once.
 #![tactic(auto)]
 
+mod performing;
+
+use crate::performing::perform_over_files;
 use byte_streams::{CountedReader, CountedWriter};
-use file_stores::{StoreFiles, perform_over_files};
+use file_stores::StoreFiles;
 use sqlite::Unknown;
 use std::alloc::AllocError;
 use std::env;

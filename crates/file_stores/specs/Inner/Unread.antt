@@ -4,8 +4,8 @@ use Rattle.std.specs.Io.KnownBytes.{Consumes, IsAtEnd}
 use Rattle.byte_streams.specs.Counted.{IsReadFault, counted_of, read_faults, reader_of}
 use Rattle.byte_streams.specs.declared.counted.WholeReader.{WholeReader}
 use Rattle.byte_streams.specs.declared.fault.StreamFault.TheVariants as stream
-use Rattle.programs.specs.declared.faults.ProgramFault.{ProgramFault}
-use Rattle.programs.specs.declared.faults.ProgramFault.TheVariants as fault
+use Rattle.program_stores.specs.declared.faults.ProgramFault.{ProgramFault}
+use Rattle.program_stores.specs.declared.faults.ProgramFault.TheVariants as fault
 
 -- A reader was asked for all that it has, and is left so.
 module _ {R : Type 0} (remaining : R → Option (List ℕ)) (reader later : WholeReader R) where

@@ -3,9 +3,10 @@ use Rattle.std.specs.Prelude.{◌≡◌, ◌⊎◌, ℕ, List, Err, Ok, Option, 
 use Rattle.byte_streams.specs.declared.counted.CountedWriter.{CountedWriter}
 use Rattle.ring_book.specs.Book.{Keeping}
 use Rattle.ring_reads.specs.declared.reads.Question.{Question}
-use Rattle.programs.specs.Begun.{Closing, OpensNone, OpensOne}
+use Rattle.program_stores.specs.Stores.{Closing}
+use Rattle.programs.specs.Begun.{OpensNone, OpensOne}
 use Rattle.programs.specs.Performed.{FailsToImportFile, FailsToShowStore}
-use Rattle.programs.specs.declared.faults.ProgramFault.{ProgramFault}
+use Rattle.program_stores.specs.declared.faults.ProgramFault.{ProgramFault}
 use Rattle.programs.specs.declared.importing.ImportAsk.{ImportAsk}
 
 -- Keepers of stores are these, begin so, and end so with what closing them answers, and the writer is

@@ -8,11 +8,13 @@ use Rattle.ring_founding.specs.Founding.{AreFounded, AreUnfounded}
 use Rattle.ring_founding.specs.declared.founding.FoundFault.{FoundFault}
 use Rattle.ring_founding.specs.declared.founding.Terms.{Terms}
 use Rattle.ring_text.specs.Snapshot.{SnapshotRecord}
-use Rattle.programs.specs.Begun.{Closing, IsStoreFault, OpensNone, OpensOne}
+use Rattle.program_stores.specs.Faults.{IsStoreFault, found_fault}
+use Rattle.program_stores.specs.Stores.{Closing}
+use Rattle.programs.specs.Begun.{OpensNone, OpensOne}
 use Rattle.programs.specs.Faults.{GetsTexts}
-use Rattle.programs.specs.Founding.{AreNoRings, FailsToFound, IsNoRing, found_fault, founding_lines}
+use Rattle.programs.specs.Founding.{AreNoRings, FailsToFound, IsNoRing, founding_lines}
 use Rattle.programs.specs.Founding.{no_ring_lines}
-use Rattle.programs.specs.declared.faults.ProgramFault.{ProgramFault}
+use Rattle.program_stores.specs.declared.faults.ProgramFault.{ProgramFault}
 
 -- ---- over rings that were found
 

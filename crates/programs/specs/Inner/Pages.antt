@@ -11,10 +11,10 @@ use Rattle.ring_book.specs.Book.{Keeping}
 use Rattle.ring_log.specs.Log.{entries_text}
 use Rattle.ring_log.specs.declared.text.LogForm.{LogForm}
 use Rattle.programs.specs.Begun.{HasFailedBy, HasNotFailed}
-use Rattle.programs.specs.Faults.{keep_fault}
+use Rattle.program_stores.specs.Faults.{keep_fault}
 use Rattle.programs.specs.Logging.{TellsLog, TellsSome}
-use Rattle.programs.specs.declared.faults.ProgramFault.{ProgramFault}
-use Rattle.programs.specs.declared.faults.ProgramFault.TheVariants as fault
+use Rattle.program_stores.specs.declared.faults.ProgramFault.{ProgramFault}
+use Rattle.program_stores.specs.declared.faults.ProgramFault.TheVariants as fault
 
 -- so many entries are read and written at a time
 abbrev pub page_size : ℕ

@@ -4,10 +4,11 @@ use Rattle.byte_streams.specs.declared.counted.CountedWriter.{CountedWriter}
 use Rattle.command_line.specs.declared.task.Task.{Task}
 use Rattle.command_line.specs.declared.task.Task.TheVariants as task
 use Rattle.ring_book.specs.Book.{Keeping}
-use Rattle.programs.specs.Begun.{Closing, OpensNone, OpensOne}
+use Rattle.program_stores.specs.Stores.{Closing}
+use Rattle.programs.specs.Begun.{OpensNone, OpensOne}
 use Rattle.programs.specs.Performed.{FailsToShowStore, ShowsStore}
 use Rattle.programs.specs.Showing.{AsksShown, HasBadWord, IsFormFault, IsPathless}
-use Rattle.programs.specs.declared.faults.ProgramFault.{ProgramFault}
+use Rattle.program_stores.specs.declared.faults.ProgramFault.{ProgramFault}
 
 -- The task asks to be shown a ring's tables, the rings, the status, the metrics, a whole ring or
 -- what a rebalance would do, where a path is held, or a published ring.

@@ -6,17 +6,17 @@ use Rattle.builder.specs.Step.{State}
 use Rattle.command_line.specs.declared.task.Task.{Task}
 use Rattle.command_line.specs.declared.task.Task.TheVariants as task
 use Rattle.ring_book.specs.Book.{Keeping}
-use Rattle.programs.specs.Begun.{Closing}
+use Rattle.program_stores.specs.Stores.{Closing}
 use Rattle.programs.specs.Faults.{GetsText, GetsTexts}
 use Rattle.programs.specs.Left.{Closes, FailsToMake, GivesNoText, GivesText, MakesStore}
 use Rattle.programs.specs.Left.{RefusesToOpen}
 use Rattle.programs.specs.Performed.{EndsSo, FailsAt, FailsSo, IsTaskDone, task_lines}
 use Rattle.programs.specs.Service.{EndsService, FailsToBegin, IsJudged, StopsService, begin_lines}
 use Rattle.programs.specs.Service.{end_lines, service_lines, serving_line}
-use Rattle.programs.specs.declared.faults.ProgramFault.{ProgramFault}
+use Rattle.program_stores.specs.declared.faults.ProgramFault.{ProgramFault}
 use Rattle.programs.specs.declared.performing.Ending.{Ending}
 use Rattle.programs.specs.declared.service.ServiceAsk.{ServiceAsk}
-use Rattle.programs.specs.declared.stores.Stores as store_calls
+use Rattle.program_stores.specs.declared.stores.Stores as store_calls
 
 -- ---- a service
 

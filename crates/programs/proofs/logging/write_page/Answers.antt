@@ -9,7 +9,7 @@ use Rattle.request_book.specs.declared.keeper.KeepFault.TheVariants as keep
 use Rattle.ring_log.specs.Log.{entries_text}
 use Rattle.std.specs.Io.KnownBytes.{Appends}
 use Rattle.std.specs.Prelude.{nat_lt}
-use Rattle.programs.specs.Faults.{stream_fault}
+use Rattle.program_stores.specs.Faults.{stream_fault}
 use Rattle.programs.specs.Inner.Pages.{page_size}
 use Rattle.programs.proofs.logging.write_page.Goals as goal
 

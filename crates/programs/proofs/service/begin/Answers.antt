@@ -1,5 +1,4 @@
 use Rattle.std.proofs.Common.{◌∙◌, List, ap, inl, inr, refl, subst, sym, ℕ}
-use Rattle.std.proofs.lemmas.Result.{err_from_is_err_and}
 use Rattle.programs.specs.Faults.{GetsText, serve_fault}
 use Rattle.programs.proofs.service.begin.Goals as goal
 
@@ -27,28 +26,25 @@ returns-then-not-may_begin-clause-failed g c = (
   ),
 )
 
-pub returns-in_err-door-clause-failed : goal.returns-in_err-door-clause-failed
-returns-in_err-door-clause-failed g c =
-    let p = err_from_is_err_and c.from_residual-in_err-door.result
-    c.from_residual-in_err-door.ensures.1 in
-    rw (p.1) (
-      inr (inr (
-        p.2 ∙ ap serve_fault c.in_err-door.ensures.fault,
-        c.in_err-door.ensures.opened,
-        (
-          c.hour-hour.new.self,
-          record {
-            unfailed = c.in_ok-figures.ensures.cause ∙ c.requires;
-            figures = c.in_ok-figures.figures;
-            are = c.in_ok-figures.ensures.figures;
-            hour = c.hour-hour.result;
-            told = c.hour-hour.ensures;
-            judged = sym c.may_begin.ensures ∙ c.if-not-may_begin.false;
-          },
-        ),
-      )),
-      refl,
-    )
+pub returns-in-Err-clause-failed : goal.returns-in-Err-clause-failed
+returns-in-Err-clause-failed g c = (
+  inr (inr (
+    c.serve_fault.ensures ∙ ap serve_fault c.in-Err.ensures.fault,
+    c.in-Err.ensures.opened,
+    (
+      c.hour-hour.new.self,
+      record {
+        unfailed = c.in_ok-figures.ensures.cause ∙ c.requires;
+        figures = c.in_ok-figures.figures;
+        are = c.in_ok-figures.ensures.figures;
+        hour = c.hour-hour.result;
+        told = c.hour-hour.ensures;
+        judged = sym c.may_begin.ensures ∙ c.if-not-may_begin.false;
+      },
+    ),
+  )),
+  refl,
+)
 
 pub returns-clause-begun : goal.returns-clause-begun
 returns-clause-begun g c = (

@@ -1,5 +1,4 @@
 use Rattle.std.proofs.Common.{inl, inr}
-use Rattle.std.proofs.lemmas.Result.{err_from_is_err_and}
 use Rattle.programs.specs.Begun.{FailedToClose, IsClosed, WasClosed}
 use Rattle.programs.proofs.Kept.{on_closed, on_unclosed}
 use Rattle.programs.proofs.Services.{kept_loops, kept_stops, match_err, match_ok}
@@ -12,7 +11,7 @@ returns-clause-looped g c = let ran = c.loop_input-looped in
     (λ ended. kept_loops g.S.Kept.Keeper _ (IsClosed (Closes g.S.Stores)) c.in_ok-keeper.keeper ran.result.1
     c.in_ok-keeper.ensures.begins ended c.args.given c.args.names g.W.Write.contents
     c.args.writer.now ran.new.writer
-    (match_ok ran.result.0 _ _ _ c.in_ok-looped.was ran.ensures))
+    (match_ok ran.result.0 _ _ _ c.in-Ok.is ran.ensures))
     c.close_store-closed.ensures.ends
 
 pub returns-clause-failed : goal.returns-clause-failed
@@ -23,21 +22,19 @@ returns-clause-failed g c = let ran = c.loop_input-looped in
       kept_loops g.S.Kept.Keeper _ (FailedToClose (Closes g.S.Stores) why) c.in_ok-keeper.keeper
           ran.result.1 c.in_ok-keeper.ensures.begins ended c.args.given c.args.names g.W.Write.contents
           c.args.writer.now ran.new.writer
-          (match_ok ran.result.0 _ _ _ c.in_ok-looped.was ran.ensures),
+          (match_ok ran.result.0 _ _ _ c.in-Ok.is ran.ensures),
     )))
     c.close_store-closed.ensures.ends c.close_store-closed.ensures.fault
 
-pub returns-in_err-looped-clause-failed : goal.returns-in_err-looped-clause-failed
-returns-in_err-looped-clause-failed g c =
+pub returns-in-Err-clause-failed : goal.returns-in-Err-clause-failed
+returns-in-Err-clause-failed g c =
     let ran = c.loop_input-looped in
-    let p = err_from_is_err_and c.from_residual-in_err-looped.result
-    c.from_residual-in_err-looped.ensures.1 in
-    rw (p.1) (inr (inl (
-      c.in_err-looped.field-0.0,
-      p.2,
+    inr (inl (
+      c.in-Err.fault,
+      c.serve_fault.ensures,
       kept_stops g.S.Kept.Keeper _ (WasClosed (Closes g.S.Stores)) c.in_ok-keeper.keeper ran.result.1
           c.in_ok-keeper.ensures.begins (c.close_store-closed.result, c.close_store-closed.ensures.ends)
           c.args.given c.args.names g.W.Write.contents
-          c.args.writer.now ran.new.writer c.in_err-looped.field-0.0
-          (match_err ran.result.0 _ _ _ c.in_err-looped.was ran.ensures),
-    )))
+          c.args.writer.now ran.new.writer c.in-Err.fault
+          (match_err ran.result.0 _ _ _ c.in-Err.is ran.ensures),
+    ))

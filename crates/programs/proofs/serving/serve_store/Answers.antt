@@ -1,5 +1,5 @@
 use Rattle.std.proofs.Common.{◌∙◌, ap, inl, inr}
-use Rattle.std.proofs.lemmas.Result.{IfErr-at_err, err_from_is_err_and}
+use Rattle.std.proofs.lemmas.Result.{IfErr-at_err}
 use Rattle.programs.specs.Begun.{FailedToClose, IsClosed, WasClosed}
 use Rattle.programs.specs.Faults.{serve_fault}
 use Rattle.programs.proofs.Kept.{on_closed, on_unclosed}
@@ -13,7 +13,7 @@ returns-clause-served g c = let ran = c.serve_port-served in
     (λ ended. kept_served g.S.Kept.Keeper _ (IsClosed (Closes g.S.Stores)) c.in_ok-keeper.keeper
     ran.result.1
     c.in_ok-keeper.ensures.begins ended c.args.given c.args.names _
-    (on_ok_at ran.result.0 _ _ c.in_ok-served.was ran.ensures.served))
+    (on_ok_at ran.result.0 _ _ c.in-Ok.is ran.ensures.served))
     c.close_store-closed.ensures.ends
 
 pub returns-clause-failed : goal.returns-clause-failed
@@ -23,19 +23,17 @@ returns-clause-failed g c = let ran = c.serve_port-served in
       is,
       kept_served g.S.Kept.Keeper _ (FailedToClose (Closes g.S.Stores) why) c.in_ok-keeper.keeper
           ran.result.1 c.in_ok-keeper.ensures.begins ended c.args.given c.args.names _
-          (on_ok_at ran.result.0 _ _ c.in_ok-served.was ran.ensures.served),
+          (on_ok_at ran.result.0 _ _ c.in-Ok.is ran.ensures.served),
     )))
     c.close_store-closed.ensures.ends c.close_store-closed.ensures.fault
 
-pub returns-in_err-served-clause-failed : goal.returns-in_err-served-clause-failed
-returns-in_err-served-clause-failed g c =
+pub returns-in-Err-clause-failed : goal.returns-in-Err-clause-failed
+returns-in-Err-clause-failed g c =
     let ran = c.serve_port-served in
-    let p = err_from_is_err_and c.from_residual-in_err-served.result
-    c.from_residual-in_err-served.ensures.1 in
-    let failed = IfErr-at_err _ c.in_err-served.was ran.ensures.failed in
-    rw (p.1) (inr (inr (
-      p.2 ∙ ap serve_fault failed.0,
+    let failed = IfErr-at_err _ c.in-Err.is ran.ensures.failed in
+    inr (inr (
+      c.serve_fault.ensures ∙ ap serve_fault failed.0,
       kept_served g.S.Kept.Keeper _ (WasClosed (Closes g.S.Stores)) c.in_ok-keeper.keeper ran.result.1
           c.in_ok-keeper.ensures.begins (c.close_store-closed.result, c.close_store-closed.ensures.ends)
           c.args.given c.args.names _ failed.1,
-    )))
+    ))

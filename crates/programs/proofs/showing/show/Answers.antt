@@ -1,6 +1,6 @@
 use Rattle.std.proofs.Common.{◌∙◌, ap, inr}
 use Rattle.std.proofs.lemmas.Result.{err_from_is_err_and}
-use Rattle.programs.specs.Faults.{stream_fault}
+use Rattle.program_stores.specs.Faults.{stream_fault}
 use Rattle.programs.proofs.showing.show.Goals as goal
 
 pub returns-clause-shown : goal.returns-clause-shown

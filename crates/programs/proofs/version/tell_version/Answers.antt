@@ -3,7 +3,7 @@ use Rattle.std.proofs.lemmas.Result.{err_from_is_err_and}
 use Rattle.std.specs.Io.KnownBytes.{Appends}
 use Rattle.byte_streams.specs.Counted.{writer_of}
 use Rattle.byte_streams.specs.Writing.{WritesBeginning}
-use Rattle.programs.specs.Faults.{stream_fault}
+use Rattle.program_stores.specs.Faults.{stream_fault}
 use Rattle.programs.proofs.version.tell_version.Goals as goal
 
 pub returns-in_err-write_text-clause-failed : goal.returns-in_err-write_text-clause-failed

@@ -5,10 +5,11 @@ ghost use Rattle.programs.specs.Begun.{OpensNone};
 ghost use Rattle.programs.specs.Performed.{DoesAskedOver, FailsAskedOver};
 ghost use Rattle.file_stores.specs.Opened.{openings_of};
 
-use crate::stores::{HeldKeeper, StoreFiles};
 use builder::RingMachine;
 use byte_streams::{CountedReader, CountedWriter};
-use programs::{MemoryKeeper, Stores, perform};
+use file_stores::{HeldKeeper, StoreFiles};
+use program_stores::Stores;
+use programs::{MemoryKeeper, perform};
 use request_book::Keeper;
 use sqlite::Start;
 use std::io::{Read, Write};

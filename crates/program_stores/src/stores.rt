@@ -3,9 +3,9 @@ ghost use Rattle.std.specs.Prelude.{◌≡◌, ◌≤◌, ℕ, IfErr, IfOk, List
 ghost use Rattle.builder.specs.Step.{State};
 ghost use Rattle.byte_streams.specs.Counted.{one_more};
 ghost use Rattle.ring_words.specs.Limits.{most_numbers};
-ghost use Rattle.programs.specs.Begun.{Closing, IsCloseFault, IsStoreFault};
-ghost use Rattle.programs.specs.Tables.{IsFileFault};
-ghost use Rattle.programs.specs.declared.faults.ProgramFault.{ProgramFault};
+ghost use Rattle.program_stores.specs.Faults.{IsCloseFault, IsFileFault, IsStoreFault};
+ghost use Rattle.program_stores.specs.Stores.{Closing};
+ghost use Rattle.program_stores.specs.declared.faults.ProgramFault.{ProgramFault};
 
 use crate::faults::ProgramFault;
 use builder::RingMachine;
