@@ -14,3 +14,4 @@ pub mod Messages
 pub mod Keyed
 pub mod Dones
 pub mod ReplyObjects
+pub mod Deeds

@@ -16,7 +16,7 @@ ghost use Rattle.ring_messages.specs.Inner.Says.{HasFields, SaysAct};
 use crate::MessageFault;
 use crate::objects::Scalar::{Number, Text};
 use crate::objects::{members, object};
-use crate::parts::{bounded, number16, number32, weight};
+use crate::parts::{bounded, number16_at, number32_at, weight};
 use crate::rows::{device, import, row_is_proper, rows_are_proper, rows_value};
 use crate::words::{kind_at, word_of};
 use ring_words::{
@@ -270,7 +270,7 @@ fn new_ring(value: &Value) -> Result<NewRing, MessageFault>
     Ok(NewRing {
         power: bounded(value.get("power"))?,
         replicas: bounded(value.get("replicas"))?,
-        min_hours: number16(value.get("min_hours"))?,
+        min_hours: number16_at(value, "min_hours")?,
     })
 }
 
@@ -278,9 +278,9 @@ fn foretold(value: &Value) -> Result<Foretold, MessageFault>
     ensures { Reads (λ told. HasFields (view value.now) (act_fields (act.RebalanceAs told))) result }
 {
     Ok(Foretold {
-        hour: number32(value.get("hour"))?,
-        seed: number32(value.get("seed"))?,
-        version: number32(value.get("version"))?,
+        hour: number32_at(value, "hour")?,
+        seed: number32_at(value, "seed")?,
+        version: number32_at(value, "version")?,
     })
 }
 
@@ -293,17 +293,17 @@ fn act_of(alloc: Global, value: &Value, kind: Kind) -> Result<Act, MessageFault>
         Kind::Create => Ok(Act::Create(new_ring(value)?)),
         Kind::Add => Ok(Act::Add(device(alloc, value)?)),
         Kind::SetWeight => {
-            let id = number16(value.get("id"))?;
+            let id = number16_at(value, "id")?;
             let weight = weight(value.get("weight"))?;
             Ok(Act::OnDevice(id, DeviceAct::SetWeight(weight)))
         }
-        Kind::Remove => Ok(Act::OnDevice(number16(value.get("id"))?, DeviceAct::Remove)),
-        Kind::Keep => Ok(Act::OnDevice(number16(value.get("id"))?, DeviceAct::Keep)),
-        Kind::SetHours => Ok(Act::SetHours(number16(value.get("min_hours"))?)),
+        Kind::Remove => Ok(Act::OnDevice(number16_at(value, "id")?, DeviceAct::Remove)),
+        Kind::Keep => Ok(Act::OnDevice(number16_at(value, "id")?, DeviceAct::Keep)),
+        Kind::SetHours => Ok(Act::SetHours(number16_at(value, "min_hours")?)),
         Kind::PretendPassed => Ok(Act::PretendPassed),
         Kind::RaisePower => Ok(Act::RaisePower),
         Kind::Publish => Ok(Act::Publish),
-        Kind::Rebalance => Ok(Act::Rebalance(number32(value.get("seed"))?)),
+        Kind::Rebalance => Ok(Act::Rebalance(number32_at(value, "seed")?)),
         Kind::RebalanceAs => Ok(Act::RebalanceAs(foretold(value)?)),
         Kind::Import => Ok(Act::Import(import(alloc, value)?)),
     }

@@ -3,6 +3,7 @@
 ghost use Rattle.std.specs.Prelude.{◌≡◌, ℕ, List, Some, IsUtf8, IfSome, IfNone, option_map};
 ghost use Rattle.ring_words.specs.Limits.{greatest_long, greatest_short};
 ghost use Rattle.serde_json.specs.Data.{string};
+ghost use Rattle.serde_json.specs.Find.{get};
 ghost use Rattle.serde_json.specs.View.{view};
 ghost use Rattle.serde_json.specs.Read.{read};
 ghost use Rattle.ring_messages.specs.Reads.{IsNumber, IsName};
@@ -47,10 +48,18 @@ pub(crate) fn number16(found: Option<&Value>) -> Result<u16, MessageFault>
     Ok(number as u16)
 }
 
-pub(crate) fn number32(found: Option<&Value>) -> Result<u32, MessageFault>
-    ensures { Reads (IsNumber (option_map (λ v. view v.now) found.entry) 0 greatest_long) result }
+/// The number under a key of an object, in 16 bits.
+pub(crate) fn number16_at(value: &Value, key: &str) -> Result<u16, MessageFault>
+    ensures { Reads (IsNumber (get key.now (view value.now)) 0 greatest_short) result }
 {
-    let number = number(found, u64::from(u32::MAX))?;
+    number16(value.get(key))
+}
+
+/// The number under a key of an object, in 32 bits.
+pub(crate) fn number32_at(value: &Value, key: &str) -> Result<u32, MessageFault>
+    ensures { Reads (IsNumber (get key.now (view value.now)) 0 greatest_long) result }
+{
+    let number = number(value.get(key), u64::from(u32::MAX))?;
     Ok(number as u32)
 }
 

@@ -19,7 +19,7 @@ ghost use Rattle.ring_messages.specs.Inner.Says.{SaysWhy};
 use crate::MessageFault;
 use crate::objects::Scalar::{Number, Text};
 use crate::objects::object;
-use crate::parts::{number, number32, value_of};
+use crate::parts::{number, number32_at, value_of};
 use crate::words::{deed_of, kind_at, word_of};
 use ring_words::{Deed, DeviceId, Done, Refusal, Reply, RowCause};
 use serde_json::Value;
@@ -193,7 +193,7 @@ pub fn reply_text(alloc: Global, reply: &Reply) -> Result<String, AllocError>
 fn done(value: &Value) -> Result<Done, MessageFault>
     ensures { Reads (SaysDone (view value.now)) result }
 {
-    let version = number32(value.get("version"))?;
+    let version = number32_at(value, "version")?;
     let Some(kind) = kind_at(value, "done") else {
         return Err(MessageFault::Bad);
     };

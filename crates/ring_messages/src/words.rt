@@ -3,15 +3,16 @@ ghost use Rattle.std.specs.Prelude.{◌≡◌, IfSome, IfNone, Some, codes};
 ghost use Rattle.serde_json.specs.Data.{string};
 ghost use Rattle.serde_json.specs.Find.{get};
 ghost use Rattle.serde_json.specs.View.{view};
+ghost use Rattle.ring_words.specs.declared.command.Deed.TheVariants as deed;
 ghost use Rattle.ring_words.specs.declared.command.Kind.{Kind};
 ghost use Rattle.ring_words.specs.Kinds.{deed_kind};
 ghost use Rattle.ring_words.specs.Spelling.{Reads};
 ghost use Rattle.ring_messages.specs.Inner.Says.{HasFields};
-ghost use Rattle.ring_messages.specs.Replies.{deed_fields};
+ghost use Rattle.ring_messages.specs.Replies.{deed_fields, figures};
 ghost use Rattle.ring_messages.specs.Words.{kind_word};
 
 use crate::MessageFault;
-use crate::parts::{number, number16, number32, text};
+use crate::parts::{number, number16_at, number32_at, text};
 use ring_words::{Deed, Kind};
 use serde_json::Value;
 
@@ -67,6 +68,25 @@ pub(crate) fn kind_at(value: &Value, key: &str) -> Option<Kind>
     kind_of(text(value.get(key))?)
 }
 
+/// The figures of a rebalance: its balance, how many seats it changed, and its dispersion.
+fn figures(value: &Value) -> Result<(u32, u32, u32), MessageFault>
+    ensures { Reads (λ f. HasFields (view value.now) (figures f.0 f.1 f.2)) result }
+{
+    let balance = number32_at(value, "balance")?;
+    let changed = number32_at(value, "changed")?;
+    let dispersion = number32_at(value, "dispersion")?;
+    Ok((balance, changed, dispersion))
+}
+
+/// How many devices an import added, and how many got another weight.
+fn imported(value: &Value) -> Result<(u64, u64), MessageFault>
+    ensures { Reads (λ n. HasFields (view value.now) (deed_fields (deed.Import n.0 n.1))) result }
+{
+    let added = number(value.get("added"), u64::MAX)?;
+    let reweighted = number(value.get("reweighted"), u64::MAX)?;
+    Ok((added, reweighted))
+}
+
 /// What a reply with this command's word under the key `done` tells that was done.
 pub(crate) fn deed_of(value: &Value, kind: Kind) -> Result<Deed, MessageFault>
     requires word { get (codes "done") (view value.now) ≡ Some (string (kind_word kind)) }
@@ -77,7 +97,7 @@ pub(crate) fn deed_of(value: &Value, kind: Kind) -> Result<Deed, MessageFault>
     match kind {
         Kind::Create => Ok(Deed::Create),
         Kind::Add => Ok(Deed::Add {
-            id: number16(value.get("id"))?,
+            id: number16_at(value, "id")?,
         }),
         Kind::SetWeight => Ok(Deed::SetWeight),
         Kind::Remove => Ok(Deed::Remove),
@@ -86,19 +106,25 @@ pub(crate) fn deed_of(value: &Value, kind: Kind) -> Result<Deed, MessageFault>
         Kind::PretendPassed => Ok(Deed::PretendPassed),
         Kind::RaisePower => Ok(Deed::RaisePower),
         Kind::Publish => Ok(Deed::Publish),
-        Kind::Rebalance => Ok(Deed::Rebalance {
-            balance: number32(value.get("balance"))?,
-            changed: number32(value.get("changed"))?,
-            dispersion: number32(value.get("dispersion"))?,
-        }),
-        Kind::RebalanceAs => Ok(Deed::RebalanceAs {
-            balance: number32(value.get("balance"))?,
-            changed: number32(value.get("changed"))?,
-            dispersion: number32(value.get("dispersion"))?,
-        }),
-        Kind::Import => Ok(Deed::Import {
-            added: number(value.get("added"), u64::MAX)?,
-            reweighted: number(value.get("reweighted"), u64::MAX)?,
-        }),
+        Kind::Rebalance => {
+            let (balance, changed, dispersion) = figures(value)?;
+            Ok(Deed::Rebalance {
+                balance,
+                changed,
+                dispersion,
+            })
+        }
+        Kind::RebalanceAs => {
+            let (balance, changed, dispersion) = figures(value)?;
+            Ok(Deed::RebalanceAs {
+                balance,
+                changed,
+                dispersion,
+            })
+        }
+        Kind::Import => {
+            let (added, reweighted) = imported(value)?;
+            Ok(Deed::Import { added, reweighted })
+        }
     }
 }

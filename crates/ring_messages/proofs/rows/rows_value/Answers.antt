@@ -1,6 +1,10 @@
-use Rattle.std.proofs.Common.{arith}
-use Rattle.std.proofs.lemmas.Grind.{common_steps}
+use Rattle.std.proofs.Common.{◌∙◌, ap}
+use Rattle.ring_messages.proofs.Putting.{told_more}
+use Rattle.ring_messages.specs.Fields.{row_data}
 use Rattle.ring_messages.proofs.rows.rows_value.Goals as goal
 
 pub loop-row-preserved : goal.loop-row-preserved
-loop-row-preserved c = grind (arith, common_steps)
+loop-row-preserved c = rw c.in_ok-push.ensures.items
+    (told_more row_data c.args.rows.now c.loop-row.row-index c.row-item.result
+    c.loop-row.values.items c.in_ok-row_value.field-0 c.loop-row-test.true c.loop-row.invariant
+    (c.in_ok-row_value.ensures ∙ ap row_data c.row-item.is))
