@@ -13,6 +13,7 @@ mod locks;
 mod moves;
 mod moves_text;
 mod nodes;
+mod objects;
 mod plain;
 mod preview;
 mod reads;

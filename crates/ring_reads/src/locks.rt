@@ -5,12 +5,13 @@ ghost use Rattle.serde_json.specs.View.{items_of, members_view, view};
 ghost use Rattle.ring_model.specs.Ring.{partition_count as partitions_of};
 ghost use Rattle.ring_reads.specs.LocksJson.{IsLocksJson, lock_end_data, locks_data, locks_figures};
 
+use crate::objects::with_member;
 use ring_messages::Scalar::{Number, Text};
 use ring_messages::{members, object};
 use ring_metrics::{LockEnd, lock_ends, locked_count};
 use ring_model::Ring;
 use ring_words::{Hour, RingName, partition_count};
-use serde_json::{Map, Value, put};
+use serde_json::{Map, Value};
 use std::alloc::{AllocError, Global};
 
 /// The partitions that are free after so many hours.
@@ -76,9 +77,9 @@ fn locks_value(
 ) -> Result<Value, AllocError>
     ensures { IfOk result (λ v. view v ≡ locks_data name.now ring.now hour ends.now) }
 {
-    let mut told = figures(alloc, name, ring, hour)?;
-    put(&mut told, alloc, "rests", ends_value(alloc, ends)?)?;
-    Ok(Value::Object(told))
+    let told = figures(alloc, name, ring, hour)?;
+    let rests = ends_value(alloc, ends)?;
+    with_member(alloc, told, "rests", rests)
 }
 
 /// The locks of a ring of this name at an hour, as compact JSON, its keys in byte order: how many of

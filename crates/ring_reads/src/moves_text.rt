@@ -11,6 +11,7 @@ ghost use Rattle.ring_reads.specs.SeatMoves.{given_seats, is_mover, move_line, m
 ghost use Rattle.ring_reads.specs.SeatMoves.{moved_partitions, seat_moves, seat_word, taken_seats};
 ghost use Rattle.ring_reads.specs.declared.seat_moves.Move.{Move as MoveModel};
 
+use crate::objects::with_member;
 use crate::seat_counts::{given_counts, taken_counts};
 use crate::seat_moves::{Move, Moves, moves_between};
 use ring_messages::Scalar::{Number, Text};
@@ -18,7 +19,7 @@ use ring_messages::{members, object};
 use ring_tables::push_decimal;
 use ring_text::Snapshot;
 use ring_words::{Device, DeviceId, MOST_IDS, RingName};
-use serde_json::{Map, Value, put};
+use serde_json::{Map, Value};
 use std::alloc::{AllocError, Global};
 
 fn has_device(devices: &[Device], id: DeviceId) -> bool
@@ -146,14 +147,9 @@ fn moves_value(
         ≡ moves_data name.now from to old.now new.now) }
 {
     let moves = moves_between(alloc, old, new)?;
-    let mut told = figures(alloc, name, from, to, &moves, old, new)?;
-    put(
-        &mut told,
-        alloc,
-        "devices",
-        movers_value(alloc, old, new, &moves.list)?,
-    )?;
-    Ok(Value::Object(told))
+    let told = figures(alloc, name, from, to, &moves, old, new)?;
+    let devices = movers_value(alloc, old, new, &moves.list)?;
+    with_member(alloc, told, "devices", devices)
 }
 
 /// What moved between two versions of a ring of this name, which were published as these, as

@@ -3,25 +3,39 @@ ghost use Rattle.std.specs.Prelude.{◌≡◌, ◌==◌, IfOk, find, map, string
 ghost use Rattle.std.specs.Option.{option_copied};
 ghost use Rattle.serde_json.specs.Data.{array};
 ghost use Rattle.serde_json.specs.View.{items_of, view};
+ghost use Rattle.ring_words.specs.Texts.{address_text};
 ghost use Rattle.ring_reads.specs.Nodes.{devices_of, node_data, nodes_data, nodes_json};
 
+use ring_messages::Scalar::{Number, Text};
+use ring_messages::object;
 use ring_model::Ring;
 use ring_words::{Device, DeviceId};
 use serde_json::{Value, json};
 use std::alloc::{AllocError, Global};
 
-fn node_value(alloc: Global, device: &Device) -> Result<Value, AllocError>
+/// A node, with the text of its device's address.
+fn node_value<'a>(alloc: Global, device: &'a Device, address: &'a str) -> Result<Value, AllocError>
+    requires { address.now ≡ address_text device.now.row.address }
+    ensures { IfOk result (λ v. view v ≡ node_data device.now) }
+{
+    object(
+        alloc,
+        &[
+            ("address", Text(address)),
+            ("device", Text(device.row.name.as_str())),
+            ("id", Number(device.id.into())),
+            ("port", Number(device.row.port.get().into())),
+            ("region", Number(device.row.region.into())),
+            ("zone", Number(device.row.zone.into())),
+        ],
+    )
+}
+
+fn node_of_device(alloc: Global, device: &Device) -> Result<Value, AllocError>
     ensures { IfOk result (λ v. view v ≡ node_data device.now) }
 {
     let address = device.row.address.to_string(alloc)?;
-    json!(in alloc; {
-        "address": address.as_str(),
-        "device": device.row.name.as_str(),
-        "id": device.id,
-        "port": device.row.port.get(),
-        "region": device.row.region,
-        "zone": device.row.zone,
-    })
+    node_value(alloc, device, address.as_str())
 }
 
 fn device_at(ring: &Ring, id: DeviceId) -> Option<&Device>
@@ -37,7 +51,7 @@ fn node_values(alloc: Global, ring: &Ring, ids: &[DeviceId]) -> Result<Value, Al
     let mut values = Vec::with_capacity(alloc, ids.len())?;
     for id in ids {
         if let Some(device) = device_at(ring, *id) {
-            values.push(node_value(alloc, device)?)?;
+            values.push(node_of_device(alloc, device)?)?;
         }
     }
     Ok(Value::Array(values))

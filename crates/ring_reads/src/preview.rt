@@ -1,14 +1,18 @@
 //! What a rebalance of a ring would do, as JSON text.
-ghost use Rattle.std.specs.Prelude.{◌≡◌, ◌≤◌, IfOk, count_by, string_bytes};
+ghost use Rattle.std.specs.Prelude.{◌≡◌, ◌==◌, ◌≤◌, IfOk, count_by, string_bytes};
+ghost use Rattle.std.specs.List.{zip};
 ghost use Rattle.serde_json.specs.Data.{array};
 ghost use Rattle.serde_json.specs.View.{items_of, members_view, view};
 ghost use Rattle.ring_place.specs.Rebalance.{IsRebalance, changed_seats};
 ghost use Rattle.ring_place.specs.Seeded.{IsSeeded};
 ghost use Rattle.ring_share.specs.Want.{AreWanted, is_open};
+ghost use Rattle.ring_reads.specs.Inner.SeatCounts.{AreSeatCounts};
+ghost use Rattle.ring_reads.specs.Moves.{stays_on};
 ghost use Rattle.ring_reads.specs.Preview.{IsPreviewJson, devices_moves, moving_data};
 ghost use Rattle.ring_reads.specs.Preview.{preview_data, preview_figures};
 
 use crate::moves::changed_partitions;
+use crate::objects::with_member;
 use crate::seat_counts::{seat_counts, staying_counts};
 use ring_messages::Scalar::{Number, Text};
 use ring_messages::{members, object};
@@ -17,7 +21,7 @@ use ring_model::Ring;
 use ring_place::Rebalanced;
 use ring_share::{balance, dispersion, wanted};
 use ring_words::{DeviceId, Hour, RingName};
-use serde_json::{Map, Value, put};
+use serde_json::{Map, Value};
 use std::alloc::{AllocError, Global};
 
 /// The device of a number that wants so many seats, has so many before and so many after, and of
@@ -47,6 +51,34 @@ fn moving_value(
     )
 }
 
+/// The devices of a ring, which want so many seats, where a new ring comes of that one. The counts
+/// tell by the number of a device how many seats it has before and after, and how many stay.
+fn counted_devices(
+    alloc: Global,
+    ring: &Ring,
+    new: &Ring,
+    wants: &[u32],
+    before: &[usize],
+    after: &[usize],
+    stay: &[usize],
+) -> Result<Value, AllocError>
+    requires wants { AreWanted ring.now wants.now }
+    requires before { AreSeatCounts (λ id seat. seat == id) ring.now.seats before.now }
+    requires after { AreSeatCounts (λ id seat. seat == id) new.now.seats after.now }
+    requires stay { AreSeatCounts stays_on (zip ring.now.seats new.now.seats) stay.now }
+    ensures { IfOk result (λ v. view v
+        ≡ array (items_of (devices_moves ring.now new.now wants.now))) }
+{
+    let mut devices = Vec::with_capacity(alloc, wants.len())?;
+    for (place, device) in ring.devices().iter().enumerate() {
+        let id = usize::from(device.id);
+        let want = wants[place];
+        let value = moving_value(alloc, device.id, want, before[id], after[id], stay[id])?;
+        devices.push(value)?;
+    }
+    Ok(Value::Array(devices))
+}
+
 /// The devices of a ring, which want so many seats, where a new ring comes of that one.
 fn devices_value(alloc: Global, ring: &Ring, new: &Ring, wants: &[u32]) -> Result<Value, AllocError>
     requires { AreWanted ring.now wants.now }
@@ -56,14 +88,7 @@ fn devices_value(alloc: Global, ring: &Ring, new: &Ring, wants: &[u32]) -> Resul
     let before = seat_counts(alloc, ring.seats())?;
     let after = seat_counts(alloc, new.seats())?;
     let stay = staying_counts(alloc, ring.seats(), new.seats())?;
-    let mut devices = Vec::with_capacity(alloc, wants.len())?;
-    for (place, device) in ring.devices().iter().enumerate() {
-        let id = usize::from(device.id);
-        let want = wants[place];
-        let value = moving_value(alloc, device.id, want, before[id], after[id], stay[id])?;
-        devices.push(value)?;
-    }
-    Ok(Value::Array(devices))
+    counted_devices(alloc, ring, new, wants, &before, &after, &stay)
 }
 
 /// The numbers and the name that are told of a rebalance, which changes so many seats.
@@ -114,14 +139,9 @@ fn preview_value(
     ensures { IfOk result (λ v. view v
         ≡ preview_data name.now hour seed ring.now wants.now done.now.ring) }
 {
-    let mut told = figures(alloc, name, ring, hour, seed, &done.ring, done.changed)?;
-    put(
-        &mut told,
-        alloc,
-        "devices",
-        devices_value(alloc, ring, &done.ring, wants)?,
-    )?;
-    Ok(Value::Object(told))
+    let told = figures(alloc, name, ring, hour, seed, &done.ring, done.changed)?;
+    let devices = devices_value(alloc, ring, &done.ring, wants)?;
+    with_member(alloc, told, "devices", devices)
 }
 
 /// The rebalance of a ring of this name at an hour with a seed, which gave this, as compact JSON,

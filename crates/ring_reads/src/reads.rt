@@ -7,6 +7,7 @@ ghost use Rattle.ring_reads.specs.Preview.{IsPreviewJson};
 ghost use Rattle.ring_reads.specs.Reads.{AreTables, Hides, IsHidden, IsShown, IsSwiftFileOf, Shows};
 ghost use Rattle.ring_reads.specs.Reads.{IsText, IsTextRead, IsVersionUnread, SpellsNoRing};
 ghost use Rattle.ring_reads.specs.Reads.{TellsNodes};
+ghost use Rattle.ring_reads.specs.declared.reads.Format.{Format};
 ghost use Rattle.ring_reads.specs.declared.reads.Hidden.TheVariants.{BadText, NoMemory};
 ghost use Rattle.ring_reads.specs.declared.reads.Read.TheVariants as read;
 
@@ -146,6 +147,7 @@ pub enum Hidden {
 
 impl From<AllocError> for Hidden {
     ghost use Rattle.std.specs.Prelude.{◌≡◌};
+    ghost use Rattle.ring_reads.specs.declared.reads.Format.{Format};
     ghost use Rattle.ring_reads.specs.declared.reads.Hidden.TheVariants.{NoMemory};
 
     ghost from_gives = { λ _ why. why ≡ NoMemory };
@@ -277,6 +279,25 @@ fn published_ring(alloc: Global, ring: &Ring, version: u32) -> Result<Snapshot, 
     }
 }
 
+/// A ring as it was published under two versions, read back.
+fn both_rings(
+    alloc: Global,
+    ring: &Ring,
+    from: u32,
+    to: u32,
+) -> Result<(Snapshot, Snapshot), Hidden>
+    ensures published { IfOk result (λ both. WasPublished ring.now from both.0
+        × WasPublished ring.now to both.1) }
+    ensures hidden { IfErr result (λ why. IsVersionUnread ring.now from why
+        ⊎ IsVersionUnread ring.now to why) }
+{
+    let old = published_ring(alloc, ring, from)?;
+    match published_ring(alloc, ring, to) {
+        Ok(new) => Ok((old, new)),
+        Err(why) => Err(why),
+    }
+}
+
 /// What moved between two versions of a ring of this name.
 fn moves_text(
     alloc: Global,
@@ -289,9 +310,11 @@ fn moves_text(
         (string_bytes text)) }
     ensures hidden { IfErr result (IsHidden ring.now (read.Moves from to)) }
 {
-    let old = published_ring(alloc, ring, from)?;
-    let new = published_ring(alloc, ring, to)?;
-    Ok(moves_json(alloc, name, from, to, &old, &new)?)
+    let both = both_rings(alloc, ring, from, to)?;
+    match moves_json(alloc, name, from, to, &both.0, &both.1) {
+        Ok(text) => Ok(text),
+        Err(AllocError) => Err(Hidden::NoMemory),
+    }
 }
 
 /// A line for each seat that differs between two versions of a ring.
@@ -299,9 +322,36 @@ fn each_move(alloc: Global, ring: &Ring, from: u32, to: u32) -> Result<String, H
     ensures told { IfOk result (λ text. AreMoveLines ring.now from to (string_bytes text)) }
     ensures hidden { IfErr result (IsHidden ring.now (read.EachMove from to)) }
 {
-    let old = published_ring(alloc, ring, from)?;
-    let new = published_ring(alloc, ring, to)?;
-    Ok(move_lines(alloc, &old, &new)?)
+    let both = both_rings(alloc, ring, from, to)?;
+    match move_lines(alloc, &both.0, &both.1) {
+        Ok(text) => Ok(text),
+        Err(AllocError) => Err(Hidden::NoMemory),
+    }
+}
+
+/// What a ring of this name shows of a read at an hour, where that is no published text.
+fn ring_text(
+    alloc: Global,
+    hour: Hour,
+    names: HashNames<'_>,
+    name: &RingName,
+    ring: &Ring,
+    what: &Read,
+) -> Result<String, Hidden>
+    requires { (version : ℕ) (format : Format) → what.now ≡ read.Published version format → ⊥ }
+    ensures shown { IfOk result (λ text. IsShown names.entry.prefix.now names.entry.suffix.now
+        name.now ring.now hour what.now (string_bytes text)) }
+    ensures hidden { IfErr result (IsHidden ring.now what.now) }
+{
+    match what {
+        Read::Plain(plain) => Ok(plain.text(alloc, name, ring, hour)?),
+        Read::Tables => Ok(tables_text(alloc, ring)?),
+        Read::Nodes(path) => path_nodes(alloc, names, ring, path),
+        Read::Published(..) => unreachable!(),
+        Read::Preview(seed, asked) => preview_text(alloc, name, ring, hour, *seed, *asked),
+        Read::Moves(from, to) => moves_text(alloc, name, ring, *from, *to),
+        Read::EachMove(from, to) => each_move(alloc, ring, *from, *to),
+    }
 }
 
 /// What a ring of this name shows of a read at an hour.
@@ -319,15 +369,8 @@ fn ring_bytes(
     ensures hidden { IfErr result (IsHidden ring.now what.now) }
 {
     match what {
-        Read::Plain(plain) => Ok(plain.text(alloc, name, ring, hour)?.into_bytes()),
-        Read::Tables => Ok(tables_text(alloc, ring)?.into_bytes()),
-        Read::Nodes(path) => Ok(path_nodes(alloc, names, ring, path)?.into_bytes()),
         Read::Published(version, format) => published_bytes(alloc, ring, *version, *format),
-        Read::Preview(seed, asked) => {
-            Ok(preview_text(alloc, name, ring, hour, *seed, *asked)?.into_bytes())
-        }
-        Read::Moves(from, to) => Ok(moves_text(alloc, name, ring, *from, *to)?.into_bytes()),
-        Read::EachMove(from, to) => Ok(each_move(alloc, ring, *from, *to)?.into_bytes()),
+        _ => Ok(ring_text(alloc, hour, names, name, ring, what)?.into_bytes()),
     }
 }
 

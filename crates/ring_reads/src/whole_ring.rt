@@ -7,6 +7,7 @@ ghost use Rattle.ring_share.specs.Want.{AreWanted};
 ghost use Rattle.ring_reads.specs.RingJson.{IsRingJson, device_data, devices_data, ring_data};
 ghost use Rattle.ring_reads.specs.RingJson.{ring_figures, versions_data};
 
+use crate::objects::with_member;
 use ring_messages::Scalar::{Number, Text};
 use ring_messages::{members, object};
 use ring_metrics::{locked_count, rest};
@@ -133,14 +134,10 @@ fn ring_value(
     ensures { IfOk result (λ v. view v ≡ ring_data name.now ring.now hour wants.now rest) }
 {
     let mut told = figures(alloc, name, ring, hour, rest)?;
-    put(
-        &mut told,
-        alloc,
-        "devices",
-        devices_value(alloc, ring, wants)?,
-    )?;
-    put(&mut told, alloc, "published", versions_value(alloc, ring)?)?;
-    Ok(Value::Object(told))
+    let devices = devices_value(alloc, ring, wants)?;
+    put(&mut told, alloc, "devices", devices)?;
+    let published = versions_value(alloc, ring)?;
+    with_member(alloc, told, "published", published)
 }
 
 /// A ring of this name at an hour as compact JSON, its keys in byte order.

@@ -1,74 +1,14 @@
-use Rattle.std.proofs.Common.{◌≡◌, ◌∙◌, ◌<◌, ◌==◌, ℕ, List, [], ◌∷◌, length, map, take, ap, arith}
-use Rattle.std.proofs.Common.{count_by}
-use Rattle.std.specs.List.{zip}
-use Rattle.std.specs.Prelude.{slice_index}
-use Rattle.std.proofs.lemmas.List.{map-append, take_all}
-use Rattle.std.proofs.lemmas.Slice.Zip.{length-zip}
-use Rattle.serde_json.specs.Data.{Data, array}
-use Rattle.serde_json.specs.View.{items_of, view}
-use Rattle.serde_json.proofs.Views.{view-Array}
-use Rattle.ring_words.specs.declared.device.Device.{Device}
-use Rattle.ring_words.specs.Limits.{most_ids}
-use Rattle.ring_share.specs.Room.{have}
-use Rattle.ring_reads.specs.Moves.{staying_seats, stays_on}
-use Rattle.ring_reads.specs.Preview.{moving_data}
-use Rattle.ring_reads.proofs.Moving.{pair_moves}
-use Rattle.ring_reads.proofs.RingData.{data_more}
-use Rattle.ring_reads.proofs.SeatCounting.{count_read}
-use Rattle.ring_tables.proofs.Lists.{pair_below, read_pair}
 use Rattle.ring_reads.proofs.preview.devices_value.Goals as goal
 
-pub loop-place-preserved : goal.loop-place-preserved
-loop-place-preserved c =
-    let items = c.devices-device-items.result.now in
-    let wants = c.args.wants.now in
-    let place = c.loop-place.place in
-    let device = c.device-item.result in
-    let want = slice_index wants place in
-    let same = ap (λ (all : List Device). length all) c.devices-device-items.ensures.value in
-    let below : place < length items = omega arith in
-    let under : place < length wants = omega (arith, c.requires.shares.count, same) in
-    let id = device.id in
-    let known : id < most_ids = omega arith in
-    let has : c.index.result.now ≡ have c.args.ring.now id =
-    count_read (λ id seat. seat == id) c.seats.result.now c.in_ok-before.before.items id c.from-id.result
-    c.index.result.now c.in_ok-before.ensures known c.from-id.ensures c.index.ensures
-    ∙ ap (count_by (λ seat. seat == id)) c.seats.ensures.value in
-    let later : c.index-in-loop-place.result.now ≡ have c.args.new.now id =
-    count_read (λ id seat. seat == id) c.seats-2.result.now c.in_ok-after.after.items id c.from-id.result
-    c.index-in-loop-place.result.now c.in_ok-after.ensures known c.from-id.ensures c.index-in-loop-place.ensures
-    ∙ ap (count_by (λ seat. seat == id)) c.seats-2.ensures.value in
-    let stays : c.index-in-loop-place-2.result.now ≡ staying_seats c.args.ring.now c.args.new.now id =
-    count_read stays_on (zip c.seats-3.result.now c.seats-4.result.now) c.in_ok-stay.stay.items id c.from-id.result
-    c.index-in-loop-place-2.result.now c.in_ok-stay.ensures known c.from-id.ensures c.index-in-loop-place-2.ensures
-    ∙ ap (λ (seats : List ℕ). count_by (stays_on id) (zip seats c.seats-4.result.now))
-    c.seats-3.ensures.value
-    ∙ ap (λ (seats : List ℕ). count_by (stays_on id) (zip c.args.ring.now.seats seats))
-    c.seats-4.ensures.value in
-    let told : view c.in_ok-value.value ≡ pair_moves c.args.ring.now c.args.new.now (device, want) =
-    c.in_ok-value.ensures
-    ∙ ap (λ (n : ℕ). moving_data id want n c.index-in-loop-place.result.now
-    c.index-in-loop-place-2.result.now) has
-    ∙ ap (λ (n : ℕ). moving_data id want (have c.args.ring.now id) n
-    c.index-in-loop-place-2.result.now) later
-    ∙ ap (λ (n : ℕ). moving_data id want (have c.args.ring.now id) (have c.args.new.now id) n) stays
-    in
-    rw (
-      c.in_ok-push.ensures.items,
-      map-append view c.loop-place.devices.items (c.in_ok-value.value ∷ []),
-    )
-    (data_more (pair_moves c.args.ring.now c.args.new.now) (zip items wants) place (device, want) _ _
-    (pair_below items wants place below under)
-    (read_pair items wants place device below under c.device-item.is) c.loop-place.invariant
-    told)
+pub counted_devices-requires-clause-before : goal.counted_devices-requires-clause-before
+counted_devices-requires-clause-before c =
+    rw (c.deref.ensures.value, ← c.seats.ensures.value) c.in_ok-before.ensures
 
-pub returns : goal.returns
-returns c =
-    let items = c.devices-device-items.result.now in
-    let wants = c.args.wants.now in
-    let long = length-zip items wants in
-    let all : take c.loop-place.place (zip items wants) ≡ zip c.args.ring.now.devices wants =
-    take_all c.loop-place.place (zip items wants) (omega (arith, long))
-    ∙ ap (λ (devices : List Device). zip devices wants) c.devices-device-items.ensures.value in
-    view-Array c.loop-place.devices ∙ ap (λ (all : List Data). array (items_of all))
-    (c.loop-place.invariant ∙ ap (map (pair_moves c.args.ring.now c.args.new.now)) all)
+pub counted_devices-requires-clause-after : goal.counted_devices-requires-clause-after
+counted_devices-requires-clause-after c =
+    rw (c.deref-2.ensures.value, ← c.seats-2.ensures.value) c.in_ok-after.ensures
+
+pub counted_devices-requires-clause-stay : goal.counted_devices-requires-clause-stay
+counted_devices-requires-clause-stay c =
+    rw (c.deref-3.ensures.value, ← c.seats-3.ensures.value, ← c.seats-4.ensures.value)
+    c.in_ok-stay.ensures
