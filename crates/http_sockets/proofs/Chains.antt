@@ -27,7 +27,6 @@ use Rattle.http_sockets.specs.declared.fault.ServeFault.{ServeFault}
 use Rattle.http_sockets.specs.declared.fault.ServeFault.TheVariants.{Stream}
 use Rattle.http_sockets.specs.declared.server.Server.{Server}
 use Rattle.byte_streams.specs.Serving.{Tells}
-use Rattle.http_stream.specs.Answers.{joined}
 use Rattle.http_stream.specs.Serving.{RequestsServed}
 use Rattle.http_stream.specs.Streams.{AreRequests, BeginWith, Calls, Follow, Item, Refuses}
 use Rattle.http_messages.specs.Requests.{StopsShort}
@@ -202,10 +201,10 @@ module _ {K C : Type 0} (kept : Keeping K)
         ConnectionsServed kept tells prefix suffix Served gives count door later old new
 
     -- before the first connection
-    pub none_yet : (door : D) (old : At) → All_of 0 door door old old
-    none_yet door old = record {
+    pub none_yet : (count : ℕ) (door : D) (old : At) → count ≡ 0 → All_of count door door old old
+    none_yet count door old none = record {
       connections = [];
-      count_is = refl;
+      count_is = sym none;
       came = refl;
       served = All-nil Served;
       serves = nothing old;

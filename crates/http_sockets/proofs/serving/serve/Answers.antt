@@ -1,4 +1,4 @@
-use Rattle.std.proofs.Common.{arith}
+use Rattle.std.proofs.Common.{arith, refl}
 use Rattle.http_sockets.proofs.Chains.{none_yet, one_more, safe_all}
 use Rattle.http_sockets.specs.Connections.{IsTalk}
 use Rattle.http_sockets.proofs.serving.serve.Goals as goal
@@ -7,8 +7,8 @@ pub loop-served-init : goal.loop-served-init
 loop-served-init g c = record {
   within = omega arith;
   all = none_yet g.K.Keeper g.C.Clock.tells c.args.names.prefix.now c.args.names.suffix.now
-      (IsTalk c.args.audience g.D.Stream.Read.remaining g.D.Stream.Write.contents) g.D.Door.gives c.args.door.now
-      (c.args.clock.now, c.args.book.now);
+      (IsTalk c.args.audience g.D.Stream.Read.remaining g.D.Stream.Write.contents) g.D.Door.gives _
+      c.args.door.now (c.args.clock.now, c.args.book.now) refl;
 }
 
 pub loop-served-preserved : goal.loop-served-preserved

@@ -13,8 +13,8 @@ loop-served-init g c = record {
   within = omega arith;
   open_book = c.requires;
   all = none_yet g.K.Keeper g.C.Clock.tells c.args.names.prefix.now c.args.names.suffix.now
-      (IsTalk c.args.audience g.D.Stream.Read.remaining g.D.Stream.Write.contents) g.D.Door.gives
-      c.args.door.now (c.args.clock.now, c.args.book.now);
+      (IsTalk c.args.audience g.D.Stream.Read.remaining g.D.Stream.Write.contents) g.D.Door.gives _
+      c.args.door.now (c.args.clock.now, c.args.book.now) refl;
 }
 
 pub loop-served-preserved : goal.loop-served-preserved

@@ -1,4 +1,4 @@
-use Rattle.std.proofs.Common.{inl, inr}
+use Rattle.std.proofs.Common.{inl, inr, rules}
 use Rattle.std.proofs.lemmas.Result.{IfErr-weaker, IfOk-weaker}
 use Rattle.programs.proofs.importing.tell_import.Goals as goal
 
@@ -25,3 +25,6 @@ returns-in-Ok-clause-fault g c = IfErr-weaker c.deliver_to_store.result _ _
       c.deliver_to_store.ensures.opened,
     ))
     c.deliver_to_store.ensures.fault
+
+pub returns-clause-told : goal.returns-clause-told
+returns-clause-told g c = search rules

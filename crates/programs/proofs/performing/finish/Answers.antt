@@ -1,4 +1,4 @@
-use Rattle.std.proofs.Common.{◌≡◌, ◌⊎◌, inl, inr, subst, sym, ℕ}
+use Rattle.std.proofs.Common.{◌≡◌, ◌⊎◌, inl, inr, refl, subst, sym, ℕ}
 use Rattle.programs.proofs.Telling.{fault_statuses, texts_and}
 use Rattle.programs.proofs.performing.finish.Goals as goal
 
@@ -13,5 +13,15 @@ returns-in-Err g c = inr (
     texts_and g.E.Write.contents c.args.errors.now c.carry_out.new.errors c.tell_fault.new.errors
         c.tell_meaning.new.errors _ _ _ c.in-Err.ensures.failed.1 c.tell_fault.ensures
         c.tell_meaning.ensures,
+  ),
+)
+
+pub returns-in-Ok-Refused : goal.returns-in-Ok-Refused
+returns-in-Ok-Refused g c = inr (
+  inl refl,
+  inr (
+    rw c.in-Ok-Refused.field-0-is at c.in-Ok-Refused.ensures.ended,
+    c.in-Ok-Refused.ensures.untold,
+    refl,
   ),
 )
