@@ -1,11 +1,11 @@
 //! Queries.
-ghost use Rattle.std.specs.Prelude.{◌≡◌, ◌≢◌, ℕ, List, [], ◌∷◌, ◌+◌, ◌≤◌, IfErr, IfOk, OnOk};
-ghost use Rattle.std.specs.Prelude.{Option, codes, length, map, string_bytes};
+ghost use Rattle.std.specs.Prelude.{◌≡◌, ◌≢◌, ℕ, List, [], ◌∷◌, ◌≤◌, IfErr, IfOk, OnOk, Option};
+ghost use Rattle.std.specs.Prelude.{length, map, string_bytes};
 ghost use Rattle.std.specs.Option.{option_to_list};
 ghost use Rattle.http_routes.specs.Queries.{pairs_of, values_of_pairs, IsImportQuery, IsPathQuery};
 ghost use Rattle.http_routes.specs.Queries.{IsLogQuery, IsMovesQuery, IsPreviewQuery};
-ghost use Rattle.http_routes.specs.Inner.Pairs.{AreNoPart, IsValueFound, IsValueOr, ReadsPath};
-ghost use Rattle.http_routes.specs.Inner.Pairs.{decoded, pair_text};
+ghost use Rattle.http_routes.specs.Inner.Pairs.{IsValueFound, IsValueOr, ReadsPath, decoded};
+ghost use Rattle.http_routes.specs.Inner.Pairs.{pair_text};
 ghost use Rattle.ring_words.specs.Spelling.{Reads};
 
 use form_urlencoded::{decode, raw_pairs};
@@ -96,14 +96,15 @@ fn are_all(pairs: &[Pair], count: usize) -> Result<(), SpellingFault>
     }
 }
 
-/// The key that the pairs of the query of an import say. Bad exactly where they are no such pairs.
-fn key_of(alloc: Global, pairs: &[Pair]) -> Result<Key, SpellingFault>
-    ensures { Reads (IsImportQuery (map pair_text pairs.now)) result }
+/// The key that the query of an import says. Bad exactly where it is no such query.
+pub fn read_key(alloc: Global, query: &[u8]) -> Result<Key, SpellingFault>
+    ensures { Reads (IsImportQuery (pairs_of query.now)) result }
 {
-    let ValueFound::One(caller) = find(pairs, "caller") else {
+    let pairs = read_pairs(alloc, query)?;
+    let ValueFound::One(caller) = find(&pairs, "caller") else {
         return Err(SpellingFault::Bad);
     };
-    let ValueFound::One(number) = find(pairs, "number") else {
+    let ValueFound::One(number) = find(&pairs, "number") else {
         return Err(SpellingFault::Bad);
     };
     if pairs.len() != 2 {
@@ -114,24 +115,17 @@ fn key_of(alloc: Global, pairs: &[Pair]) -> Result<Key, SpellingFault>
     Ok(Key { caller, number })
 }
 
-/// The key that the query of an import says. Bad exactly where it is no such query.
-pub fn read_key(alloc: Global, query: &[u8]) -> Result<Key, SpellingFault>
-    ensures { Reads (IsImportQuery (pairs_of query.now)) result }
+/// The path that the query of a lookup says. BadPath exactly where it is no such query, or the
+/// names are not of their forms.
+pub fn read_path(alloc: Global, query: &[u8]) -> Result<Path, PathFault>
+    ensures { ReadsPath (pairs_of query.now) result }
 {
     let pairs = read_pairs(alloc, query)?;
-    key_of(alloc, &pairs)
-}
-
-/// The path that the pairs of the query of a lookup say. BadPath exactly where they are no such
-/// pairs, or the names are not of their forms.
-fn path_of(alloc: Global, pairs: &[Pair]) -> Result<Path, PathFault>
-    ensures { ReadsPath (map pair_text pairs.now) result }
-{
-    let ValueFound::One(account) = find(pairs, "account") else {
+    let ValueFound::One(account) = find(&pairs, "account") else {
         return Err(PathFault::BadPath);
     };
     let mut known = 1;
-    let container = match find(pairs, "container") {
+    let container = match find(&pairs, "container") {
         ValueFound::Missing => None,
         ValueFound::One(container) => {
             known += 1;
@@ -139,7 +133,7 @@ fn path_of(alloc: Global, pairs: &[Pair]) -> Result<Path, PathFault>
         }
         ValueFound::Several => return Err(PathFault::BadPath),
     };
-    let object = match find(pairs, "object") {
+    let object = match find(&pairs, "object") {
         ValueFound::Missing => None,
         ValueFound::One(object) => {
             known += 1;
@@ -153,25 +147,17 @@ fn path_of(alloc: Global, pairs: &[Pair]) -> Result<Path, PathFault>
     Path::new(alloc, account.as_bytes(), container, object)
 }
 
-/// The path that the query of a lookup says. BadPath exactly where it is no such query, or the
-/// names are not of their forms.
-pub fn read_path(alloc: Global, query: &[u8]) -> Result<Path, PathFault>
-    ensures { ReadsPath (pairs_of query.now) result }
+/// The seed and the hour that the query of a preview says; the hour is 0 where it says none. Bad
+/// exactly where it is no such query.
+pub fn read_seed(alloc: Global, query: &[u8]) -> Result<(u32, Hour), SpellingFault>
+    ensures { Reads (λ x. IsPreviewQuery (pairs_of query.now) x.0 x.1) result }
 {
     let pairs = read_pairs(alloc, query)?;
-    path_of(alloc, &pairs)
-}
-
-/// The seed and the hour that the pairs of the query of a preview say; the hour is 0 where they say
-/// none. Bad exactly where they are no such pairs.
-fn seed_of(pairs: &[Pair]) -> Result<(u32, Hour), SpellingFault>
-    ensures { Reads (λ x. IsPreviewQuery (map pair_text pairs.now) x.0 x.1) result }
-{
-    let ValueFound::One(seed) = find(pairs, "seed") else {
+    let ValueFound::One(seed) = find(&pairs, "seed") else {
         return Err(SpellingFault::Bad);
     };
     let mut known = 1;
-    let hour = match find(pairs, "hour") {
+    let hour = match find(&pairs, "hour") {
         ValueFound::Missing => "0",
         ValueFound::One(hour) => {
             known += 1;
@@ -187,24 +173,15 @@ fn seed_of(pairs: &[Pair]) -> Result<(u32, Hour), SpellingFault>
     Ok((seed, hour))
 }
 
-/// The seed and the hour that the query of a preview says; the hour is 0 where it says none. Bad
-/// exactly where it is no such query.
-pub fn read_seed(alloc: Global, query: &[u8]) -> Result<(u32, Hour), SpellingFault>
-    ensures { Reads (λ x. IsPreviewQuery (pairs_of query.now) x.0 x.1) result }
+/// The two versions that the query of what moved says. Bad exactly where it is no such query.
+pub fn read_versions(alloc: Global, query: &[u8]) -> Result<(u32, u32), SpellingFault>
+    ensures { Reads (λ x. IsMovesQuery (pairs_of query.now) x.0 x.1) result }
 {
     let pairs = read_pairs(alloc, query)?;
-    seed_of(&pairs)
-}
-
-/// The two versions that the pairs of the query of what moved say. Bad exactly where they are no
-/// such pairs.
-fn versions_of(pairs: &[Pair]) -> Result<(u32, u32), SpellingFault>
-    ensures { Reads (λ x. IsMovesQuery (map pair_text pairs.now) x.0 x.1) result }
-{
-    let ValueFound::One(from) = find(pairs, "from") else {
+    let ValueFound::One(from) = find(&pairs, "from") else {
         return Err(SpellingFault::Bad);
     };
-    let ValueFound::One(to) = find(pairs, "to") else {
+    let ValueFound::One(to) = find(&pairs, "to") else {
         return Err(SpellingFault::Bad);
     };
     if pairs.len() != 2 {
@@ -215,36 +192,15 @@ fn versions_of(pairs: &[Pair]) -> Result<(u32, u32), SpellingFault>
     Ok((from, to))
 }
 
-/// The two versions that the query of what moved says. Bad exactly where it is no such query.
-pub fn read_versions(alloc: Global, query: &[u8]) -> Result<(u32, u32), SpellingFault>
-    ensures { Reads (λ x. IsMovesQuery (pairs_of query.now) x.0 x.1) result }
-{
-    let pairs = read_pairs(alloc, query)?;
-    versions_of(&pairs)
-}
-
-/// What the pairs of a query of the log say for a place and for a number of entries: "0" where they
-/// say no place, and "100" where they say no number. Bad exactly where they are no such pairs.
-fn part_texts<'q>(pairs: &'q [Pair]) -> Result<(&'q str, &'q str), SpellingFault>
-    ensures texts { IfOk result (λ x. (places : ℕ) × (sizes : ℕ)
-        × IsValueOr (codes "from") (codes "0") (map pair_text pairs.now) x.0.now places
-        × IsValueOr (codes "most") (codes "100") (map pair_text pairs.now) x.1.now sizes
-        × (length pairs.now ≡ places + sizes)) }
-    ensures bad { IfErr result (λ fault. AreNoPart (map pair_text pairs.now)) }
-{
-    let (from, places) = value_or(pairs, "from", "0")?;
-    let (most, sizes) = value_or(pairs, "most", "100")?;
-    are_all(pairs, places + sizes)?;
-    Ok((from, most))
-}
-
 /// From which place on how many entries of the log a query asks for: from 0 on where it says no place,
 /// and 100 where it says no number. Bad exactly where it is no such query.
 pub fn read_part(alloc: Global, query: &[u8]) -> Result<(u32, u32), SpellingFault>
     ensures { Reads (λ x. IsLogQuery (pairs_of query.now) x.0 x.1) result }
 {
     let pairs = read_pairs(alloc, query)?;
-    let (from, most) = part_texts(&pairs)?;
+    let (from, places) = value_or(&pairs, "from", "0")?;
+    let (most, sizes) = value_or(&pairs, "most", "100")?;
+    are_all(&pairs, places + sizes)?;
     let place = read_number(from, u32::MAX)?;
     let size = read_size(most)?;
     Ok((place, size))

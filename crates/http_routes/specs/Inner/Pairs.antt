@@ -2,7 +2,7 @@
 use Rattle.path_lookup.specs.Names.{PathNames, is_path}
 use Rattle.path_lookup.specs.declared.fault.PathFault.{PathFault}
 use Rattle.path_lookup.specs.declared.fault.PathFault.TheVariants.{BadPath, NoMemory}
-use Rattle.http_routes.specs.Queries.{IsLogQuery, IsPathQuery, values_of_pairs}
+use Rattle.http_routes.specs.Queries.{IsPathQuery, values_of_pairs}
 use Rattle.std.specs.Prelude.{◌≡◌, ◌≢◌, ◌≤◌, ⊤, true, Result, Ok, Err, ℕ, List, [], ◌∷◌, length}
 use Rattle.std.specs.Prelude.{Option, unwrap_or}
 use Rattle.std.specs.Option.{option_to_list}
@@ -39,7 +39,3 @@ abbrev pub ReadsPath : List (List ℕ × List ℕ) → Result PathNames PathFaul
 ReadsPath pairs (Ok names) = IsPathQuery pairs names × (is_path names ≡ true)
 ReadsPath pairs (Err BadPath) = (names : PathNames) → IsPathQuery pairs names → is_path names ≢ true
 ReadsPath pairs (Err NoMemory) = ⊤
-
--- The pairs are no query of a part of the log.
-abbrev pub AreNoPart : List (List ℕ × List ℕ) → Type 0
-AreNoPart pairs = (from most : ℕ) → IsLogQuery pairs from most → ⊥
