@@ -21,3 +21,4 @@ pub mod Asking
 pub mod Paged
 pub mod TextsRead
 pub mod Judged
+pub mod Stops

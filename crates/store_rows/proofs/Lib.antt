@@ -1,4 +1,5 @@
 pub mod Maps
+pub mod Pushes
 pub mod RequestKeys
 pub mod BookGains
 pub mod Ordered

@@ -1,5 +1,5 @@
 -- What fails for the disk has its cause.
-use Rattle.std.proofs.Common.{◌≡◌, ◌≤◌, ℕ, false, List, Option, Some, None, Result, Ok, Err, IfErr, IsTrue, refl, inl, inr, arith}
+use Rattle.std.proofs.Common.{◌≡◌, ◌≤◌, ℕ, false, List, Option, Some, None, Result, Ok, Err, IfErr, IsErrAnd, IsTrue, refl, inl, inr, arith}
 use Rattle.std.proofs.lemmas.Bool.{cases_Bool, or_parts}
 use Rattle.sqlite_value.specs.Order.{Row}
 use Rattle.sqlite_trees.specs.Tree.{Trees}
@@ -178,6 +178,12 @@ query_reads sql params old new (Err e) err = λ clean. queried_read old new e sq
 pub read_as_text : {A : Type 0} (e : Error) → is_no_text e ≡ false → IsTrue (is_no_text e) → A
 read_as_text e never told = absurd (let a = never in let b = told in cc)
 
+-- what an error is known to be
+pub err_so : {A : Type 0} (result : Result A Error) (Q : Error → Type 0) → IsErrAnd result Q
+    → IfErr result Q
+err_so (Ok x) Q so = tt
+err_so (Err e) Q so = so
+
 -- ---- one call after another
 
 pub failed_early : (a b c : State) → b.faults ≤ c.faults → HasFailed a b → HasFailed a c
@@ -221,6 +227,13 @@ pub unfailing : {A : Type 0} (old new : State) (result : Result A Error)
     → IfErr result (λ e. tells_failure e ≡ false) → FailsForCause old new result
 unfailing old new (Ok x) never = λ clean. tt
 unfailing old new (Err e) never = λ clean told. absurd (untold e never told)
+
+-- so nothing has to be known of its cause
+pub no_cause : {A : Type 0} (Cause : Error → Type 0) (result : Result A Error)
+    → IfErr result (λ e. tells_failure e ≡ false)
+    → IfErr result (λ e. IsTrue (tells_failure e) → Cause e)
+no_cause Cause (Ok x) never = tt
+no_cause Cause (Err e) never = λ told. absurd (untold e never told)
 
 -- a database in memory does not fail
 pub memory_fails_not : {A : Type 0} (old new : Held MemStore) (result : Result A Error)

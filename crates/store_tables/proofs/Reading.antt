@@ -5,7 +5,7 @@ use Rattle.std.proofs.lemmas.Bool.{cases_Bool, lt-ltb, ltb-true}
 use Rattle.std.proofs.lemmas.List.{map-append}
 use Rattle.std.specs.FinMap.{FinMap, empty, entries, len-empty, len-entries}
 use Rattle.std.specs.declared.cmp.Ordering.{Ordering}
-use Rattle.std.specs.Prelude.{◌+◌, ◌-◌, ◌<◌, ◌≤◌, All, IfErr, None, OnOk, cond, false, nat_lt}
+use Rattle.std.specs.Prelude.{◌+◌, ◌-◌, ◌<◌, ◌≤◌, All, IfErr, IsErr, None, OnOk, cond, false, nat_lt}
 use Rattle.std.proofs.lemmas.Result.{IfErr-weaker}
 use Rattle.sqlite_value.specs.Order.{Row}
 use Rattle.sqlite.specs.declared.error.Error.{Error}
@@ -49,6 +49,17 @@ reads_none c old new quiet result IsSo e failed = rw failed (record {
   same = λ clean. tt;
   survives = quiet;
 })
+
+-- and one that is known to have failed
+pub reads_failed : {A : Type 0} (c : Contents) (old new : State) → Survives old new (λ _. ⊥)
+    → (result : Result A Error) (IsSo : Contents → A → Type 0) → IsErr result
+    → ReadsContents c old new result IsSo
+reads_failed c old new quiet (Ok x) IsSo failed = absurd (let no = failed in cc)
+reads_failed c old new quiet (Err e) IsSo failed = record {
+  answer = λ clean. tt;
+  same = λ clean. tt;
+  survives = quiet;
+}
 
 module _ (sql : List ℕ) (plain : IsPlain (understood store_schema sql)) (params : Row)
     (old new : State) (sees : SeesStore old) (survives : Survives old new (CommitsShowing sql params

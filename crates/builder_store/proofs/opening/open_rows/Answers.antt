@@ -15,6 +15,7 @@ use Rattle.builder_store.specs.Opening.{no_contents}
 use Rattle.builder_store.specs.Inner.Opened.{LeadsInStore, LeadsTo}
 use Rattle.builder_store.proofs.Judged.{no_judge, no_rows}
 use Rattle.builder_store.proofs.Opens.{opens_after}
+use Rattle.builder_store.proofs.Stops.{only_after}
 use Rattle.builder_store.specs.declared.fault.OpenFault.TheVariants.{BadRows, BadTables, BadTexts}
 use Rattle.builder_store.proofs.opening.open_rows.Goals as goal
 
@@ -170,3 +171,25 @@ pub returns-in-Err-clause-texts : goal.returns-in-Err-clause-texts
 returns-in-Err-clause-texts g c = λ bad clean.
     let is : c.reading_fault.result ≡ BadTexts = cc in
     c.in-Err.ensures.no_text clean (c.reading_fault.ensures.texts.0 is)
+
+pub returns-in-Err-clause-failed : goal.returns-in-Err-clause-failed
+returns-in-Err-clause-failed g c = λ clean told. c.in-Err.ensures.cause clean
+    (c.reading_fault.ensures.failed told)
+
+pub returns-in-Ok-judge-clause-failed : goal.returns-in-Ok-judge-clause-failed
+returns-in-Ok-judge-clause-failed g c = only_after (state g.S.Store c.args.conn.now)
+    (state g.S.Store c.read_rows.new.conn) (state g.S.Store c.migrate.new.conn) _ c.migrate.result
+    c.in-Ok.ensures.reads.survives c.migrate.ensures.survives c.migrate.ensures.failed
+
+pub returns-then-is_empty-clause-failed : goal.returns-then-is_empty-clause-failed
+returns-then-is_empty-clause-failed g c =
+    let old = state g.S.Store c.args.conn.now in
+    let mid = state g.S.Store c.read_rows.new.conn in
+    let new = state g.S.Store c.begin.new.conn in
+    let found : Contents = begun_contents c.args.made old.now.trees in
+    let reads = c.in-Ok.ensures.reads in
+    let empty : HasCleanDisk mid → found ≡ no_contents = λ clean. (c.is_empty.ensures found
+    (reads.answer clean)).0 c.if-is_empty.true in
+    let premise : HasCleanDisk mid → begun_contents c.args.made mid.now.trees ≡ no_contents = λ clean. ap (λ (d : Database). begun_contents c.args.made d.trees) (reads.same clean).0.now_is ∙ empty clean in
+    only_after old mid new _ c.begin.result reads.survives (c.begin.ensures.opens premise).survives
+    c.begin.ensures.failed

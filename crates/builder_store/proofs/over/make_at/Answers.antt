@@ -98,3 +98,21 @@ returns-in-Err-make_over-clause-failed g c = λ is clean. omega
 pub returns-in-Err-make_over-clause-foreign : goal.returns-in-Err-make_over-clause-foreign
 returns-in-Err-make_over-clause-foreign g c = no_foreign _ c.in-Err-make_over.fault
     c.in-Err-make_over.ensures.refused.of_connection
+
+pub returns-in-Err-clause-foreign : goal.returns-in-Err-clause-foreign
+returns-in-Err-clause-foreign g c = c.in-Err.ensures.foreign
+
+pub returns-in-Err-clause-unopened : goal.returns-in-Err-clause-unopened
+returns-in-Err-clause-unopened g c = c.in-Err.ensures.unopened
+
+pub returns-in-Err-clause-untouched : goal.returns-in-Err-clause-untouched
+returns-in-Err-clause-untouched g c = c.in-Err.ensures.untouched
+
+pub returns-in-Err-clause-unconnected : goal.returns-in-Err-clause-unconnected
+returns-in-Err-clause-unconnected g c = c.in-Err.ensures.left
+
+pub returns-in-Err-make_over-clause-untouched : goal.returns-in-Err-make_over-clause-untouched
+returns-in-Err-make_over-clause-untouched g c = λ none. absurd (let no = none in cc)
+
+pub returns-in-Err-make_over-clause-unconnected : goal.returns-in-Err-make_over-clause-unconnected
+returns-in-Err-make_over-clause-unconnected g c = tt

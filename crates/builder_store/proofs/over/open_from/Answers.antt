@@ -103,3 +103,15 @@ returns-in-Err-clause-failed g c = λ is. absurd (c.in-Err.ensures.unmade.0
 pub returns-in-Err-over-clause-failed : goal.returns-in-Err-over-clause-failed
 returns-in-Err-over-clause-failed g c = λ is clean. omega
     (arith, c.in-Err-over.ensures.refused.failed is clean)
+
+pub returns-in-Err-clause-unopened : goal.returns-in-Err-clause-unopened
+returns-in-Err-clause-unopened g c = c.in-Err.ensures.unopened
+
+pub returns-in-Err-clause-unconnected : goal.returns-in-Err-clause-unconnected
+returns-in-Err-clause-unconnected g c = c.in-Err.ensures.left
+
+pub returns-in-Err-over-clause-unopened : goal.returns-in-Err-over-clause-unopened
+returns-in-Err-over-clause-unopened g c = λ none. absurd (let no = none in cc)
+
+pub returns-in-Err-over-clause-unconnected : goal.returns-in-Err-over-clause-unconnected
+returns-in-Err-over-clause-unconnected g c = tt

@@ -2,11 +2,12 @@ use Rattle.std.proofs.Common.{◌<◌, ◌≤◌, ◌∙◌, ◌∷◌, [], ap, 
 use Rattle.std.proofs.lemmas.List.{map-append}
 use Rattle.std.proofs.lemmas.Result.{IfErr-weaker}
 use Rattle.sqlite.specs.Held.{state}
-use Rattle.sqlite.specs.State.{HasCleanDisk}
+use Rattle.sqlite.specs.State.{HasCleanDisk, Survives}
 use Rattle.store_tables.specs.Failing.{FailsForCause}
-use Rattle.store_tables.proofs.Failing.{hands_on, query_fails, query_reads, read_as_text}
+use Rattle.store_tables.proofs.Failing.{hands_on, err_so, query_fails, query_reads, no_cause, read_as_text}
+use Rattle.store_tables.proofs.Inside.{quiet_on}
 use Rattle.store_tables.proofs.Reading.{listing_begins, listing_goes_on, listing_ends, listing_fails}
-use Rattle.store_tables.proofs.Reading.{listing_gives, listing_kept, listing_none, listing_reads, reads_none}
+use Rattle.store_tables.proofs.Reading.{listing_gives, listing_kept, listing_none, listing_reads, reads_failed, reads_none}
 use Rattle.store_tables.proofs.TextRows.{hands_error}
 use Rattle.store_tables.proofs.reads.all_rows.Goals as goal
 
@@ -14,7 +15,8 @@ pub returns-in_err-shown-clause-reads : goal.returns-in_err-shown-clause-reads
 returns-in_err-shown-clause-reads g c =
     let old = state g.S.Store c.args.conn.now in
     let new = state g.S.Store c.query.follows.lender-at-none in
-    let after : g.T.Listed.before < c.args.made = search rules in
+    let after : g.T.Listed.before < c.args.made = rw c.tables_before.ensures.before at
+    c.if-made-tables_before.false in
     reads_none _ old new (listing_kept c.args.made c.query-sql.result.now old new c.requires
     (c.query-sql.ensures c.args.made after).plain (search rules)) c.from_residual.result _ c.in_err-shown.field-0.0 (search rules)
 
@@ -38,7 +40,8 @@ pub rows-init : goal.rows-init
 rows-init g c =
     let made = c.in_ok-shown.ensures in
     let begun = c.in_ok-shown.shown.conn.now in
-    let after : g.T.Listed.before < c.args.made = search rules in
+    let after : g.T.Listed.before < c.args.made = rw c.tables_before.ensures.before at
+    c.if-made-tables_before.false in
     let lists = c.query-sql.ensures c.args.made after in
     record {
       same_reference = refl;
@@ -54,7 +57,8 @@ pub returns-then-made-tables_before-clause-reads :
     goal.returns-then-made-tables_before-clause-reads
 returns-then-made-tables_before-clause-reads g c =
     let s = state g.S.Store c.args.conn.now in
-    let low : c.args.made ≤ g.T.Listed.before = search rules in
+    let low : c.args.made ≤ g.T.Listed.before = rw c.tables_before.ensures.before at
+    c.if-made-tables_before.true in
     listing_none _ s c.args.made (λ rows. map g.T.Listed.entry rows.items) g.T.Listed.listed
     c.new-rows.result c.requires (ap (map g.T.Listed.entry) c.new-rows.ensures.items)
     (c.tables_before.ensures.missing c.args.made s.now.trees low)
@@ -126,3 +130,54 @@ rows-preserved g c =
           (search rules) (ap (map g.T.Listed.entry) c.in_ok-push.ensures.items
           ∙ map-append g.T.Listed.entry c.rows.rows.items (c.in_ok-read.field-0 ∷ []));
     }
+
+pub returns-in_err-advance-clause-reads : goal.returns-in_err-advance-clause-reads
+returns-in_err-advance-clause-reads g c =
+    let old = state g.S.Store c.args.conn.now in
+    let now = state g.S.Store c.rows.shown.conn.now in
+    let new = state g.S.Store c.advance.new.self.conn.now in
+    let quiet : Survives old new (λ _. ⊥) = quiet_on old now new c.rows.invariant.survives
+    c.advance.ensures.survives in
+    reads_failed _ _ _ (search rules) c.from_residual-in_err-advance.result _
+    c.from_residual-in_err-advance.ensures.0
+
+pub returns-in_err-read-clause-reads : goal.returns-in_err-read-clause-reads
+returns-in_err-read-clause-reads g c =
+    let old = state g.S.Store c.args.conn.now in
+    let now = state g.S.Store c.rows.shown.conn.now in
+    let new = state g.S.Store c.advance.new.self.conn.now in
+    let quiet : Survives old new (λ _. ⊥) = quiet_on old now new c.rows.invariant.survives
+    c.advance.ensures.survives in
+    reads_failed _ _ _ (search rules) c.from_residual-in_err-read.result _
+    c.from_residual-in_err-read.ensures.0
+
+pub returns-in_err-read-clause-cause : goal.returns-in_err-read-clause-cause
+returns-in_err-read-clause-cause g c = λ clean.
+    let result = c.from_residual-in_err-read.result in
+    no_cause _ result (hands_error _ c.read.result result c.in_err-read.field-0.0 c.in_err-read.was
+    (search rules) c.read.ensures.unfailed)
+
+pub returns-in_err-push-clause-reads : goal.returns-in_err-push-clause-reads
+returns-in_err-push-clause-reads g c =
+    let old = state g.S.Store c.args.conn.now in
+    let now = state g.S.Store c.rows.shown.conn.now in
+    let new = state g.S.Store c.advance.new.self.conn.now in
+    let quiet : Survives old new (λ _. ⊥) = quiet_on old now new c.rows.invariant.survives
+    c.advance.ensures.survives in
+    reads_failed _ _ _ (search rules) c.from_residual-in_err-push.result _
+    c.from_residual-in_err-push.ensures.0
+
+pub returns-in_err-push-clause-cause : goal.returns-in_err-push-clause-cause
+returns-in_err-push-clause-cause g c = λ clean.
+    let result = c.from_residual-in_err-push.result in
+    no_cause _ result (IfErr-weaker result _ _ (λ e is. rw is refl)
+    (err_so result _ c.from_residual-in_err-push.ensures.1))
+
+pub returns-in_err-push-clause-no_text : goal.returns-in_err-push-clause-no_text
+returns-in_err-push-clause-no_text g c = λ clean.
+    let result = c.from_residual-in_err-push.result in
+    IfErr-weaker result _ _ (λ e is. read_as_text e (rw is refl))
+    (err_so result _ c.from_residual-in_err-push.ensures.1)
+
+pub returns-clause-reads : goal.returns-clause-reads
+returns-clause-reads g c = reads_failed _ _ _ (search rules) _ _ refl

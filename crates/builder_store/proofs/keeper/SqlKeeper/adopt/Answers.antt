@@ -2,7 +2,7 @@ use Rattle.std.proofs.Common.{arith, inl, inr, subst, sym}
 use Rattle.sqlite.specs.Held.{state}
 use Rattle.sqlite.specs.State.{HasCleanDisk}
 use Rattle.builder_store.specs.Keepers.{content_of_keeper}
-use Rattle.builder_store.specs.Opening.{AreDeclared, HasBadTexts, IsMadeOf, IsOpenedAs}
+use Rattle.builder_store.specs.Opening.{AreDeclared, HasBadTexts, IsMadeOf, IsOpenedAs, JudgesTables}
 use Rattle.builder_store.proofs.Taking.{met_before}
 use Rattle.builder_store.proofs.keeper.SqlKeeper.adopt.Goals as goal
 
@@ -69,3 +69,21 @@ returns-in-Err-over-clause-texts g c = λ failed clean.
     let before : HasCleanDisk mid = omega (arith, c.in-Err-over.ensures.refused.clean, clean) in
     subst HasBadTexts (c.in-Ok.ensures.same before)
     (c.in-Err-over.ensures.refused.texts failed clean)
+
+pub returns-in-Err-clause-rows : goal.returns-in-Err-clause-rows
+returns-in-Err-clause-rows g c = λ failed clean db left. c.in-Err.ensures.left db left
+
+pub returns-in-Err-clause-crash : goal.returns-in-Err-clause-crash
+returns-in-Err-clause-crash g c = λ clean db left. inl (c.in-Err.ensures.left db left)
+
+pub returns-in-Err-clause-bad : goal.returns-in-Err-clause-bad
+returns-in-Err-clause-bad g c = λ is. absurd (c.fault_of.ensures.unjudged
+    (subst JudgesTables (sym is) tt))
+
+pub returns-in-Err-clause-texts : goal.returns-in-Err-clause-texts
+returns-in-Err-clause-texts g c = λ is. absurd (c.fault_of.ensures.unjudged
+    (subst JudgesTables (sym is) tt))
+
+pub returns-in-Err-clause-missing : goal.returns-in-Err-clause-missing
+returns-in-Err-clause-missing g c = λ is. absurd (c.fault_of.ensures.unjudged
+    (subst JudgesTables (sym is) tt))

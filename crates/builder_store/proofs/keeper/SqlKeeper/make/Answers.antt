@@ -1,8 +1,9 @@
 use Rattle.std.proofs.Common.{arith, inl, inr, subst, sym}
 use Rattle.sqlite.specs.Held.{state}
 use Rattle.sqlite.specs.State.{HasCleanDisk}
+use Rattle.builder_store.specs.Left.{IsMadeOfConnection}
 use Rattle.builder_store.specs.Opening.{AreDeclared}
-use Rattle.builder_store.proofs.Rests.{no_foreign, only_taken}
+use Rattle.builder_store.proofs.Rests.{failure_of_connection, judged_of_connection, no_foreign, only_taken}
 use Rattle.builder_store.proofs.Taking.{met_before}
 use Rattle.builder_store.proofs.keeper.SqlKeeper.make.Goals as goal
 
@@ -67,3 +68,32 @@ returns-in-Err-make_over-clause-failed g c = λ told clean.
 pub returns-in-Err-make_over-clause-foreign : goal.returns-in-Err-make_over-clause-foreign
 returns-in-Err-make_over-clause-foreign g c = no_foreign _ c.in-Err-make_over.fault
     c.in-Err-make_over.ensures.refused.of_connection
+
+pub returns-in-Err-clause-failed : goal.returns-in-Err-clause-failed
+returns-in-Err-clause-failed g c = λ told. absurd (c.in-Err.ensures.other
+    (failure_of_connection c.in-Err.fault told))
+
+pub returns-in-Err-clause-taken : goal.returns-in-Err-clause-taken
+returns-in-Err-clause-taken g c = λ is. absurd (c.in-Err.ensures.other
+    (subst IsMadeOfConnection (sym is) tt))
+
+pub returns-in-Err-clause-unjudged : goal.returns-in-Err-clause-unjudged
+returns-in-Err-clause-unjudged g c = λ is. c.in-Err.ensures.other
+    (judged_of_connection c.in-Err.fault is)
+
+pub returns-in-Err-clause-stays : goal.returns-in-Err-clause-stays
+returns-in-Err-clause-stays g c = λ failed clean db left. left
+
+pub returns-in-Err-clause-crash : goal.returns-in-Err-clause-crash
+returns-in-Err-clause-crash g c = λ clean db left. inl left
+
+pub returns-in-Err-take_over-clause-stays : goal.returns-in-Err-take_over-clause-stays
+returns-in-Err-take_over-clause-stays g c = λ failed clean db left. c.in-Err-take_over.ensures.left
+    db left
+
+pub returns-in-Err-take_over-clause-crash : goal.returns-in-Err-take_over-clause-crash
+returns-in-Err-take_over-clause-crash g c = λ clean db left. inl
+    (c.in-Err-take_over.ensures.left db left)
+
+pub returns-in-Err-take_over-clause-unjudged : goal.returns-in-Err-take_over-clause-unjudged
+returns-in-Err-take_over-clause-unjudged g c = c.fault_of.ensures.unjudged
