@@ -7,3 +7,4 @@ pub mod Pairs
 pub mod Told
 pub mod Words
 pub mod LogQueries
+pub mod BadParts

@@ -1,15 +1,26 @@
 -- One word and one list of fields are of one act.
-use Rattle.std.proofs.Common.{◌≡◌, ℕ, ap, ◌∙◌}
-use Rattle.serde_json.specs.Data.{Data}
+use Rattle.std.proofs.Common.{◌≡◌, ℕ, List, Err, Some, ap, codes, ◌∙◌}
+use Rattle.serde_json.specs.Data.{Data, string}
+use Rattle.serde_json.specs.Find.{get}
+use Rattle.ring_words.specs.Limits.{greatest_long, greatest_short}
+use Rattle.ring_words.specs.Spelling.{Reads}
+use Rattle.ring_words.specs.declared.spelling.SpellingFault.{SpellingFault}
 use Rattle.ring_words.specs.declared.device.Row.{Row}
 use Rattle.ring_words.specs.declared.command.Foretold.{Foretold}
 use Rattle.ring_words.specs.declared.command.NewRing.{NewRing}
 use Rattle.ring_words.specs.declared.command.Act.{Act}
 use Rattle.ring_words.specs.declared.command.Act.TheVariants.{Create, Add, OnDevice, RebalanceAs}
+use Rattle.ring_words.specs.declared.command.Act.TheVariants.{Import, Rebalance, SetHours}
+use Rattle.ring_words.specs.declared.command.Kind.{Kind}
+use Rattle.ring_words.specs.declared.command.Kind.TheVariants as kind
+use Rattle.ring_words.specs.declared.command.DeviceAct.TheVariants as device_act
 use Rattle.ring_words.specs.declared.command.DeviceAct.TheVariants.{SetWeight}
 use Rattle.ring_words.specs.Kinds.{act_kind}
 use Rattle.ring_messages.specs.Commands.{act_fields}
-use Rattle.ring_messages.specs.Inner.Says.{SaysAct}
+use Rattle.ring_words.proofs.Spelled.{reads_err}
+use Rattle.ring_messages.specs.Inner.Says.{HasFields, IsWeight, SaysAct}
+use Rattle.ring_messages.specs.Reads.{IsNumber}
+use Rattle.ring_messages.specs.Words.{kind_word}
 use Rattle.ring_messages.proofs.FieldKinds.{Values, kinds, same_fields, values}
 use Rattle.ring_messages.proofs.OneKind.{same_kind}
 use Rattle.ring_messages.proofs.RowLists.{equal_rows}
@@ -72,3 +83,69 @@ same_act d a b h k =
     same_values a b is
     (ap values
     (same_fields d (act_fields a) (act_fields b) (same_kinds a b is) h.fields k.fields))
+
+-- ---- where a part of what a command asks for is bad, so is the whole
+
+pub part_bad : {X : Type 0} (P : X → Type 0) (d : Data) (k : Kind) (e : SpellingFault)
+    → get (codes "do") d ≡ Some (string (kind_word k)) → Reads P (Err e)
+    → ((a : Act) → act_kind a ≡ k → HasFields d (act_fields a) → (x : X) × P x)
+    → Reads (SaysAct d) (Err e)
+part_bad P d k e word bad part =
+    reads_err P (SaysAct d) e bad (λ a h. part a (same_kind _ (act_kind a) k h.word word) h.fields)
+
+abbrev Number : Data → List ℕ → ℕ → ℕ → Type 0
+Number d key most n = IsNumber (get key d) 0 most n
+
+pub of_create : (d : Data) (a : Act) → act_kind a ≡ kind.Create → HasFields d (act_fields a)
+    → (n : NewRing) × HasFields d (act_fields (Create n))
+of_create d (Create n) is h = (n, h)
+of_create d (OnDevice i (SetWeight w)) is h = cc
+of_create d a is h = cc
+
+pub of_add : (d : Data) (a : Act) → act_kind a ≡ kind.Add → HasFields d (act_fields a)
+    → (r : Row) × HasFields d (act_fields (Add r))
+of_add d (Add r) is h = (r, h)
+of_add d (OnDevice i (SetWeight w)) is h = cc
+of_add d a is h = cc
+
+pub of_import : (d : Data) (a : Act) → act_kind a ≡ kind.Import → HasFields d (act_fields a)
+    → (rs : List Row) × HasFields d (act_fields (Import rs))
+of_import d (Import rs) is h = (rs, h)
+of_import d (OnDevice i (SetWeight w)) is h = cc
+of_import d a is h = cc
+
+pub of_foretold : (d : Data) (a : Act) → act_kind a ≡ kind.RebalanceAs
+    → HasFields d (act_fields a) → (t : Foretold) × HasFields d (act_fields (RebalanceAs t))
+of_foretold d (RebalanceAs t) is h = (t, h)
+of_foretold d (OnDevice i (SetWeight w)) is h = cc
+of_foretold d a is h = cc
+
+pub of_rebalance : (d : Data) (a : Act) → act_kind a ≡ kind.Rebalance → HasFields d (act_fields a)
+    → (n : ℕ) × Number d (codes "seed") greatest_long n
+of_rebalance d (Rebalance n) is h = (n, h.0)
+of_rebalance d (OnDevice i (SetWeight w)) is h = cc
+of_rebalance d a is h = cc
+
+pub of_hours : (d : Data) (a : Act) → act_kind a ≡ kind.SetHours → HasFields d (act_fields a)
+    → (n : ℕ) × Number d (codes "min_hours") greatest_short n
+of_hours d (SetHours n) is h = (n, h.0)
+of_hours d (OnDevice i (SetWeight w)) is h = cc
+of_hours d a is h = cc
+
+pub of_weight : (d : Data) (a : Act) → act_kind a ≡ kind.SetWeight → HasFields d (act_fields a)
+    → (i : ℕ) × (w : ℕ) × Number d (codes "id") greatest_short i
+    × IsWeight (get (codes "weight") d) w
+of_weight d (OnDevice i (SetWeight w)) is h = (i, w, h.0, h.1.0)
+of_weight d a is h = cc
+
+pub of_remove : (d : Data) (a : Act) → act_kind a ≡ kind.Remove → HasFields d (act_fields a)
+    → (i : ℕ) × Number d (codes "id") greatest_short i
+of_remove d (OnDevice i device_act.Remove) is h = (i, h.0)
+of_remove d (OnDevice i (SetWeight w)) is h = cc
+of_remove d a is h = cc
+
+pub of_keep : (d : Data) (a : Act) → act_kind a ≡ kind.Keep → HasFields d (act_fields a)
+    → (i : ℕ) × Number d (codes "id") greatest_short i
+of_keep d (OnDevice i device_act.Keep) is h = (i, h.0)
+of_keep d (OnDevice i (SetWeight w)) is h = cc
+of_keep d a is h = cc

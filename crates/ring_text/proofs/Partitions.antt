@@ -6,10 +6,10 @@ use Rattle.std.proofs.Common.{ap₂, ◌∙◌, arith}
 use Rattle.std.specs.Prelude.{All, ◌==◌}
 use Rattle.std.specs.List.{join_with_byte, slice_split, slice_range, range_with_len}
 use Rattle.std.proofs.lemmas.List.{get_or-map, length-map, length-append, length-take-le}
-use Rattle.std.proofs.lemmas.List.{length-drop, map_push, take_all, drop_at}
+use Rattle.std.proofs.lemmas.List.{length-drop, map-append, map_more, map_push, take_all, drop_at}
 use Rattle.std.proofs.lemmas.List.{take-append-le, drop-append-le}
 use Rattle.std.proofs.lemmas.List.Elements.{All-head, All-tail, All-get_or, All-weaker, All-map}
-use Rattle.std.proofs.lemmas.List.Elements.{All-append, All-take, All-drop}
+use Rattle.std.proofs.lemmas.List.Elements.{All-append, All-cons, All-nil, All-take, All-drop}
 use Rattle.std.proofs.lemmas.List.Splits.{join_with_byte-slice_split}
 use Rattle.std.proofs.lemmas.List.FromFn.{get_or-map-range_with_len, map-range_with_len_more}
 use Rattle.std.proofs.lemmas.List.FromFn.{length-map-range_with_len}
@@ -40,6 +40,19 @@ number_inside words i word ns lt are =
     sym (get_or-map (λ (w : Bor (List ℕ)). w.now) words i word [] lt) ∙ ap
     (λ (x : List (List ℕ)). text_at x i) are.are ∙ get_or-map decimal ns i 0 [] below in
     (n, record { is = at; above = omega arith; below = omega arith })
+
+-- one number more is read
+pub number_pushed : (words : List (Bor (List ℕ))) (i : ℕ) (word : Bor (List ℕ)) (ns : List ℕ)
+    (n : ℕ) → i < length words → AreNumbers (map (λ w. w.now) (take i words)) ns
+    → SpellsNumber (get_or words i word).now 0 greatest_short n
+    → AreNumbers (map (λ w. w.now) (take (i + 1) words)) (ns ++ n ∷ [])
+number_pushed words i word ns n lt so_far is = record {
+  are = map_more (λ (w : Bor (List ℕ)). w.now) words i word lt
+      ∙ ap₂ (λ (xs : List (List ℕ)) (x : List ℕ). xs ++ x ∷ []) so_far.are is.is
+      ∙ sym (map-append decimal ns (n ∷ []));
+  limits = All-append (λ (x : ℕ). x < 2 ^ 16) ns (n ∷ []) so_far.limits
+      (All-cons (λ (x : ℕ). x < 2 ^ 16) n [] (omega (arith, is.below)) (All-nil (λ (x : ℕ). x < 2 ^ 16)));
+}
 
 pub graphic-numbers : (ns : List ℕ) → All (λ n. n < 2 ^ 16) ns → All AreGraphic (map decimal ns)
 graphic-numbers ns small = All-map AreGraphic decimal ns (All-weaker (λ (n : ℕ). n < 2 ^ 16)

@@ -1,5 +1,10 @@
-use Rattle.std.proofs.Common.{arith}
+use Rattle.std.proofs.Common.{arith, List, map, subst}
+use Rattle.std.specs.List.{AllZip}
+use Rattle.std.proofs.lemmas.List.{take_all}
 use Rattle.std.proofs.lemmas.Result.{err_from_is_err_and}
+use Rattle.serde_json.specs.View.{view}
+use Rattle.serde_json.specs.declared.value.Value.{Value}
+use Rattle.ring_messages.specs.Inner.Says.{ListsRow}
 use Rattle.ring_messages.proofs.RowLists.{list_fails, one_more}
 use Rattle.ring_messages.proofs.rows.rows.Goals as goal
 
@@ -16,3 +21,7 @@ loop-list-preserved c =
     rw c.in_default.ensures.items
     (one_more c.args.lists.now c.loop-list.rows.items c.loop-list.list-index c.list-item.result
     c.in_ok-row.row (omega arith) c.list-item.is c.loop-list.invariant c.in_ok-row.ensures)
+
+pub returns : goal.returns
+returns c = subst (λ (lists : List Value). AllZip ListsRow (map view lists) c.loop-list.rows.items)
+    (take_all c.loop-list.list-index c.args.lists.now c.loop-list-test.false) c.loop-list.invariant

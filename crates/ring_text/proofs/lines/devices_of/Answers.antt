@@ -1,4 +1,5 @@
-use Rattle.std.proofs.Common.{map, Bor, List, ℕ, arith}
+use Rattle.std.proofs.Common.{map, subst, Bor, List, ℕ, arith}
+use Rattle.std.proofs.lemmas.List.{take_all}
 use Rattle.std.proofs.lemmas.Result.{err_from_is_err_and}
 use Rattle.ring_text.specs.Inner.Reading.{IsDeviceLine, AreDeviceLines}
 use Rattle.ring_words.proofs.Spelled.{list_err}
@@ -17,3 +18,8 @@ pub loop-line-preserved : goal.loop-line-preserved
 loop-line-preserved c = rw c.in_ok-push.ensures.items (devices_pushed c.args.lines.now
     c.loop-line.line-index _ c.loop-line.devices.items c.in_ok-device.device (omega arith)
     c.loop-line.invariant c.in_ok-device.ensures)
+
+pub returns : goal.returns
+returns c = subst (λ (all : List (Bor (List ℕ))). AreDeviceLines (map (λ (x : Bor (List ℕ)). x.now) all)
+    c.loop-line.devices.items) (take_all c.loop-line.line-index c.args.lines.now c.loop-line-test.false)
+    c.loop-line.invariant
