@@ -1,4 +1,4 @@
-use Rattle.std.proofs.Common.{inr}
+use Rattle.std.proofs.Common.{inr, inl}
 use Rattle.std.proofs.lemmas.Result.{err_from_is_err_and}
 use Rattle.programs.specs.Begun.{FailedToClose, IsClosed}
 use Rattle.programs.proofs.Kept.{imports_kept}
@@ -26,3 +26,8 @@ returns-in_err-close_store-clause-fault g c =
             c.args.rows.items c.args.hour delivered.result.0 delivered.ensures,
       ),
     ))
+
+pub returns-in_err-keeper-clause-fault : goal.returns-in_err-keeper-clause-fault
+returns-in_err-keeper-clause-fault g c =
+    let p = err_from_is_err_and c.from_residual.result c.from_residual.ensures.1 in
+    rw (p.1, p.2) (inl (c.in_err-keeper.ensures.refused, c.in_err-keeper.ensures.fault))

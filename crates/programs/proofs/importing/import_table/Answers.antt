@@ -1,4 +1,4 @@
-use Rattle.std.proofs.Common.{◌∙◌, ap, inr}
+use Rattle.std.proofs.Common.{◌∙◌, ap, inl, inr, refl}
 use Rattle.std.proofs.lemmas.Result.{err_from_is_err_and}
 use Rattle.program_stores.specs.Faults.{stream_fault}
 use Rattle.programs.proofs.importing.import_table.Goals as goal
@@ -12,3 +12,8 @@ returns-in_err-write_told-clause-failed g c =
       p.2 ∙ ap stream_fault failed.0,
       (c.in_ok-told.told, c.in_ok-told.ensures.told, failed.1),
     ))
+
+pub returns-in_err-told-clause-failed : goal.returns-in_err-told-clause-failed
+returns-in_err-told-clause-failed g c =
+    let p = err_from_is_err_and c.from_residual.result c.from_residual.ensures.1 in
+    rw (p.1, p.2) (inl (c.in_err-told.ensures.fault, refl))

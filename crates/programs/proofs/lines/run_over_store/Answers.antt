@@ -1,4 +1,4 @@
-use Rattle.std.proofs.Common.{inl, inr}
+use Rattle.std.proofs.Common.{inl, inr, refl}
 use Rattle.std.proofs.lemmas.Result.{err_from_is_err_and}
 use Rattle.programs.specs.Begun.{FailedToClose, IsClosed, WasClosed}
 use Rattle.programs.proofs.Runs.{at_err, at_ok}
@@ -44,3 +44,8 @@ returns-in_err-answered-clause-failed g c =
           c.in_err-answered.field-0.0
           (at_err ran.result.0 c.in_err-answered.field-0.0 _ c.in_err-answered.was ran.ensures.stopped),
     ))
+
+pub returns-in_err-keeper-clause-failed : goal.returns-in_err-keeper-clause-failed
+returns-in_err-keeper-clause-failed g c =
+    let p = err_from_is_err_and c.from_residual.result c.from_residual.ensures.1 in
+    rw (p.1, p.2) (inr (inl (c.in_err-keeper.ensures.refused, c.in_err-keeper.ensures.fault, refl, refl)))

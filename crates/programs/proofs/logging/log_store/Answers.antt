@@ -1,5 +1,5 @@
 use Rattle.std.proofs.lemmas.Result.{err_from_is_err_and}
-use Rattle.std.proofs.Common.{inl, inr}
+use Rattle.std.proofs.Common.{inl, inr, refl}
 use Rattle.programs.specs.Begun.{FailedToClose, IsClosedWhole}
 use Rattle.programs.specs.Left.{Closes, RefusesToOpen}
 use Rattle.programs.proofs.Kept.{on_closed, on_unclosed}
@@ -45,3 +45,8 @@ returns-in_err-written-clause-fault g c =
     c.close_store-closed.ensures.ends c.args.form c.args.from
     (RefusesToOpen g.S.Stores c.args.file.now) c.in_err-written.field-0.0
     (at_err kept.result.0 c.in_err-written.field-0.0 _ c.in_err-written.was kept.ensures.broken))
+
+pub returns-in_err-keeper-clause-fault : goal.returns-in_err-keeper-clause-fault
+returns-in_err-keeper-clause-fault g c =
+    let p = err_from_is_err_and c.from_residual.result c.from_residual.ensures.1 in
+    rw (p.1, p.2) (inl (c.in_err-keeper.ensures.refused, c.in_err-keeper.ensures.fault, refl))

@@ -1,4 +1,5 @@
-use Rattle.std.proofs.Common.{inl, inr}
+use Rattle.std.proofs.Common.{inl, inr, refl}
+use Rattle.std.proofs.lemmas.Result.{err_from_is_err_and}
 use Rattle.programs.specs.Begun.{FailedToClose, IsClosed, WasClosed}
 use Rattle.programs.proofs.Kept.{on_closed, on_unclosed}
 use Rattle.programs.proofs.Services.{kept_loops, kept_stops, match_err, match_ok}
@@ -38,3 +39,8 @@ returns-in-Err-clause-failed g c =
           c.args.writer.now ran.new.writer c.in-Err.fault
           (match_err ran.result.0 _ _ _ c.in-Err.is ran.ensures),
     ))
+
+pub returns-in_err-keeper-clause-failed : goal.returns-in_err-keeper-clause-failed
+returns-in_err-keeper-clause-failed g c =
+    let p = err_from_is_err_and c.from_residual.result c.from_residual.ensures.1 in
+    rw (p.1, p.2) (inl (c.in_err-keeper.ensures.refused, c.in_err-keeper.ensures.fault, refl))

@@ -1,5 +1,5 @@
 use Rattle.std.proofs.Common.{◌∙◌, ap, inl, inr}
-use Rattle.std.proofs.lemmas.Result.{IfErr-at_err}
+use Rattle.std.proofs.lemmas.Result.{IfErr-at_err, err_from_is_err_and}
 use Rattle.programs.specs.Begun.{FailedToClose, IsClosed, WasClosed}
 use Rattle.programs.specs.Faults.{serve_fault}
 use Rattle.programs.proofs.Kept.{on_closed, on_unclosed}
@@ -37,3 +37,8 @@ returns-in-Err-clause-failed g c =
           c.in_ok-keeper.ensures.begins (c.close_store-closed.result, c.close_store-closed.ensures.ends)
           c.args.given c.args.names _ failed.1,
     ))
+
+pub returns-in_err-keeper-clause-failed : goal.returns-in_err-keeper-clause-failed
+returns-in_err-keeper-clause-failed g c =
+    let p = err_from_is_err_and c.from_residual.result c.from_residual.ensures.1 in
+    rw (p.1, p.2) (inl (c.in_err-keeper.ensures.refused, c.in_err-keeper.ensures.fault))

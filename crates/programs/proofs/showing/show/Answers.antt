@@ -1,4 +1,4 @@
-use Rattle.std.proofs.Common.{◌∙◌, ap, inr}
+use Rattle.std.proofs.Common.{◌∙◌, ap, inl, inr, refl}
 use Rattle.std.proofs.lemmas.Result.{err_from_is_err_and}
 use Rattle.program_stores.specs.Faults.{stream_fault}
 use Rattle.programs.proofs.showing.show.Goals as goal
@@ -26,3 +26,11 @@ returns-in_err-write_text-clause-fault g c =
         c.in_err-write_text.ensures.cause,
       ),
     )))
+
+pub returns-in_err-bytes-clause-fault : goal.returns-in_err-bytes-clause-fault
+returns-in_err-bytes-clause-fault g c =
+    let p = err_from_is_err_and c.from_residual.result c.from_residual.ensures.1 in
+    rw (p.1, p.2) (elim c.in_err-bytes.ensures.fault [
+      | inl refused ↦ inl (refused.0, refused.1, refl)
+      | inr nothing ↦ inr (inl (nothing, refl))
+    ])

@@ -52,3 +52,8 @@ returns-in_err-closed-clause-fault g c =
             (at_value told.result.0 c.in_ok-bytes.bytes _ c.in_ok-bytes.was told.ensures.shown),
       ),
     ))))
+
+pub returns-in_err-keeper-clause-fault : goal.returns-in_err-keeper-clause-fault
+returns-in_err-keeper-clause-fault g c =
+    let p = err_from_is_err_and c.from_residual.result c.from_residual.ensures.1 in
+    rw (p.1, p.2) (inl (c.in_err-keeper.ensures.refused, c.in_err-keeper.ensures.fault))
