@@ -18,7 +18,7 @@ from pathlib import Path
 
 TOP = Path(__file__).resolve().parent.parent
 PAGE = TOP / "docs" / "definitions.md"
-TESTS = {"ring_tests", "request_tests", "http_tests", "store_tests", "program_tests", "test_fixtures"}
+TESTS = {"ring_tests", "http_tests", "store_tests", "program_tests", "test_fixtures"}
 # The word that the headline is, and those below it or beside it whose own words make a part of the page.
 TOP_WORD = ("builder", "Safety", "IsSafeRun")
 PARTS = {TOP_WORD: "what operators are promised of a run", ("request_book", "Run", "Run"): "what a list of calls may come to",

@@ -29,11 +29,11 @@ pub struct Counter {
 impl Machine for Counter {
     ghost use Rattle.std.specs.Prelude.{◌≡◌, ◌+◌, Bool, false, true, ℕ};
     ghost use Rattle.std.proofs.lemmas.Bool.{false≢true};
-    ghost use Rattle.request_tests.specs.declared.book.counter.Change.{Change};
-    ghost use Rattle.request_tests.specs.declared.book.counter.Change.TheVariants.{Add, Reset};
-    ghost use Rattle.request_tests.specs.declared.book.counter.Counted.{Counted};
-    ghost use Rattle.request_tests.specs.declared.book.counter.Counted.TheVariants.{Done};
-    ghost use Rattle.request_tests.specs.declared.book.counter.Counted.TheVariants.{PastBound};
+    ghost use Rattle.program_tests.specs.declared.book.counter.Change.{Change};
+    ghost use Rattle.program_tests.specs.declared.book.counter.Change.TheVariants.{Add, Reset};
+    ghost use Rattle.program_tests.specs.declared.book.counter.Counted.{Counted};
+    ghost use Rattle.program_tests.specs.declared.book.counter.Counted.TheVariants.{Done};
+    ghost use Rattle.program_tests.specs.declared.book.counter.Counted.TheVariants.{PastBound};
 
     type State = u32;
 
