@@ -21,7 +21,7 @@ def main():
     page = program.SPEED
     if not small and page.exists() and MARK in page.read_text():
         page.write_text(page.read_text().partition(MARK)[0] + MARK + "\n")
-    scripts = ["rings.py", "growth.py", "store.py", "kit_commits.py", "kit_opening.py"] + (["service.py", "reads.py"] if has("serve") else [])
+    scripts = ["rings.py", "growth.py", "store.py", "commits.py", "kit_opening.py"] + (["service.py", "reads.py"] if has("serve") else [])
     flags = ["--small"] if small else ["--write"]
     for script in scripts:
         done = subprocess.run([sys.executable, str(Path(__file__).parent / script), *flags, folder])

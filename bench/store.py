@@ -1,11 +1,10 @@
 #!/usr/bin/env python3
 """Times the store in a real file: bench/store.py [--small] [--write] [FOLDER]
 
-Commits a second of `run --file`, beside Python's sqlite3, which commits the same rows in WAL mode with synchronous=FULL
-on the same disk in turns with it; rebalances of the largest ring, decided and stored; opening a file with 100,000 numbers
-and such a ring, its time and memory; a delivery where the file has few numbers and where it has many, by the texts that are
-published, and by the rings beside. FOLDER is where the
-files lie (the current one where none is given). --small takes small sizes, --write puts the tables into docs/speed.md.
+Rebalances of the largest ring, decided and stored; opening a file with 100,000 numbers and such a ring, its time and memory; a
+delivery where the file has few numbers and where it has many, by the texts that are published, and by the rings beside. Commits
+are timed by bench/commits.py. FOLDER is where the files lie (the current one where none is given). --small takes small sizes,
+--write puts the tables into docs/speed.md.
 """
 import json
 import os
@@ -18,7 +17,7 @@ import time
 from program import ask, message, most_memory, rows, start, tell, timed_run
 
 SMALL = "--small" in sys.argv
-COMMITS, ROUNDS = (200, 2) if SMALL else (3000, 5)
+ROUNDS = 2 if SMALL else 5
 POWER, REPLICAS, DEVICES = (8, 3, 32) if SMALL else (14, 5, 256)
 NUMBERS = 2000 if SMALL else 100000
 AT = [200, 1000] if SMALL else [1000, 10000, 90000]
@@ -30,78 +29,6 @@ MILLI = 1000
 def refused(number):
     """A request that is decided, and changes no ring: its own row is the one that is written, since the hour stays."""
     return message(number, "remove", id=60000)
-
-
-def risen(number):
-    """The same at an hour of its own, which is written too."""
-    return message(number, "remove", hour=number, id=60000)
-
-
-def hours(number):
-    """A request that changes one row of a ring too."""
-    return message(number, "set_hours", min_hours=number % 1000)
-
-
-def commits_of_ringd(room, line):
-    """Commits a second of a run over a new file, its opening and closing aside."""
-    file = f"{room}/ringd.db"
-    for end in ("", "-wal"):
-        if os.path.exists(file + end):
-            os.remove(file + end)
-    timed_run("run", "--file", file, given=message(0, "create", power=4, replicas=2, min_hours=0).encode())
-    _, idle = timed_run("run", "--file", file)
-    given = "".join(line(number) for number in range(1, COMMITS + 1)).encode()
-    told, took = timed_run("run", "--file", file, given=given)
-    if told.count(b"\n") != COMMITS or b"fault" in told:
-        raise SystemExit(f"not each of them was decided: {told[-200:]}")
-    return COMMITS / (took - idle)
-
-
-def commits_of_sqlite(room, also):
-    """Commits a second of Python's sqlite3: a request, and perhaps the hour or the row of a ring."""
-    file = f"{room}/sqlite.db"
-    for end in ("", "-wal", "-shm"):
-        if os.path.exists(file + end):
-            os.remove(file + end)
-    held = sqlite3.connect(file, isolation_level=None)
-    held.execute("PRAGMA journal_mode = WAL")
-    held.execute("PRAGMA synchronous = FULL")
-    held.execute("PRAGMA locking_mode = EXCLUSIVE")
-    held.execute("CREATE TABLE meta (one INTEGER NOT NULL, schema INTEGER NOT NULL, hour INTEGER NOT NULL, UNIQUE (one)) STRICT")
-    held.execute("CREATE TABLE ring (name TEXT NOT NULL, power INTEGER NOT NULL, replicas INTEGER NOT NULL, min_hours INTEGER NOT NULL, "
-                 "next_id INTEGER NOT NULL, version INTEGER NOT NULL, PRIMARY KEY (name)) STRICT")
-    held.execute("CREATE TABLE request (caller TEXT NOT NULL, number INTEGER NOT NULL, place INTEGER NOT NULL, hour INTEGER NOT NULL, "
-                 "command TEXT NOT NULL, reply TEXT NOT NULL, PRIMARY KEY (caller, number), UNIQUE (place)) STRICT")
-    held.execute("INSERT INTO meta VALUES (1, 2, 0)")
-    held.execute("INSERT INTO ring VALUES ('object', 4, 2, 0, 0, 0)")
-    command, reply = '{"do":"set_hours","min_hours":7,"ring":"object"}', '{"done":"set_hours","version":7}'
-    begun = time.perf_counter()
-    for number in range(1, COMMITS + 1):
-        held.execute("BEGIN")
-        if also == "ring":
-            held.execute("UPDATE ring SET min_hours = ?, version = ? WHERE name = 'object'", (number % 1000, number))
-        held.execute("INSERT INTO request VALUES ('bench', ?, ?, 0, ?, ?)", (number, number, command, reply))
-        if also == "hour":
-            held.execute("UPDATE meta SET hour = ? WHERE one = 1", (number,))
-        held.execute("COMMIT")
-    took = time.perf_counter() - begun
-    held.close()
-    return COMMITS / took
-
-
-def commits(room):
-    """Both sides in turns, so that what else the disk does meets both."""
-    told = []
-    for what, line, also in [("a request", refused, None), ("a request and the hour", risen, "hour"),
-                             ("a request and the row of a ring", hours, "ring")]:
-        ours, theirs = [], []
-        for _ in range(ROUNDS):
-            ours.append(commits_of_ringd(room, line))
-            theirs.append(commits_of_sqlite(room, also))
-        mine, other = statistics.median(ours), statistics.median(theirs)
-        told.append([what, f"{mine:.0f}", f"{other:.0f}", f"{mine / other:.2f}", f"{min(ours):.0f} to {max(ours):.0f}", f"{min(theirs):.0f} to {max(theirs):.0f}"])
-    tell("Commits a second", "bench/store.py",
-         ["rows of a commit", "`run --file`", "Python's sqlite3", "of it", "`run --file` varied", "sqlite3 varied"], told)
 
 
 def rebalances(room):
@@ -266,7 +193,6 @@ def published(room):
 def main():
     folder = next((word for word in sys.argv[1:] if not word.startswith("--")), ".")
     with tempfile.TemporaryDirectory(prefix="ringd-bench-", dir=folder) as room:
-        commits(room)
         rebalances(room)
         openings(room)
         deliveries(room)
