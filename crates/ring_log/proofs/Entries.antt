@@ -1,27 +1,10 @@
 -- Entries that are told one after another.
-use Rattle.std.proofs.Common.{◌≡◌, ◌∙◌, ℕ, ◌+◌, ◌<◌, false, List, [], ◌∷◌, ◌++◌, codes}
-use Rattle.std.proofs.Common.{get_or, length, take, append-nil, append_assoc, ap, arith, refl}
+use Rattle.std.proofs.Common.{◌≡◌, ◌∙◌, ℕ, ◌+◌, ◌<◌, List, [], ◌∷◌, ◌++◌}
+use Rattle.std.proofs.Common.{get_or, length, take, append-nil, append_assoc, ap, arith}
 use Rattle.std.proofs.Common.{sym}
 use Rattle.std.proofs.lemmas.List.{length-take-le, take_more}
-use Rattle.serde_json.specs.Data.{put}
-use Rattle.serde_json.specs.Written.{has_float}
-use Rattle.ring_messages.specs.Message.{message_data}
-use Rattle.ring_messages.specs.Replies.{reply_data}
-use Rattle.ring_messages.proofs.Keyed.{message_no_float}
-use Rattle.ring_messages.proofs.Puts.{each_put, no_floats}
-use Rattle.ring_messages.proofs.ReplyObjects.{reply_no_float}
-use Rattle.ring_log.specs.Log.{DecidedEntry, entries_text, entry_data, entry_figures, entry_text}
+use Rattle.ring_log.specs.Log.{DecidedEntry, entries_text, entry_text}
 use Rattle.ring_log.specs.declared.text.LogForm.{LogForm}
-
--- no number of an entry is a float
-pub entry_without_float : (place : ℕ) (e : DecidedEntry) → has_float (entry_data place e) ≡ false
-entry_without_float place e =
-    let told = put (codes "reply") (reply_data e.reply) (entry_figures place e) in
-    no_floats (put (codes "request") (message_data e.key e.command) told)
-    (each_put (λ k d. has_float d ≡ false) (codes "request") (message_data e.key e.command) told
-    (message_no_float e.key e.command)
-    (each_put (λ k d. has_float d ≡ false) (codes "reply") (reply_data e.reply)
-    (entry_figures place e) (reply_no_float e.reply) (refl, (refl, (refl, tt)))))
 
 text_push : (form : LogForm) (place : ℕ) (es : List DecidedEntry) (e : DecidedEntry)
     → entries_text form place (es ++ e ∷ [])

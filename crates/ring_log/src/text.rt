@@ -1,15 +1,16 @@
 //! Decided requests, a line each.
 ghost use Rattle.std.specs.Prelude.{◌≡◌, ◌<◌, ◌+◌, ◌^◌, ◌++◌, ◌∷◌, [], IfOk, OnOk, string_bytes};
-ghost use Rattle.serde_json.specs.View.{members_view, view};
 ghost use Rattle.serde_json.specs.Written.{compact_text};
-ghost use Rattle.ring_log.specs.Log.{delivery_line, entries_text, entry_data, entry_figures};
-ghost use Rattle.ring_log.specs.Log.{entry_text};
+ghost use Rattle.ring_messages.specs.Objects.{AddsData};
+ghost use Rattle.ring_log.specs.Log.{delivery_line, entries_text, entry_data, entry_text};
 
+use json::Writer;
 use request_book::Entry;
 use ring_messages::Scalar::Number;
-use ring_messages::{Told, members, message_text, message_value, reply_value, status_of};
+use ring_messages::{
+    Told, message_text, new_text, status_of, text_of, write_members, write_message, write_reply,
+};
 use ring_words::{Command, Reply};
-use serde_json::{Map, Value, put};
 use std::alloc::{AllocError, Global};
 
 /// A decided request of a book of rings.
@@ -26,30 +27,30 @@ pub enum LogForm {
     Deliveries,
 }
 
-/// The numbers that are told of the entry at a place.
-fn figures(alloc: Global, place: u64, entry: &LogEntry) -> Result<Map<String, Value>, AllocError>
-    ensures { IfOk result (λ told. members_view told.entries ≡ entry_figures place entry.now) }
+/// Writes the entry at a place.
+fn write_entry(
+    writer: &mut Writer,
+    alloc: Global,
+    place: u64,
+    entry: &LogEntry,
+) -> Result<(), AllocError>
+    ensures { AddsData result writer.old writer.new (entry_data place entry.now) }
 {
     let status = status_of(&Told::Reply(entry.reply));
-    members(
-        alloc,
+    writer.begin_object()?;
+    write_members(
+        writer,
         &[
             ("hour", Number(entry.hour.into())),
             ("place", Number(place)),
-            ("status", Number(status.into())),
         ],
-    )
-}
-
-/// The entry at a place.
-fn entry_value(alloc: Global, place: u64, entry: &LogEntry) -> Result<Value, AllocError>
-    ensures { IfOk result (λ v. view v ≡ entry_data place entry.now) }
-{
-    let mut told = figures(alloc, place, entry)?;
-    put(&mut told, alloc, "reply", reply_value(alloc, entry.reply)?)?;
-    let request = message_value(alloc, &entry.key, &entry.command)?;
-    put(&mut told, alloc, "request", request)?;
-    Ok(Value::Object(told))
+    )?;
+    writer.key("reply")?;
+    write_reply(writer, entry.reply)?;
+    writer.key("request")?;
+    write_message(writer, alloc, &entry.key, &entry.command)?;
+    write_members(writer, &[("status", Number(status.into()))])?;
+    writer.end_object()
 }
 
 /// The place of the entry behind so many others from a place on.
@@ -64,7 +65,9 @@ fn next_place(from: u32, others: usize) -> u64
 fn entry_json(alloc: Global, place: u64, entry: &LogEntry) -> Result<String, AllocError>
     ensures { IfOk result (λ text. string_bytes text ≡ compact_text (entry_data place entry.now)) }
 {
-    entry_value(alloc, place, entry)?.to_string(alloc)
+    let mut writer = new_text(alloc)?;
+    write_entry(&mut writer, alloc, place, entry)?;
+    Ok(text_of(writer))
 }
 
 /// The line that asks for the delivery of an entry, at the hour that it was decided at. Its message

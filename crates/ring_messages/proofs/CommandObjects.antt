@@ -1,11 +1,10 @@
 -- A command's object says the command, and no other; it is read back from its text.
-use Rattle.std.proofs.Common.{◌≡◌, ℕ, ◌+◌, ◌≤◌, List, [], ◌∷◌, ◌++◌, length, true, false, Some}
+use Rattle.std.proofs.Common.{◌≡◌, ℕ, ◌+◌, ◌≤◌, List, [], ◌∷◌, ◌++◌, length, true, Some}
 use Rattle.std.proofs.Common.{codes, refl, ap, ◌∙◌, arith}
 use Rattle.std.proofs.lemmas.Bool.{and_parts, not-true}
 use Rattle.serde_json.specs.Data.{Data, string, no_members, put, depth}
 use Rattle.serde_json.specs.Find.{get}
 use Rattle.serde_json.specs.Read.{read, max_depth}
-use Rattle.serde_json.specs.Written.{has_float}
 use Rattle.serde_json.proofs.Views.{get_member-put, get_member-put_other}
 use Rattle.ring_words.specs.declared.command.Command.{Command}
 use Rattle.ring_words.specs.declared.command.Act.{Act}
@@ -18,14 +17,14 @@ use Rattle.ring_messages.specs.Message.{members_count}
 use Rattle.ring_messages.specs.Inner.Says.{SaysCommand}
 use Rattle.ring_messages.proofs.Acts.{same_act}
 use Rattle.ring_messages.proofs.FieldLists.{AreApart, HasMembers, IsNoKey, all_there, are_proper}
-use Rattle.ring_messages.proofs.FieldLists.{fields_low, fields_plain, fields_whole, are_short}
+use Rattle.ring_messages.proofs.FieldLists.{fields_low, fields_plain, are_short}
 use Rattle.ring_messages.proofs.FieldLists.{has_members, still_there}
 use Rattle.ring_messages.proofs.Keys.{are_apart, behind, differ, keys, members_of, names}
 use Rattle.ring_messages.proofs.Keys.{names_apart, no_name}
 use Rattle.ring_messages.proofs.OneValue.{same_name}
 use Rattle.ring_messages.proofs.OneText.{IsReadable}
 use Rattle.ring_messages.proofs.Plain.{IsPlain, members_plain, put_each, reads_compact}
-use Rattle.ring_messages.proofs.Puts.{EachMember, all_low, each_put, no_floats}
+use Rattle.ring_messages.proofs.Puts.{EachMember, all_low, each_put}
 
 -- ---- what is seen of each command alone
 
@@ -91,10 +90,6 @@ pub has_command : (d : Data) (c : Command) → SaysCommand d c
 has_command d c h =
     each_of (λ k v. get k d ≡ Some v) c.ring c.act h.act.word h.ring.is
     (has_members d (act_fields c.act) h.act.fields)
-
-pub no_float : (c : Command) → has_float (command_data c) ≡ false
-no_float c = no_floats (members_of (command_data c))
-    (each_of (λ k d. has_float d ≡ false) c.ring c.act refl refl (fields_whole (act_fields c.act)))
 
 low : (c : Command) → depth (command_data c) ≤ max_depth
 low c =

@@ -1,13 +1,12 @@
 -- Fields and the members that they are.
-use Rattle.std.proofs.Common.{◌≡◌, ℕ, ◌^◌, ◌<◌, ◌≤◌, List, [], ◌∷◌, map, Bool, true, false, Option}
-use Rattle.std.proofs.Common.{Some, refl, sym, subst, arith}
+use Rattle.std.proofs.Common.{◌≡◌, ℕ, ◌^◌, ◌<◌, ◌≤◌, List, [], ◌∷◌, map, Bool, true, Option}
+use Rattle.std.proofs.Common.{Some, sym, subst, arith}
 use Rattle.std.specs.Prelude.{◌&&◌, ⊤, nat_lt}
 use Rattle.std.specs.List.{AllByRecursion}
 use Rattle.std.proofs.lemmas.Bool.{and_parts, ltb-true}
 use Rattle.serde_json.specs.Data.{Data, object, Members, put, depth, items_depth}
 use Rattle.serde_json.specs.Find.{get}
 use Rattle.serde_json.specs.View.{items_of}
-use Rattle.serde_json.specs.Written.{has_float, items_have_float}
 use Rattle.serde_json.proofs.Views.{get_member-put, get_member-put_other}
 use Rattle.ring_words.specs.Rows.{IsProperRow}
 use Rattle.ring_words.specs.declared.device.Row.{Row}
@@ -65,25 +64,7 @@ all_written d (f ∷ fs) h = (written (get f.0 d) f.1 h.0, all_written d fs h.1)
 pub has_members : (d : Data) (fs : Fields) → HasFields d fs → HasMembers (members fs) d
 has_members d fs h = each_member (λ k v. get k d ≡ Some v) fs (all_written d fs h)
 
--- ---- each field has no float, and is low
-
-rows_whole : (rs : List Row) → items_have_float (items_of (map row_data rs)) ≡ false
-rows_whole [] = refl
-rows_whole (r ∷ rs) = rows_whole rs
-
-field_whole : (f : Field) → has_float (field_data f) ≡ false
-field_whole (within l m n) = refl
-field_whole (device_name n) = refl
-field_whole (address a) = refl
-field_whole (weight w) = refl
-field_whole (rows rs) = rows_whole rs
-
-pub fields_whole : (fs : Fields) → EachMember (λ k d. has_float d ≡ false) (members fs)
-fields_whole fs = each_member (λ k d. has_float d ≡ false) fs (all fs)
-  where
-    all : (fs : Fields) → AllByRecursion (λ f. has_float (field_data f.1) ≡ false) fs
-    all [] = tt
-    all (f ∷ fs) = (field_whole f.1, all fs)
+-- ---- each field is low
 
 rows_low : (rs : List Row) → items_depth (items_of (map row_data rs)) ≤ 1
 rows_low [] = omega arith

@@ -1,10 +1,9 @@
 -- What is written of a request is read back as its key and its command.
-use Rattle.std.proofs.Common.{◌≡◌, ℕ, ◌+◌, ◌^◌, ◌<◌, ◌≤◌, List, false, Some, codes, refl, ◌∙◌, arith}
+use Rattle.std.proofs.Common.{◌≡◌, ℕ, ◌+◌, ◌^◌, ◌<◌, ◌≤◌, List, Some, codes, refl, ◌∙◌, arith}
 use Rattle.std.specs.Prelude.{IsTrue, IsUtf8}
 use Rattle.serde_json.specs.Data.{Data, Members, no_members, string, put, depth}
 use Rattle.serde_json.specs.Events.{members_len}
 use Rattle.serde_json.specs.Read.{read, max_depth}
-use Rattle.serde_json.specs.Written.{has_float}
 use Rattle.serde_json.proofs.Views.{get_member-put, get_member-put_other}
 use Rattle.ring_words.specs.Limits.{greatest_long}
 use Rattle.ring_words.specs.Texts.{is_label}
@@ -18,10 +17,10 @@ use Rattle.ring_messages.specs.Fields.{whole}
 use Rattle.ring_messages.specs.Message.{IsDelivery, IsMessage, keyed_members, members_count}
 use Rattle.ring_messages.specs.Message.{message_data, message_text}
 use Rattle.ring_messages.proofs.CommandObjects.{each_of, short}
-use Rattle.ring_messages.proofs.FieldLists.{fields_low, fields_plain, fields_whole}
+use Rattle.ring_messages.proofs.FieldLists.{fields_low, fields_plain}
 use Rattle.ring_messages.proofs.Keys.{differ, members_of}
 use Rattle.ring_messages.proofs.Plain.{IsPlain, members_plain, put_each, reads_compact}
-use Rattle.ring_messages.proofs.Puts.{EachMember, all_low, each_put, no_floats}
+use Rattle.ring_messages.proofs.Puts.{EachMember, all_low, each_put}
 
 -- ---- what is seen of each command alone
 
@@ -64,11 +63,6 @@ each_keyed : (P : List ℕ → Data → Type 0) (k : Key) (c : Command)
 each_keyed P k c caller number members =
     each_put P (codes "caller") (string k.caller) (numbered k c) caller
     (each_put P (codes "number") (whole k.number) (own c) number members)
-
-pub message_no_float : (k : Key) (c : Command) → has_float (message_data k c) ≡ false
-message_no_float k c = no_floats (all k c)
-    (each_keyed (λ n d. has_float d ≡ false) k c refl refl
-    (each_of (λ n d. has_float d ≡ false) c.ring c.act refl refl (fields_whole (act_fields c.act))))
 
 low : (k : Key) (c : Command) → depth (message_data k c) ≤ max_depth
 low k c =

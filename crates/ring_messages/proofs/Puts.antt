@@ -1,5 +1,5 @@
 -- What holds of each member holds of each after one more was put among them.
-use Rattle.std.proofs.Common.{◌≡◌, ℕ, ◌≤◌, List, false, Ordering, Less, Equal, Greater, refl, sym}
+use Rattle.std.proofs.Common.{◌≡◌, ℕ, ◌≤◌, List, Ordering, Less, Equal, Greater, refl, sym}
 use Rattle.std.proofs.Common.{ap, subst, ◌∙◌, arith}
 use Rattle.std.specs.Prelude.{⊤}
 use Rattle.std.specs.Ordering.{nat_cmp, match_ordering, is_eq}
@@ -7,7 +7,6 @@ use Rattle.std.specs.Cmp.Lexicographic.{slice_cmp}
 use Rattle.std.proofs.lemmas.Map.Text.{is_eq-slice_cmp}
 use Rattle.std.proofs.lemmas.Slice.Eq.{bytes_eq-Decides}
 use Rattle.serde_json.specs.Data.{Data, Members, no_members, member, put, depth, members_depth}
-use Rattle.serde_json.specs.Written.{has_float, members_have_float}
 
 abbrev pub EachMember : (List ℕ → Data → Type 0) → Members → Type 0
 EachMember P no_members = ⊤
@@ -28,11 +27,6 @@ pub each_put : (P : List ℕ → Data → Type 0) (k : List ℕ) (d : Data) (ms 
 each_put P k d no_members first all = (first, tt)
 each_put P k d (member l e ms) first all =
     put_at P (slice_cmp nat_cmp k l) k l d e ms refl first all (each_put P k d ms first all.1)
-
-pub no_floats : (ms : Members) → EachMember (λ k d. has_float d ≡ false) ms
-    → members_have_float ms ≡ false
-no_floats no_members all = refl
-no_floats (member k d ms) all = rw (all.0, no_floats ms all.1) refl
 
 pub all_low : (n : ℕ) (ms : Members) → EachMember (λ k d. depth d ≤ n) ms → members_depth ms ≤ n
 all_low n no_members all = omega arith

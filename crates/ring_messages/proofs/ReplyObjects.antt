@@ -1,26 +1,22 @@
 -- A reply's object says the reply, and no other; it is read back from its text.
-use Rattle.std.proofs.Common.{nat_eq, true, false, eq-eqb, ◌≡◌, ℕ, ◌^◌, ◌<◌, ◌≤◌, Option, Some, None}
-use Rattle.std.proofs.Common.{codes, refl, sym, ap, ap₂, ◌∙◌, arith}
-use Rattle.serde_json.specs.Data.{Data, number, unsigned, depth, put, string}
+use Rattle.std.proofs.Common.{nat_eq, true, eq-eqb, ◌≡◌, ℕ, ◌^◌, ◌<◌, ◌≤◌, Option, Some, None}
+use Rattle.std.proofs.Common.{refl, sym, ap, ap₂, ◌∙◌, arith}
+use Rattle.serde_json.specs.Data.{Data, number, unsigned, depth}
 use Rattle.serde_json.specs.Read.{read, max_depth}
-use Rattle.serde_json.specs.Written.{has_float}
 use Rattle.ring_words.specs.declared.command.Refusal.{Refusal}
 use Rattle.ring_words.specs.declared.command.Refusal.TheVariants.{RowRefused}
 use Rattle.ring_words.specs.declared.command.RowCause.{RowCause}
 use Rattle.ring_words.specs.declared.command.RowCause.TheVariants as cause
 use Rattle.ring_words.specs.declared.command.Reply.{Reply}
 use Rattle.ring_words.specs.declared.command.Reply.TheVariants as reply
-use Rattle.ring_messages.specs.Fields.{members}
-use Rattle.ring_messages.specs.Replies.{cause_rule, done_fields, done_word, refusal_data}
+use Rattle.ring_messages.specs.Replies.{cause_rule, refusal_data}
 use Rattle.ring_messages.specs.Replies.{refusal_rule, reply_data}
 use Rattle.ring_messages.specs.Replies.{reply_text, IsProperRefusal, IsProperReply}
 use Rattle.ring_messages.specs.Inner.Says.{SaysRefusal, SaysReply, SaysWhy}
 use Rattle.ring_messages.proofs.Dones.{done_proper, done_reads, done_says, no_rule, same_done}
-use Rattle.ring_messages.proofs.FieldLists.{fields_whole}
 use Rattle.ring_messages.proofs.OneValue.{same_number_read}
 use Rattle.ring_messages.proofs.OneText.{IsReadable}
 use Rattle.ring_messages.proofs.Plain.{IsPlain, reads_compact}
-use Rattle.ring_messages.proofs.Puts.{each_put, no_floats}
 
 -- ---- one object says one refusal
 
@@ -103,17 +99,3 @@ read-reply_text (reply.Refused r) h = reads_compact (refusal_data r) (refusal_pl
 
 pub readable : IsReadable reply_data IsProperReply SaysReply
 readable = record { back = read-reply_text; own = says; same = same_reply }
-
--- ---- no number of a reply is a float
-
-refusal_no_float : (r : Refusal) → has_float (refusal_data r) ≡ false
-refusal_no_float (RowRefused row why) = refl
-refusal_no_float other = refl
-
-pub reply_no_float : (r : Reply) → has_float (reply_data r) ≡ false
-reply_no_float (reply.Done x) =
-    let told = members (done_fields x) in
-    no_floats (put (codes "done") (string (done_word x)) told)
-    (each_put (λ k d. has_float d ≡ false) (codes "done") (string (done_word x)) told refl
-    (fields_whole (done_fields x)))
-reply_no_float (reply.Refused r) = refusal_no_float r

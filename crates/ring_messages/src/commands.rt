@@ -1,6 +1,6 @@
 //! Each command: what is written of it, how it is read, and what is known of it.
 ghost use Rattle.std.specs.Prelude.{◌≡◌, [], IfOk, Some, codes, string_bytes};
-ghost use Rattle.serde_json.specs.Data.{string};
+ghost use Rattle.serde_json.specs.Data.{no_members, string};
 ghost use Rattle.serde_json.specs.Find.{get};
 ghost use Rattle.serde_json.specs.View.{view};
 ghost use Rattle.ring_words.specs.Texts.{address_text, hundredths_text};
@@ -11,34 +11,80 @@ ghost use Rattle.ring_messages.specs.Commands.{command_object, act_fields};
 ghost use Rattle.ring_messages.specs.Commands.{canonical, command_data, IsProperAct};
 ghost use Rattle.ring_messages.specs.Commands.{IsProperCommand};
 ghost use Rattle.ring_words.specs.Spelling.{Reads};
+ghost use Rattle.ring_messages.specs.Inner.Parts.{AddsKeyed, AddsParts, Begins};
 ghost use Rattle.ring_messages.specs.Inner.Says.{HasFields, SaysAct};
 
 use crate::MessageFault;
-use crate::objects::Scalar::{Number, Text};
-use crate::objects::{members, object};
+use crate::objects::Scalar::{self, Number, Text};
+use crate::objects::{new_text, text_of, write_members};
 use crate::parts::{bounded, number16_at, number32_at, weight};
-use crate::rows::{device, import, row_is_proper, rows_are_proper, rows_value};
+use crate::rows::{device, import, row_is_proper, rows_are_proper, write_rows};
 use crate::words::{kind_at, word_of};
+use json::Writer;
 use ring_words::{
-    Act, Command, DeviceAct, DeviceId, Foretold, Kind, NewRing, RingName, Row, Rows, Weight,
+    Act, Command, DeviceAct, DeviceId, Foretold, Key, Kind, NewRing, RingName, Row, Rows, Weight,
 };
-use serde_json::{Value, put};
+use serde_json::Value;
 use std::alloc::{AllocError, Global};
 
-fn create_value<'a>(
-    alloc: Global,
+/// Begins the object of a command. Who asks and by which number, if that is told, stand behind its
+/// first members and behind the middle ones: the keys are in byte order.
+fn begin(
+    writer: &mut Writer,
+    key: Option<&Key>,
+    first: &[(&str, Scalar<'_>)],
+    middle: &[(&str, Scalar<'_>)],
+    last: &[(&str, Scalar<'_>)],
+) -> Result<(), AllocError>
+    ensures { Begins result writer.old writer.new key.entry first.now middle.now last.now }
+{
+    writer.begin_object()?;
+    write_members(writer, first)?;
+    if let Some(key) = key {
+        write_members(writer, &[("caller", Text(key.caller.as_str()))])?;
+    }
+    write_members(writer, middle)?;
+    if let Some(key) = key {
+        write_members(writer, &[("number", Number(key.number.into()))])?;
+    }
+    write_members(writer, last)
+}
+
+/// Writes the object of a command, whose members are those of these three parts.
+fn write_parts(
+    writer: &mut Writer,
+    key: Option<&Key>,
+    first: &[(&str, Scalar<'_>)],
+    middle: &[(&str, Scalar<'_>)],
+    last: &[(&str, Scalar<'_>)],
+) -> Result<(), AllocError>
+    ensures { AddsParts result writer.old writer.new key.entry first.now middle.now last.now
+        no_members }
+{
+    begin(writer, key, first, middle, last)?;
+    writer.end_object()
+}
+
+#[tactic(auto, using(crate::proofs::Putting::keyed_is))]
+fn write_create<'a>(
+    writer: &mut Writer,
+    key: Option<&Key>,
     word: &'a str,
     ring: &'a RingName,
     new: &'a NewRing,
-) -> Result<Value, AllocError>
-    ensures { IfOk result (λ v. view v ≡ command_object word.now ring.now
+) -> Result<(), AllocError>
+    ensures { AddsKeyed result writer.old writer.new key.entry (command_object word.now ring.now
         (act_fields (act.Create new.now))) }
 {
-    object(
-        alloc,
+    write_parts(
+        writer,
+        key,
+        &[],
         &[
             ("do", Text(word)),
             ("min_hours", Number(new.min_hours.into())),
+        ],
+        &[
             ("power", Number(new.power.get().into())),
             ("replicas", Number(new.replicas.get().into())),
             ("ring", Text(ring.as_str())),
@@ -46,26 +92,28 @@ fn create_value<'a>(
     )
 }
 
-/// An addition, with the texts of the device's address and weight.
-fn add_of_texts<'a>(
-    alloc: Global,
+#[tactic(auto, using(crate::proofs::Putting::keyed_is))]
+/// Writes an addition, with the texts of the device's address and weight.
+fn write_add_of_texts<'a>(
+    writer: &mut Writer,
+    key: Option<&Key>,
     word: &'a str,
     ring: &'a RingName,
     row: &'a Row,
     address: &'a str,
     weight: &'a str,
-) -> Result<Value, AllocError>
+) -> Result<(), AllocError>
     requires address { address.now ≡ address_text row.now.address }
     requires weight { weight.now ≡ hundredths_text row.now.weight }
-    ensures { IfOk result (λ v. view v ≡ command_object word.now ring.now
+    ensures { AddsKeyed result writer.old writer.new key.entry (command_object word.now ring.now
         (act_fields (act.Add row.now))) }
 {
-    object(
-        alloc,
+    write_parts(
+        writer,
+        key,
+        &[("address", Text(address))],
+        &[("do", Text(word)), ("name", Text(row.name.as_str()))],
         &[
-            ("address", Text(address)),
-            ("do", Text(word)),
-            ("name", Text(row.name.as_str())),
             ("port", Number(row.port.get().into())),
             ("region", Number(row.region.into())),
             ("ring", Text(ring.as_str())),
@@ -75,162 +123,191 @@ fn add_of_texts<'a>(
     )
 }
 
-fn add_value(alloc: Global, word: &str, ring: &RingName, row: &Row) -> Result<Value, AllocError>
-    ensures { IfOk result (λ v. view v ≡ command_object word.now ring.now
+fn write_add(
+    writer: &mut Writer,
+    alloc: Global,
+    key: Option<&Key>,
+    word: &str,
+    ring: &RingName,
+    row: &Row,
+) -> Result<(), AllocError>
+    ensures { AddsKeyed result writer.old writer.new key.entry (command_object word.now ring.now
         (act_fields (act.Add row.now))) }
 {
     let address = row.address.to_string(alloc)?;
     let weight = row.weight.to_string(alloc)?;
-    add_of_texts(alloc, word, ring, row, address.as_str(), weight.as_str())
+    write_add_of_texts(
+        writer,
+        key,
+        word,
+        ring,
+        row,
+        address.as_str(),
+        weight.as_str(),
+    )
 }
 
-/// A device's new weight, with its text.
-fn set_weight_of_text<'a>(
-    alloc: Global,
+#[tactic(auto, using(crate::proofs::Putting::keyed_is))]
+/// Writes a device's new weight, with its text.
+fn write_weight_of_text<'a>(
+    writer: &mut Writer,
+    key: Option<&Key>,
     word: &'a str,
     ring: &'a RingName,
     id: DeviceId,
     to: Weight,
     weight: &'a str,
-) -> Result<Value, AllocError>
+) -> Result<(), AllocError>
     requires { weight.now ≡ hundredths_text to }
-    ensures { IfOk result (λ v. view v ≡ command_object word.now ring.now
+    ensures { AddsKeyed result writer.old writer.new key.entry (command_object word.now ring.now
         (act_fields (act.OnDevice id (device_act.SetWeight to)))) }
 {
-    object(
-        alloc,
-        &[
-            ("do", Text(word)),
-            ("id", Number(id.into())),
-            ("ring", Text(ring.as_str())),
-            ("weight", Text(weight)),
-        ],
+    write_parts(
+        writer,
+        key,
+        &[],
+        &[("do", Text(word)), ("id", Number(id.into()))],
+        &[("ring", Text(ring.as_str())), ("weight", Text(weight))],
     )
 }
 
-fn set_weight_value(
+fn write_set_weight(
+    writer: &mut Writer,
     alloc: Global,
+    key: Option<&Key>,
     word: &str,
     ring: &RingName,
     id: DeviceId,
     to: Weight,
-) -> Result<Value, AllocError>
-    ensures { IfOk result (λ v. view v ≡ command_object word.now ring.now
+) -> Result<(), AllocError>
+    ensures { AddsKeyed result writer.old writer.new key.entry (command_object word.now ring.now
         (act_fields (act.OnDevice id (device_act.SetWeight to)))) }
 {
     let weight = to.to_string(alloc)?;
-    set_weight_of_text(alloc, word, ring, id, to, weight.as_str())
+    write_weight_of_text(writer, key, word, ring, id, to, weight.as_str())
 }
 
-/// A command that says nothing but a device.
-fn device_value<'a>(
-    alloc: Global,
+#[tactic(auto, using(crate::proofs::Putting::keyed_is))]
+/// Writes a command that says nothing but a device.
+fn write_device<'a>(
+    writer: &mut Writer,
+    key: Option<&Key>,
     word: &'a str,
     ring: &'a RingName,
     id: DeviceId,
-) -> Result<Value, AllocError>
-    ensures { IfOk result (λ v. view v ≡ command_object word.now ring.now
+) -> Result<(), AllocError>
+    ensures { AddsKeyed result writer.old writer.new key.entry (command_object word.now ring.now
         (act_fields (act.OnDevice id device_act.Remove))) }
 {
-    object(
-        alloc,
-        &[
-            ("do", Text(word)),
-            ("id", Number(id.into())),
-            ("ring", Text(ring.as_str())),
-        ],
+    write_parts(
+        writer,
+        key,
+        &[],
+        &[("do", Text(word)), ("id", Number(id.into()))],
+        &[("ring", Text(ring.as_str()))],
     )
 }
 
-/// A command about a device.
-fn on_device_value(
-    alloc: Global,
-    word: &str,
-    ring: &RingName,
-    id: DeviceId,
-    what: &DeviceAct,
-) -> Result<Value, AllocError>
-    ensures { IfOk result (λ v. view v ≡ command_object word.now ring.now
-        (act_fields (act.OnDevice id what.now))) }
-{
-    match what {
-        DeviceAct::SetWeight(to) => set_weight_value(alloc, word, ring, id, *to),
-        DeviceAct::Remove | DeviceAct::Keep => device_value(alloc, word, ring, id),
-    }
-}
-
-fn set_hours_value<'a>(
-    alloc: Global,
+#[tactic(auto, using(crate::proofs::Putting::keyed_is))]
+fn write_set_hours<'a>(
+    writer: &mut Writer,
+    key: Option<&Key>,
     word: &'a str,
     ring: &'a RingName,
     hours: u16,
-) -> Result<Value, AllocError>
-    ensures { IfOk result (λ v. view v ≡ command_object word.now ring.now
+) -> Result<(), AllocError>
+    ensures { AddsKeyed result writer.old writer.new key.entry (command_object word.now ring.now
         (act_fields (act.SetHours hours))) }
 {
-    object(
-        alloc,
-        &[
-            ("do", Text(word)),
-            ("min_hours", Number(hours.into())),
-            ("ring", Text(ring.as_str())),
-        ],
+    write_parts(
+        writer,
+        key,
+        &[],
+        &[("do", Text(word)), ("min_hours", Number(hours.into()))],
+        &[("ring", Text(ring.as_str()))],
     )
 }
 
-fn plain_value(alloc: Global, word: &str, ring: &RingName) -> Result<Value, AllocError>
-    ensures { IfOk result (λ v. view v ≡ command_object word.now ring.now []) }
+#[tactic(auto, using(crate::proofs::Putting::keyed_is))]
+/// Writes a command that says nothing but its ring.
+fn write_plain<'a>(
+    writer: &mut Writer,
+    key: Option<&Key>,
+    word: &'a str,
+    ring: &'a RingName,
+) -> Result<(), AllocError>
+    ensures { AddsKeyed result writer.old writer.new key.entry (command_object word.now ring.now
+        []) }
 {
-    object(alloc, &[("do", Text(word)), ("ring", Text(ring.as_str()))])
+    write_parts(
+        writer,
+        key,
+        &[],
+        &[("do", Text(word))],
+        &[("ring", Text(ring.as_str()))],
+    )
 }
 
-fn import_value<'a>(
+fn write_import<'a>(
+    writer: &mut Writer,
     alloc: Global,
+    key: Option<&Key>,
     word: &'a str,
     ring: &'a RingName,
     rows: &'a Rows,
-) -> Result<Value, AllocError>
-    ensures { IfOk result (λ v. view v ≡ command_object word.now ring.now
+) -> Result<(), AllocError>
+    ensures { AddsKeyed result writer.old writer.new key.entry (command_object word.now ring.now
         (act_fields (act.Import rows.now))) }
 {
-    let mut map = members(alloc, &[("do", Text(word)), ("ring", Text(ring.as_str()))])?;
-    put(&mut map, alloc, "rows", rows_value(alloc, rows.as_slice())?)?;
-    Ok(Value::Object(map))
+    begin(
+        writer,
+        key,
+        &[],
+        &[("do", Text(word))],
+        &[("ring", Text(ring.as_str()))],
+    )?;
+    writer.key("rows")?;
+    write_rows(writer, alloc, rows.as_slice())?;
+    writer.end_object()
 }
 
-fn rebalance_value<'a>(
-    alloc: Global,
+#[tactic(auto, using(crate::proofs::Putting::keyed_is))]
+fn write_rebalance<'a>(
+    writer: &mut Writer,
+    key: Option<&Key>,
     word: &'a str,
     ring: &'a RingName,
     seed: u32,
-) -> Result<Value, AllocError>
-    ensures { IfOk result (λ v. view v ≡ command_object word.now ring.now
+) -> Result<(), AllocError>
+    ensures { AddsKeyed result writer.old writer.new key.entry (command_object word.now ring.now
         (act_fields (act.Rebalance seed))) }
 {
-    object(
-        alloc,
-        &[
-            ("do", Text(word)),
-            ("ring", Text(ring.as_str())),
-            ("seed", Number(seed.into())),
-        ],
+    write_parts(
+        writer,
+        key,
+        &[],
+        &[("do", Text(word))],
+        &[("ring", Text(ring.as_str())), ("seed", Number(seed.into()))],
     )
 }
 
-fn rebalance_as_value<'a>(
-    alloc: Global,
+#[tactic(auto, using(crate::proofs::Putting::keyed_is))]
+fn write_rebalance_as<'a>(
+    writer: &mut Writer,
+    key: Option<&Key>,
     word: &'a str,
     ring: &'a RingName,
     told: &'a Foretold,
-) -> Result<Value, AllocError>
-    ensures { IfOk result (λ v. view v ≡ command_object word.now ring.now
+) -> Result<(), AllocError>
+    ensures { AddsKeyed result writer.old writer.new key.entry (command_object word.now ring.now
         (act_fields (act.RebalanceAs told.now))) }
 {
-    object(
-        alloc,
+    write_parts(
+        writer,
+        key,
+        &[],
+        &[("do", Text(word)), ("hour", Number(told.hour.into()))],
         &[
-            ("do", Text(word)),
-            ("hour", Number(told.hour.into())),
             ("ring", Text(ring.as_str())),
             ("seed", Number(told.seed.into())),
             ("version", Number(told.version.into())),
@@ -238,30 +315,41 @@ fn rebalance_as_value<'a>(
     )
 }
 
-/// The object of a command.
-pub(crate) fn command_value(alloc: Global, command: &Command) -> Result<Value, AllocError>
-    ensures { IfOk result (λ v. view v ≡ command_data command.now) }
+/// Writes the object of a command, and in it who asks and by which number, if that is told.
+pub(crate) fn write_command(
+    writer: &mut Writer,
+    alloc: Global,
+    key: Option<&Key>,
+    command: &Command,
+) -> Result<(), AllocError>
+    ensures { AddsKeyed result writer.old writer.new key.entry (command_data command.now) }
 {
     let word = word_of(command.act.kind());
     let ring = &command.ring;
     match &command.act {
-        Act::Create(new) => create_value(alloc, word, ring, new),
-        Act::Add(row) => add_value(alloc, word, ring, row),
-        Act::OnDevice(id, what) => on_device_value(alloc, word, ring, *id, what),
-        Act::SetHours(hours) => set_hours_value(alloc, word, ring, *hours),
-        Act::Rebalance(seed) => rebalance_value(alloc, word, ring, *seed),
-        Act::RebalanceAs(told) => rebalance_as_value(alloc, word, ring, told),
-        Act::Import(rows) => import_value(alloc, word, ring, rows),
-        Act::PretendPassed | Act::RaisePower | Act::Publish => plain_value(alloc, word, ring),
+        Act::Create(new) => write_create(writer, key, word, ring, new),
+        Act::Add(row) => write_add(writer, alloc, key, word, ring, row),
+        Act::OnDevice(id, DeviceAct::SetWeight(to)) => {
+            write_set_weight(writer, alloc, key, word, ring, *id, *to)
+        }
+        Act::OnDevice(id, DeviceAct::Remove | DeviceAct::Keep) => {
+            write_device(writer, key, word, ring, *id)
+        }
+        Act::SetHours(hours) => write_set_hours(writer, key, word, ring, *hours),
+        Act::Rebalance(seed) => write_rebalance(writer, key, word, ring, *seed),
+        Act::RebalanceAs(told) => write_rebalance_as(writer, key, word, ring, told),
+        Act::Import(rows) => write_import(writer, alloc, key, word, ring, rows),
+        Act::PretendPassed | Act::RaisePower | Act::Publish => write_plain(writer, key, word, ring),
     }
 }
 
-#[tactic(auto, using(crate::proofs::CommandObjects::no_float))]
 /// The canonical text of a command: two commands are one exactly where these texts are.
 pub fn command_text(alloc: Global, command: &Command) -> Result<String, AllocError>
     ensures { IfOk result (λ s. string_bytes s ≡ canonical command.now) }
 {
-    command_value(alloc, command)?.to_string(alloc)
+    let mut writer = new_text(alloc)?;
+    write_command(&mut writer, alloc, None, command)?;
+    Ok(text_of(writer))
 }
 
 fn new_ring(value: &Value) -> Result<NewRing, MessageFault>

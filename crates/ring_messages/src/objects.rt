@@ -1,11 +1,14 @@
-//! Objects and lists of numbers and texts.
-ghost use Rattle.std.specs.Prelude.{◌≡◌, IfOk, OnOk, map};
-ghost use Rattle.serde_json.specs.Data.{array, no_members, object, put};
-ghost use Rattle.serde_json.specs.View.{items_of, members_view, view};
-ghost use Rattle.ring_messages.specs.Objects.{scalar_data, with_each};
+//! Objects and lists, written a part at a time.
+ghost use Rattle.std.specs.Prelude.{◌≡◌, ◌∷◌, [], IfOk, map, string_bytes};
+ghost use Rattle.json.specs.Token.{begin_object};
+ghost use Rattle.serde_json.specs.Data.{Data, array, object};
+ghost use Rattle.serde_json.specs.View.{items_of};
+ghost use Rattle.serde_json.specs.Written.{compact_text};
+ghost use Rattle.ring_messages.specs.Objects.{Adds, AddsData, data_tokens, member_tokens};
+ghost use Rattle.ring_messages.specs.Objects.{members_of, members_tokens, scalar_data, scalar_token};
 
 use self::Scalar::{Number, Text};
-use serde_json::{Map, Value, json, put};
+use json::Writer;
 use std::alloc::{AllocError, Global};
 
 /// What stands under a key of an object, or in a list.
@@ -17,55 +20,75 @@ pub enum Scalar<'a> {
     Text(&'a str),
 }
 
-fn scalar_value(alloc: Global, scalar: &Scalar<'_>) -> Result<Value, AllocError>
-    ensures { IfOk result (λ v. view v ≡ scalar_data scalar.now) }
+fn write_scalar(writer: &mut Writer, scalar: Scalar<'_>) -> Result<(), AllocError>
+    ensures { Adds result writer.old writer.new (scalar_token scalar.entry ∷ []) }
 {
-    match *scalar {
-        Number(number) => json!(in alloc; number),
-        Text(text) => json!(in alloc; text),
+    match scalar {
+        Number(number) => writer.u64(number),
+        Text(text) => writer.string(text),
     }
 }
 
-pub(crate) fn put_member(
-    map: &mut Map<String, Value>,
-    alloc: Global,
-    member: &(&str, Scalar<'_>),
-) -> Result<(), AllocError>
-    ensures { OnOk result (members_view map.new.entries ≡ put member.now.0.now
-        (scalar_data member.now.1) (members_view map.old.entries)) }
+fn write_member(writer: &mut Writer, member: &(&str, Scalar<'_>)) -> Result<(), AllocError>
+    ensures { Adds result writer.old writer.new (member_tokens member.now) }
 {
-    let (key, scalar) = member;
-    put(map, alloc, key, scalar_value(alloc, scalar)?)
+    writer.key(member.0)?;
+    write_scalar(writer, member.1)
 }
 
-/// These members, for an object that gets others beside them. Of two with one key the later stands.
-pub fn members(
-    alloc: Global,
-    members: &[(&str, Scalar<'_>)],
-) -> Result<Map<String, Value>, AllocError>
-    ensures { IfOk result (λ map. members_view map.entries ≡ with_each members.now no_members) }
+/// Writes these members of an object that was begun and is not ended yet.
+pub fn write_members(writer: &mut Writer, members: &[(&str, Scalar<'_>)]) -> Result<(), AllocError>
+    ensures { Adds result writer.old writer.new (members_tokens members.now) }
 {
-    let mut map = Map::new(alloc);
     for member in members {
-        put_member(&mut map, alloc, member)?;
+        write_member(writer, member)?;
     }
-    Ok(map)
+    Ok(())
 }
 
-/// The object with these members. Of two with one key the later stands.
-pub fn object(alloc: Global, of: &[(&str, Scalar<'_>)]) -> Result<Value, AllocError>
-    ensures { IfOk result (λ v. view v ≡ object (with_each of.now no_members)) }
+/// Writes the object with these members, in this order.
+pub fn write_object(writer: &mut Writer, members: &[(&str, Scalar<'_>)]) -> Result<(), AllocError>
+    ensures { AddsData result writer.old writer.new (object (members_of members.now)) }
 {
-    Ok(Value::Object(members(alloc, of)?))
+    writer.begin_object()?;
+    write_members(writer, members)?;
+    writer.end_object()
 }
 
-/// The list of these items.
-pub(crate) fn list(alloc: Global, items: &[Scalar<'_>]) -> Result<Value, AllocError>
-    ensures { IfOk result (λ v. view v ≡ array (items_of (map scalar_data items.now))) }
+fn write_items(writer: &mut Writer, items: &[Scalar<'_>]) -> Result<(), AllocError>
+    ensures { Adds result writer.old writer.new (map scalar_token items.now) }
 {
-    let mut values = Vec::with_capacity(alloc, items.len())?;
     for item in items {
-        values.push(scalar_value(alloc, item)?)?;
+        write_scalar(writer, *item)?;
     }
-    Ok(Value::Array(values))
+    Ok(())
+}
+
+/// Writes the list of these items.
+pub(crate) fn write_list(writer: &mut Writer, items: &[Scalar<'_>]) -> Result<(), AllocError>
+    ensures { AddsData result writer.old writer.new (array (items_of (map scalar_data items.now))) }
+{
+    writer.begin_array()?;
+    write_items(writer, items)?;
+    writer.end_array()
+}
+
+/// A writer of a text of its own, with room for a short one.
+pub fn new_text(alloc: Global) -> Result<Writer, AllocError>
+    ensures before { IfOk result (λ writer. writer.before ≡ []) }
+    ensures tokens { IfOk result (λ writer. writer.tokens ≡ []) }
+{
+    let bytes = Vec::with_capacity(alloc, 128)?;
+    Ok(Writer::new(bytes))
+}
+
+/// The text of what was written.
+pub fn text_of(writer: Writer) -> String
+    requires { writer.before ≡ [] }
+    ensures { (d : Data) → writer.tokens ≡ data_tokens d → string_bytes result ≡ compact_text d }
+{
+    match String::from_utf8(writer.into_inner()) {
+        Ok(text) => text,
+        Err(_) => unreachable!(),
+    }
 }

@@ -1,15 +1,14 @@
 //! The one text of a reply, and back.
-ghost use Rattle.std.specs.Prelude.{◌∷◌, [], ◌≡◌, ◌≢◌, IfOk, IfSome, IfNone, Some, codes};
+ghost use Rattle.std.specs.Prelude.{◌≡◌, ◌≢◌, IfOk, IfSome, IfNone, Some, codes};
 ghost use Rattle.std.specs.Prelude.{string_bytes};
 ghost use Rattle.serde_json.specs.Find.{get};
 ghost use Rattle.serde_json.specs.View.{view};
 ghost use Rattle.ring_words.specs.declared.command.Refusal.{Refusal};
 ghost use Rattle.ring_words.specs.declared.command.RowCause.{RowCause};
-ghost use Rattle.ring_words.specs.declared.command.Deed.TheVariants as deed;
 ghost use Rattle.ring_words.specs.Spelling.{Reads};
 ghost use Rattle.ring_messages.specs.Fields.{AreProper};
-ghost use Rattle.ring_messages.specs.Replies.{deed_fields, done_data, done_object, done_fields};
-ghost use Rattle.ring_messages.specs.Replies.{version_field};
+ghost use Rattle.ring_messages.specs.Objects.{AddsData};
+ghost use Rattle.ring_messages.specs.Replies.{done_data, done_fields};
 ghost use Rattle.ring_messages.specs.Replies.{IsProperRefusal, IsProperReply, cause_rule};
 ghost use Rattle.ring_messages.specs.Replies.{refusal_rule, refused_data, refusal_data};
 ghost use Rattle.ring_messages.specs.Replies.{row_refused_data, reply_data, reply_text};
@@ -18,87 +17,22 @@ ghost use Rattle.ring_messages.specs.Inner.Says.{SaysWhy};
 
 use crate::MessageFault;
 use crate::objects::Scalar::{Number, Text};
-use crate::objects::object;
+use crate::objects::{new_text, text_of, write_object};
 use crate::parts::{number, number32_at, value_of};
 use crate::words::{deed_of, kind_at, word_of};
-use ring_words::{Deed, DeviceId, Done, Refusal, Reply, RowCause};
+use json::Writer;
+use ring_words::{Deed, Done, Refusal, Reply, RowCause};
 use serde_json::Value;
 use std::alloc::{AllocError, Global};
 
-fn version_value(alloc: Global, word: &str, version: u32) -> Result<Value, AllocError>
-    ensures { IfOk result (λ v. view v ≡ done_object word.now (version_field version ∷ [])) }
+/// Writes what was done: its word, the ring's version, and what else is told of it.
+fn write_done(writer: &mut Writer, done: Done) -> Result<(), AllocError>
+    ensures { AddsData result writer.old writer.new (done_data done) }
 {
-    object(
-        alloc,
-        &[("done", Text(word)), ("version", Number(version.into()))],
-    )
-}
-
-fn added_value(alloc: Global, word: &str, id: DeviceId, version: u32) -> Result<Value, AllocError>
-    ensures { IfOk result (λ v. view v ≡ done_object word.now (version_field version
-        ∷ deed_fields (deed.Add id))) }
-{
-    object(
-        alloc,
-        &[
-            ("done", Text(word)),
-            ("id", Number(id.into())),
-            ("version", Number(version.into())),
-        ],
-    )
-}
-
-fn imported_value(
-    alloc: Global,
-    word: &str,
-    added: u64,
-    reweighted: u64,
-    version: u32,
-) -> Result<Value, AllocError>
-    ensures { IfOk result (λ v. view v ≡ done_object word.now (version_field version
-        ∷ deed_fields (deed.Import added reweighted))) }
-{
-    object(
-        alloc,
-        &[
-            ("added", Number(added)),
-            ("done", Text(word)),
-            ("reweighted", Number(reweighted)),
-            ("version", Number(version.into())),
-        ],
-    )
-}
-
-fn rebalanced_value(
-    alloc: Global,
-    word: &str,
-    balance: u32,
-    changed: u32,
-    dispersion: u32,
-    version: u32,
-) -> Result<Value, AllocError>
-    ensures { IfOk result (λ v. view v ≡ done_object word.now (version_field version
-        ∷ deed_fields (deed.Rebalance balance changed dispersion))) }
-{
-    object(
-        alloc,
-        &[
-            ("balance", Number(balance.into())),
-            ("changed", Number(changed.into())),
-            ("dispersion", Number(dispersion.into())),
-            ("done", Text(word)),
-            ("version", Number(version.into())),
-        ],
-    )
-}
-
-fn done_value(alloc: Global, done: Done) -> Result<Value, AllocError>
-    ensures { IfOk result (λ v. view v ≡ done_data done) }
-{
-    let word = word_of(done.deed.kind());
-    let version = done.version;
+    let word = ("done", Text(word_of(done.deed.kind())));
+    let version = ("version", Number(done.version.into()));
     match done.deed {
-        Deed::Add { id } => added_value(alloc, word, id, version),
+        Deed::Add { id } => write_object(writer, &[word, ("id", Number(id.into())), version]),
         Deed::Rebalance {
             balance,
             changed,
@@ -108,19 +42,34 @@ fn done_value(alloc: Global, done: Done) -> Result<Value, AllocError>
             balance,
             changed,
             dispersion,
-        } => rebalanced_value(alloc, word, balance, changed, dispersion, version),
-        Deed::Import { added, reweighted } => {
-            imported_value(alloc, word, added, reweighted, version)
-        }
-        _ => version_value(alloc, word, version),
+        } => write_object(
+            writer,
+            &[
+                ("balance", Number(balance.into())),
+                ("changed", Number(changed.into())),
+                ("dispersion", Number(dispersion.into())),
+                word,
+                version,
+            ],
+        ),
+        Deed::Import { added, reweighted } => write_object(
+            writer,
+            &[
+                ("added", Number(added)),
+                word,
+                ("reweighted", Number(reweighted)),
+                version,
+            ],
+        ),
+        _ => write_object(writer, &[word, version]),
     }
 }
 
-pub(crate) fn refused_value(alloc: Global, name: &str, rule: u8) -> Result<Value, AllocError>
-    ensures { IfOk result (λ v. view v ≡ refused_data name.now rule) }
+pub(crate) fn write_refused(writer: &mut Writer, name: &str, rule: u8) -> Result<(), AllocError>
+    ensures { AddsData result writer.old writer.new (refused_data name.now rule) }
 {
-    object(
-        alloc,
+    write_object(
+        writer,
         &[("refused", Text(name)), ("rule", Number(rule.into()))],
     )
 }
@@ -136,11 +85,11 @@ fn cause_rule(cause: RowCause) -> u8
     }
 }
 
-fn row_refused_value(alloc: Global, row: u64, rule: u8) -> Result<Value, AllocError>
-    ensures { IfOk result (λ v. view v ≡ row_refused_data row rule) }
+fn write_row_refused(writer: &mut Writer, row: u64, rule: u8) -> Result<(), AllocError>
+    ensures { AddsData result writer.old writer.new (row_refused_data row rule) }
 {
-    object(
-        alloc,
+    write_object(
+        writer,
         &[
             ("cause", Number(rule.into())),
             ("refused", Text("RowRefused")),
@@ -150,36 +99,36 @@ fn row_refused_value(alloc: Global, row: u64, rule: u8) -> Result<Value, AllocEr
     )
 }
 
-fn refusal_value(alloc: Global, refusal: Refusal) -> Result<Value, AllocError>
-    ensures { IfOk result (λ v. view v ≡ refusal_data refusal) }
+fn write_refusal(writer: &mut Writer, refusal: Refusal) -> Result<(), AllocError>
+    ensures { AddsData result writer.old writer.new (refusal_data refusal) }
 {
     match refusal {
-        Refusal::NoRing => refused_value(alloc, "NoRing", 1),
-        Refusal::RingExists => refused_value(alloc, "RingExists", 2),
-        Refusal::TooManyRings => refused_value(alloc, "TooManyRings", 3),
-        Refusal::NoDevice => refused_value(alloc, "NoDevice", 4),
-        Refusal::DeviceExists => refused_value(alloc, "DeviceExists", 5),
-        Refusal::DeviceRemoved => refused_value(alloc, "DeviceRemoved", 6),
-        Refusal::TooManyDevices => refused_value(alloc, "TooManyDevices", 7),
-        Refusal::IdsUsedUp => refused_value(alloc, "IdsUsedUp", 8),
-        Refusal::RowRefused { row, cause } => row_refused_value(alloc, row, cause_rule(cause)),
-        Refusal::TooFewDevices => refused_value(alloc, "TooFewDevices", 9),
-        Refusal::NotAssigned => refused_value(alloc, "NotAssigned", 10),
-        Refusal::TooManyVersions => refused_value(alloc, "TooManyVersions", 11),
-        Refusal::PowerLimit => refused_value(alloc, "PowerLimit", 14),
-        Refusal::NotMarked => refused_value(alloc, "NotMarked", 15),
-        Refusal::OtherVersion => refused_value(alloc, "OtherVersion", 16),
-        Refusal::OtherHour => refused_value(alloc, "OtherHour", 17),
+        Refusal::NoRing => write_refused(writer, "NoRing", 1),
+        Refusal::RingExists => write_refused(writer, "RingExists", 2),
+        Refusal::TooManyRings => write_refused(writer, "TooManyRings", 3),
+        Refusal::NoDevice => write_refused(writer, "NoDevice", 4),
+        Refusal::DeviceExists => write_refused(writer, "DeviceExists", 5),
+        Refusal::DeviceRemoved => write_refused(writer, "DeviceRemoved", 6),
+        Refusal::TooManyDevices => write_refused(writer, "TooManyDevices", 7),
+        Refusal::IdsUsedUp => write_refused(writer, "IdsUsedUp", 8),
+        Refusal::RowRefused { row, cause } => write_row_refused(writer, row, cause_rule(cause)),
+        Refusal::TooFewDevices => write_refused(writer, "TooFewDevices", 9),
+        Refusal::NotAssigned => write_refused(writer, "NotAssigned", 10),
+        Refusal::TooManyVersions => write_refused(writer, "TooManyVersions", 11),
+        Refusal::PowerLimit => write_refused(writer, "PowerLimit", 14),
+        Refusal::NotMarked => write_refused(writer, "NotMarked", 15),
+        Refusal::OtherVersion => write_refused(writer, "OtherVersion", 16),
+        Refusal::OtherHour => write_refused(writer, "OtherHour", 17),
     }
 }
 
-/// The object of a reply.
-pub fn reply_value(alloc: Global, reply: Reply) -> Result<Value, AllocError>
-    ensures { IfOk result (λ v. view v ≡ reply_data reply) }
+/// Writes the object of a reply.
+pub fn write_reply(writer: &mut Writer, reply: Reply) -> Result<(), AllocError>
+    ensures { AddsData result writer.old writer.new (reply_data reply) }
 {
     match reply {
-        Reply::Done(done) => done_value(alloc, done),
-        Reply::Refused(refusal) => refusal_value(alloc, refusal),
+        Reply::Done(done) => write_done(writer, done),
+        Reply::Refused(refusal) => write_refusal(writer, refusal),
     }
 }
 
@@ -187,7 +136,9 @@ pub fn reply_value(alloc: Global, reply: Reply) -> Result<Value, AllocError>
 pub fn reply_text(alloc: Global, reply: &Reply) -> Result<String, AllocError>
     ensures { IfOk result (λ s. string_bytes s ≡ reply_text reply.now) }
 {
-    reply_value(alloc, *reply)?.to_string(alloc)
+    let mut writer = new_text(alloc)?;
+    write_reply(&mut writer, *reply)?;
+    Ok(text_of(writer))
 }
 
 fn done(value: &Value) -> Result<Done, MessageFault>

@@ -1,9 +1,10 @@
 //! The rows of an import, and the device of a command.
-ghost use Rattle.std.specs.Prelude.{◌≡◌, All, IfOk, map};
+ghost use Rattle.std.specs.Prelude.{◌≡◌, All, map};
 ghost use Rattle.std.specs.List.{AllZip};
-ghost use Rattle.serde_json.specs.Data.{array};
-ghost use Rattle.serde_json.specs.View.{items_of, view};
-ghost use Rattle.ring_messages.specs.Fields.{row_data};
+ghost use Rattle.serde_json.specs.View.{view};
+ghost use Rattle.ring_messages.specs.Fields.{field_data, row_data, rows};
+ghost use Rattle.ring_messages.specs.Inner.Parts.{rows_tokens};
+ghost use Rattle.ring_messages.specs.Objects.{Adds, AddsData};
 ghost use Rattle.ring_words.specs.Rows.{IsProperRow};
 ghost use Rattle.ring_words.specs.Spelling.{Reads};
 ghost use Rattle.ring_words.specs.Texts.{address_text, hundredths_text};
@@ -14,25 +15,26 @@ ghost use Rattle.ring_words.specs.declared.command.Act.TheVariants.{Add, Import}
 
 use crate::MessageFault;
 use crate::objects::Scalar::{Number, Text};
-use crate::objects::list;
+use crate::objects::write_list;
 use crate::parts::{self, bounded, number16};
+use json::Writer;
 use ring_words::{Row, Rows};
 use serde_json::Value;
 use std::alloc::{AllocError, Global};
 
-/// A row, with the texts of its address and weight.
-fn row_of_texts<'a>(
-    alloc: Global,
+/// Writes a row as a list, with the texts of its address and weight.
+fn write_row_of_texts<'a>(
+    writer: &mut Writer,
     row: &'a Row,
     address: &'a str,
     weight: &'a str,
-) -> Result<Value, AllocError>
+) -> Result<(), AllocError>
     requires address { address.now ≡ address_text row.now.address }
     requires weight { weight.now ≡ hundredths_text row.now.weight }
-    ensures { IfOk result (λ v. view v ≡ row_data row.now) }
+    ensures { AddsData result writer.old writer.new (row_data row.now) }
 {
-    list(
-        alloc,
+    write_list(
+        writer,
         &[
             Number(row.region.into()),
             Number(row.zone.into()),
@@ -44,22 +46,30 @@ fn row_of_texts<'a>(
     )
 }
 
-fn row_value(alloc: Global, row: &Row) -> Result<Value, AllocError>
-    ensures { IfOk result (λ v. view v ≡ row_data row.now) }
+fn write_row(writer: &mut Writer, alloc: Global, row: &Row) -> Result<(), AllocError>
+    ensures { AddsData result writer.old writer.new (row_data row.now) }
 {
     let address = row.address.to_string(alloc)?;
     let weight = row.weight.to_string(alloc)?;
-    row_of_texts(alloc, row, address.as_str(), weight.as_str())
+    write_row_of_texts(writer, row, address.as_str(), weight.as_str())
 }
 
-pub(crate) fn rows_value(alloc: Global, rows: &[Row]) -> Result<Value, AllocError>
-    ensures { IfOk result (λ v. view v ≡ array (items_of (map row_data rows.now))) }
+fn write_each(writer: &mut Writer, alloc: Global, rows: &[Row]) -> Result<(), AllocError>
+    ensures { Adds result writer.old writer.new (rows_tokens rows.now) }
 {
-    let mut values = Vec::with_capacity(alloc, rows.len())?;
     for row in rows {
-        values.push(row_value(alloc, row)?)?;
+        write_row(writer, alloc, row)?;
     }
-    Ok(Value::Array(values))
+    Ok(())
+}
+
+/// Writes the list of these rows.
+pub(crate) fn write_rows(writer: &mut Writer, alloc: Global, of: &[Row]) -> Result<(), AllocError>
+    ensures { AddsData result writer.old writer.new (field_data (rows of.now)) }
+{
+    writer.begin_array()?;
+    write_each(writer, alloc, of)?;
+    writer.end_array()
 }
 
 /// The row of what stands for each of its words.

@@ -1,14 +1,14 @@
 //! What a caller is told, as text and as a status.
 ghost use Rattle.std.specs.Prelude.{◌≡◌, IfOk, string_bytes};
-ghost use Rattle.serde_json.specs.View.{view};
+ghost use Rattle.ring_messages.specs.Objects.{AddsData};
 ghost use Rattle.ring_messages.specs.Replies.{fault_data, bad_row_data, bad_field_data, told_data};
 ghost use Rattle.ring_messages.specs.Replies.{answer_text, answer_status};
 
 use crate::objects::Scalar::{Number, Text};
-use crate::objects::object;
-use crate::replies::{refused_value, reply_value};
+use crate::objects::{new_text, text_of, write_object};
+use crate::replies::{write_refused, write_reply};
+use json::Writer;
 use ring_words::Reply;
-use serde_json::Value;
 use std::alloc::{AllocError, Global};
 
 /// What a caller is told: the reply to a command that was decided, or why there is none.
@@ -60,20 +60,20 @@ pub fn no_memory() -> &'static str
     NO_MEMORY_TEXT
 }
 
-fn fault_value(alloc: Global, name: &str, rule: u8) -> Result<Value, AllocError>
-    ensures { IfOk result (λ v. view v ≡ fault_data name.now rule) }
+fn write_fault(writer: &mut Writer, name: &str, rule: u8) -> Result<(), AllocError>
+    ensures { AddsData result writer.old writer.new (fault_data name.now rule) }
 {
-    object(
-        alloc,
+    write_object(
+        writer,
         &[("fault", Text(name)), ("rule", Number(rule.into()))],
     )
 }
 
-fn bad_row_value(alloc: Global, row: u64) -> Result<Value, AllocError>
-    ensures { IfOk result (λ v. view v ≡ bad_row_data row) }
+fn write_bad_row(writer: &mut Writer, row: u64) -> Result<(), AllocError>
+    ensures { AddsData result writer.old writer.new (bad_row_data row) }
 {
-    object(
-        alloc,
+    write_object(
+        writer,
         &[
             ("fault", Text("BadRow")),
             ("row", Number(row)),
@@ -82,11 +82,11 @@ fn bad_row_value(alloc: Global, row: u64) -> Result<Value, AllocError>
     )
 }
 
-fn bad_field_value(alloc: Global, row: u64, column: u8) -> Result<Value, AllocError>
-    ensures { IfOk result (λ v. view v ≡ bad_field_data row column) }
+fn write_bad_field(writer: &mut Writer, row: u64, column: u8) -> Result<(), AllocError>
+    ensures { AddsData result writer.old writer.new (bad_field_data row column) }
 {
-    object(
-        alloc,
+    write_object(
+        writer,
         &[
             ("column", Number(column.into())),
             ("fault", Text("BadField")),
@@ -96,23 +96,23 @@ fn bad_field_value(alloc: Global, row: u64, column: u8) -> Result<Value, AllocEr
     )
 }
 
-fn told_value(alloc: Global, told: &Told) -> Result<Value, AllocError>
-    ensures { IfOk result (λ v. view v ≡ told_data told.now) }
+fn write_told(writer: &mut Writer, told: &Told) -> Result<(), AllocError>
+    ensures { AddsData result writer.old writer.new (told_data told.now) }
 {
     match *told {
-        Told::Reply(reply) => reply_value(alloc, reply),
-        Told::Unreadable => fault_value(alloc, "Unreadable", 20),
-        Told::NumberReused => fault_value(alloc, "NumberReused", 21),
-        Told::BookFull => fault_value(alloc, "BookFull", 22),
-        Told::NoMemory => fault_value(alloc, "NoMemory", 23),
-        Told::StoreFault => fault_value(alloc, "StoreFault", 24),
-        Told::Closed => fault_value(alloc, "Closed", 25),
-        Told::BadPath => refused_value(alloc, "BadPath", 30),
-        Told::NoVersion => refused_value(alloc, "NoVersion", 32),
-        Told::BadHeader => fault_value(alloc, "BadHeader", 40),
-        Told::BadRow { row } => bad_row_value(alloc, row),
-        Told::BadField { row, column } => bad_field_value(alloc, row, column),
-        Told::ReadFailed => fault_value(alloc, "ReadFailed", 43),
+        Told::Reply(reply) => write_reply(writer, reply),
+        Told::Unreadable => write_fault(writer, "Unreadable", 20),
+        Told::NumberReused => write_fault(writer, "NumberReused", 21),
+        Told::BookFull => write_fault(writer, "BookFull", 22),
+        Told::NoMemory => write_fault(writer, "NoMemory", 23),
+        Told::StoreFault => write_fault(writer, "StoreFault", 24),
+        Told::Closed => write_fault(writer, "Closed", 25),
+        Told::BadPath => write_refused(writer, "BadPath", 30),
+        Told::NoVersion => write_refused(writer, "NoVersion", 32),
+        Told::BadHeader => write_fault(writer, "BadHeader", 40),
+        Told::BadRow { row } => write_bad_row(writer, row),
+        Told::BadField { row, column } => write_bad_field(writer, row, column),
+        Told::ReadFailed => write_fault(writer, "ReadFailed", 43),
     }
 }
 
@@ -120,7 +120,9 @@ fn told_value(alloc: Global, told: &Told) -> Result<Value, AllocError>
 pub fn told_text(alloc: Global, told: &Told) -> Result<String, AllocError>
     ensures { IfOk result (λ s. string_bytes s ≡ answer_text told.now) }
 {
-    told_value(alloc, told)?.to_string(alloc)
+    let mut writer = new_text(alloc)?;
+    write_told(&mut writer, told)?;
+    Ok(text_of(writer))
 }
 
 /// The status that an answer has over HTTP.

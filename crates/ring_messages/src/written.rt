@@ -1,49 +1,26 @@
 //! What is written of a request.
-ghost use Rattle.std.specs.Prelude.{◌≡◌, ◌≤◌, IfOk, IsTrue, OnOk, string_bytes};
-ghost use Rattle.serde_json.specs.View.{members_view, view};
+ghost use Rattle.std.specs.Prelude.{◌≡◌, ◌≤◌, IfOk, IsTrue, string_bytes};
 ghost use Rattle.ring_words.specs.Limits.{greatest_long};
 ghost use Rattle.ring_words.specs.Texts.{is_label};
-ghost use Rattle.ring_messages.specs.Message.{IsMessage, keyed_members, message_data, message_text};
-ghost use Rattle.ring_messages.specs.Message.{with_key};
+ghost use Rattle.ring_messages.specs.Message.{IsMessage, message_data, message_text};
+ghost use Rattle.ring_messages.specs.Objects.{AddsData};
 
-use crate::commands::{command_is_proper, command_value};
-use crate::objects::Scalar::{Number, Text};
-use crate::objects::put_member;
+use crate::commands::{command_is_proper, write_command};
+use crate::objects::{new_text, text_of};
+use json::Writer;
 use ring_words::{Command, Key};
-use serde_json::{Map, Value};
 use std::alloc::{AllocError, Global};
 
-/// Puts who asks and by which number among the members of an object.
-fn put_key(members: &mut Map<String, Value>, alloc: Global, key: &Key) -> Result<(), AllocError>
-    ensures { OnOk result (members_view members.new.entries
-        ≡ keyed_members key.now (members_view members.old.entries)) }
+/// Writes the object of a request: that of its command, and in it who asks and by which number.
+pub fn write_message(
+    writer: &mut Writer,
+    alloc: Global,
+    key: &Key,
+    command: &Command,
+) -> Result<(), AllocError>
+    ensures { AddsData result writer.old writer.new (message_data key.now command.now) }
 {
-    let number = ("number", Number(key.number.into()));
-    let caller = ("caller", Text(key.caller.as_str()));
-    put_member(members, alloc, &number)?;
-    put_member(members, alloc, &caller)
-}
-
-/// The object with who asks and by which number among its members. What is no object stays.
-fn with_key(alloc: Global, key: &Key, of: Value) -> Result<Value, AllocError>
-    ensures { IfOk result (λ v. view v ≡ with_key key.now (view of)) }
-{
-    match of {
-        Value::Object(members) => {
-            let mut members = members;
-            put_key(&mut members, alloc, key)?;
-            Ok(Value::Object(members))
-        }
-        _ => Ok(of),
-    }
-}
-
-/// The object of a request: that of its command, and in it who asks and by which number.
-pub fn message_value(alloc: Global, key: &Key, command: &Command) -> Result<Value, AllocError>
-    ensures { IfOk result (λ v. view v ≡ message_data key.now command.now) }
-{
-    let command = command_value(alloc, command)?;
-    with_key(alloc, key, command)
+    write_command(writer, alloc, Some(key), command)
 }
 
 /// What is known of a key: its caller's name is one, and its number has 32 bits.
@@ -63,5 +40,7 @@ pub fn message_text(alloc: Global, key: &Key, command: &Command) -> Result<Strin
 {
     key_is_proper(key);
     command_is_proper(command);
-    message_value(alloc, key, command)?.to_string(alloc)
+    let mut writer = new_text(alloc)?;
+    write_message(&mut writer, alloc, key, command)?;
+    Ok(text_of(writer))
 }

@@ -5,4 +5,4 @@ pub mod SeatCounting
 pub mod Moving
 pub mod SeatMoving
 pub mod Hiding
-pub mod LocksData
+pub mod Listing

@@ -1,6 +1,6 @@
 -- Seats that stay, seats that differ, and what is told of a rebalance.
 use Rattle.std.proofs.Common.{◌≡◌, ℕ, ◌<◌, ◌≤◌, ◌+◌, ◌∙◌, true, false, not, List}
-use Rattle.std.proofs.Common.{[], ◌∷◌, get_or, length, map, take, count_by, Option, Some, None, ap}
+use Rattle.std.proofs.Common.{get_or, length, take, count_by, Option, Some, None, ap}
 use Rattle.std.proofs.Common.{refl, ⊎_elim}
 use Rattle.std.proofs.Math.Dec.{eqb}
 use Rattle.std.proofs.lemmas.Bool.{cases_lt}
@@ -9,13 +9,11 @@ use Rattle.std.proofs.lemmas.Slice.Zip.{get_or-zip}
 use Rattle.std.specs.List.{zip}
 use Rattle.std.specs.Option.{option_eq}
 use Rattle.serde_json.specs.Data.{Data}
-use Rattle.serde_json.specs.View.{items_of}
-use Rattle.serde_json.specs.Written.{has_float, items_have_float}
 use Rattle.ring_model.specs.Ring.{RingRecord}
 use Rattle.ring_place.specs.Rebalance.{differs}
 use Rattle.ring_words.specs.declared.device.Device.{Device}
 use Rattle.ring_reads.specs.Moves.{stays_on}
-use Rattle.ring_reads.specs.Preview.{device_moves, preview_data}
+use Rattle.ring_reads.specs.Preview.{device_moves}
 use Rattle.ring_tables.proofs.Lists.{pair_below}
 
 -- two seats are compared
@@ -55,17 +53,6 @@ one_leaves before after id place below under leaves =
 -- what is told of a device beside what it wants
 abbrev pub pair_moves : RingRecord → RingRecord → Device × ℕ → Data
 pair_moves old new e = device_moves old new e.0 e.1
-
--- no number of a device is a float
-devices_keep_whole : (old new : RingRecord) (pairs : List (Device × ℕ)) →
-    items_have_float (items_of (map (pair_moves old new) pairs)) ≡ false
-devices_keep_whole old new [] = refl
-devices_keep_whole old new (pair ∷ pairs) = devices_keep_whole old new pairs
-
-pub preview_without_float : (name : List ℕ) (hour seed : ℕ) (old : RingRecord) (wants : List ℕ)
-    (new : RingRecord) → has_float (preview_data name hour seed old wants new) ≡ false
-preview_without_float name hour seed old wants new =
-    rw (devices_keep_whole old new (zip old.devices wants)) refl
 
 -- where there aren't too few, there are enough
 pub enough_open : (open_devices replicas : ℕ) → (open_devices < replicas → ⊥) →

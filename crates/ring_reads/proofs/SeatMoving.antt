@@ -1,19 +1,13 @@
--- Seats that differ, one after another, and what is told of them.
+-- Seats that differ, one after another.
 use Rattle.std.proofs.Common.{◌≡◌, ℕ, ◌+◌, ◌<◌, ◌≤◌, ◌∙◌, Bool, true, false, List, [], ◌∷◌, ◌++◌}
 use Rattle.std.proofs.Common.{length, map, ap, arith, append_assoc, refl, sym}
 use Rattle.std.specs.Prelude.{filter, nat_lt}
 use Rattle.std.specs.List.{flat_map, range_with_len}
 use Rattle.std.proofs.lemmas.Bool.{le-ltb, lt-ltb}
-use Rattle.std.proofs.lemmas.List.{flat_map_more, length-append, map-append}
+use Rattle.std.proofs.lemmas.List.{flat_map_more, length-append}
 use Rattle.std.proofs.lemmas.List.Elements.{filter-append}
 use Rattle.std.proofs.lemmas.List.FromFn.{filter_of_map_range_with_len_more}
 use Rattle.std.proofs.lemmas.List.FromFn.{map-range_with_len_more}
-use Rattle.serde_json.specs.View.{items_of}
-use Rattle.serde_json.specs.Written.{has_float, items_have_float}
-use Rattle.ring_reads.specs.MovesJson.{mover_data, moves_data}
-use Rattle.ring_reads.specs.SeatMoves.{movers, seat_moves}
-use Rattle.ring_reads.specs.declared.seat_moves.Move.{Move}
-use Rattle.ring_text.specs.Snapshot.{SnapshotRecord}
 
 same_numbers : (ns : List ℕ) → map (λ (n : ℕ). n) ns ≡ ns
 same_numbers [] = refl
@@ -36,15 +30,10 @@ kept_more {X} p f n start before after x so_far is more =
     ∙ ap (λ (xs : List X). start ++ xs)
     (sym (filter_of_map_range_with_len_more p f 0 n n (omega arith)))
 
--- what is told of one more number, if it passes
-pub mapped_more : {X : Type 0} (f : ℕ → X) (p : ℕ → Bool) (n : ℕ) (before after : List X) →
-    before ≡ map f (filter p (range_with_len 0 n)) → after ≡ before ++ map f (filter p (n ∷ [])) →
-    after ≡ map f (filter p (range_with_len 0 (n + 1)))
-mapped_more {X} f p n before after so_far more =
-    more ∙ ap (λ (xs : List X). xs ++ map f (filter p (n ∷ []))) so_far
-    ∙ sym (map-append f (filter p (range_with_len 0 n)) (filter p (n ∷ [])))
-    ∙ ap (map f) (sym (filter-append p (range_with_len 0 n) (n ∷ [])))
-    ∙ ap (λ (ns : List ℕ). map f (filter p ns)) (sym (one_further n))
+-- what passes of one more number
+pub passed_more : (p : ℕ → Bool) (n : ℕ)
+    → filter p (range_with_len 0 (n + 1)) ≡ filter p (range_with_len 0 n) ++ filter p (n ∷ [])
+passed_more p n = ap (filter p) (one_further n) ∙ filter-append p (range_with_len 0 n) (n ∷ [])
 
 -- the parts of one more number
 pub parts_more : {X : Type 0} (f : ℕ → List X) (n : ℕ) (before after : List X) →
@@ -73,14 +62,3 @@ pub has_stayed : {X : Type 0} (start more all : List X) (before after : ℕ) →
 has_stayed start more all before after first last is stayed =
     let long : length all ≡ length start + length more = ap length is ∙ length-append start more in
     le-ltb 0 (length more) (omega (arith, first, last, long, stayed))
-
--- no number of a device is a float
-movers_without_float : (moves : List Move) (ids : List ℕ) →
-    items_have_float (items_of (map (mover_data moves) ids)) ≡ false
-movers_without_float moves [] = refl
-movers_without_float moves (id ∷ ids) = movers_without_float moves ids
-
-pub moves_without_float : (name : List ℕ) (from to : ℕ) (old new : SnapshotRecord) →
-    has_float (moves_data name from to old new) ≡ false
-moves_without_float name from to old new =
-    rw (movers_without_float (seat_moves old new) (movers old new (seat_moves old new))) refl

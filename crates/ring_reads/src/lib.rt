@@ -9,11 +9,11 @@
 #![tactic(auto)]
 
 mod held;
+mod lists;
 mod locks;
 mod moves;
 mod moves_text;
 mod nodes;
-mod objects;
 mod plain;
 mod preview;
 mod reads;

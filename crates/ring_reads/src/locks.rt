@@ -1,25 +1,26 @@
 //! Which partitions of a ring are locked, and for how many hours, as JSON text.
-ghost use Rattle.std.specs.Prelude.{◌≡◌, IfOk, map, string_bytes};
-ghost use Rattle.serde_json.specs.Data.{array};
-ghost use Rattle.serde_json.specs.View.{items_of, members_view, view};
+ghost use Rattle.std.specs.Prelude.{◌≡◌, IfOk, string_bytes};
+ghost use Rattle.ring_messages.specs.Objects.{AddsData};
 ghost use Rattle.ring_model.specs.Ring.{partition_count as partitions_of};
-ghost use Rattle.ring_reads.specs.LocksJson.{IsLocksJson, lock_end_data, locks_data, locks_figures};
+ghost use Rattle.ring_reads.specs.Inner.Behind.{behind_rests};
+ghost use Rattle.ring_reads.specs.Inner.Lists.{EndsList, TellsEach};
+ghost use Rattle.ring_reads.specs.LocksJson.{IsLocksJson, lock_end_data, locks_data};
 
-use crate::objects::with_member;
+use crate::lists::{begin_list, end_list};
+use json::Writer;
 use ring_messages::Scalar::{Number, Text};
-use ring_messages::{members, object};
+use ring_messages::{new_text, text_of, write_object};
 use ring_metrics::{LockEnd, lock_ends, locked_count};
 use ring_model::Ring;
 use ring_words::{Hour, RingName, partition_count};
-use serde_json::{Map, Value};
 use std::alloc::{AllocError, Global};
 
-/// The partitions that are free after so many hours.
-fn end_value(alloc: Global, end: LockEnd) -> Result<Value, AllocError>
-    ensures { IfOk result (λ v. view v ≡ lock_end_data end) }
+/// Writes how many partitions are free after so many hours.
+fn write_end(writer: &mut Writer, end: LockEnd) -> Result<(), AllocError>
+    ensures { AddsData result writer.old writer.new (lock_end_data end) }
 {
-    object(
-        alloc,
+    write_object(
+        writer,
         &[
             ("hours", Number(end.hours)),
             ("partitions", Number(end.partitions as u64)),
@@ -27,15 +28,14 @@ fn end_value(alloc: Global, end: LockEnd) -> Result<Value, AllocError>
     )
 }
 
-/// After how many hours how many partitions are free.
-fn ends_value(alloc: Global, ends: &[LockEnd]) -> Result<Value, AllocError>
-    ensures { IfOk result (λ v. view v ≡ array (items_of (map lock_end_data ends.now))) }
+/// Writes after how many hours how many partitions are free.
+fn write_ends(writer: &mut Writer, ends: &[LockEnd]) -> Result<(), AllocError>
+    ensures { TellsEach result writer.old writer.new lock_end_data ends.now }
 {
-    let mut told = Vec::with_capacity(alloc, ends.len())?;
     for end in ends {
-        told.push(end_value(alloc, *end)?)?;
+        write_end(writer, *end)?;
     }
-    Ok(Value::Array(told))
+    Ok(())
 }
 
 /// How many partitions a ring has.
@@ -45,41 +45,35 @@ fn partitions_of(ring: &Ring) -> usize
     partition_count(ring.power())
 }
 
-/// The numbers and the name that are told of the locks of a ring at an hour.
-fn figures(
-    alloc: Global,
-    name: &RingName,
-    ring: &Ring,
-    hour: Hour,
-) -> Result<Map<String, Value>, AllocError>
-    ensures { IfOk result (λ told. members_view told.entries
-        ≡ locks_figures name.now ring.now hour) }
+/// Ends the object of the locks of a ring of this name.
+fn end_locks(writer: &mut Writer, name: &RingName) -> Result<(), AllocError>
+    ensures { EndsList result writer.old writer.new (behind_rests name.now) }
 {
-    members(
-        alloc,
-        &[
-            ("hour", Number(hour.into())),
-            ("locked", Number(locked_count(ring, hour) as u64)),
-            ("min_hours", Number(ring.min_hours().into())),
-            ("partitions", Number(partitions_of(ring) as u64)),
-            ("ring", Text(name.as_str())),
-        ],
-    )
+    end_list(writer, &[("ring", Text(name.as_str()))])
 }
 
-/// The locks of a ring at an hour, which end so.
-fn locks_value(
-    alloc: Global,
+/// Writes the locks of a ring of this name at an hour, which end so.
+fn write_locks(
+    writer: &mut Writer,
     name: &RingName,
     ring: &Ring,
     hour: Hour,
     ends: &[LockEnd],
-) -> Result<Value, AllocError>
-    ensures { IfOk result (λ v. view v ≡ locks_data name.now ring.now hour ends.now) }
+) -> Result<(), AllocError>
+    ensures { AddsData result writer.old writer.new (locks_data name.now ring.now hour ends.now) }
 {
-    let told = figures(alloc, name, ring, hour)?;
-    let rests = ends_value(alloc, ends)?;
-    with_member(alloc, told, "rests", rests)
+    begin_list(
+        writer,
+        "rests",
+        &[
+            ("hour", Number(hour as u64)),
+            ("locked", Number(locked_count(ring, hour) as u64)),
+            ("min_hours", Number(ring.min_hours() as u64)),
+            ("partitions", Number(partitions_of(ring) as u64)),
+        ],
+    )?;
+    write_ends(writer, ends)?;
+    end_locks(writer, name)
 }
 
 /// The locks of a ring of this name at an hour, as compact JSON, its keys in byte order: how many of
@@ -94,5 +88,7 @@ pub(crate) fn locks_json(
     ensures { IfOk result (λ text. IsLocksJson name.now ring.now hour (string_bytes text)) }
 {
     let ends = lock_ends(alloc, ring, hour)?;
-    locks_value(alloc, name, ring, hour, &ends)?.to_string(alloc)
+    let mut writer = new_text(alloc)?;
+    write_locks(&mut writer, name, ring, hour, &ends)?;
+    Ok(text_of(writer))
 }

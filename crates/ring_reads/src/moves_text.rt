@@ -1,26 +1,44 @@
 //! What moved between two published versions of a ring, as JSON text and as lines.
-ghost use Rattle.std.specs.Prelude.{◌≡◌, ◌++◌, ◌∷◌, ◌||◌, [], IfOk, List, OnOk, filter, map};
+ghost use Rattle.std.specs.Prelude.{◌≡◌, ◌++◌, ◌∷◌, ◌||◌, [], IfOk, List, OnOk, filter};
 ghost use Rattle.std.specs.Prelude.{string_bytes};
 ghost use Rattle.std.specs.List.{flat_map};
-ghost use Rattle.serde_json.specs.Data.{array};
-ghost use Rattle.serde_json.specs.View.{items_of, members_view, view};
 ghost use Rattle.serde_json.specs.Written.{compact_text};
+ghost use Rattle.ring_messages.specs.Objects.{AddsData};
 ghost use Rattle.ring_model.specs.Ring.{has_device};
-ghost use Rattle.ring_reads.specs.MovesJson.{mover_data, movers_data, moves_data, moves_figures};
-ghost use Rattle.ring_reads.specs.SeatMoves.{given_seats, is_mover, move_line, move_lines};
+ghost use Rattle.ring_reads.specs.Inner.Behind.{behind_movers};
+ghost use Rattle.ring_reads.specs.Inner.Counted.{AreMoverCounts};
+ghost use Rattle.ring_reads.specs.Inner.Lists.{EndsList, TellsEach};
+ghost use Rattle.ring_reads.specs.MovesJson.{mover_data, moves_data};
+ghost use Rattle.ring_reads.specs.SeatMoves.{given_seats, is_mover, move_line, move_lines, movers};
 ghost use Rattle.ring_reads.specs.SeatMoves.{moved_partitions, seat_moves, seat_word, taken_seats};
 ghost use Rattle.ring_reads.specs.declared.seat_moves.Move.{Move as MoveModel};
 
-use crate::objects::with_member;
+use crate::lists::{begin_list, end_list};
 use crate::seat_counts::{given_counts, taken_counts};
 use crate::seat_moves::{Move, Moves, moves_between};
+use json::Writer;
 use ring_messages::Scalar::{Number, Text};
-use ring_messages::{members, object};
+use ring_messages::{new_text, text_of, write_object};
 use ring_tables::push_decimal;
 use ring_text::Snapshot;
 use ring_words::{Device, DeviceId, MOST_IDS, RingName};
-use serde_json::{Map, Value};
 use std::alloc::{AllocError, Global};
+
+/// By the number of a device, how many of the seats that differ it gave and took.
+#[derive(Drop)]
+struct MoverCounts {
+    given: Vec<usize>,
+    taken: Vec<usize>,
+}
+
+/// The counts of these.
+fn mover_counts(alloc: Global, moves: &[Move]) -> Result<MoverCounts, AllocError>
+    ensures { IfOk result (λ counts. AreMoverCounts moves.now counts) }
+{
+    let given = given_counts(alloc, moves)?;
+    let taken = taken_counts(alloc, moves)?;
+    Ok(MoverCounts { given, taken })
+}
 
 fn has_device(devices: &[Device], id: DeviceId) -> bool
     ensures { result ≡ has_device id devices.now }
@@ -43,113 +61,106 @@ fn is_mover(old: &Snapshot, new: &Snapshot, id: DeviceId, given: usize, taken: u
     (given > 0 || taken > 0) && is_known(old, new, id)
 }
 
-/// The device of a number that gave and took so many of the seats that differ.
-fn mover_value(alloc: Global, id: DeviceId, given: usize, taken: usize) -> Result<Value, AllocError>
-    ensures { IfOk result (λ v. (moves : List MoveModel) → given ≡ given_seats moves id →
-        taken ≡ taken_seats moves id → view v ≡ mover_data moves id) }
+/// Writes the device of a number that gave and took so many of the seats that differ.
+fn write_mover(
+    writer: &mut Writer,
+    id: DeviceId,
+    given: usize,
+    taken: usize,
+) -> Result<(), AllocError>
+    ensures { (moves : List MoveModel) → given ≡ given_seats moves id → taken ≡ taken_seats moves id
+        → AddsData result writer.old writer.new (mover_data moves id) }
 {
-    object(
-        alloc,
+    write_object(
+        writer,
         &[
             ("gives", Number(given as u64)),
-            ("id", Number(id.into())),
+            ("id", Number(id as u64)),
             ("takes", Number(taken as u64)),
         ],
     )
 }
 
-/// Adds the device of a number if it gave or took some of the seats that differ, where it gave and
-/// took so many.
-fn push_mover(
-    into: &mut Vec<Value>,
-    alloc: Global,
+/// Writes the device of a number if it gave or took some of the seats that differ.
+fn write_if_mover(
+    writer: &mut Writer,
     old: &Snapshot,
     new: &Snapshot,
     id: DeviceId,
-    given: usize,
-    taken: usize,
+    counts: &MoverCounts,
 ) -> Result<(), AllocError>
-    ensures { OnOk result ((moves : List MoveModel) → given ≡ given_seats moves id →
-        taken ≡ taken_seats moves id → map view into.new.items ≡ map view into.old.items ++
-        map (mover_data moves) (filter (is_mover old.now new.now moves) (id ∷ []))) }
+    requires { AreMoverCounts (seat_moves old.now new.now) counts.now }
+    ensures { TellsEach result writer.old writer.new (mover_data (seat_moves old.now new.now))
+        (filter (is_mover old.now new.now (seat_moves old.now new.now)) (id ∷ [])) }
 {
+    let place = usize::from(id);
+    let given = counts.given[place];
+    let taken = counts.taken[place];
     if !is_mover(old, new, id, given, taken) {
         return Ok(());
     }
-    into.push(mover_value(alloc, id, given, taken)?)?;
+    write_mover(writer, id, given, taken)
+}
+
+/// Writes the devices that give or take the seats that differ, by rising number.
+fn write_movers(
+    writer: &mut Writer,
+    old: &Snapshot,
+    new: &Snapshot,
+    counts: &MoverCounts,
+) -> Result<(), AllocError>
+    requires { AreMoverCounts (seat_moves old.now new.now) counts.now }
+    ensures { TellsEach result writer.old writer.new (mover_data (seat_moves old.now new.now))
+        (movers old.now new.now (seat_moves old.now new.now)) }
+{
+    for id in 0..MOST_IDS {
+        write_if_mover(writer, old, new, id as u16, counts)?;
+    }
     Ok(())
 }
 
-/// The devices that give or take the seats that differ, by rising number.
-fn movers_value(
-    alloc: Global,
-    old: &Snapshot,
-    new: &Snapshot,
-    moves: &[Move],
-) -> Result<Value, AllocError>
-    requires { moves.now ≡ seat_moves old.now new.now }
-    ensures { IfOk result (λ v. view v ≡ array (items_of (movers_data old.now new.now))) }
-{
-    let given = given_counts(alloc, moves)?;
-    let taken = taken_counts(alloc, moves)?;
-    let mut devices = Vec::new(alloc);
-    for id in 0..MOST_IDS {
-        push_mover(
-            &mut devices,
-            alloc,
-            old,
-            new,
-            id as u16,
-            given[id],
-            taken[id],
-        )?;
-    }
-    Ok(Value::Array(devices))
-}
-
-/// The numbers and the name that are told of what moved.
-fn figures(
-    alloc: Global,
+/// Ends the object of what moved between two versions of a ring of this name, in so many partitions.
+fn end_moves(
+    writer: &mut Writer,
     name: &RingName,
     from: u32,
     to: u32,
-    moves: &Moves,
-    old: &Snapshot,
-    new: &Snapshot,
-) -> Result<Map<String, Value>, AllocError>
-    requires list { moves.now.list.items ≡ seat_moves old.now new.now }
-    requires partitions { moves.now.partitions ≡ moved_partitions old.now new.now }
-    ensures { IfOk result (λ told. members_view told.entries
-        ≡ moves_figures name.now from to old.now new.now) }
+    partitions: usize,
+) -> Result<(), AllocError>
+    ensures { EndsList result writer.old writer.new (behind_movers name.now from to partitions) }
 {
-    members(
-        alloc,
+    end_list(
+        writer,
         &[
-            ("changed", Number(moves.list.len() as u64)),
-            ("from", Number(from.into())),
-            ("partitions", Number(moves.partitions as u64)),
+            ("from", Number(from as u64)),
+            ("partitions", Number(partitions as u64)),
             ("ring", Text(name.as_str())),
-            ("to", Number(to.into())),
+            ("to", Number(to as u64)),
         ],
     )
 }
 
-/// What moved between two versions of a ring of this name.
-fn moves_value(
-    alloc: Global,
+/// Writes what moved between two versions of a ring of this name.
+fn write_moves(
+    writer: &mut Writer,
     name: &RingName,
     from: u32,
     to: u32,
     old: &Snapshot,
     new: &Snapshot,
-) -> Result<Value, AllocError>
-    ensures { IfOk result (λ v. view v
-        ≡ moves_data name.now from to old.now new.now) }
+    moves: &Moves,
+    counts: &MoverCounts,
+) -> Result<(), AllocError>
+    requires list { moves.now.list.items ≡ seat_moves old.now new.now }
+    requires partitions { moves.now.partitions ≡ moved_partitions old.now new.now }
+    requires counts { AreMoverCounts (seat_moves old.now new.now) counts.now }
+    ensures { AddsData result writer.old writer.new
+        (moves_data name.now from to old.now new.now) }
 {
-    let moves = moves_between(alloc, old, new)?;
-    let told = figures(alloc, name, from, to, &moves, old, new)?;
-    let devices = movers_value(alloc, old, new, &moves.list)?;
-    with_member(alloc, told, "devices", devices)
+    let changed = moves.list.len() as u64;
+    begin_list(writer, "devices", &[("changed", Number(changed))])?;
+    write_movers(writer, old, new, counts)?;
+    end_moves(writer, name, from, to, moves.partitions)
 }
 
 /// What moved between two versions of a ring of this name, which were published as these, as
@@ -167,7 +178,11 @@ pub(crate) fn moves_json(
     ensures { IfOk result (λ text. string_bytes text
         ≡ compact_text (moves_data name.now from to old.now new.now)) }
 {
-    moves_value(alloc, name, from, to, old, new)?.to_string(alloc)
+    let moves = moves_between(alloc, old, new)?;
+    let counts = mover_counts(alloc, &moves.list)?;
+    let mut writer = new_text(alloc)?;
+    write_moves(&mut writer, name, from, to, old, new, &moves, &counts)?;
+    Ok(text_of(writer))
 }
 
 /// Adds a seat in a line, and what stands behind it.

@@ -1,41 +1,47 @@
 //! The nodes of a partition as JSON text.
-ghost use Rattle.std.specs.Prelude.{◌≡◌, ◌==◌, IfOk, find, map, string_bytes};
+ghost use Rattle.std.specs.Prelude.{◌≡◌, ◌==◌, ◌∷◌, [], IfOk, find, string_bytes};
 ghost use Rattle.std.specs.Option.{option_copied};
-ghost use Rattle.serde_json.specs.Data.{array};
-ghost use Rattle.serde_json.specs.View.{items_of, view};
+ghost use Rattle.ring_messages.specs.Objects.{AddsData};
 ghost use Rattle.ring_words.specs.Texts.{address_text};
+ghost use Rattle.ring_reads.specs.Inner.Lists.{TellsEach};
 ghost use Rattle.ring_reads.specs.Nodes.{devices_of, node_data, nodes_data, nodes_json};
 
+use crate::lists::{begin_list, end_list};
+use json::Writer;
 use ring_messages::Scalar::{Number, Text};
-use ring_messages::object;
+use ring_messages::{new_text, text_of, write_object};
 use ring_model::Ring;
 use ring_words::{Device, DeviceId};
-use serde_json::{Value, json};
 use std::alloc::{AllocError, Global};
 
-/// A node, with the text of its device's address.
-fn node_value<'a>(alloc: Global, device: &'a Device, address: &'a str) -> Result<Value, AllocError>
+/// Writes a node, with the text of its device's address.
+fn write_node_of_text<'a>(
+    writer: &mut Writer,
+    device: &'a Device,
+    address: &'a str,
+) -> Result<(), AllocError>
     requires { address.now ≡ address_text device.now.row.address }
-    ensures { IfOk result (λ v. view v ≡ node_data device.now) }
+    ensures { AddsData result writer.old writer.new (node_data device.now) }
 {
-    object(
-        alloc,
+    write_object(
+        writer,
         &[
             ("address", Text(address)),
             ("device", Text(device.row.name.as_str())),
-            ("id", Number(device.id.into())),
-            ("port", Number(device.row.port.get().into())),
-            ("region", Number(device.row.region.into())),
-            ("zone", Number(device.row.zone.into())),
+            ("id", Number(device.id as u64)),
+            ("port", Number(device.row.port.get() as u64)),
+            ("region", Number(device.row.region as u64)),
+            ("zone", Number(device.row.zone as u64)),
         ],
     )
 }
 
-fn node_of_device(alloc: Global, device: &Device) -> Result<Value, AllocError>
-    ensures { IfOk result (λ v. view v ≡ node_data device.now) }
+/// Writes a node.
+fn write_node(writer: &mut Writer, alloc: Global, device: &Device) -> Result<(), AllocError>
+    ensures { AddsData result writer.old writer.new (node_data device.now) }
 {
     let address = device.row.address.to_string(alloc)?;
-    node_value(alloc, device, address.as_str())
+    write_node_of_text(writer, device, address.as_str())
 }
 
 fn device_at(ring: &Ring, id: DeviceId) -> Option<&Device>
@@ -44,29 +50,49 @@ fn device_at(ring: &Ring, id: DeviceId) -> Option<&Device>
     ring.devices().iter().find(|device| device.id == id)
 }
 
-fn node_values(alloc: Global, ring: &Ring, ids: &[DeviceId]) -> Result<Value, AllocError>
-    ensures { IfOk result (λ v. view v ≡ array
-        (items_of (map node_data (devices_of ring.now ids.now)))) }
+/// Writes the node whose device has a number, if one has it.
+fn write_node_at(
+    writer: &mut Writer,
+    alloc: Global,
+    ring: &Ring,
+    id: DeviceId,
+) -> Result<(), AllocError>
+    ensures { TellsEach result writer.old writer.new node_data (devices_of ring.now (id ∷ [])) }
 {
-    let mut values = Vec::with_capacity(alloc, ids.len())?;
-    for id in ids {
-        if let Some(device) = device_at(ring, *id) {
-            values.push(node_of_device(alloc, device)?)?;
-        }
+    match device_at(ring, id) {
+        Some(device) => write_node(writer, alloc, device),
+        None => Ok(()),
     }
-    Ok(Value::Array(values))
 }
 
-fn nodes_value(
+/// Writes the nodes of these numbers.
+fn write_each_node(
+    writer: &mut Writer,
+    alloc: Global,
+    ring: &Ring,
+    ids: &[DeviceId],
+) -> Result<(), AllocError>
+    ensures { TellsEach result writer.old writer.new node_data (devices_of ring.now ids.now) }
+{
+    for id in ids {
+        write_node_at(writer, alloc, ring, *id)?;
+    }
+    Ok(())
+}
+
+/// Writes the object with the nodes of a partition.
+fn write_nodes(
+    writer: &mut Writer,
     alloc: Global,
     ring: &Ring,
     partition: u32,
     ids: &[DeviceId],
-) -> Result<Value, AllocError>
-    ensures { IfOk result (λ v. view v ≡ nodes_data ring.now partition ids.now) }
+) -> Result<(), AllocError>
+    ensures { AddsData result writer.old writer.new (nodes_data ring.now partition ids.now) }
 {
-    let nodes = node_values(alloc, ring, ids)?;
-    json!(in alloc; {"nodes": nodes, "partition": partition})
+    begin_list(writer, "nodes", &[])?;
+    write_each_node(writer, alloc, ring, ids)?;
+    end_list(writer, &[("partition", Number(partition as u64))])
 }
 
 /// The nodes of a partition as compact JSON: of each device its address, name, number, port, region
@@ -79,5 +105,7 @@ pub fn nodes_text(
 ) -> Result<String, AllocError>
     ensures { IfOk result (λ text. string_bytes text ≡ nodes_json ring.now partition ids.now) }
 {
-    nodes_value(alloc, ring, partition, ids)?.to_string(alloc)
+    let mut writer = new_text(alloc)?;
+    write_nodes(&mut writer, alloc, ring, partition, ids)?;
+    Ok(text_of(writer))
 }

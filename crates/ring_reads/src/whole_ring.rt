@@ -1,61 +1,70 @@
 //! A whole ring as JSON text.
 ghost use Rattle.std.specs.Prelude.{◌≡◌, IfOk, string_bytes};
-ghost use Rattle.serde_json.specs.Data.{array};
-ghost use Rattle.serde_json.specs.View.{items_of, members_view, view};
+ghost use Rattle.std.specs.List.{zip};
+ghost use Rattle.ring_messages.specs.Fields.{whole};
+ghost use Rattle.ring_messages.specs.Objects.{AddsData};
 ghost use Rattle.ring_words.specs.Texts.{address_text, hundredths_text};
+ghost use Rattle.ring_share.specs.Room.{have};
 ghost use Rattle.ring_share.specs.Want.{AreWanted};
-ghost use Rattle.ring_reads.specs.RingJson.{IsRingJson, device_data, devices_data, ring_data};
-ghost use Rattle.ring_reads.specs.RingJson.{ring_figures, versions_data};
+ghost use Rattle.ring_reads.specs.Inner.Behind.{behind_published};
+ghost use Rattle.ring_reads.specs.Inner.Lists.{EndsList, TellsEach};
+ghost use Rattle.ring_reads.specs.RingJson.{IsRingJson, device_data, ring_data};
 
-use crate::objects::with_member;
+use crate::lists::{begin_list, end_list, next_list};
+use json::Writer;
 use ring_messages::Scalar::{Number, Text};
-use ring_messages::{members, object};
+use ring_messages::{new_text, text_of, write_object};
 use ring_metrics::{locked_count, rest};
 use ring_model::Ring;
 use ring_share::{balance, counts_of, dispersion, wanted};
 use ring_tables::state_text;
 use ring_words::{Device, Hour, RingName};
-use serde_json::{Map, Value, put};
 use std::alloc::{AllocError, Global};
 
-/// A device that wants and has so many seats, with the texts of its address and weight.
-fn device_of_texts<'a>(
-    alloc: Global,
+/// Writes a device that wants and has so many seats, with the texts of its address and weight.
+fn write_device_of_texts<'a>(
+    writer: &mut Writer,
     device: &'a Device,
     want: u32,
     seats: u32,
     address: &'a str,
     weight: &'a str,
-) -> Result<Value, AllocError>
+) -> Result<(), AllocError>
     requires address { address.now ≡ address_text device.now.row.address }
     requires weight { weight.now ≡ hundredths_text device.now.row.weight }
-    ensures { IfOk result (λ v. view v ≡ device_data device.now want seats) }
+    ensures { AddsData result writer.old writer.new (device_data device.now want seats) }
 {
-    object(
-        alloc,
+    write_object(
+        writer,
         &[
             ("address", Text(address)),
-            ("has", Number(seats.into())),
-            ("id", Number(device.id.into())),
+            ("has", Number(seats as u64)),
+            ("id", Number(device.id as u64)),
             ("name", Text(device.row.name.as_str())),
-            ("port", Number(device.row.port.get().into())),
-            ("region", Number(device.row.region.into())),
+            ("port", Number(device.row.port.get() as u64)),
+            ("region", Number(device.row.region as u64)),
             ("state", Text(state_text(device))),
-            ("wanted", Number(want.into())),
+            ("wanted", Number(want as u64)),
             ("weight", Text(weight)),
-            ("zone", Number(device.row.zone.into())),
+            ("zone", Number(device.row.zone as u64)),
         ],
     )
 }
 
-/// A device that wants and has so many seats.
-fn device_value(alloc: Global, device: &Device, want: u32, seats: u32) -> Result<Value, AllocError>
-    ensures { IfOk result (λ v. view v ≡ device_data device.now want seats) }
+/// Writes a device that wants and has so many seats.
+fn write_device(
+    writer: &mut Writer,
+    alloc: Global,
+    device: &Device,
+    want: u32,
+    seats: u32,
+) -> Result<(), AllocError>
+    ensures { AddsData result writer.old writer.new (device_data device.now want seats) }
 {
     let address = device.row.address.to_string(alloc)?;
     let weight = device.row.weight.to_string(alloc)?;
-    device_of_texts(
-        alloc,
+    write_device_of_texts(
+        writer,
         device,
         want,
         seats,
@@ -64,80 +73,86 @@ fn device_value(alloc: Global, device: &Device, want: u32, seats: u32) -> Result
     )
 }
 
-/// The devices of a ring, which want so many seats.
-fn devices_value(alloc: Global, ring: &Ring, wants: &[u32]) -> Result<Value, AllocError>
+/// Writes the devices of a ring, which want so many seats.
+fn write_devices(
+    writer: &mut Writer,
+    alloc: Global,
+    ring: &Ring,
+    wants: &[u32],
+) -> Result<(), AllocError>
     requires { AreWanted ring.now wants.now }
-    ensures { IfOk result (λ v. view v ≡ array (items_of (devices_data ring.now wants.now))) }
+    ensures { TellsEach result writer.old writer.new
+        (λ e. device_data e.0 e.1 (have ring.now e.0.id)) (zip ring.now.devices wants.now) }
 {
     let counts = counts_of(ring);
-    let mut devices = Vec::with_capacity(alloc, wants.len())?;
     for (place, device) in ring.devices().iter().enumerate() {
-        devices.push(device_value(alloc, device, wants[place], counts[place])?)?;
+        write_device(writer, alloc, device, wants[place], counts[place])?;
     }
-    Ok(Value::Array(devices))
+    Ok(())
 }
 
-/// The versions under which texts are published of a ring.
-fn versions_value(alloc: Global, ring: &Ring) -> Result<Value, AllocError>
-    ensures { IfOk result (λ v. view v ≡ array (items_of (versions_data ring.now))) }
+/// Writes the versions under which texts are published of a ring.
+fn write_versions(writer: &mut Writer, ring: &Ring) -> Result<(), AllocError>
+    ensures { TellsEach result writer.old writer.new (λ e. whole e.0) ring.now.published }
 {
     let published = ring.published_list();
-    let mut versions = Vec::with_capacity(alloc, published.len())?;
     for text in published {
-        versions.push(Value::from(text.0))?;
+        writer.u64(text.0 as u64)?;
     }
-    Ok(Value::Array(versions))
+    Ok(())
 }
 
-/// The numbers and the name that are told of a ring at an hour, of which some partition is locked
-/// for so many hours more.
-fn figures(
-    alloc: Global,
-    name: &RingName,
-    ring: &Ring,
-    hour: Hour,
-    rest: u64,
-) -> Result<Map<String, Value>, AllocError>
-    ensures { IfOk result (λ told. members_view told.entries
-        ≡ ring_figures name.now ring.now hour rest) }
+/// Ends the object of a ring, of which some partition is locked for so many hours more.
+fn end_ring(writer: &mut Writer, name: &RingName, ring: &Ring, rest: u64) -> Result<(), AllocError>
+    ensures { EndsList result writer.old writer.new (behind_published name.now ring.now rest) }
 {
-    members(
-        alloc,
+    end_list(
+        writer,
         &[
-            ("balance", Number(balance(ring).into())),
-            ("dispersion", Number(dispersion(ring).into())),
-            ("hour", Number(hour.into())),
-            ("locked", Number(locked_count(ring, hour) as u64)),
-            ("min_hours", Number(ring.min_hours().into())),
-            ("next_id", Number(ring.next_id().into())),
-            ("power", Number(ring.power().get().into())),
-            ("replicas", Number(ring.replicas().get().into())),
+            ("replicas", Number(ring.replicas().get() as u64)),
             ("rests", Number(rest)),
             ("ring", Text(name.as_str())),
             ("seats", Number(ring.seats().len() as u64)),
-            ("version", Number(ring.version().into())),
+            ("version", Number(ring.version() as u64)),
         ],
     )
 }
 
-/// A ring at an hour, of which some partition is locked for so many hours more, and whose devices
-/// want so many seats.
-fn ring_value(
+/// Writes a ring at an hour, of which some partition is locked for so many hours more, and whose
+/// devices want so many seats.
+fn write_ring(
+    writer: &mut Writer,
     alloc: Global,
     name: &RingName,
     ring: &Ring,
     hour: Hour,
     wants: &[u32],
     rest: u64,
-) -> Result<Value, AllocError>
+) -> Result<(), AllocError>
     requires { AreWanted ring.now wants.now }
-    ensures { IfOk result (λ v. view v ≡ ring_data name.now ring.now hour wants.now rest) }
+    ensures { AddsData result writer.old writer.new
+        (ring_data name.now ring.now hour wants.now rest) }
 {
-    let mut told = figures(alloc, name, ring, hour, rest)?;
-    let devices = devices_value(alloc, ring, wants)?;
-    put(&mut told, alloc, "devices", devices)?;
-    let published = versions_value(alloc, ring)?;
-    with_member(alloc, told, "published", published)
+    begin_list(
+        writer,
+        "devices",
+        &[("balance", Number(balance(ring) as u64))],
+    )?;
+    write_devices(writer, alloc, ring, wants)?;
+    next_list(
+        writer,
+        "published",
+        &[
+            ("dispersion", Number(dispersion(ring) as u64)),
+            ("hour", Number(hour as u64)),
+            ("locked", Number(locked_count(ring, hour) as u64)),
+            ("min_hours", Number(ring.min_hours() as u64)),
+            ("next_id", Number(ring.next_id() as u64)),
+            ("power", Number(ring.power().get() as u64)),
+        ],
+    )?;
+    write_versions(writer, ring)?;
+    end_ring(writer, name, ring, rest)
 }
 
 /// A ring of this name at an hour as compact JSON, its keys in byte order.
@@ -159,5 +174,7 @@ pub fn ring_json(
 {
     let wants = wanted(alloc, ring)?;
     let rest = rest(ring, hour);
-    ring_value(alloc, name, ring, hour, &wants, rest)?.to_string(alloc)
+    let mut writer = new_text(alloc)?;
+    write_ring(&mut writer, alloc, name, ring, hour, &wants, rest)?;
+    Ok(text_of(writer))
 }

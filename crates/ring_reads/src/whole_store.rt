@@ -1,50 +1,51 @@
 //! Which rings there are, and how much is kept, as JSON text.
-ghost use Rattle.std.specs.Prelude.{◌≡◌, IfOk, length, map, string_bytes};
-ghost use Rattle.serde_json.specs.Data.{array};
-ghost use Rattle.serde_json.specs.View.{items_of, view};
+ghost use Rattle.std.specs.Prelude.{◌≡◌, IfOk, length, string_bytes};
+ghost use Rattle.ring_messages.specs.Objects.{AddsData};
 ghost use Rattle.ring_reads.specs.Holding.{holding_of};
+ghost use Rattle.ring_reads.specs.Inner.Lists.{TellsEach};
 ghost use Rattle.ring_reads.specs.StoreJson.{listed_data, rings_data, rings_json, status_data};
 ghost use Rattle.ring_reads.specs.StoreJson.{status_json};
 
 use crate::held::Held;
+use crate::lists::{begin_list, end_list};
+use json::Writer;
 use ring_messages::Scalar::{Number, Text};
-use ring_messages::object;
+use ring_messages::{new_text, text_of, write_object};
 use ring_model::{Ring, Rings};
 use ring_words::RingName;
-use serde_json::{Value, json};
 use std::alloc::{AllocError, Global};
 
-/// A ring among the rings.
-fn listed_value(alloc: Global, name: &RingName, ring: &Ring) -> Result<Value, AllocError>
-    ensures { IfOk result (λ v. view v ≡ listed_data (name.now, ring.now)) }
+/// Writes a ring among the rings.
+fn write_listed(writer: &mut Writer, name: &RingName, ring: &Ring) -> Result<(), AllocError>
+    ensures { AddsData result writer.old writer.new (listed_data (name.now, ring.now)) }
 {
-    object(
-        alloc,
+    write_object(
+        writer,
         &[
             ("ring", Text(name.as_str())),
-            ("version", Number(ring.version().into())),
+            ("version", Number(ring.version() as u64)),
         ],
     )
 }
 
-/// The rings, by rising name.
-fn list_value(alloc: Global, rings: &Rings) -> Result<Value, AllocError>
-    ensures { IfOk result (λ v. view v ≡ array (items_of (map listed_data rings.now))) }
+/// Writes the rings, by rising name.
+fn write_each_ring(writer: &mut Writer, rings: &Rings) -> Result<(), AllocError>
+    ensures { TellsEach result writer.old writer.new listed_data rings.now }
 {
     let entries = rings.list();
-    let mut told = Vec::with_capacity(alloc, entries.len())?;
     for entry in entries {
-        told.push(listed_value(alloc, &entry.0, entry.1.as_ref())?)?;
+        write_listed(writer, &entry.0, entry.1.as_ref())?;
     }
-    Ok(Value::Array(told))
+    Ok(())
 }
 
-/// The object with the rings.
-fn rings_value(alloc: Global, rings: &Rings) -> Result<Value, AllocError>
-    ensures { IfOk result (λ v. view v ≡ rings_data rings.now) }
+/// Writes the object with the rings.
+fn write_rings(writer: &mut Writer, rings: &Rings) -> Result<(), AllocError>
+    ensures { AddsData result writer.old writer.new (rings_data rings.now) }
 {
-    let list = list_value(alloc, rings)?;
-    json!(in alloc; {"rings": list})
+    begin_list(writer, "rings", &[])?;
+    write_each_ring(writer, rings)?;
+    end_list(writer, &[])
 }
 
 /// Which rings there are, as compact JSON, its keys in byte order: of each, by rising name, its name
@@ -52,7 +53,9 @@ fn rings_value(alloc: Global, rings: &Rings) -> Result<Value, AllocError>
 pub fn rings_json(alloc: Global, rings: &Rings) -> Result<String, AllocError>
     ensures { IfOk result (λ text. string_bytes text ≡ rings_json rings.now) }
 {
-    rings_value(alloc, rings)?.to_string(alloc)
+    let mut writer = new_text(alloc)?;
+    write_rings(&mut writer, rings)?;
+    Ok(text_of(writer))
 }
 
 /// How many rings there are.
@@ -62,16 +65,16 @@ fn ring_count(rings: &Rings) -> usize
     rings.list().len()
 }
 
-/// The object with the figures of what is held.
-fn status_value(alloc: Global, held: &Held<'_>) -> Result<Value, AllocError>
-    ensures { IfOk result (λ v. view v ≡ status_data (holding_of held.now)) }
+/// Writes the object with the figures of what is held.
+fn write_status(writer: &mut Writer, held: &Held<'_>) -> Result<(), AllocError>
+    ensures { AddsData result writer.old writer.new (status_data (holding_of held.now)) }
 {
-    object(
-        alloc,
+    write_object(
+        writer,
         &[
-            ("hour", Number(held.hour.into())),
+            ("hour", Number(held.hour as u64)),
             ("kept", Number(held.kept as u64)),
-            ("limit", Number(held.limit.into())),
+            ("limit", Number(held.limit as u64)),
             ("rings", Number(ring_count(held.rings) as u64)),
         ],
     )
@@ -83,5 +86,7 @@ fn status_value(alloc: Global, held: &Held<'_>) -> Result<Value, AllocError>
 pub fn status_json(alloc: Global, held: &Held<'_>) -> Result<String, AllocError>
     ensures { IfOk result (λ text. string_bytes text ≡ status_json (holding_of held.now)) }
 {
-    status_value(alloc, held)?.to_string(alloc)
+    let mut writer = new_text(alloc)?;
+    write_status(&mut writer, held)?;
+    Ok(text_of(writer))
 }

@@ -1,13 +1,9 @@
-use Rattle.std.proofs.Common.{◌∙◌, ap}
-use Rattle.std.proofs.lemmas.Result.{IfOk-weaker}
-use Rattle.serde_json.specs.Written.{compact_text, has_float}
-use Rattle.ring_log.proofs.Entries.{entry_without_float}
+use Rattle.ring_messages.proofs.Putting.{alone}
+use Rattle.ring_log.specs.Log.{entry_data}
 use Rattle.ring_log.proofs.text.entry_json.Goals as goal
 
 pub returns : goal.returns
 returns c =
-    let told = c.in_ok-entry_value.ensures in
-    IfOk-weaker c.to_string.result _ _
-    (λ text is. is (ap has_float told ∙ entry_without_float c.args.place c.args.entry.now)
-    ∙ ap compact_text told)
-    c.to_string.ensures.text
+    let d = entry_data c.args.place c.args.entry.now in
+    c.text_of.ensures d
+    (alone d _ _ c.in_ok-writer.ensures.tokens c.in_ok-write_entry.ensures.adds.0)

@@ -1,13 +1,17 @@
-use Rattle.std.proofs.Common.{◌∙◌, ap}
-use Rattle.std.proofs.lemmas.Result.{IfOk-weaker}
-use Rattle.serde_json.specs.Written.{compact_text, has_float}
-use Rattle.ring_reads.proofs.SeatMoving.{moves_without_float}
+use Rattle.std.proofs.Common.{◌∙◌, List, subst}
+use Rattle.ring_messages.proofs.Putting.{alone}
+use Rattle.ring_reads.specs.Inner.Counted.{AreMoverCounts}
+use Rattle.ring_reads.specs.MovesJson.{moves_data}
+use Rattle.ring_reads.specs.declared.seat_moves.Move.{Move}
 use Rattle.ring_reads.proofs.moves_text.moves_json.Goals as goal
+
+pub write_moves-requires-clause-counts : goal.write_moves-requires-clause-counts
+write_moves-requires-clause-counts c =
+    subst (λ (moves : List Move). AreMoverCounts moves c.in_ok-counts.counts)
+    (c.deref.ensures.value ∙ c.in_ok-moves.ensures.list) c.in_ok-counts.ensures
 
 pub returns : goal.returns
 returns c =
-    let value = c.in_ok-moves_value.ensures in
-    IfOk-weaker c.to_string.result _ _
-    (λ text is. is (ap has_float value ∙ moves_without_float c.args.name.now c.args.from c.args.to
-    c.args.old.now c.args.new.now) ∙ ap compact_text value)
-    c.to_string.ensures.text
+    let d = moves_data c.args.name.now c.args.from c.args.to c.args.old.now c.args.new.now in
+    c.text_of.ensures d
+    (alone d _ _ c.in_ok-writer.ensures.tokens c.in_ok-write_moves.ensures.adds.0)

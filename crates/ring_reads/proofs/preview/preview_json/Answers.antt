@@ -1,8 +1,7 @@
-use Rattle.std.proofs.Common.{◌∙◌, ap, subst, sym}
-use Rattle.std.proofs.lemmas.Result.{IfOk-weaker}
-use Rattle.serde_json.specs.Written.{compact_text, has_float}
+use Rattle.std.proofs.Common.{subst, sym}
+use Rattle.ring_messages.proofs.Putting.{alone}
 use Rattle.ring_share.specs.Want.{AreWanted}
-use Rattle.ring_reads.proofs.Moving.{preview_without_float}
+use Rattle.ring_reads.specs.Preview.{preview_data}
 use Rattle.ring_reads.proofs.preview.preview_json.Goals as goal
 
 pub returns : goal.returns
@@ -10,19 +9,15 @@ returns c =
     let ring = c.args.ring.now in
     let new = c.args.done.now.ring in
     let wants = c.deref.result.now in
-    let value = c.in_ok-preview_value.ensures in
-    let wanted = subst (AreWanted ring) (sym c.deref.ensures.value) c.in_ok-wants.ensures in
-    IfOk-weaker c.to_string.result _ _
-    (λ text is. record {
+    let d = preview_data c.args.name.now c.args.hour c.args.seed ring wants new in
+    record {
       enough = c.requires.enough;
       new = new;
       seeded = c.requires.seeded;
       tells = (
         wants,
-        wanted,
-        is (ap has_float value
-            ∙ preview_without_float c.args.name.now c.args.hour c.args.seed ring wants new)
-            ∙ ap compact_text value,
+        subst (AreWanted ring) (sym c.deref.ensures.value) c.in_ok-wants.ensures,
+        c.text_of.ensures d
+            (alone d _ _ c.in_ok-writer.ensures.tokens c.in_ok-write_preview.ensures.adds.0),
       );
-    })
-    c.to_string.ensures.text
+    }

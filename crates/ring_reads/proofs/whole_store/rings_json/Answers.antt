@@ -1,13 +1,9 @@
-use Rattle.std.proofs.Common.{◌∙◌, ap}
-use Rattle.std.proofs.lemmas.Result.{IfOk-weaker}
-use Rattle.serde_json.specs.Written.{compact_text, has_float}
-use Rattle.ring_reads.proofs.StoreData.{rings_without_float}
+use Rattle.ring_messages.proofs.Putting.{alone}
+use Rattle.ring_reads.specs.StoreJson.{rings_data}
 use Rattle.ring_reads.proofs.whole_store.rings_json.Goals as goal
 
 pub returns : goal.returns
 returns c =
-    let told = c.in_ok-rings_value.ensures in
-    IfOk-weaker c.to_string.result _ _
-    (λ text is. is (ap has_float told ∙ rings_without_float c.args.rings.now)
-    ∙ ap compact_text told)
-    c.to_string.ensures.text
+    let d = rings_data c.args.rings.now in
+    c.text_of.ensures d
+    (alone d _ _ c.in_ok-writer.ensures.tokens c.in_ok-write_rings.ensures.adds.0)

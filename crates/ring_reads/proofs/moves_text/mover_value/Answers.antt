@@ -1,5 +1,0 @@
-use Rattle.std.proofs.Common.{rules}
-use Rattle.ring_reads.proofs.moves_text.mover_value.Goals as goal
-
-pub returns : goal.returns
-returns c = search rules
