@@ -213,11 +213,11 @@ fn arg_of<'a>(alloc: Global, argument: &Argument<'a>) -> Arg<'a>
 }
 
 /// An argument with what the help of its program tells of it, for `clap`.
-fn told_arg<'a>(alloc: Global, argument: &Argument<'a>) -> Arg<'a>
+fn told_arg<'a>(alloc: Global, program: &str, argument: &Argument<'a>) -> Arg<'a>
     ensures rule { rule_of result ≡ rule_told argument.now }
     ensures local { result.global ≡ false }
 {
-    arg_of(alloc, argument).help(told_of_argument(name_of(argument)))
+    arg_of(alloc, argument).help(told_of_argument(program, name_of(argument)))
 }
 
 /// The command with one argument more.
@@ -234,6 +234,7 @@ fn with_arg<'a>(command: Command<'a>, arg: Arg<'a>) -> Result<Command<'a>, Alloc
 fn with_arguments<'a>(
     alloc: Global,
     mut command: Command<'a>,
+    program: &str,
     arguments: &[Argument<'a>],
 ) -> Result<Command<'a>, AllocError>
     requires { (out-Command command).has_globals ≡ false }
@@ -242,7 +243,7 @@ fn with_arguments<'a>(
     ensures alone { IfOk result (λ c. (out-Command c).has_globals ≡ false) }
 {
     for argument in arguments {
-        command = with_arg(command, told_arg(alloc, argument))?;
+        command = with_arg(command, told_arg(alloc, program, argument))?;
     }
     Ok(command)
 }
@@ -264,7 +265,7 @@ fn command_of<'a>(alloc: Global, program: &Program<'a>) -> Result<Command<'a>, A
     ensures shape { IfOk result (λ c. shape_of c ≡ shape_told program.now) }
     ensures alone { IfOk result (λ c. (out-Command c).has_globals ≡ false) }
 {
-    with_arguments(alloc, bare(alloc, program), program.arguments)
+    with_arguments(alloc, bare(alloc, program), program.name, program.arguments)
 }
 
 /// The command with one program more.

@@ -259,7 +259,7 @@ pub(crate) fn told_of(program: &str) -> Option<&'static str> {
 }
 
 /// What the help of a program tells of each argument, by its name.
-static ARGUMENTS: [(&str, &str); 31] = [
+static ARGUMENTS: [(&str, &str); 30] = [
     (
         "FILE",
         "The file of the store, which is made if it is missing",
@@ -314,10 +314,6 @@ static ARGUMENTS: [(&str, &str); 31] = [
         "For how many hours a moved partition stays, from 0 to 65535",
     ),
     (
-        "from",
-        "Of log: the place at which it begins. Of found: a store whose rings are taken over too",
-    ),
-    (
         "lines",
         "Write lines that ringd run reads, in place of JSON",
     ),
@@ -332,12 +328,41 @@ static ARGUMENTS: [(&str, &str); 31] = [
     ),
 ];
 
-/// What the help of a program tells of an argument of this name.
-pub(crate) fn told_of_argument(wanted: &str) -> &'static str {
+/// The same of those that mean something else in each program, by the names of both.
+static OWN_ARGUMENTS: [(&str, &str, &str); 2] = [
+    (
+        "log",
+        "from",
+        "The place at which it begins; the first request has place 0",
+    ),
+    (
+        "found",
+        "from",
+        "The file of a store whose rings are taken over too",
+    ),
+];
+
+/// What the help of a program tells of an argument that means something else in others.
+fn told_of_own<'a>(program: &'a str, wanted: &'a str) -> Option<&'static str> {
+    for (of, name, told) in &OWN_ARGUMENTS {
+        if *of == program && *name == wanted {
+            return Some(*told);
+        }
+    }
+    None
+}
+
+/// What the help tells of an argument of this name, whatever its program.
+fn told_of_any(wanted: &str) -> &'static str {
     for (name, told) in &ARGUMENTS {
         if *name == wanted {
             return *told;
         }
     }
     ""
+}
+
+/// What the help of a program tells of an argument of this name.
+pub(crate) fn told_of_argument(program: &str, wanted: &str) -> &'static str {
+    told_of_own(program, wanted).unwrap_or_else(|| told_of_any(wanted))
 }
