@@ -253,10 +253,9 @@ def texts_of(room, line):
     return found
 
 
-def between(run):
-    """What a commit takes where they go on: of two runs, so that no start, opening or end of a program is in it."""
-    many, few = run(2 * COMMITS), run(COMMITS)
-    return [(more - less) / COMMITS for more, less in zip(many, few)]
+def less_idle(busy, idle):
+    """What the commits took: without the start, the opening and the end of the program."""
+    return [(many - none) / COMMITS for many, none in zip(busy, idle)]
 
 
 def instructions(act):
@@ -276,8 +275,8 @@ def in_turns(room, made, also, line, texts):
     """For each turn what a commit took of each of the three: seconds, and the processor's."""
     told = []
     for _ in range(TURNS):
-        ours = between(lambda count: by_ringd(room, line, count))
-        kits = between(lambda count: by_kit(room, made, also, count, texts))
+        ours = less_idle(by_ringd(room, line, COMMITS), by_ringd(room, line, 0))
+        kits = less_idle(by_kit(room, made, also, COMMITS, texts), by_kit(room, made, also, 0, texts))
         theirs = [spent / COMMITS for spent in by_sqlite(room, also, texts)]
         told.append((ours, kits, theirs))
     return told
