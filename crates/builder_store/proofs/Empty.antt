@@ -1,5 +1,5 @@
 -- Conditions that hold together.
-use Rattle.std.proofs.Common.{◌≡◌, Bool, false, refl, true}
+use Rattle.std.proofs.Common.{Bool, false, refl, true}
 use Rattle.std.specs.Prelude.{◌&&◌, IsTrue}
 
 pub both : (a b : Bool) → IsTrue (a && b) → IsTrue a × IsTrue b

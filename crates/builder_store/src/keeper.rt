@@ -135,7 +135,7 @@ impl<S: Alter + Drop> SqlKeeper<S> {
     }
 }
 
-impl<S: Alter + Drop> SqlKeeper<S> {
+impl<S: Alter> SqlKeeper<S> {
     ghost use Rattle.std.specs.Prelude.{IfErr, IfOk};
     ghost use Rattle.builder_store.specs.Inner.Begins.{BeginsOver, BeginsWith, IsJustMade};
     ghost use Rattle.builder_store.specs.Inner.Begins.{IsHolding, IsRefused, IsUnmade};
