@@ -156,14 +156,23 @@ pub same_told : {E X : Type 0} {r : Result (Unit {0}) E} {old new : Written} {to
 same_told {X = X} {r = r} {old = old} {new = new} {told = told} h is =
     subst (λ (all : List X). TellsEach r old new told all) is h
 
+-- what is told once the end of a list was reached, in the words of a list of which the same is told
+pub told_all : {X Y : Type 0} (told : X → Data) (xs : List X) (further : Y → Data) (ys : List Y)
+    (i : ℕ) (first last : List Token) → length xs ≤ i
+    → told_tokens told xs ≡ told_tokens further ys
+    → last ≡ first ++ told_tokens told (take i xs) → last ≡ first ++ told_tokens further ys
+told_all told xs further ys i first last over same so_far =
+    so_far
+    ∙ ap (λ (ts : List Token). first ++ ts)
+    (ap (told_tokens told) (take_all i xs over) ∙ same)
+
 -- what is told of each device with what it wants, once all of them were told
 pub told_pairs : (told : Device × ℕ → Data) (items devices : List Device) (wants : List ℕ) (i : ℕ)
     (first last : List Token) → items ≡ devices → length items ≤ i
     → last ≡ first ++ told_tokens told (take i (zip items wants))
     → last ≡ first ++ told_tokens told (zip devices wants)
-told_pairs told items devices wants i first last same over so_far =
+told_pairs told items devices wants i first last same over =
     let long = length-zip items wants in
-    so_far
-    ∙ ap (λ (pairs : List (Device × ℕ)). first ++ told_tokens told pairs)
-    (take_all i (zip items wants) (omega (arith, long, over))
-    ∙ ap (λ (all : List Device). zip all wants) same)
+    told_all told (zip items wants) told (zip devices wants) i first last
+    (omega (arith, long, over))
+    (ap (λ (all : List Device). told_tokens told (zip all wants)) same)
