@@ -84,3 +84,17 @@ returns-in_err-answers-clause-settled g c = λ s z. g.met.K.Keeper.settled _ s z
 
 pub returns-clause-settled : goal.returns-clause-settled
 returns-clause-settled g c = λ s z. g.met.K.Keeper.settled _ s z
+pub returns-clause-run : goal.returns-clause-run
+returns-clause-run g c = grind (arith, common_steps)
+
+pub returns-clause-count : goal.returns-clause-count
+returns-clause-count g c = grind (arith, common_steps)
+
+pub returns-clause-faults : goal.returns-clause-faults
+returns-clause-faults g c = grind (arith, common_steps)
+
+pub returns-clause-closed : goal.returns-clause-closed
+returns-clause-closed g c = grind (arith, common_steps)
+
+pub returns-clause-left : goal.returns-clause-left
+returns-clause-left g c = grind (arith, common_steps)
