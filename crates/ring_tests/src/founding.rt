@@ -1,11 +1,10 @@
 //! Rings that come in with their seats: they go out as they came, and each refusal on its own.
-use crate::fixtures::taken;
+use crate::fixtures::{is_written_as, taken};
 use ring_founding::{FoundFault, Terms, found_rings};
 use ring_model::{Ring, Rings};
-use ring_text::{Snapshot, read_ring, write_ring};
+use ring_text::{Snapshot, read_ring};
 use ring_words::{MOST_RINGS, RingName};
-use std::alloc::Global;
-use std::test::Fail;
+use std::alloc::{AllocError, Global};
 
 /// How rings come in here.
 const TERMS: Terms = Terms {
@@ -14,33 +13,39 @@ const TERMS: Terms = Terms {
 };
 
 /// The text of a ring under a name: on devices 0 and 3, the second marked to be removed.
-fn text(alloc: Global, name: &str) -> Result<String, Fail> {
-    Ok(format!(in alloc;
+fn text(alloc: Global, name: &str) -> Result<String, AllocError> {
+    format!(in alloc;
         "swift-ring-text 1\nring {name}\nversion 2\npower 1\nreplicas 2\ndevices 2\n0 1 1 10.0.0.1 6200 100.00 present d0\n3 1 2 10.0.0.2 6200 0.00 removed d1\nseats\n0 3\n3 0\nend\n"
-    )?)
+    )
 }
 
 /// The snapshots of such texts under some names.
-fn snapshots(alloc: Global, names: &[&str]) -> Result<Vec<Snapshot>, Fail> {
+fn snapshots(alloc: Global, names: &[&str]) -> Option<Vec<Snapshot>> {
     let mut list = Vec::new(alloc);
     for name in names {
-        list.push(read_ring(alloc, text(alloc, name)?.as_bytes())?)?;
+        let text = text(alloc, name).ok()?;
+        list.push(read_ring(alloc, text.as_bytes()).ok()?).ok()?;
     }
-    Ok(list)
+    Some(list)
 }
 
 /// The rings of such texts under some names.
-fn founded(alloc: Global, names: &[&str]) -> Result<Rings, Fail> {
+fn founded(alloc: Global, names: &[&str]) -> Option<Rings> {
     let list = snapshots(alloc, names)?;
-    Ok(found_rings(alloc, TERMS, Rings::new(alloc), &list)?)
+    found_rings(alloc, TERMS, Rings::new(alloc), &list).ok()
 }
 
-/// Why rings of such texts don't come in beside some that did.
-fn fault(alloc: Global, there: &[&str], names: &[&str]) -> Result<FoundFault, Fail> {
-    let list = snapshots(alloc, names)?;
-    match found_rings(alloc, TERMS, founded(alloc, there)?, &list) {
-        Ok(_) => Err("a fault")?,
-        Err(fault) => Ok(fault),
+/// Whether rings of such texts don't come in beside some that did, for this reason.
+fn are_refused(alloc: Global, there: &[&str], names: &[&str], why: FoundFault) -> bool {
+    let Some(list) = snapshots(alloc, names) else {
+        return false;
+    };
+    let Some(rings) = founded(alloc, there) else {
+        return false;
+    };
+    match found_rings(alloc, TERMS, rings, &list) {
+        Ok(_) => false,
+        Err(fault) => fault == why,
     }
 }
 
@@ -51,21 +56,29 @@ fn is_new(ring: &Ring) -> bool {
         && ring.moves() == [Some(TERMS.hour); 2].as_slice()
 }
 
+/// Whether a ring is written under a name as its text.
+fn is_written(alloc: Global, name: &str, ring: &Ring) -> Option<bool> {
+    let taken = taken(alloc, name, ring)?;
+    let text = text(alloc, name).ok()?;
+    Some(is_written_as(alloc, &taken, text.as_str()))
+}
+
 /// Whether the ring of a name among some came from its text.
-fn is_there(alloc: Global, rings: &Rings, name: &str) -> Result<bool, Fail> {
-    let own = RingName::new(alloc, name)?;
-    let ring = rings.get(&own).ok_or("the ring")?;
-    let written = write_ring(alloc, &taken(alloc, name, ring)?)?;
-    Ok(is_new(ring) && written == text(alloc, name)?)
+fn is_there(alloc: Global, rings: &Rings, name: &str) -> Option<bool> {
+    let own = RingName::new(alloc, name).ok()?;
+    let ring = rings.get(&own)?;
+    Some(is_new(ring) && is_written(alloc, name, ring)?)
+}
+
+fn go_out_as_they_came(alloc: Global) -> Option<bool> {
+    let rings = founded(alloc, &["second", "first"])?;
+    let is_first_there = rings.list().len() == 2 && is_there(alloc, &rings, "first")?;
+    Some(is_first_there && is_there(alloc, &rings, "second")?)
 }
 
 #[test]
-fn rings_go_out_as_they_came(rt: HostRuntime) -> Result<(), Fail> {
-    let rings = founded(rt.alloc(), &["second", "first"])?;
-    assert!(rt; rings.list().len() == 2);
-    assert!(rt; is_there(rt.alloc(), &rings, "first")?);
-    assert!(rt; is_there(rt.alloc(), &rings, "second")?);
-    Ok(())
+fn rings_go_out_as_they_came(rt: HostRuntime) {
+    assert!(rt; matches!(go_out_as_they_came(rt.alloc()), Some(true)));
 }
 
 /// Names for as many rings as there may be.
@@ -74,15 +87,13 @@ static NAMES: [&str; MOST_RINGS] = [
 ];
 
 #[test]
-fn a_name_comes_in_once(rt: HostRuntime) -> Result<(), Fail> {
-    assert!(rt; fault(rt.alloc(), &["b"], &["a", "b"])? == FoundFault::RingExists);
-    assert!(rt; fault(rt.alloc(), &[], &["a", "a"])? == FoundFault::RingExists);
-    assert!(rt; fault(rt.alloc(), &NAMES, &["a"])? == FoundFault::RingExists);
-    Ok(())
+fn a_name_comes_in_once(rt: HostRuntime) {
+    assert!(rt; are_refused(rt.alloc(), &["b"], &["a", "b"], FoundFault::RingExists));
+    assert!(rt; are_refused(rt.alloc(), &[], &["a", "a"], FoundFault::RingExists));
+    assert!(rt; are_refused(rt.alloc(), &NAMES, &["a"], FoundFault::RingExists));
 }
 
 #[test]
-fn no_more_rings_come_in_than_there_may_be(rt: HostRuntime) -> Result<(), Fail> {
-    assert!(rt; fault(rt.alloc(), &NAMES, &["q"])? == FoundFault::TooManyRings);
-    Ok(())
+fn no_more_rings_come_in_than_there_may_be(rt: HostRuntime) {
+    assert!(rt; are_refused(rt.alloc(), &NAMES, &["q"], FoundFault::TooManyRings));
 }

@@ -3,6 +3,16 @@
 //! of their own so that those below are proved once, and not once more with their tests.
 #![tactic(auto)]
 
+/// A ring of a table that differs from another one in some fields, in fewer lines than a struct's.
+macro_rules! ring_like {
+    ($base:ident, $($field:ident: $value:expr),+) => { RingRow { $($field: $value,)+ ..$base } };
+}
+
+/// A device of a table that differs from another one in some fields, likewise.
+macro_rules! device_like {
+    ($base:ident, $($field:ident: $value:expr),+) => { DeviceRow { $($field: $value,)+ ..$base } };
+}
+
 #[cfg(test)]
 mod csv;
 #[cfg(test)]
@@ -21,6 +31,8 @@ mod paths;
 mod previews;
 #[cfg(test)]
 mod random_rings;
+#[cfg(test)]
+mod reads;
 #[cfg(test)]
 mod rebalances;
 #[cfg(test)]

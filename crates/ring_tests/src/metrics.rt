@@ -1,51 +1,38 @@
 //! What no contract says: the metrics of a store, byte for byte. A script made the texts from the
 //! figures that they tell.
 use crate::fixtures::{
-    DEVICE_0, DEVICE_1, DEVICE_2, DEVICE_3, DeviceRow, NEAR, RingRow, WITHOUT_DEVICES,
-    spelled_ring, with_ring,
+    DEVICE_0, DEVICE_1, DEVICE_2, DEVICE_3, DeviceRow, NEAR, NamedRow, RingRow, WITHOUT_DEVICES,
 };
-use path_lookup::HashNames;
-use ring_model::Rings;
-use ring_reads::{Held, Question, show};
+use crate::reads::{Figures, is_text, shown};
+use ring_reads::Question;
 use ring_words::Hour;
 use std::alloc::Global;
-use std::test::Fail;
 
 /// Two open devices, of which one has a seat too many and the other none, a marked one that has a
 /// seat, and a drained one. Two partitions are locked at hour 480000, and one is free since then.
-const MISPLACED: RingRow = RingRow {
-    power: 2,
-    version: 9,
+const MISPLACED: RingRow = ring_like!(WITHOUT_DEVICES, power: 2, version: 9,
     devices: &[
         DEVICE_0,
         DEVICE_1,
-        DeviceRow {
-            removed: true,
-            ..DEVICE_2
-        },
-        DeviceRow {
-            weight: "0.00",
-            ..DEVICE_3
-        },
+        device_like!(DEVICE_2, removed: true),
+        device_like!(DEVICE_3, weight: 0),
     ],
-    seats: &[0, 0, 0, 2],
-    moved: &[Some(479_990), Some(479_999), None, Some(479_976)],
-    published: &[(2, "two"), (5, "five")],
-    ..WITHOUT_DEVICES
-};
+    seats: &[0, 0, 0, 2], moved: &[Some(479_990), Some(479_999), None, Some(479_976)],
+    published: &[(2, "two"), (5, "five")]);
 
-/// Rings under their names; the greatest hour and that of the clock; how many numbers are kept, and
-/// how many may be; and the metrics of that.
-type Store = (
-    &'static [(&'static str, RingRow)],
-    (Hour, Hour),
-    (usize, u32),
-    &'static str,
-);
+/// Rings under their names, of which the table below tells the metrics.
+static STORES: [&[NamedRow]; 3] = [
+    &[],
+    &[("photos", WITHOUT_DEVICES)],
+    &[("a-2", NEAR), ("a", MISPLACED)],
+];
 
-static STORES: [Store; 3] = [
+/// The greatest hour and that of the clock; how many numbers are kept, and how many may be; and the
+/// metrics of that and of those rings, in their order.
+type Told = ((Hour, Hour), (usize, u32), &'static str);
+
+static METRICS: [Told; 3] = [
     (
-        &[],
         (0, 0),
         (0, 100_000),
         concat!(
@@ -83,7 +70,6 @@ static STORES: [Store; 3] = [
         ),
     ),
     (
-        &[("photos", WITHOUT_DEVICES)],
         (u32::MAX, 0),
         (1, u32::MAX),
         concat!(
@@ -134,7 +120,6 @@ static STORES: [Store; 3] = [
         ),
     ),
     (
-        &[("a-2", NEAR), ("a", MISPLACED)],
         (479_999, 480_000),
         (1_234, 100_000),
         concat!(
@@ -199,34 +184,24 @@ static STORES: [Store; 3] = [
     ),
 ];
 
-/// Whether this text tells the metrics of a store.
-fn are_told(alloc: Global, store: &Store) -> Result<bool, Fail> {
-    let (rows, (hour, clock), (kept, limit), text) = *store;
-    let mut rings = Rings::new(alloc);
-    for (name, row) in rows {
-        rings = with_ring(alloc, &rings, name, spelled_ring(alloc, row)?)?;
-    }
-    let held = Held {
-        rings: &rings,
+/// Whether a text tells the metrics of the rings at a place.
+fn are_told(alloc: Global, place: usize, told: &Told) -> bool {
+    let ((hour, clock), (kept, limit), text) = *told;
+    let figures = Figures {
         hour,
         clock,
         kept,
         limit,
     };
-    let names = HashNames {
-        prefix: b"",
-        suffix: b"",
-    };
-    match show(alloc, names, &held, &Question::Metrics) {
-        Ok(bytes) => Ok(bytes.as_slice() == text.as_bytes()),
-        Err(_) => Ok(false),
+    match STORES.get(place) {
+        Some(rows) => is_text(shown(alloc, rows, figures, &Question::Metrics), text),
+        None => false,
     }
 }
 
 #[test]
-fn metrics_are_told(rt: HostRuntime) -> Result<(), Fail> {
-    for (number, store) in STORES.iter().enumerate() {
-        assert!(rt; are_told(rt.alloc(), store)?, "{number}");
+fn metrics_are_told(rt: HostRuntime) {
+    for (place, told) in METRICS.iter().enumerate() {
+        assert!(rt; are_told(rt.alloc(), place, told), "{place}");
     }
-    Ok(())
 }

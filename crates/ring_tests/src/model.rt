@@ -3,34 +3,20 @@ mod lists;
 mod sizes;
 mod steps;
 
-use crate::fixtures::{DEVICE_0, DEVICE_1, DeviceRow, RingRow, spelled_parts};
+use crate::fixtures::{
+    DEVICE_0, DEVICE_1, DeviceRow, RingRow, WITHOUT_DEVICES, new_ring, spelled_parts,
+};
 use ring_model::{BuildFault, Ring, RingParts};
-use ring_words::{Device, Power, Replicas};
+use ring_words::Device;
 use std::alloc::Global;
-use std::test::Fail;
 
 /// A ring of power 1 with two replicas, on devices 0 and 1.
-const SMALL: RingRow = RingRow {
-    power: 1,
-    replicas: 2,
-    min_hours: 24,
-    next_id: 2,
-    version: 3,
-    devices: &[DEVICE_0, DEVICE_1],
-    seats: &[0, 1, 1, 0],
-    moved: &[Some(7), None],
-    published: &[(3, "text")],
-};
+const SMALL: RingRow = ring_like!(WITHOUT_DEVICES, replicas: 2, next_id: 2, version: 3,
+    devices: &[DEVICE_0, DEVICE_1], seats: &[0, 1, 1, 0], moved: &[Some(7), None],
+    published: &[(3, "text")]);
 
-/// The parts of that ring.
-fn small_parts(alloc: Global) -> Result<RingParts, Fail> {
-    spelled_parts(alloc, &SMALL)
-}
-
-/// That ring.
-fn small_ring(alloc: Global) -> Result<Ring, Fail> {
-    Ok(Ring::build(alloc, small_parts(alloc)?)?)
-}
+/// That ring, as tests name it.
+static SMALL_RING: RingRow = SMALL;
 
 /// Whether a ring has the figures and lists of these parts.
 fn has_parts(ring: &Ring, parts: &RingParts) -> bool {
@@ -81,164 +67,65 @@ fn has_texts(ring: &Ring, rows: &[(u32, &str)]) -> bool {
 }
 
 /// Whether a ring is the one that a row of a table spells.
-fn is_ring(alloc: Global, ring: &Ring, row: &RingRow) -> Result<bool, Fail> {
-    let parts = spelled_parts(alloc, row)?;
-    Ok(
-        has_parts(ring, &parts)
-            && knows_devices(ring, &parts.devices)
-            && has_texts(ring, row.published),
-    )
+fn is_ring(alloc: Global, ring: &Ring, row: &RingRow) -> bool {
+    match spelled_parts(alloc, row) {
+        Some(parts) => {
+            has_parts(ring, &parts)
+                && knows_devices(ring, &parts.devices)
+                && has_texts(ring, row.published)
+        }
+        None => false,
+    }
 }
 
-/// A new ring.
-static EMPTY: RingRow = RingRow {
-    power: 2,
-    replicas: 1,
-    min_hours: 24,
-    next_id: 0,
-    version: 0,
-    devices: &[],
-    seats: &[],
-    moved: &[None; 4],
-    published: &[],
-};
+/// What a new ring is.
+static EMPTY: RingRow = ring_like!(WITHOUT_DEVICES, power: 2, next_id: 0, moved: &[None; 4]);
 
-/// Whether a new ring is empty.
-fn is_empty_at_first(alloc: Global) -> Result<bool, Fail> {
-    let power = Power::new(2).ok_or("power")?;
-    let replicas = Replicas::new(1).ok_or("replicas")?;
-    is_ring(alloc, &Ring::new(alloc, power, replicas, 24)?, &EMPTY)
+fn is_empty_at_first(alloc: Global) -> bool {
+    match new_ring(alloc, 2, 24) {
+        Some(ring) => is_ring(alloc, &ring, &EMPTY),
+        None => false,
+    }
 }
 
 #[test]
-fn a_new_ring_is_empty(rt: HostRuntime) -> Result<(), Fail> {
-    assert!(rt; is_empty_at_first(rt.alloc())?);
-    Ok(())
+fn a_new_ring_is_empty(rt: HostRuntime) {
+    assert!(rt; is_empty_at_first(rt.alloc()));
 }
 
 /// Parts that make no ring, by what is wrong with them.
-static REFUSED: [(&str, RingRow); 15] = [
-    (
-        "two devices at one place",
-        RingRow {
-            devices: &[
-                DEVICE_0,
-                DeviceRow {
-                    place: 0,
-                    weight: "50.00",
-                    ..DEVICE_1
-                },
-            ],
-            ..SMALL
-        },
-    ),
-    (
-        "seats of one partition alone",
-        RingRow {
-            seats: &[0, 1],
-            ..SMALL
-        },
-    ),
-    (
-        "a seat on no device",
-        RingRow {
-            seats: &[0, 1, 1, 7],
-            ..SMALL
-        },
-    ),
-    (
-        "two seats of a partition on one device",
-        RingRow {
-            seats: &[0, 0, 1, 0],
-            ..SMALL
-        },
-    ),
-    (
-        "a next number that a device has",
-        RingRow {
-            next_id: 1,
-            ..SMALL
-        },
-    ),
-    (
-        "two devices of one number",
-        RingRow {
-            devices: &[DEVICE_0, DeviceRow { id: 0, ..DEVICE_1 }],
-            ..SMALL
-        },
-    ),
-    (
-        "devices by falling number",
-        RingRow {
-            devices: &[DEVICE_1, DEVICE_0],
-            ..SMALL
-        },
-    ),
-    (
-        "a partition without its hour",
-        RingRow {
-            moved: &[Some(7)],
-            ..SMALL
-        },
-    ),
-    (
-        "a next number past 65536",
-        RingRow {
-            next_id: 65537,
-            ..SMALL
-        },
-    ),
-    (
-        "two texts of one version",
-        RingRow {
-            published: &[(3, "text"), (3, "again")],
-            ..SMALL
-        },
-    ),
-    (
-        "texts by falling version",
-        RingRow {
-            published: &[(3, "text"), (1, "older")],
-            ..SMALL
-        },
-    ),
-    (
-        "a seat too many",
-        RingRow {
-            seats: &[0, 1, 1, 0, 0],
-            ..SMALL
-        },
-    ),
-    ("a greater power", RingRow { power: 2, ..SMALL }),
-    (
-        "an hour too many",
-        RingRow {
-            moved: &[Some(7), None, None],
-            ..SMALL
-        },
-    ),
-    (
-        "fewer replicas",
-        RingRow {
-            replicas: 1,
-            ..SMALL
-        },
-    ),
+static REFUSED: [RingRow; 15] = [
+    // two devices at one place
+    ring_like!(SMALL,
+        devices: &[DEVICE_0, device_like!(DEVICE_1, place: 0, server: 0, weight: 5000)]),
+    ring_like!(SMALL, seats: &[0, 1]), // seats of one partition alone
+    ring_like!(SMALL, seats: &[0, 1, 1, 7]), // a seat on no device
+    ring_like!(SMALL, seats: &[0, 0, 1, 0]), // two seats of a partition on one device
+    ring_like!(SMALL, next_id: 1), // a next number that a device has
+    // two devices of one number
+    ring_like!(SMALL, devices: &[DEVICE_0, device_like!(DEVICE_1, id: 0)]),
+    ring_like!(SMALL, devices: &[DEVICE_1, DEVICE_0]), // devices by falling number
+    ring_like!(SMALL, moved: &[Some(7)]), // a partition without its hour
+    ring_like!(SMALL, next_id: 65537), // a next number past 65536
+    ring_like!(SMALL, published: &[(3, "text"), (3, "again")]), // two texts of one version
+    ring_like!(SMALL, published: &[(3, "text"), (1, "older")]), // texts by falling version
+    ring_like!(SMALL, seats: &[0, 1, 1, 0, 0]), // a seat too many
+    ring_like!(SMALL, power: 2), // a greater power
+    ring_like!(SMALL, moved: &[Some(7), None, None]), // an hour too many
+    ring_like!(SMALL, replicas: 1), // fewer replicas
 ];
 
-/// The first of the names of rows that make a ring, or are refused by another fault.
-fn first_taken<'a>(alloc: Global, rows: &[(&'a str, RingRow)]) -> Result<Option<&'a str>, Fail> {
-    for (shows, row) in rows {
-        let parts = spelled_parts(alloc, row)?;
-        if Ring::build(alloc, parts).err() != Some(BuildFault::Invalid) {
-            return Ok(Some(shows));
-        }
+/// Whether parts that a row spells make no ring.
+fn make_none(alloc: Global, row: &RingRow) -> bool {
+    match spelled_parts(alloc, row) {
+        Some(parts) => matches!(Ring::build(alloc, parts), Err(BuildFault::Invalid)),
+        None => false,
     }
-    Ok(None)
 }
 
 #[test]
-fn parts_that_make_no_ring_are_refused(rt: HostRuntime) -> Result<(), Fail> {
-    assert_eq!(rt; first_taken(rt.alloc(), &REFUSED)?, None);
-    Ok(())
+fn parts_that_make_no_ring_are_refused(rt: HostRuntime) {
+    for (place, row) in REFUSED.iter().enumerate() {
+        assert!(rt; make_none(rt.alloc(), row), "{place}");
+    }
 }

@@ -6,7 +6,6 @@ use md5::{Digest, Md5};
 use path_lookup::{HashNames, Path, PathFault, hash_path, partition_of};
 use ring_words::Power;
 use std::alloc::{AllocError, Global};
-use std::test::Fail;
 
 /// The digests of the first 0 to 130 bytes that count up from 0, one behind another.
 fn counting_digests(alloc: Global) -> Result<Vec<u8>, AllocError> {
@@ -50,16 +49,14 @@ const OF_HASHES_BEFORE: [u8; 16] = [
     0x71, 0xde, 0x7b, 0x04, 0x16, 0x54, 0x5b, 0x1e, 0x88, 0xd9, 0xfc, 0x00, 0xc0, 0x4b, 0xf4, 0xc6,
 ];
 
-/// Whether the digests of counting bytes are those of MD5.
-fn are_md5_digests(alloc: Global) -> Result<bool, AllocError> {
-    let digests = counting_digests(alloc)?;
-    Ok(digests.len() == 2096 && Md5::digest(digests.as_slice()) == OF_DIGESTS)
+fn are_md5_digests(alloc: Global) -> Option<bool> {
+    let digests = counting_digests(alloc).ok()?;
+    Some(digests.len() == 2096 && Md5::digest(digests.as_slice()) == OF_DIGESTS)
 }
 
 #[test]
-fn digests_are_those_of_md5(rt: HostRuntime) -> Result<(), Fail> {
-    assert!(rt; are_md5_digests(rt.alloc())?);
-    Ok(())
+fn digests_are_those_of_md5(rt: HostRuntime) {
+    assert!(rt; matches!(are_md5_digests(rt.alloc()), Some(true)));
 }
 
 /// The digest of no bytes.
@@ -96,19 +93,17 @@ fn pieces_have_the_digest_of_the_whole(rt: HostRuntime) {
     assert!(rt; pieces.finalize() == OF_ABC);
 }
 
-/// Whether the digest of the hashes of `/a/c/o` behind, or before, counting bytes is this one.
-fn has_hashes(alloc: Global, is_behind: bool, digest: &[u8; 16]) -> Result<bool, PathFault> {
-    let path = Path::new(alloc, b"a", Some(b"c"), Some(b"o"))?;
-    let hashes = counting_hashes(alloc, &path, is_behind)?;
-    Ok(Md5::digest(hashes.as_slice()) == *digest)
+/// The digest of the hashes of `/a/c/o` behind, or before, counting bytes.
+fn digest_of_hashes(alloc: Global, is_behind: bool) -> Option<[u8; 16]> {
+    let path = Path::new(alloc, b"a", Some(b"c"), Some(b"o")).ok()?;
+    let hashes = counting_hashes(alloc, &path, is_behind).ok()?;
+    Some(Md5::digest(hashes.as_slice()))
 }
 
 #[test]
-fn hashes_are_digests_of_prefix_path_and_suffix(rt: HostRuntime) -> Result<(), Fail> {
-    for (is_behind, digest) in &[(true, OF_HASHES_BEHIND), (false, OF_HASHES_BEFORE)] {
-        assert!(rt; has_hashes(rt.alloc(), *is_behind, digest)?);
-    }
-    Ok(())
+fn hashes_are_digests_of_prefix_path_and_suffix(rt: HostRuntime) {
+    assert!(rt; digest_of_hashes(rt.alloc(), true) == Some(OF_HASHES_BEHIND));
+    assert!(rt; digest_of_hashes(rt.alloc(), false) == Some(OF_HASHES_BEFORE));
 }
 
 /// The digest of the six bytes `x/a/cy`.
@@ -137,23 +132,18 @@ static HASHES: [(&[u8], Names, &[u8], [u8; 16]); 3] = [
 ];
 
 /// Whether the path of names has this hash between a prefix and a suffix.
-fn has_hash(
-    alloc: Global,
-    prefix: &[u8],
-    names: &Names,
-    suffix: &[u8],
-    hash: &[u8; 16],
-) -> Result<bool, PathFault> {
-    let path = Path::new(alloc, names.0, names.1, names.2)?;
-    Ok(hash_path(HashNames { prefix, suffix }, &path) == *hash)
+fn has_hash(alloc: Global, prefix: &[u8], names: &Names, suffix: &[u8], hash: &[u8; 16]) -> bool {
+    match Path::new(alloc, names.0, names.1, names.2) {
+        Ok(path) => hash_path(HashNames { prefix, suffix }, &path) == *hash,
+        Err(_) => false,
+    }
 }
 
 #[test]
-fn each_name_is_hashed_behind_a_slash(rt: HostRuntime) -> Result<(), Fail> {
+fn each_name_is_hashed_behind_a_slash(rt: HostRuntime) {
     for (prefix, names, suffix, hash) in &HASHES {
-        assert!(rt; has_hash(rt.alloc(), prefix, names, suffix, hash)?);
+        assert!(rt; has_hash(rt.alloc(), prefix, names, suffix, hash));
     }
-    Ok(())
 }
 
 /// Powers, and the partitions in rings of these powers of the digests of `abc`, of `a` and of the
@@ -168,21 +158,20 @@ static PARTITIONS: [(u16, [u32; 3]); 6] = [
 ];
 
 /// Whether the digests of the three texts have these partitions in rings of a power.
-fn are_partitions(power: Power, partitions: &[u32; 3]) -> bool {
+fn are_partitions(power: u16, partitions: &[u32; 3]) -> bool {
+    let Some(power) = Power::new(power) else {
+        return false;
+    };
     partition_of(Md5::digest(b"abc"), power) == partitions[0]
         && partition_of(Md5::digest(b"a"), power) == partitions[1]
         && partition_of(Md5::digest(b""), power) == partitions[2]
 }
 
 #[test]
-fn a_partition_is_the_front_of_a_hash(rt: HostRuntime) -> Result<(), Fail> {
+fn a_partition_is_the_front_of_a_hash(rt: HostRuntime) {
     for (power, partitions) in &PARTITIONS {
-        assert!(rt;
-            are_partitions(Power::new(*power).ok_or("a power")?, partitions),
-            "{power}"
-        );
+        assert!(rt; are_partitions(*power, partitions), "{power}");
     }
-    Ok(())
 }
 
 /// The longest name of an account or a container, and one that is too long.
@@ -196,45 +185,33 @@ const LONGEST_OBJECT: [u8; 1024] = [b'/'; 1024];
 const TOO_LONG_OBJECT: [u8; 1025] = [b'a'; 1025];
 
 /// Names, and whether they make a path.
-static LIMITS: [(&str, Names, bool); 11] = [
-    (
-        "the longest names",
-        (&LONGEST, Some(&LONGEST), Some(&LONGEST_OBJECT)),
-        true,
-    ),
-    ("any bytes", (b"\0", Some(b"\n"), Some(b" ")), true),
-    ("no account", (b"", None, None), false),
-    ("a slash in an account", (b"a/b", None, None), false),
-    ("an account too long", (&TOO_LONG, None, None), false),
-    ("an empty container", (b"a", Some(b""), None), false),
-    (
-        "a slash in a container",
-        (b"a", Some(b"c/"), Some(b"o")),
-        false,
-    ),
-    ("a container too long", (b"a", Some(&TOO_LONG), None), false),
-    ("an empty object", (b"a", Some(b"c"), Some(b"")), false),
-    (
-        "an object too long",
-        (b"a", Some(b"c"), Some(&TOO_LONG_OBJECT)),
-        false,
-    ),
-    ("an object in no container", (b"a", None, Some(b"o")), false),
+static LIMITS: [(Names, bool); 11] = [
+    // the longest names
+    ((&LONGEST, Some(&LONGEST), Some(&LONGEST_OBJECT)), true),
+    ((b"\0", Some(b"\n"), Some(b" ")), true), // any bytes
+    ((b"", None, None), false), // no account
+    ((b"a/b", None, None), false), // a slash in an account
+    ((&TOO_LONG, None, None), false), // an account too long
+    ((b"a", Some(b""), None), false), // an empty container
+    ((b"a", Some(b"c/"), Some(b"o")), false), // a slash in a container
+    ((b"a", Some(&TOO_LONG), None), false), // a container too long
+    ((b"a", Some(b"c"), Some(b"")), false), // an empty object
+    // an object too long
+    ((b"a", Some(b"c"), Some(&TOO_LONG_OBJECT)), false),
+    ((b"a", None, Some(b"o")), false), // an object in no container
 ];
 
-/// Whether names make a path, or are refused as none.
-fn make_path(alloc: Global, names: &Names) -> Result<bool, PathFault> {
+/// Whether names make a path or are refused as none, as is told.
+fn make_path(alloc: Global, names: &Names, is_path: bool) -> bool {
     match Path::new(alloc, names.0, names.1, names.2) {
-        Ok(_) => Ok(true),
-        Err(PathFault::BadPath) => Ok(false),
-        Err(fault) => Err(fault),
+        Ok(_) => is_path,
+        Err(fault) => !is_path && fault == PathFault::BadPath,
     }
 }
 
 #[test]
-fn names_at_their_limits(rt: HostRuntime) -> Result<(), Fail> {
-    for (shows, names, is_path) in &LIMITS {
-        assert!(rt; make_path(rt.alloc(), names)? == *is_path, "{shows}");
+fn names_at_their_limits(rt: HostRuntime) {
+    for (place, (names, is_path)) in LIMITS.iter().enumerate() {
+        assert!(rt; make_path(rt.alloc(), names, *is_path), "{place}");
     }
-    Ok(())
 }

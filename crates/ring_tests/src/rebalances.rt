@@ -1,144 +1,84 @@
-//! Rebalances of rings and the room of their devices: worked examples, rings of full size, and that
-//! the least crowded device is that of a plain scan.
-ghost use Rattle.std.specs.Prelude.{◌≡◌};
+//! Rebalances of rings: worked examples, and rings of full size.
+mod rooms;
 
-use crate::fixtures::{address, name};
-use crate::random_rings::below;
-use crate::scans::{crowd_among, has_room, have};
-use rand_core::Rng;
-use rand_pcg::Pcg32;
-use ring_deal::draws_of;
+use crate::fixtures::{
+    DEVICE_0, DEVICE_1, DEVICE_2, DEVICE_3, DeviceRow, RingRow, WITHOUT_DEVICES, push_spelled,
+    ring_on, spelled_ring,
+};
+use crate::scans::have;
 use ring_model::{Ring, RingParts};
-use ring_place::{PlaceError, Rebalanced, Room, rebalance};
-use ring_share::wanted;
-use ring_words::{Device, DeviceId, Hour, Port, Power, Replicas, Row, Weight};
+use ring_place::{PlaceError, Rebalanced, rebalance};
+use ring_words::{Device, Hour, Weight};
 use std::alloc::Global;
-use std::test::Fail;
-
-/// Device `dN` at 10.0.0.(S+1), port 6200, in a region and zone, of a weight in hundredths.
-pub fn device_at(
-    alloc: Global,
-    number: u8,
-    region: u16,
-    zone: u16,
-    server: u8,
-    weight: u32,
-) -> Result<Device, Fail> {
-    let row = Row {
-        region,
-        zone,
-        address: address(alloc, server)?,
-        port: Port::new(6200).ok_or("a port")?,
-        name: name(alloc, number)?,
-        weight: Weight::of(weight).ok_or("a weight")?,
-    };
-    Ok(Device {
-        id: u16::from(number),
-        row,
-        removed: false,
-    })
-}
-
-/// Device `dN` on a server of its own in zone 1 of a region.
-fn device(alloc: Global, number: u8, region: u16, weight: u32) -> Result<Device, Fail> {
-    device_at(alloc, number, region, 1, number, weight)
-}
-
-/// A ring without seats, of devices of region 1 with these weights in hundredths.
-pub fn ring(
-    alloc: Global,
-    power: u16,
-    replicas: u16,
-    min_hours: u16,
-    weights: &[u32],
-) -> Result<Ring, Fail> {
-    let new = Ring::new(
-        alloc,
-        Power::new(power).ok_or("a power")?,
-        Replicas::new(replicas).ok_or("replicas")?,
-        min_hours,
-    )?;
-    let mut ring = new;
-    let mut number = 0u8;
-    for weight in weights {
-        ring = with_device(alloc, &ring, device(alloc, number, 1, *weight)?)?;
-        number = number.saturating_add(1);
-    }
-    Ok(ring)
-}
-
-pub fn with_device(alloc: Global, ring: &Ring, device: Device) -> Result<Ring, Fail> {
-    let mut parts = ring.parts()?;
-    parts.next_id = u32::from(device.id).saturating_add(1);
-    parts.devices.push(device)?;
-    Ok(Ring::build(alloc, parts)?)
-}
-
-/// The ring with the device of a number marked to be removed.
-pub fn marked(alloc: Global, ring: &Ring, id: u16) -> Result<Ring, Fail> {
-    let mut parts = ring.parts()?;
-    for device in parts.devices.iter_mut() {
-        if device.id == id {
-            device.removed = true;
-        }
-    }
-    Ok(Ring::build(alloc, parts)?)
-}
-
-/// The ring with another weight at the device of a number.
-pub fn weighed(alloc: Global, ring: &Ring, id: u16, weight: u32) -> Result<Ring, Fail> {
-    let mut parts = ring.parts()?;
-    let weight = Weight::of(weight).ok_or("a weight")?;
-    for device in parts.devices.iter_mut() {
-        if device.id == id {
-            device.row.weight = weight;
-        }
-    }
-    Ok(Ring::build(alloc, parts)?)
-}
-
-/// The ring rebalanced, where it has devices enough.
-pub fn ample_rebalance(
-    alloc: Global,
-    ring: &Ring,
-    hour: Hour,
-    seed: u32,
-) -> Result<Rebalanced, Fail> {
-    match rebalance(alloc, ring, hour, seed) {
-        Ok(done) => Ok(done),
-        Err(PlaceError::TooFewDevices) => Ok(None.ok_or("too few devices")?),
-        Err(PlaceError::NoMemory) => Ok(None.ok_or("no memory")?),
-    }
-}
-
-#[test]
-fn a_first_rebalance_takes_every_seat(rt: HostRuntime) -> Result<(), Fail> {
-    let alloc = rt.alloc();
-    let ring = ring(alloc, 1, 2, 0, [10_000, 10_000].as_slice())?;
-    let done = ample_rebalance(alloc, &ring, 5, 7)?;
-    assert_eq!(rt;
-        (done.changed, have(&done.ring, 0), have(&done.ring, 1)),
-        (4, 2, 2)
-    );
-    assert_eq!(rt; done.ring.moves(), [Some(5), Some(5)].as_slice());
-    Ok(())
-}
 
 /// What is done to a ring before it is rebalanced.
 #[derive(Clone, Copy)]
-enum Change {
-    Nothing,
-    /// A device in a region, of a weight in hundredths, is added.
-    Adds(u16, u32),
+pub enum Change {
+    /// A device is added, and the number behind its own is next.
+    Puts(DeviceRow),
     Marks(u16),
-    /// A device gets another weight.
+    /// A device gets another weight, in hundredths.
     Weighs(u16, u32),
+}
+
+/// Gives the device of a number this weight, or marks it to be removed where there is none.
+fn alter_device(devices: &mut Vec<Device>, id: u16, weight: Option<Weight>) {
+    for device in devices.iter_mut() {
+        if device.id == id {
+            match weight {
+                Some(weight) => device.row.weight = weight,
+                None => device.removed = true,
+            }
+        }
+    }
+}
+
+/// Does a change to the parts of a ring.
+fn alter(alloc: Global, parts: &mut RingParts, change: &Change) -> Option<()> {
+    match change {
+        Change::Puts(row) => {
+            parts.next_id = u32::from(row.id).saturating_add(1);
+            push_spelled(alloc, &mut parts.devices, row)?;
+        }
+        Change::Marks(id) => alter_device(&mut parts.devices, *id, None),
+        Change::Weighs(id, weight) => {
+            alter_device(&mut parts.devices, *id, Some(Weight::of(*weight)?));
+        }
+    }
+    Some(())
+}
+
+/// A ring after changes, one after another.
+pub fn after(alloc: Global, ring: &Ring, changes: &[Change]) -> Option<Ring> {
+    let mut parts = ring.parts().ok()?;
+    for change in changes {
+        alter(alloc, &mut parts, change)?;
+    }
+    Ring::build(alloc, parts).ok()
+}
+
+/// A ring without seats, of two partitions and two replicas, whose partitions are free at once.
+const OF_TWO: RingRow = ring_like!(WITHOUT_DEVICES, replicas: 2, min_hours: 0, next_id: 2,
+    devices: &[DEVICE_0, DEVICE_1]);
+
+/// That ring, as tests name it.
+static PAIR: RingRow = OF_TWO;
+
+fn takes_every_seat(alloc: Global) -> Option<bool> {
+    let done = rebalance(alloc, &spelled_ring(alloc, &PAIR)?, 5, 7).ok()?;
+    let is_stamped = done.ring.moves() == [Some(5), Some(5)].as_slice();
+    Some(done.changed == 4 && has_seats(&done.ring, &[2, 2, 0, 0]) && is_stamped)
+}
+
+#[test]
+fn a_first_rebalance_takes_every_seat(rt: HostRuntime) {
+    assert!(rt; matches!(takes_every_seat(rt.alloc()), Some(true)));
 }
 
 /// A rebalance, and what comes of it.
 #[derive(Clone, Copy)]
 struct Step {
-    before: [Change; 2],
+    before: &'static [Change],
     hour: Hour,
     seed: u32,
     /// How many seats it changes.
@@ -149,464 +89,414 @@ struct Step {
     devices: Option<usize>,
 }
 
-/// The first rebalance at hour 0, which takes so many seats.
-const fn first(changed: u32, seats: [usize; 4]) -> Step {
-    Step {
-        before: [Change::Nothing; 2],
-        hour: 0,
-        seed: 7,
-        changed,
-        seats,
-        devices: None,
-    }
-}
+/// A rebalance at hour 0, which takes no seats.
+const AT_FIRST: Step = Step {
+    before: &[],
+    hour: 0,
+    seed: 7,
+    changed: 0,
+    seats: [0; 4],
+    devices: None,
+};
 
-fn after(alloc: Global, ring: &Ring, change: Change) -> Result<Ring, Fail> {
-    match change {
-        Change::Nothing => Ok(Ring::build(alloc, ring.parts()?)?),
-        Change::Adds(region, weight) => {
-            let number = u8::try_from(ring.next_id()).unwrap_or(255);
-            with_device(alloc, ring, device(alloc, number, region, weight)?)
-        }
-        Change::Marks(id) => marked(alloc, ring, id),
-        Change::Weighs(id, weight) => weighed(alloc, ring, id, weight),
-    }
+/// A step that differs from another one in some fields.
+macro_rules! step_like {
+    ($base:ident, $($field:ident: $value:expr),+) => { Step { $($field: $value,)+ ..$base } };
 }
 
 /// Whether devices 0 to 3 have so many seats.
-fn has_seats(ring: &Ring, seats: [usize; 4]) -> bool {
-    seats
-        .iter()
-        .enumerate()
-        .all(|(id, count)| have(ring, id as u16) == *count)
+fn has_seats(ring: &Ring, seats: &[usize; 4]) -> bool {
+    have(ring, 0) == seats[0]
+        && have(ring, 1) == seats[1]
+        && have(ring, 2) == seats[2]
+        && have(ring, 3) == seats[3]
+}
+
+/// Whether a rebalance is as a step says.
+fn is_as_told(done: &Rebalanced, step: &Step) -> bool {
+    let devices = done.ring.devices().len();
+    done.changed == step.changed
+        && has_seats(&done.ring, &step.seats)
+        && devices == step.devices.unwrap_or(devices)
+}
+
+/// A ring after a step, where its rebalance is as the step says.
+fn stepped(alloc: Global, ring: &Ring, step: &Step) -> Option<Ring> {
+    let changed = after(alloc, ring, step.before)?;
+    let done = rebalance(alloc, &changed, step.hour, step.seed).ok()?;
+    if is_as_told(&done, step) {
+        Some(done.ring)
+    } else {
+        None
+    }
+}
+
+/// A ring without seats, and the steps of its rebalances.
+struct Story {
+    ring: RingRow,
+    steps: &'static [Step],
 }
 
 /// Whether the rebalances of a ring, one after another, are as their steps say.
-fn takes(alloc: Global, ring: Ring, steps: &[Step]) -> Result<bool, Fail> {
-    let mut ring = ring;
-    for step in steps {
-        ring = after(alloc, &ring, step.before[0])?;
-        ring = after(alloc, &ring, step.before[1])?;
-        let done = ample_rebalance(alloc, &ring, step.hour, step.seed)?;
-        ring = done.ring;
-        let devices = step.devices.unwrap_or(ring.devices().len());
-        let is_so = has_seats(&ring, step.seats) && ring.devices().len() == devices;
-        if done.changed != step.changed || !is_so {
-            return Ok(false);
-        }
+fn is_so(alloc: Global, story: &Story) -> bool {
+    let Some(first) = spelled_ring(alloc, &story.ring) else {
+        return false;
+    };
+    let mut ring = first;
+    for step in story.steps {
+        ring = match stepped(alloc, &ring, step) {
+            Some(next) => next,
+            None => return false,
+        };
     }
-    Ok(true)
+    true
 }
 
-#[test]
-fn power_two_takes_eight_seats(rt: HostRuntime) -> Result<(), Fail> {
-    let alloc = rt.alloc();
-    let ring = ring(alloc, 2, 2, 24, [10_000, 10_000].as_slice())?;
-    let leaves = Step {
-        before: [Change::Adds(1, 10_000), Change::Marks(0)],
-        hour: 1,
-        devices: Some(2),
-        ..first(4, [0, 4, 4, 0])
-    };
-    assert!(rt; takes(alloc, ring, &[first(8, [4, 4, 0, 0]), leaves])?);
-    Ok(())
-}
+/// A device comes in, and another leaves.
+static OF_EIGHT_SEATS: Story = Story {
+    ring: ring_like!(OF_TWO, power: 2, min_hours: 24, moved: &[None; 4]),
+    steps: &[
+        step_like!(AT_FIRST, changed: 8, seats: [4, 4, 0, 0]),
+        step_like!(AT_FIRST, before: &[Change::Puts(DEVICE_2), Change::Marks(0)], hour: 1,
+            changed: 4, seats: [0, 4, 4, 0], devices: Some(2)),
+    ],
+};
 
 #[test]
-fn a_moved_partition_stays_for_its_hours(rt: HostRuntime) -> Result<(), Fail> {
-    let alloc = rt.alloc();
-    let ring = ring(alloc, 2, 1, 24, [10_000].as_slice())?;
-    let at = |hour, step| Step { hour, ..step };
-    let locked = Step {
-        before: [Change::Adds(1, 10_000), Change::Nothing],
-        ..first(0, [4, 0, 0, 0])
-    };
-    let steps = [
-        at(100, first(4, [4, 0, 0, 0])),
-        at(123, locked),
-        at(124, first(2, [2, 2, 0, 0])),
-    ];
-    assert!(rt; takes(alloc, ring, &steps)?);
-    Ok(())
+fn power_two_takes_eight_seats(rt: HostRuntime) {
+    assert!(rt; is_so(rt.alloc(), &OF_EIGHT_SEATS));
 }
 
-#[test]
-fn a_drained_device_keeps_its_seats_while_they_are_locked(rt: HostRuntime) -> Result<(), Fail> {
-    let alloc = rt.alloc();
-    let ring = ring(alloc, 2, 2, 24, [10_000, 10_000].as_slice())?;
-    let locked = Step {
-        before: [Change::Adds(1, 10_000), Change::Weighs(1, 0)],
-        hour: 1,
-        ..first(0, [4, 4, 0, 0])
-    };
-    let drained = Step {
-        hour: 24,
-        ..first(4, [4, 0, 4, 0])
-    };
-    let steps = [first(8, [4, 4, 0, 0]), locked, drained];
-    assert!(rt; takes(alloc, ring, &steps)?);
-    Ok(())
-}
+/// A device comes in while partitions are locked, and gets seats once they are free.
+static OF_MOVED_PARTITIONS: Story = Story {
+    ring: ring_like!(WITHOUT_DEVICES, power: 2, next_id: 1, devices: &[DEVICE_0],
+        moved: &[None; 4]),
+    steps: &[
+        step_like!(AT_FIRST, hour: 100, changed: 4, seats: [4, 0, 0, 0]),
+        step_like!(AT_FIRST, before: &[Change::Puts(DEVICE_1)], hour: 123, seats: [4, 0, 0, 0]),
+        step_like!(AT_FIRST, hour: 124, changed: 2, seats: [2, 2, 0, 0]),
+    ],
+};
 
 #[test]
-fn a_want_beyond_reach_leaves_room(rt: HostRuntime) -> Result<(), Fail> {
-    let alloc = rt.alloc();
-    let ring = ring(alloc, 2, 2, 0, [30_000, 10_000].as_slice())?;
-    let steps = [first(8, [4, 4, 0, 0]), first(0, [4, 4, 0, 0])];
-    assert!(rt; takes(alloc, ring, &steps)?);
-    Ok(())
+fn a_moved_partition_stays_for_its_hours(rt: HostRuntime) {
+    assert!(rt; is_so(rt.alloc(), &OF_MOVED_PARTITIONS));
 }
 
-#[test]
-fn one_seat_a_partition_leaves_overfull_devices(rt: HostRuntime) -> Result<(), Fail> {
-    let alloc = rt.alloc();
-    let ring = ring(alloc, 1, 2, 0, [10_000, 10_000].as_slice())?;
-    let spreads = Step {
-        before: [Change::Adds(1, 10_000); 2],
-        ..first(2, [1; 4])
-    };
-    let rests = Step {
-        seed: 8,
-        ..first(0, [1; 4])
-    };
-    assert!(rt; takes(alloc, ring, &[first(4, [2, 2, 0, 0]), spreads, rests])?);
-    Ok(())
-}
+/// A device comes in and another is drained while partitions are locked.
+static OF_A_DRAINED_DEVICE: Story = Story {
+    ring: ring_like!(OF_TWO, power: 2, min_hours: 24, moved: &[None; 4]),
+    steps: &[
+        step_like!(AT_FIRST, changed: 8, seats: [4, 4, 0, 0]),
+        step_like!(AT_FIRST, before: &[Change::Puts(DEVICE_2), Change::Weighs(1, 0)], hour: 1,
+            seats: [4, 4, 0, 0]),
+        step_like!(AT_FIRST, hour: 24, changed: 4, seats: [4, 0, 4, 0]),
+    ],
+};
 
 #[test]
-fn one_place_takes_one_of_two_seats(rt: HostRuntime) -> Result<(), Fail> {
-    let alloc = rt.alloc();
-    let ring = ring(alloc, 1, 2, 0, [10_000, 10_000].as_slice())?;
-    let far = Step {
-        before: [Change::Adds(2, 5_000), Change::Nothing],
-        ..first(1, [2, 1, 1, 0])
-    };
-    assert!(rt; takes(alloc, ring, &[first(4, [2, 2, 0, 0]), far])?);
-    Ok(())
+fn a_drained_device_keeps_its_seats_while_they_are_locked(rt: HostRuntime) {
+    assert!(rt; is_so(rt.alloc(), &OF_A_DRAINED_DEVICE));
 }
 
+/// A device wants more than a seat of each partition.
+static BEYOND_REACH: Story = Story {
+    ring: ring_like!(OF_TWO, power: 2,
+        devices: &[device_like!(DEVICE_0, weight: 30_000), DEVICE_1], moved: &[None; 4]),
+    steps: &[
+        step_like!(AT_FIRST, changed: 8, seats: [4, 4, 0, 0]),
+        step_like!(AT_FIRST, seats: [4, 4, 0, 0]),
+    ],
+};
+
 #[test]
-fn fewer_open_devices_than_replicas_are_too_few(rt: HostRuntime) -> Result<(), Fail> {
-    let alloc = rt.alloc();
-    let ring = ring(alloc, 1, 2, 0, [10_000, 0].as_slice())?;
-    assert!(rt;
-        matches!(
+fn a_want_beyond_reach_leaves_room(rt: HostRuntime) {
+    assert!(rt; is_so(rt.alloc(), &BEYOND_REACH));
+}
+
+/// Two devices come in at once.
+static OF_OVERFULL_DEVICES: Story = Story {
+    ring: OF_TWO,
+    steps: &[
+        step_like!(AT_FIRST, changed: 4, seats: [2, 2, 0, 0]),
+        step_like!(AT_FIRST, before: &[Change::Puts(DEVICE_2), Change::Puts(DEVICE_3)],
+            changed: 2, seats: [1; 4]),
+        step_like!(AT_FIRST, seed: 8, seats: [1; 4]),
+    ],
+};
+
+#[test]
+fn one_seat_a_partition_leaves_overfull_devices(rt: HostRuntime) {
+    assert!(rt; is_so(rt.alloc(), &OF_OVERFULL_DEVICES));
+}
+
+/// A device of half the weight comes in, in another region.
+static OF_A_FAR_DEVICE: Story = Story {
+    ring: OF_TWO,
+    steps: &[
+        step_like!(AT_FIRST, changed: 4, seats: [2, 2, 0, 0]),
+        step_like!(AT_FIRST,
+            before: &[Change::Puts(device_like!(DEVICE_2, region: 2, weight: 5000))], changed: 1,
+            seats: [2, 1, 1, 0]),
+    ],
+};
+
+#[test]
+fn one_place_takes_one_of_two_seats(rt: HostRuntime) {
+    assert!(rt; is_so(rt.alloc(), &OF_A_FAR_DEVICE));
+}
+
+/// A ring of two replicas, of whose devices one is open.
+static OF_ONE_OPEN_DEVICE: RingRow = ring_like!(OF_TWO,
+    devices: &[DEVICE_0, device_like!(DEVICE_1, weight: 0)]);
+
+fn has_too_few(alloc: Global) -> bool {
+    match spelled_ring(alloc, &OF_ONE_OPEN_DEVICE) {
+        Some(ring) => matches!(
             rebalance(alloc, &ring, 0, 7),
             Err(PlaceError::TooFewDevices)
-        )
-    );
-    Ok(())
+        ),
+        None => false,
+    }
 }
 
-/// A ring of 5 replicas without seats, of 256 devices in three regions of seven zones, two on a
-/// server.
-fn wide_ring(alloc: Global, power: u16) -> Result<Ring, Fail> {
-    let mut ring = ring(alloc, power, 5, 0, [].as_slice())?;
+#[test]
+fn fewer_open_devices_than_replicas_are_too_few(rt: HostRuntime) {
+    assert!(rt; has_too_few(rt.alloc()));
+}
+
+/// The 256 devices of a ring in three regions of seven zones, two on a server.
+fn wide_devices(alloc: Global) -> Option<Vec<Device>> {
+    let mut devices = Vec::new(alloc);
     for number in 0..=255u8 {
-        let weight = 10_000 + u32::from(number) * 10;
-        let device = device_at(
-            alloc,
-            number,
-            u16::from(number % 3),
-            u16::from(number % 7),
-            number / 2,
-            weight,
-        )?;
-        ring = with_device(alloc, &ring, device)?;
+        let row = DeviceRow {
+            id: u16::from(number),
+            place: number,
+            server: number / 2,
+            region: u16::from(number % 3),
+            zone: u16::from(number % 7),
+            weight: 10_000 + u32::from(number) * 10,
+            ..DEVICE_0
+        };
+        push_spelled(alloc, &mut devices, &row)?;
     }
-    Ok(ring)
+    Some(devices)
+}
+
+/// What the ring of these devices is made of beside them.
+static OF_256: RingRow = ring_like!(WITHOUT_DEVICES, replicas: 5, min_hours: 0, next_id: 256);
+
+/// A ring of 5 replicas without seats, of those devices.
+fn wide_ring(alloc: Global, power: u16) -> Option<Ring> {
+    let mut row = OF_256;
+    row.power = power;
+    ring_on(alloc, &row, wide_devices(alloc)?, Vec::new(alloc))
+}
+
+fn taken_at_full_size(alloc: Global) -> Option<u32> {
+    let done = rebalance(alloc, &wide_ring(alloc, 14)?, 0, 7).ok()?;
+    Some(done.changed)
 }
 
 #[test]
-fn a_ring_of_full_size_is_assigned(rt: HostRuntime) -> Result<(), Fail> {
-    let alloc = rt.alloc();
-    let ring = wide_ring(alloc, 14)?;
-    assert_eq!(rt; ample_rebalance(alloc, &ring, 0, 7)?.changed, 81_920);
-    Ok(())
+fn a_ring_of_full_size_is_assigned(rt: HostRuntime) {
+    assert!(rt; taken_at_full_size(rt.alloc()) == Some(81_920));
 }
 
-/// The zone of a device where zone 1 has five devices, zone 2 four and zone 3 three.
-fn uneven_zone(id: u16) -> u16 {
-    match id {
-        0..=4 => 1,
-        5..=8 => 2,
-        _ => 3,
+/// Where devices are.
+struct Spots {
+    /// The zone of each.
+    zones: &'static [u16],
+    /// How many of them, from the first on, have the weight below. The others have 100.00.
+    first: u8,
+    /// In hundredths.
+    weight: u32,
+}
+
+/// A device on a server of its own in a zone of region 1.
+fn in_zone(number: u8, zone: u16, weight: u32) -> DeviceRow {
+    DeviceRow {
+        id: u16::from(number),
+        place: number,
+        server: number,
+        zone,
+        weight,
+        ..DEVICE_0
     }
 }
 
-/// How many partitions of a ring of three replicas have all of them in one such zone.
-fn in_one_zone(ring: &Ring) -> usize {
-    let in_zone = |row: &[u16], zone: u16| row.iter().all(|id| uneven_zone(*id) == zone);
-    ring.seats()
-        .chunks(3)
-        .filter(|row| in_zone(row, 1) || in_zone(row, 2) || in_zone(row, 3))
-        .count()
-}
-
-/// The ring of three replicas of these devices, each on a server of its own, once it is assigned.
-fn uneven_ring(alloc: Global) -> Result<Ring, Fail> {
-    let mut ring = ring(alloc, 8, 3, 0, [].as_slice())?;
-    for number in 0..12u8 {
-        let zone = uneven_zone(u16::from(number));
-        ring = with_device(
-            alloc,
-            &ring,
-            device_at(alloc, number, 1, zone, number, 10_000)?,
-        )?;
-    }
-    Ok(ample_rebalance(alloc, &ring, 0, 7)?.ring)
-}
-
-#[test]
-fn uneven_zones_leave_no_partition_in_one_zone(rt: HostRuntime) -> Result<(), Fail> {
-    let alloc = rt.alloc();
-    let ring = uneven_ring(alloc)?;
-    assert_eq!(rt; ring.seats().len(), 768);
-    assert_eq!(rt; in_one_zone(&ring), 0);
-    Ok(())
-}
-
-/// A zone and a weight in hundredths.
-type Spot = (u16, u32);
-
-/// The ring of 256 partitions and three replicas of a device at each spot, on a server of its own,
-/// once it is assigned.
-fn zoned_ring(alloc: Global, spots: &[Spot], seed: u32) -> Result<Ring, Fail> {
-    let mut ring = ring(alloc, 8, 3, 0, [].as_slice())?;
+/// A device at each spot.
+fn devices_at(alloc: Global, spots: &Spots) -> Option<Vec<Device>> {
+    let mut devices = Vec::new(alloc);
     let mut number = 0u8;
-    for spot in spots {
-        let device = device_at(alloc, number, 1, spot.0, number, spot.1)?;
-        ring = with_device(alloc, &ring, device)?;
+    for zone in spots.zones {
+        let weight = if number < spots.first {
+            spots.weight
+        } else {
+            10_000
+        };
+        let row = in_zone(number, *zone, weight);
+        push_spelled(alloc, &mut devices, &row)?;
         number = number.saturating_add(1);
     }
-    Ok(ample_rebalance(alloc, &ring, 0, seed)?.ring)
+    Some(devices)
 }
 
-/// Whether three seats are in three zones.
-fn is_apart(row: &[u16], spots: &[Spot]) -> bool {
-    let zone = |id: u16| spots.get(usize::from(id)).map(|spot| spot.0);
-    match row {
-        [one, two, three] => {
-            let zones = (zone(*one), zone(*two), zone(*three));
-            zones.0 != zones.1 && zones.0 != zones.2 && zones.1 != zones.2
-        }
-        _ => false,
+/// A ring of 256 partitions and three replicas, without devices.
+static OF_THREE_REPLICAS: RingRow = ring_like!(WITHOUT_DEVICES, power: 8, replicas: 3, min_hours: 0,
+    next_id: 12);
+
+/// Such a ring with up to twelve devices at such spots, once it is assigned.
+fn assigned_ring(alloc: Global, spots: &Spots, seed: u32) -> Option<Ring> {
+    let devices = devices_at(alloc, spots)?;
+    let ring = ring_on(alloc, &OF_THREE_REPLICAS, devices, Vec::new(alloc))?;
+    Some(rebalance(alloc, &ring, 0, seed).ok()?.ring)
+}
+
+/// The zone of a device.
+fn zone_of(spots: &Spots, id: &u16) -> u16 {
+    spots.zones.get(usize::from(*id)).copied().unwrap_or(0)
+}
+
+/// In how many zones three seats are.
+fn zone_count(spots: &Spots, row: &[u16]) -> u32 {
+    let [one, two, three] = row else { return 0 };
+    let one = zone_of(spots, one);
+    let two = zone_of(spots, two);
+    let three = zone_of(spots, three);
+    1 + u32::from(two != one) + u32::from(three != one && three != two)
+}
+
+/// How many partitions of a ring of three replicas are in fewer zones.
+fn in_fewer_zones(ring: &Ring, spots: &Spots, count: u32) -> u32 {
+    let mut fewer = 0u32;
+    for row in ring.seats().chunks(3) {
+        fewer = fewer.saturating_add(u32::from(zone_count(spots, row) < count));
     }
+    fewer
 }
 
-/// How many partitions have two of their three replicas in one zone.
-fn not_apart(ring: &Ring, spots: &[Spot]) -> usize {
-    let rows = ring.seats().chunks(3);
-    rows.filter(|row| !is_apart(row, spots)).count()
+/// Whether devices 1 to 8 have about as many seats each.
+fn are_even(ring: &Ring) -> bool {
+    for id in 1..9u16 {
+        let count = have(ring, id);
+        if count < 60 || 68 < count {
+            return false;
+        }
+    }
+    true
+}
+
+/// Five devices in zone 1, four in zone 2 and three in zone 3.
+static UNEVEN: Spots = Spots {
+    zones: &[1, 1, 1, 1, 1, 2, 2, 2, 2, 3, 3, 3],
+    first: 0,
+    weight: 10_000,
+};
+
+fn is_in_no_single_zone(alloc: Global) -> Option<bool> {
+    let ring = assigned_ring(alloc, &UNEVEN, 7)?;
+    Some(ring.seats().len() == 768 && in_fewer_zones(&ring, &UNEVEN, 2) == 0)
+}
+
+#[test]
+fn uneven_zones_leave_no_partition_in_one_zone(rt: HostRuntime) {
+    assert!(rt; matches!(is_in_no_single_zone(rt.alloc()), Some(true)));
 }
 
 /// A zone that wants one seat of each partition, and four that want half of that.
-const ONE_DOUBLE: [Spot; 10] = [
-    (1, 20_000),
-    (1, 20_000),
-    (2, 10_000),
-    (2, 10_000),
-    (3, 10_000),
-    (3, 10_000),
-    (4, 10_000),
-    (4, 10_000),
-    (5, 10_000),
-    (5, 10_000),
-];
+static ONE_DOUBLE: Spots = Spots {
+    zones: &[1, 1, 2, 2, 3, 3, 4, 4, 5, 5],
+    first: 2,
+    weight: 20_000,
+};
+
+/// How many partitions of such a ring have not their replicas in three zones.
+fn close_together(alloc: Global, seed: u32) -> Option<u32> {
+    let ring = assigned_ring(alloc, &ONE_DOUBLE, seed)?;
+    Some(in_fewer_zones(&ring, &ONE_DOUBLE, 3))
+}
 
 #[test]
-fn zones_run_out_of_room_together(rt: HostRuntime) -> Result<(), Fail> {
-    let alloc = rt.alloc();
+fn zones_run_out_of_room_together(rt: HostRuntime) {
     for seed in 1..=3u32 {
-        let ring = zoned_ring(alloc, ONE_DOUBLE.as_slice(), seed)?;
-        assert_eq!(rt; not_apart(&ring, ONE_DOUBLE.as_slice()), 0);
+        assert!(rt; close_together(rt.alloc(), seed) == Some(0), "{seed}");
     }
-    Ok(())
-}
-
-/// Whether it shows at a glance that no device is less crowded for three seats.
-fn is_calm_row(room: &Room, ring: &Ring, row: &[u16]) -> bool
-    requires { room.now.devices ≡ ring.now.devices }
-{
-    let [one, two, three] = row else {
-        return false;
-    };
-    if !ring.has_device(*one) || !ring.has_device(*two) || !ring.has_device(*three) {
-        return false;
-    }
-    room.is_calm(&[Some(*one), Some(*two), Some(*three)])
-}
-
-/// How many partitions are calm where one device of the ring wants more.
-fn calm_rows(alloc: Global, ring: &Ring) -> Result<usize, Fail> {
-    let ring = weighed(alloc, ring, 0, 30_000)?;
-    let wants = wanted(alloc, &ring)?;
-    let room = Room::of(alloc, &ring, &wants)?;
-    let mut count = 0;
-    for row in ring.seats().chunks(3) {
-        let is_calm = room.has_some_room() && is_calm_row(&room, &ring, row);
-        count = usize::from(is_calm).saturating_add(count);
-    }
-    Ok(count)
-}
-
-#[test]
-fn partitions_that_stand_apart_are_calm(rt: HostRuntime) -> Result<(), Fail> {
-    let alloc = rt.alloc();
-    let ring = zoned_ring(alloc, ONE_DOUBLE.as_slice(), 7)?;
-    assert_eq!(rt; calm_rows(alloc, &ring)?, 256);
-    Ok(())
 }
 
 /// A device that wants more than one seat of each partition, and two zones.
-const ONE_HEAVY: [Spot; 9] = [
-    (1, 60_000),
-    (2, 10_000),
-    (2, 10_000),
-    (2, 10_000),
-    (2, 10_000),
-    (3, 10_000),
-    (3, 10_000),
-    (3, 10_000),
-    (3, 10_000),
-];
+static ONE_HEAVY: Spots = Spots {
+    zones: &[1, 2, 2, 2, 2, 3, 3, 3, 3],
+    first: 1,
+    weight: 60_000,
+};
+
+/// Whether what the heavy device of such a ring can't take is spread.
+fn is_spread(alloc: Global) -> Option<bool> {
+    let ring = assigned_ring(alloc, &ONE_HEAVY, 7)?;
+    let is_apart = in_fewer_zones(&ring, &ONE_HEAVY, 3) == 0;
+    Some(have(&ring, 0) == 256 && is_apart && are_even(&ring))
+}
 
 #[test]
-fn what_a_device_cannot_take_is_spread(rt: HostRuntime) -> Result<(), Fail> {
-    let alloc = rt.alloc();
-    let ring = zoned_ring(alloc, ONE_HEAVY.as_slice(), 7)?;
-    assert_eq!(rt; have(&ring, 0), 256);
-    assert_eq!(rt; not_apart(&ring, ONE_HEAVY.as_slice()), 0);
-    assert!(rt; (1..9u16).all(|id| 60 <= have(&ring, id) && have(&ring, id) <= 68));
-    Ok(())
+fn what_a_device_cannot_take_is_spread(rt: HostRuntime) {
+    assert!(rt; matches!(is_spread(rt.alloc()), Some(true)));
 }
 
-/// The ring with four devices more in a second region, without weight.
-fn with_second_region(alloc: Global, ring: &Ring) -> Result<Ring, Fail> {
-    let mut ring = Ring::build(alloc, ring.parts()?)?;
-    for number in 12..16u8 {
-        ring = with_device(alloc, &ring, device(alloc, number, 2, 0)?)?;
-    }
-    Ok(ring)
+/// A device of a second region, without weight, comes in.
+fn in_second(number: u8) -> Change {
+    Change::Puts(DeviceRow {
+        region: 2,
+        ..in_zone(number, 1, 0)
+    })
 }
 
-/// The ring with another weight at each device of the second region.
-fn with_weights(alloc: Global, ring: &Ring, weight: u32) -> Result<Ring, Fail> {
-    let mut ring = Ring::build(alloc, ring.parts()?)?;
-    for id in 12..16u16 {
-        ring = weighed(alloc, &ring, id, weight)?;
-    }
-    Ok(ring)
+/// A ring with uneven zones, and with four devices more in a second region.
+fn with_second_region(alloc: Global) -> Option<Ring> {
+    let ring = assigned_ring(alloc, &UNEVEN, 7)?;
+    let devices = [in_second(12), in_second(13), in_second(14), in_second(15)];
+    after(alloc, &ring, &devices)
 }
 
 /// How many seats the devices of the second region have.
 fn in_second_region(ring: &Ring) -> usize {
-    ring.seats().iter().filter(|id| **id >= 12).count()
+    let mut count = 0usize;
+    for id in ring.seats() {
+        count = count.saturating_add(usize::from(*id >= 12));
+    }
+    count
 }
 
-#[test]
-fn seats_go_home_when_a_region_comes_in_by_steps(rt: HostRuntime) -> Result<(), Fail> {
-    let alloc = rt.alloc();
-    let mut ring = with_second_region(alloc, &uneven_ring(alloc)?)?;
+/// A ring after a rebalance at another weight of each device of the second region, where no seats
+/// change but those that they take.
+fn come_in(alloc: Global, ring: &Ring, step: u32) -> Option<Ring> {
+    let weight = step.saturating_mul(1_250);
+    let weights = [
+        Change::Weighs(12, weight),
+        Change::Weighs(13, weight),
+        Change::Weighs(14, weight),
+        Change::Weighs(15, weight),
+    ];
+    let weighed = after(alloc, ring, &weights)?;
+    let done = rebalance(alloc, &weighed, 0, step).ok()?;
+    let taken = in_second_region(&done.ring).saturating_sub(in_second_region(ring));
+    if done.changed as usize == taken {
+        Some(done.ring)
+    } else {
+        None
+    }
+}
+
+/// How many seats the second region has once it came in by steps.
+fn second_region_at_last(alloc: Global) -> Option<usize> {
+    let mut ring = with_second_region(alloc)?;
     for step in 1..=8u32 {
-        let had = in_second_region(&ring);
-        ring = with_weights(alloc, &ring, step * 1_250)?;
-        let done = ample_rebalance(alloc, &ring, 0, step)?;
-        let taken = in_second_region(&done.ring).saturating_sub(had);
-        assert_eq!(rt; done.changed as usize, taken);
-        ring = done.ring;
+        ring = come_in(alloc, &ring, step)?;
     }
-    assert_eq!(rt; in_second_region(&ring), 192);
-    Ok(())
-}
-
-/// For a seat with up to four others anywhere: the crowd of the device that is found is the least
-/// of a scan of all devices.
-fn least_is_scanned(
-    room: &Room,
-    ring: &Ring,
-    wanted: &[u32],
-    draws: &mut Pcg32,
-) -> Result<bool, Fail>
-    requires { room.now.devices ≡ ring.now.devices }
-{
-    let others = [
-        below(draws, 256) as u16,
-        below(draws, 256) as u16,
-        below(draws, 256) as u16,
-        below(draws, 256) as u16,
-    ];
-    if !ring.has_device(others[0])
-        || !ring.has_device(others[1])
-        || !ring.has_device(others[2])
-        || !ring.has_device(others[3])
-    {
-        return Ok(false);
-    }
-    let places = [
-        room.place_of(others[0]),
-        room.place_of(others[1]),
-        room.place_of(others[2]),
-        room.place_of(others[3]),
-    ];
-    let count = below(draws, 5) as usize;
-    let others = &others[..count];
-    let is_free = |id: u16| has_room(ring, wanted, id) && !others.contains(&id);
-    let least = match room.least_at(&places[..count], draws.next_u32()) {
-        Some(place) => Some(room.id_of(place)),
-        None => None,
-    };
-    let scanned = ring
-        .devices()
-        .iter()
-        .filter(|device| is_free(device.id))
-        .map(|device| crowd_among(ring, others, device.id))
-        .min();
-    let found = least.map(|id| crowd_among(ring, others, id));
-    Ok(found == scanned && least.is_none_or(is_free))
+    Some(in_second_region(&ring))
 }
 
 #[test]
-fn the_least_crowded_of_256_devices_is_that_of_a_scan(rt: HostRuntime) -> Result<(), Fail> {
-    let alloc = rt.alloc();
-    let mut draws = draws_of(3);
-    let mut ring = wide_ring(alloc, 6)?;
-    for round in 0..30u32 {
-        let wants = wanted(alloc, &ring)?;
-        let room = Room::of(alloc, &ring, &wants)?;
-        for _ in 0..20 {
-            assert!(rt; least_is_scanned(&room, &ring, &wants, &mut draws)?);
-        }
-        if round % 10 == 0 {
-            ring = ample_rebalance(alloc, &ring, round, 7)?.ring;
-        }
-        let id = below(&mut draws, 256) as u16;
-        ring = weighed(alloc, &ring, id, below(&mut draws, 40_000))?;
-    }
-    Ok(())
-}
-
-/// Whether device 0, alone in a ring and wanted for two seats, has room until both are taken.
-fn has_room_for_two(alloc: Global, ring: &Ring) -> Result<bool, Fail> {
-    let wants = wanted(alloc, ring)?;
-    if !ring.has_device(0) || wants.as_slice() != [2].as_slice() {
-        return Ok(false);
-    }
-    let mut room = Room::of(alloc, ring, &wants)?;
-    let empty = room.least_at(&[], 7);
-    room.put(0);
-    let half = room.has_room(0);
-    room.put(0);
-    let full = room.least_at(&[], 7);
-    let is_full = !room.has_room(0) && full.is_none();
-    room.take(0);
-    Ok(empty == Some(0) && half && is_full && room.has_room(0))
-}
-
-#[test]
-fn a_room_is_filled_and_emptied(rt: HostRuntime) -> Result<(), Fail> {
-    let alloc = rt.alloc();
-    let ring = ring(alloc, 1, 1, 24, [10_000].as_slice())?;
-    assert!(rt; has_room_for_two(alloc, &ring)?);
-    Ok(())
+fn seats_go_home_when_a_region_comes_in_by_steps(rt: HostRuntime) {
+    assert!(rt; second_region_at_last(rt.alloc()) == Some(192));
 }

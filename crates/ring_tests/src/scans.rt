@@ -17,20 +17,38 @@ pub fn seat(ring: &Ring, partition: usize, replica: usize) -> Option<DeviceId> {
     ring.seats().get(place).copied()
 }
 
-fn find(ring: &Ring, id: DeviceId) -> Option<&Device> {
-    ring.devices().iter().find(|device| device.id == id)
+/// The first of these devices that has this number.
+pub fn find_in(devices: &[Device], id: DeviceId) -> Option<&Device> {
+    for device in devices {
+        if device.id == id {
+            return Some(device);
+        }
+    }
+    None
 }
 
 pub fn is_present(ring: &Ring, id: DeviceId) -> bool {
-    find(ring, id).is_some_and(|device| !device.removed)
+    match find_in(ring.devices(), id) {
+        Some(device) => !device.removed,
+        None => false,
+    }
 }
 
 pub fn is_open(ring: &Ring, id: DeviceId) -> bool {
-    find(ring, id).is_some_and(|device| !device.removed && device.row.weight.hundredths() > 0)
+    match find_in(ring.devices(), id) {
+        Some(device) => !device.removed && device.row.weight.hundredths() > 0,
+        None => false,
+    }
 }
 
 pub fn have(ring: &Ring, id: DeviceId) -> usize {
-    ring.seats().iter().filter(|seat| **seat == id).count()
+    let mut count = 0usize;
+    for seat in ring.seats() {
+        if *seat == id {
+            count = count.saturating_add(1);
+        }
+    }
+    count
 }
 
 pub fn want(ring: &Ring, wanted: &[u32], id: DeviceId) -> usize {
@@ -43,7 +61,12 @@ pub fn want(ring: &Ring, wanted: &[u32], id: DeviceId) -> usize {
 }
 
 fn is_outside(ring: &Ring, partition: usize, id: DeviceId) -> bool {
-    (0..width(ring)).all(|replica| seat(ring, partition, replica) != Some(id))
+    for replica in 0..width(ring) {
+        if seat(ring, partition, replica) == Some(id) {
+            return false;
+        }
+    }
+    true
 }
 
 pub fn has_room(ring: &Ring, wanted: &[u32], id: DeviceId) -> bool {
@@ -55,9 +78,12 @@ fn is_free(ring: &Ring, wanted: &[u32], partition: usize, id: DeviceId) -> bool 
 }
 
 pub fn has_free(ring: &Ring, wanted: &[u32], partition: usize) -> bool {
-    ring.devices()
-        .iter()
-        .any(|device| is_free(ring, wanted, partition, device.id))
+    for device in ring.devices() {
+        if is_free(ring, wanted, partition, device.id) {
+            return true;
+        }
+    }
+    false
 }
 
 /// 1 for each tier that two devices share, as one number: regions count ten thousands, zones
@@ -76,13 +102,14 @@ fn near(one: &Device, other: &Device) -> usize {
 
 /// How many of these devices are in a device's region, in its zone, on its server, as one number.
 pub fn crowd_among(ring: &Ring, others: &[DeviceId], id: DeviceId) -> usize {
-    let Some(own) = find(ring, id) else {
+    let Some(own) = find_in(ring.devices(), id) else {
         return 0;
     };
     let mut crowd = 0usize;
     for other in others {
-        let shared = find(ring, *other).map_or(0, |other| near(own, other));
-        crowd = crowd.saturating_add(shared);
+        if let Some(other) = find_in(ring.devices(), *other) {
+            crowd = crowd.saturating_add(near(own, other));
+        }
     }
     crowd
 }
@@ -109,10 +136,14 @@ pub fn has_less_crowded(
     id: DeviceId,
 ) -> bool {
     let own = crowd(ring, partition, replica, id);
-    ring.devices().iter().any(|device| {
-        is_free(ring, wanted, partition, device.id)
+    for device in ring.devices() {
+        if is_free(ring, wanted, partition, device.id)
             && crowd(ring, partition, replica, device.id) < own
-    })
+        {
+            return true;
+        }
+    }
+    false
 }
 
 pub fn is_lost(ring: &Ring, partition: usize, replica: usize) -> bool {

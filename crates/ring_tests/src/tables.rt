@@ -1,169 +1,139 @@
 //! What no contract says: worked tables, and rings and stores as JSON, byte for byte, and that calls
 //! succeed where there is memory.
 use crate::fixtures::{
-    DEVICE_0, DEVICE_1, DEVICE_2, DEVICE_3, DeviceRow, FAR, NEAR, OF_FOUR_WEIGHTS, OF_ONE_WEIGHT,
-    RingRow, WITHOUT_DEVICES, device, ring, spelled_ring, with_ring,
+    DEVICE_0, DEVICE_1, DEVICE_2, DEVICE_3, DeviceRow, FAR, NEAR, NamedRow, OF_FOUR_WEIGHTS,
+    OF_ONE_WEIGHT, RingRow, WITHOUT_DEVICES, ring_on, spelled_ring, spelled_rings,
 };
-use ring_model::{Ring, Rings};
+use ring_model::Ring;
 use ring_reads::{Held, Plain, rings_json, status_json};
 use ring_tables::{balance_table, device_table};
-use ring_words::{Address, Device, DeviceName, Hour, Port, RingName};
+use ring_words::{Address, Device, DeviceName, Hour, Port, RingName, Row, Weight};
 use std::alloc::Global;
-use std::test::Fail;
 
 /// Two devices with as many seats as they want.
-const BALANCED: RingRow = RingRow {
-    power: 2,
-    version: 3,
-    devices: &[DEVICE_0, DEVICE_1],
-    seats: &[0, 1, 1, 0],
-    moved: &[None; 4],
-    ..WITHOUT_DEVICES
-};
+const BALANCED: RingRow = ring_like!(WITHOUT_DEVICES, power: 2, version: 3,
+    devices: &[DEVICE_0, DEVICE_1], seats: &[0, 1, 1, 0], moved: &[None; 4]);
 
 /// Devices that are marked to be removed, empty, or both, and one that is open.
-const REMOVED_AND_DRAINED: RingRow = RingRow {
-    version: 9,
+const REMOVED_AND_DRAINED: RingRow = ring_like!(WITHOUT_DEVICES, version: 9,
     devices: &[
-        DeviceRow {
-            removed: true,
-            ..DEVICE_0
-        },
-        DeviceRow {
-            weight: "0.00",
-            ..DEVICE_1
-        },
-        DeviceRow {
-            weight: "50.00",
-            ..DEVICE_2
-        },
-        DeviceRow {
-            weight: "0.00",
-            removed: true,
-            ..DEVICE_3
-        },
+        device_like!(DEVICE_0, removed: true),
+        device_like!(DEVICE_1, weight: 0),
+        device_like!(DEVICE_2, weight: 5000),
+        device_like!(DEVICE_3, weight: 0, removed: true),
     ],
-    seats: &[0, 2],
-    ..WITHOUT_DEVICES
-};
+    seats: &[0, 2]);
 
-/// Rings and the tables of their devices.
-static DEVICE_TABLES: [(&str, RingRow, &str); 3] = [
-    (
-        "devices stand by their number",
-        BALANCED,
-        concat!(
-            "   id region  zone address          port     weight state   name\n",
-            "    0      1     1 10.0.0.1         6200     100.00 open    d0\n",
-            "    1      1     1 10.0.0.2         6200     100.00 open    d1\n",
-        ),
-    ),
-    (
-        "a ring without devices has titles alone",
-        WITHOUT_DEVICES,
+/// Rings, of which the table below tells the devices.
+static DEVICE_RINGS: [RingRow; 3] = [BALANCED, WITHOUT_DEVICES, REMOVED_AND_DRAINED];
+
+/// The tables of the devices of those rings, in their order.
+static DEVICE_TABLES: [&str; 3] = [
+    // devices stand by their number
+    concat!(
         "   id region  zone address          port     weight state   name\n",
+        "    0      1     1 10.0.0.1         6200     100.00 open    d0\n",
+        "    1      1     1 10.0.0.2         6200     100.00 open    d1\n",
     ),
-    (
-        "removed and drained devices are told apart",
-        REMOVED_AND_DRAINED,
-        concat!(
-            "   id region  zone address          port     weight state   name\n",
-            "    0      1     1 10.0.0.1         6200     100.00 removed d0\n",
-            "    1      1     1 10.0.0.2         6200       0.00 drained d1\n",
-            "    2      1     1 10.0.0.3         6200      50.00 open    d2\n",
-            "    3      1     1 10.0.0.4         6200       0.00 removed d3\n",
-        ),
-    ),
-];
-
-/// Rings and the tables of their balances.
-static BALANCE_TABLES: [(&str, RingRow, &str); 7] = [
-    (
-        "balanced devices have what they want",
-        BALANCED,
-        concat!(
-            "   id     weight wanted    has balance\n",
-            "    0     100.00      2      2    0.00\n",
-            "    1     100.00      2      2    0.00\n",
-            "balance 0.00 dispersion 0.00 version 3\n",
-        ),
-    ),
-    (
-        "ties go to the lower number",
-        OF_ONE_WEIGHT,
-        concat!(
-            "   id     weight wanted    has balance\n",
-            "    0     100.00      3      0  100.00\n",
-            "    1     100.00      3      0  100.00\n",
-            "    2     100.00      2      0  100.00\n",
-            "balance 100.00 dispersion 0.00 version 3\n",
-        ),
-    ),
-    (
-        "wants are by weight",
-        OF_FOUR_WEIGHTS,
-        concat!(
-            "   id     weight wanted    has balance\n",
-            "    0     100.00      9      0  100.00\n",
-            "    1      50.00      5      0  100.00\n",
-            "    2      25.00      2      0  100.00\n",
-            "    3       0.00      0      0    0.00\n",
-            "balance 100.00 dispersion 0.00 version 4\n",
-        ),
-    ),
-    (
-        "a ring without devices has titles and figures alone",
-        WITHOUT_DEVICES,
-        concat!(
-            "   id     weight wanted    has balance\n",
-            "balance 0.00 dispersion 0.00 version 0\n",
-        ),
-    ),
-    (
-        "seats are too much for a removed device",
-        REMOVED_AND_DRAINED,
-        concat!(
-            "   id     weight wanted    has balance\n",
-            "    0     100.00      0      1  999.99\n",
-            "    1       0.00      0      0    0.00\n",
-            "    2      50.00      2      1   50.00\n",
-            "    3       0.00      0      0    0.00\n",
-            "balance 999.99 dispersion 0.00 version 9\n",
-        ),
-    ),
-    (
-        "all partitions in one region are not dispersed",
-        NEAR,
-        concat!(
-            "   id     weight wanted    has balance\n",
-            "    0     100.00      1      2  100.00\n",
-            "    1     100.00      1      2  100.00\n",
-            "    2     200.00      2      0  100.00\n",
-            "balance 100.00 dispersion 100.00 version 4\n",
-        ),
-    ),
-    (
-        "dispersion falls with a far device",
-        FAR,
-        concat!(
-            "   id     weight wanted    has balance\n",
-            "    0     100.00      1      2  100.00\n",
-            "    1     100.00      1      1    0.00\n",
-            "    2     200.00      2      1   50.00\n",
-            "balance 100.00 dispersion 50.00 version 4\n",
-        ),
+    // a ring without devices has titles alone
+    "   id region  zone address          port     weight state   name\n",
+    // removed and drained devices are told apart
+    concat!(
+        "   id region  zone address          port     weight state   name\n",
+        "    0      1     1 10.0.0.1         6200     100.00 removed d0\n",
+        "    1      1     1 10.0.0.2         6200       0.00 drained d1\n",
+        "    2      1     1 10.0.0.3         6200      50.00 open    d2\n",
+        "    3      1     1 10.0.0.4         6200       0.00 removed d3\n",
     ),
 ];
 
-/// Rings, hours, and what is told of the rings at these.
-static RINGS: [(&str, RingRow, Hour, &str); 4] = [
+/// Rings, of which the table below tells the balances.
+static BALANCE_RINGS: [RingRow; 7] = [
+    BALANCED,
+    OF_ONE_WEIGHT,
+    OF_FOUR_WEIGHTS,
+    WITHOUT_DEVICES,
+    REMOVED_AND_DRAINED,
+    NEAR,
+    FAR,
+];
+
+/// The tables of the balances of those rings, in their order.
+static BALANCE_TABLES: [&str; 7] = [
+    // balanced devices have what they want
+    concat!(
+        "   id     weight wanted    has balance\n",
+        "    0     100.00      2      2    0.00\n",
+        "    1     100.00      2      2    0.00\n",
+        "balance 0.00 dispersion 0.00 version 3\n",
+    ),
+    // ties go to the lower number
+    concat!(
+        "   id     weight wanted    has balance\n",
+        "    0     100.00      3      0  100.00\n",
+        "    1     100.00      3      0  100.00\n",
+        "    2     100.00      2      0  100.00\n",
+        "balance 100.00 dispersion 0.00 version 3\n",
+    ),
+    // wants are by weight
+    concat!(
+        "   id     weight wanted    has balance\n",
+        "    0     100.00      9      0  100.00\n",
+        "    1      50.00      5      0  100.00\n",
+        "    2      25.00      2      0  100.00\n",
+        "    3       0.00      0      0    0.00\n",
+        "balance 100.00 dispersion 0.00 version 4\n",
+    ),
+    // a ring without devices has titles and figures alone
+    concat!(
+        "   id     weight wanted    has balance\n",
+        "balance 0.00 dispersion 0.00 version 0\n",
+    ),
+    // seats are too much for a removed device
+    concat!(
+        "   id     weight wanted    has balance\n",
+        "    0     100.00      0      1  999.99\n",
+        "    1       0.00      0      0    0.00\n",
+        "    2      50.00      2      1   50.00\n",
+        "    3       0.00      0      0    0.00\n",
+        "balance 999.99 dispersion 0.00 version 9\n",
+    ),
+    // all partitions in one region are not dispersed
+    concat!(
+        "   id     weight wanted    has balance\n",
+        "    0     100.00      1      2  100.00\n",
+        "    1     100.00      1      2  100.00\n",
+        "    2     200.00      2      0  100.00\n",
+        "balance 100.00 dispersion 100.00 version 4\n",
+    ),
+    // dispersion falls with a far device
+    concat!(
+        "   id     weight wanted    has balance\n",
+        "    0     100.00      1      2  100.00\n",
+        "    1     100.00      1      1    0.00\n",
+        "    2     200.00      2      1   50.00\n",
+        "balance 100.00 dispersion 50.00 version 4\n",
+    ),
+];
+
+/// Rings, of which the table below tells all, or their locks.
+static PLAIN_RINGS: [RingRow; 7] = [
+    ring_like!(NEAR, moved: &[Some(6), Some(25)],
+        published: &[(2, "the second"), (4, "the fourth")]),
+    ring_like!(BALANCED, moved: &[Some(25), Some(10), None, Some(6)]),
+    WITHOUT_DEVICES,
+    REMOVED_AND_DRAINED,
+    ring_like!(WITHOUT_DEVICES, power: 3, devices: &[DEVICE_0], seats: &[0; 8],
+        moved: &[Some(25), Some(10), None, Some(6), Some(25), Some(7), Some(10), Some(25)]),
+    WITHOUT_DEVICES,
+    ring_like!(BALANCED, moved: &[Some(u32::MAX), Some(0), None, None]),
+];
+
+/// Words and hours, and what is told of those rings for these, in their order.
+static PLAIN: [(Plain, Hour, &str); 7] = [
+    // a partition is free once its hours have passed, and another isn't
     (
-        "a partition is free once its hours have passed, and another isn't",
-        RingRow {
-            moved: &[Some(6), Some(25)],
-            published: &[(2, "the second"), (4, "the fourth")],
-            ..NEAR
-        },
+        Plain::Ring,
         30,
         concat!(
             r#"{"balance":10000,"devices":["#,
@@ -177,12 +147,9 @@ static RINGS: [(&str, RingRow, Hour, &str); 4] = [
             r#""published":[2,4],"replicas":2,"rests":19,"ring":"photos","seats":4,"version":4}"#,
         ),
     ),
+    // the partition that was moved last is locked longest
     (
-        "the partition that was moved last is locked longest",
-        RingRow {
-            moved: &[Some(25), Some(10), None, Some(6)],
-            ..BALANCED
-        },
+        Plain::Ring,
         30,
         concat!(
             r#"{"balance":0,"devices":["#,
@@ -194,9 +161,9 @@ static RINGS: [(&str, RingRow, Hour, &str); 4] = [
             r#""published":[],"replicas":1,"rests":19,"ring":"photos","seats":4,"version":3}"#,
         ),
     ),
+    // a ring without devices has empty lists
     (
-        "a ring without devices has empty lists",
-        WITHOUT_DEVICES,
+        Plain::Ring,
         0,
         concat!(
             r#"{"balance":0,"devices":[],"dispersion":0,"hour":0,"locked":0,"min_hours":24,"#,
@@ -204,9 +171,9 @@ static RINGS: [(&str, RingRow, Hour, &str); 4] = [
             r#""ring":"photos","seats":0,"version":0}"#,
         ),
     ),
+    // removed and drained devices are told apart
     (
-        "removed and drained devices are told apart",
-        REMOVED_AND_DRAINED,
+        Plain::Ring,
         480000,
         concat!(
             r#"{"balance":99999,"devices":["#,
@@ -222,28 +189,9 @@ static RINGS: [(&str, RingRow, Hour, &str); 4] = [
             r#""published":[],"replicas":1,"rests":0,"ring":"photos","seats":2,"version":9}"#,
         ),
     ),
-];
-
-/// Rings, hours, and what is told of the locks of the rings at these.
-static LOCKS: [(&str, RingRow, Hour, &str); 3] = [
+    // partitions are free by the hours of their moves, and two were free before
     (
-        "partitions are free by the hours of their moves, and two were free before",
-        RingRow {
-            power: 3,
-            devices: &[DEVICE_0],
-            seats: &[0; 8],
-            moved: &[
-                Some(25),
-                Some(10),
-                None,
-                Some(6),
-                Some(25),
-                Some(7),
-                Some(10),
-                Some(25),
-            ],
-            ..WITHOUT_DEVICES
-        },
+        Plain::Locks,
         30,
         concat!(
             r#"{"hour":30,"locked":6,"min_hours":24,"partitions":8,"rests":["#,
@@ -251,18 +199,15 @@ static LOCKS: [(&str, RingRow, Hour, &str); 3] = [
             r#"{"hours":19,"partitions":3}],"ring":"photos"}"#,
         ),
     ),
+    // where no partition is locked, the list is empty
     (
-        "where no partition is locked, the list is empty",
-        WITHOUT_DEVICES,
+        Plain::Locks,
         0,
         r#"{"hour":0,"locked":0,"min_hours":24,"partitions":2,"rests":[],"ring":"photos"}"#,
     ),
+    // a partition that was moved after the hour is locked longer than others can be
     (
-        "a partition that was moved after the hour is locked longer than others can be",
-        RingRow {
-            moved: &[Some(u32::MAX), Some(0), None, None],
-            ..BALANCED
-        },
+        Plain::Locks,
         0,
         concat!(
             r#"{"hour":0,"locked":2,"min_hours":24,"partitions":4,"rests":["#,
@@ -271,76 +216,72 @@ static LOCKS: [(&str, RingRow, Hour, &str); 3] = [
     ),
 ];
 
-/// Whether a ring's table of devices is this text.
-fn has_devices(alloc: Global, ring: &Ring, text: &str) -> Result<bool, Fail> {
-    Ok(device_table(alloc, ring)?.as_str() == text)
+/// What there is to tell of a ring.
+#[derive(Clone, Copy)]
+enum Telling {
+    /// The table of its devices.
+    Devices,
+    /// The table of its balance.
+    Balance,
+    /// What a word asks for, at an hour, under the name `photos`.
+    Plain(Plain, Hour),
 }
 
-/// Whether a ring's table of its balance is this text.
-fn has_balance(alloc: Global, ring: &Ring, text: &str) -> Result<bool, Fail> {
-    Ok(balance_table(alloc, ring)?.as_str() == text)
+/// What is told of a ring.
+fn told(alloc: Global, ring: &Ring, telling: Telling) -> Option<String> {
+    match telling {
+        Telling::Devices => device_table(alloc, ring).ok(),
+        Telling::Balance => balance_table(alloc, ring).ok(),
+        Telling::Plain(plain, hour) => {
+            let name = RingName::new(alloc, "photos").ok()?;
+            plain.text(alloc, &name, ring, hour).ok()
+        }
+    }
 }
 
-/// Whether the table of devices of the ring that a row spells is this text.
-fn are_devices_told(alloc: Global, row: &RingRow, text: &str) -> Result<bool, Fail> {
-    let ring = spelled_ring(alloc, row)?;
-    has_devices(alloc, &ring, text)
+/// Whether this text is told.
+fn is_text(told: Option<String>, text: &str) -> bool {
+    match told {
+        Some(told) => told.as_str() == text,
+        None => false,
+    }
 }
 
-/// Whether the table of the balance of the ring that a row spells is this text.
-fn is_balance_told(alloc: Global, row: &RingRow, text: &str) -> Result<bool, Fail> {
-    let ring = spelled_ring(alloc, row)?;
-    has_balance(alloc, &ring, text)
+/// Whether this text is told of the ring that the row at a place spells.
+fn is_told_at(alloc: Global, rows: &[RingRow], place: usize, telling: Telling, text: &str) -> bool {
+    let Some(row) = rows.get(place) else {
+        return false;
+    };
+    match spelled_ring(alloc, row) {
+        Some(ring) => is_text(told(alloc, &ring, telling), text),
+        None => false,
+    }
 }
 
 #[test]
-fn devices_are_told(rt: HostRuntime) -> Result<(), Fail> {
-    for (shows, row, text) in &DEVICE_TABLES {
-        assert!(rt; are_devices_told(rt.alloc(), row, text)?, "{shows}");
+fn devices_are_told(rt: HostRuntime) {
+    for (place, text) in DEVICE_TABLES.iter().enumerate() {
+        let is_told = is_told_at(rt.alloc(), &DEVICE_RINGS, place, Telling::Devices, text);
+        assert!(rt; is_told, "{place}");
     }
-    Ok(())
 }
 
 #[test]
-fn balances_are_told(rt: HostRuntime) -> Result<(), Fail> {
-    for (shows, row, text) in &BALANCE_TABLES {
-        assert!(rt; is_balance_told(rt.alloc(), row, text)?, "{shows}");
+fn balances_are_told(rt: HostRuntime) {
+    for (place, text) in BALANCE_TABLES.iter().enumerate() {
+        let is_told = is_told_at(rt.alloc(), &BALANCE_RINGS, place, Telling::Balance, text);
+        assert!(rt; is_told, "{place}");
     }
-    Ok(())
-}
-
-/// Whether this text is what is told, under the name `photos`, of the ring that a row spells.
-fn is_plain_told(
-    alloc: Global,
-    plain: Plain,
-    row: &RingRow,
-    hour: Hour,
-    text: &str,
-) -> Result<bool, Fail> {
-    let ring = spelled_ring(alloc, row)?;
-    let name = RingName::new(alloc, "photos")?;
-    Ok(plain.text(alloc, &name, &ring, hour)?.as_str() == text)
 }
 
 #[test]
-fn rings_are_told(rt: HostRuntime) -> Result<(), Fail> {
-    for (shows, row, hour, text) in &RINGS {
-        assert!(rt;
-            is_plain_told(rt.alloc(), Plain::Ring, row, *hour, text)?,
-            "{shows}"
-        );
+fn rings_are_told(rt: HostRuntime) {
+    for (place, (plain, hour, text)) in PLAIN.iter().enumerate() {
+        let telling = Telling::Plain(*plain, *hour);
+        let is_told = is_told_at(rt.alloc(), &PLAIN_RINGS, place, telling, text);
+        assert!(rt; is_told, "{place}");
     }
-    for (shows, row, hour, text) in &LOCKS {
-        assert!(rt;
-            is_plain_told(rt.alloc(), Plain::Locks, row, *hour, text)?,
-            "{shows}"
-        );
-    }
-    Ok(())
 }
-
-/// A ring under its name.
-type NamedRow = (&'static str, RingRow);
 
 /// Rings of four names.
 const FOUR_RINGS: [NamedRow; 4] = [
@@ -350,71 +291,53 @@ const FOUR_RINGS: [NamedRow; 4] = [
     ("a-2", REMOVED_AND_DRAINED),
 ];
 
-/// Rings, and what is told of which there are.
-static LISTS: [(&str, &[NamedRow], &str); 3] = [
-    ("no rings are an empty list", &[], r#"{"rings":[]}"#),
+/// Rings that there are, of which the table below tells.
+static STORES: [&[NamedRow]; 6] = [
+    &[],
+    &[("photos", BALANCED)],
+    &FOUR_RINGS,
+    &[],
+    &FOUR_RINGS,
+    &[("photos", BALANCED)],
+];
+
+/// An hour, how many numbers are kept and may be, and what is told of that and of those rings, in
+/// their order; or which rings there are, where none of these is given.
+static TOLD: [(Option<(Hour, usize, u32)>, &str); 6] = [
+    (None, r#"{"rings":[]}"#), // no rings are an empty list
+    // a ring has its version
+    (None, r#"{"rings":[{"ring":"photos","version":3}]}"#),
+    // rings stand by their names, byte by byte
     (
-        "a ring has its version",
-        &[("photos", BALANCED)],
-        r#"{"rings":[{"ring":"photos","version":3}]}"#,
-    ),
-    (
-        "rings stand by their names, byte by byte",
-        &FOUR_RINGS,
+        None,
         concat!(
             r#"{"rings":[{"ring":"a","version":0},{"ring":"a-2","version":9},{"#,
             r#""ring":"a2","version":4},{"ring":"photos","version":3}]}"#,
         ),
     ),
-];
-
-/// Rings, hours, how many numbers are kept and may be, and what is told of all that.
-static STATUSES: [(&str, &[NamedRow], (Hour, usize, u32), &str); 3] = [
+    // before the first request all is 0
     (
-        "before the first request all is 0",
-        &[],
-        (0, 0, 100_000),
+        Some((0, 0, 100_000)),
         r#"{"hour":0,"kept":0,"limit":100000,"rings":0}"#,
     ),
+    // each figure stands under its key
     (
-        "each figure stands under its key",
-        &FOUR_RINGS,
-        (480_000, 1_234, 100_000),
+        Some((480_000, 1_234, 100_000)),
         r#"{"hour":480000,"kept":1234,"limit":100000,"rings":4}"#,
     ),
+    // the greatest figures are told
     (
-        "the greatest figures are told",
-        &[("photos", BALANCED)],
-        (u32::MAX, 100_000, u32::MAX),
+        Some((u32::MAX, 100_000, u32::MAX)),
         r#"{"hour":4294967295,"kept":100000,"limit":4294967295,"rings":1}"#,
     ),
 ];
 
-/// The rings that rows spell, under their names.
-fn spelled_rings(alloc: Global, rows: &[NamedRow]) -> Result<Rings, Fail> {
-    let mut rings = Rings::new(alloc);
-    for (name, row) in rows {
-        rings = with_ring(alloc, &rings, name, spelled_ring(alloc, row)?)?;
-    }
-    Ok(rings)
-}
-
-/// Whether this text tells which rings there are.
-fn are_rings_told(alloc: Global, rows: &[NamedRow], text: &str) -> Result<bool, Fail> {
-    let rings = spelled_rings(alloc, rows)?;
-    Ok(rings_json(alloc, &rings)?.as_str() == text)
-}
-
-/// Whether this text tells how much is held: these rings, and an hour, how many numbers are kept and
-/// how many may be.
-fn is_status_told(
-    alloc: Global,
-    rows: &[NamedRow],
-    figures: (Hour, usize, u32),
-    text: &str,
-) -> Result<bool, Fail> {
-    let rings = spelled_rings(alloc, rows)?;
-    let (hour, kept, limit) = figures;
+/// What is told of the rings at a place.
+fn told_of(alloc: Global, place: usize, figures: Option<(Hour, usize, u32)>) -> Option<String> {
+    let rings = spelled_rings(alloc, STORES.get(place)?)?;
+    let Some((hour, kept, limit)) = figures else {
+        return rings_json(alloc, &rings).ok();
+    };
     let held = Held {
         rings: &rings,
         hour,
@@ -422,64 +345,64 @@ fn is_status_told(
         kept,
         limit,
     };
-    Ok(status_json(alloc, &held)?.as_str() == text)
+    status_json(alloc, &held).ok()
 }
 
 #[test]
-fn stores_are_told(rt: HostRuntime) -> Result<(), Fail> {
-    for (shows, rows, text) in &LISTS {
-        assert!(rt; are_rings_told(rt.alloc(), rows, text)?, "{shows}");
+fn stores_are_told(rt: HostRuntime) {
+    for (place, (figures, text)) in TOLD.iter().enumerate() {
+        let is_told = is_text(told_of(rt.alloc(), place, *figures), text);
+        assert!(rt; is_told, "{place}");
     }
-    for (shows, rows, figures, text) in &STATUSES {
-        assert!(rt;
-            is_status_told(rt.alloc(), rows, *figures, text)?,
-            "{shows}"
-        );
-    }
-    Ok(())
 }
 
 /// A device that has the widest values.
-fn widest_device(alloc: Global) -> Result<Device, Fail> {
-    let mut wide = device(alloc, 0, "1000000.00")?;
-    wide.id = 65535;
-    wide.row.region = 65535;
-    wide.row.zone = 65535;
-    wide.row.address = Address::parse("255.255.255.255").ok_or("an address")?;
-    wide.row.port = Port::new(65535).ok_or("a port")?;
-    wide.row.name = DeviceName::new(alloc, "A_z-0123456789012345678901234567")?;
-    Ok(wide)
+fn widest_device(alloc: Global) -> Option<Device> {
+    let row = Row {
+        region: 65535,
+        zone: 65535,
+        address: Address::parse("255.255.255.255")?,
+        port: Port::new(65535)?,
+        weight: Weight::parse("1000000.00")?,
+        name: DeviceName::new(alloc, "A_z-0123456789012345678901234567").ok()?,
+    };
+    Some(Device {
+        id: 65535,
+        row,
+        removed: false,
+    })
 }
 
+/// A ring of the greatest power at the greatest version.
+static WIDEST: RingRow = ring_like!(WITHOUT_DEVICES, power: 14, version: u32::MAX);
+
 /// A ring that has the widest values.
-fn widest_ring(alloc: Global) -> Result<Ring, Fail> {
-    let mut devices = Vec::new(alloc);
-    devices.push(widest_device(alloc)?)?;
-    ring(alloc, (14, 1), u32::MAX, devices, Vec::new(alloc))
+fn widest_ring(alloc: Global) -> Option<Ring> {
+    let devices = vec![in alloc; widest_device(alloc)?].ok()?;
+    ring_on(alloc, &WIDEST, devices, Vec::new(alloc))
 }
 
 /// The table of the widest device.
-const WIDEST_DEVICE: &str = concat!(
+static WIDEST_DEVICE: &str = concat!(
     "   id region  zone address          port     weight state   name\n",
     "65535  65535 65535 255.255.255.255 65535 1000000.00 open    ",
     "A_z-0123456789012345678901234567\n",
 );
 
 /// The table of the widest balance.
-const WIDEST_BALANCE: &str = concat!(
+static WIDEST_BALANCE: &str = concat!(
     "   id     weight wanted    has balance\n",
     "65535 1000000.00  16384      0  100.00\n",
     "balance 100.00 dispersion 0.00 version 4294967295\n",
 );
 
-/// Whether the tables of the widest ring are those above.
-fn do_the_widest_fit(alloc: Global) -> Result<bool, Fail> {
+fn do_the_widest_fit(alloc: Global) -> Option<bool> {
     let ring = widest_ring(alloc)?;
-    Ok(has_devices(alloc, &ring, WIDEST_DEVICE)? && has_balance(alloc, &ring, WIDEST_BALANCE)?)
+    let has_table = is_text(told(alloc, &ring, Telling::Devices), WIDEST_DEVICE);
+    Some(has_table && is_text(told(alloc, &ring, Telling::Balance), WIDEST_BALANCE))
 }
 
 #[test]
-fn the_widest_values_fit_their_columns(rt: HostRuntime) -> Result<(), Fail> {
-    assert!(rt; do_the_widest_fit(rt.alloc())?);
-    Ok(())
+fn the_widest_values_fit_their_columns(rt: HostRuntime) {
+    assert!(rt; matches!(do_the_widest_fit(rt.alloc()), Some(true)));
 }

@@ -3,8 +3,8 @@ use ring_words::{
     Address, Caller, Limits, Name, NameFault, NameKind, OfCaller, OfDevice, OfRing, Port, Power,
     Replicas, Weight, parse_decimal,
 };
-use std::alloc::{AllocError, Global};
-use std::test::Fail;
+use std::alloc::Global;
+use std::fmt::Display;
 
 /// Texts, and the hundredths of the weights that they spell.
 static WEIGHTS: [(&str, Option<u32>); 19] = [
@@ -29,22 +29,29 @@ static WEIGHTS: [(&str, Option<u32>); 19] = [
     (" 1.00", None),
 ];
 
+/// Whether a word is written as this text.
+fn is_written<W: Display>(alloc: Global, word: &W, text: &str) -> bool {
+    match word.to_string(alloc) {
+        Ok(written) => written.as_str() == text,
+        Err(_) => false,
+    }
+}
+
 /// Whether a text spells a weight of so many hundredths, which is written as that text, or none.
-fn is_weight(alloc: Global, text: &str, hundredths: Option<u32>) -> Result<bool, AllocError> {
+fn is_weight(alloc: Global, text: &str, hundredths: Option<u32>) -> bool {
     let Some(weight) = Weight::parse(text) else {
-        return Ok(hundredths.is_none());
+        return hundredths.is_none();
     };
-    let is_same = hundredths == Some(weight.hundredths())
-        && hundredths.and_then(Weight::of) == Some(weight);
-    Ok(is_same && weight.to_string(alloc)?.as_str() == text)
+    hundredths == Some(weight.hundredths())
+        && Weight::of(weight.hundredths()) == Some(weight)
+        && is_written(alloc, &weight, text)
 }
 
 #[test]
-fn a_weight_has_one_spelling(rt: HostRuntime) -> Result<(), Fail> {
+fn a_weight_has_one_spelling(rt: HostRuntime) {
     for (text, hundredths) in &WEIGHTS {
-        assert!(rt; is_weight(rt.alloc(), text, *hundredths)?, "{text}");
+        assert!(rt; is_weight(rt.alloc(), text, *hundredths), "{text}");
     }
-    Ok(())
 }
 
 /// Texts, and whether they spell an address.
@@ -67,19 +74,18 @@ static ADDRESSES: [(&str, bool); 15] = [
 ];
 
 /// Whether a text spells an address, which is written as that text.
-fn is_address(alloc: Global, text: &str) -> Result<bool, AllocError> {
+fn is_address(alloc: Global, text: &str) -> bool {
     match Address::parse(text) {
-        Some(address) => Ok(address.to_string(alloc)?.as_str() == text),
-        None => Ok(false),
+        Some(address) => is_written(alloc, &address, text),
+        None => false,
     }
 }
 
 #[test]
-fn an_address_has_one_spelling(rt: HostRuntime) -> Result<(), Fail> {
+fn an_address_has_one_spelling(rt: HostRuntime) {
     for (text, spells) in &ADDRESSES {
-        assert!(rt; is_address(rt.alloc(), text)? == *spells, "{text}");
+        assert!(rt; is_address(rt.alloc(), text) == *spells, "{text}");
     }
-    Ok(())
 }
 
 /// Whether numbers are bounded, and known again.
@@ -87,25 +93,23 @@ fn are_bounded() -> bool {
     Weight::of(100_000_001).is_none()
         && Power::new(0).is_none()
         && Power::new(15).is_none()
-        && Power::new(14).is_some_and(|power| power.get() == 14)
+        && matches!(Power::new(14), Some(power) if power.get() == 14)
         && Replicas::new(0).is_none()
         && Replicas::new(6).is_none()
-        && Replicas::new(5).is_some_and(|replicas| replicas.get() == 5)
+        && matches!(Replicas::new(5), Some(replicas) if replicas.get() == 5)
         && Port::new(0).is_none()
 }
 
-/// Whether the greatest port is written.
-fn is_greatest_port_written(alloc: Global) -> Result<bool, AllocError> {
+fn is_greatest_port_written(alloc: Global) -> bool {
     match Port::new(65535) {
-        Some(port) => Ok(port.to_string(alloc)?.as_str() == "65535"),
-        None => Ok(false),
+        Some(port) => is_written(alloc, &port, "65535"),
+        None => false,
     }
 }
 
 #[test]
-fn numbers_keep_their_bounds(rt: HostRuntime) -> Result<(), Fail> {
-    assert!(rt; are_bounded() && is_greatest_port_written(rt.alloc())?);
-    Ok(())
+fn numbers_keep_their_bounds(rt: HostRuntime) {
+    assert!(rt; are_bounded() && is_greatest_port_written(rt.alloc()));
 }
 
 /// Texts, and the numbers that they spell.
@@ -124,26 +128,18 @@ fn a_decimal_number_has_one_spelling(rt: HostRuntime) {
     }
 }
 
-/// Whether limits are those of a service.
-fn are_full(limits: Limits) -> bool {
-    limits.rings == 16
-        && limits.devices == 256
-        && limits.ids == 65536
-        && limits.versions == 1000
-        && limits.numbers == 100_000
-}
-
 #[test]
 fn a_service_keeps_so_much(rt: HostRuntime) {
-    assert!(rt; are_full(Limits::full()));
+    let limits = Limits::full();
+    let are_met = limits.rings == 16 && limits.devices == 256 && limits.ids == 65536;
+    assert!(rt; are_met && limits.versions == 1000 && limits.numbers == 100_000);
 }
 
-/// Whether a text is a name of this kind, and what the name says.
-fn is_name<K: NameKind>(alloc: Global, text: &str) -> Result<bool, NameFault> {
+/// Whether a text is a name of this kind that says the text, or of none, as is told.
+fn is_name<K: NameKind>(alloc: Global, text: &str, expected: bool) -> bool {
     match Name::<K>::new(alloc, text) {
-        Ok(name) => Ok(name.as_str() == text),
-        Err(NameFault::Bad) => Ok(false),
-        Err(NameFault::NoMemory) => Err(NameFault::NoMemory),
+        Ok(name) => expected && name.as_str() == text,
+        Err(fault) => !expected && fault == NameFault::Bad,
     }
 }
 
@@ -163,17 +159,13 @@ static LABELS: [(&str, bool); 12] = [
     ("\u{e9}", false),
 ];
 
-/// Whether a text is a name of a ring and of a caller, or of none of the two.
-fn is_label(alloc: Global, text: &str, expected: bool) -> Result<bool, NameFault> {
-    Ok(is_name::<OfRing>(alloc, text)? == expected && is_name::<OfCaller>(alloc, text)? == expected)
-}
-
 #[test]
-fn names_of_rings_and_callers_keep_their_form(rt: HostRuntime) -> Result<(), Fail> {
+fn names_of_rings_and_callers_keep_their_form(rt: HostRuntime) {
     for (text, expected) in &LABELS {
-        assert!(rt; is_label(rt.alloc(), text, *expected)?, "{text}");
+        let of_ring = is_name::<OfRing>(rt.alloc(), text, *expected);
+        let of_caller = is_name::<OfCaller>(rt.alloc(), text, *expected);
+        assert!(rt; of_ring && of_caller, "{text}");
     }
-    Ok(())
 }
 
 /// Texts, and whether they are names of devices.
@@ -189,24 +181,18 @@ static DEVICE_NAMES: [(&str, bool); 8] = [
 ];
 
 #[test]
-fn names_of_devices_keep_their_form(rt: HostRuntime) -> Result<(), Fail> {
+fn names_of_devices_keep_their_form(rt: HostRuntime) {
     for (text, expected) in &DEVICE_NAMES {
-        assert!(rt;
-            is_name::<OfDevice>(rt.alloc(), text)? == *expected,
-            "{text}"
-        );
+        assert!(rt; is_name::<OfDevice>(rt.alloc(), text, *expected), "{text}");
     }
-    Ok(())
 }
 
-/// Whether a name is copied, and written as it is.
-fn is_copied_and_written(alloc: Global, name: &Caller) -> Result<bool, AllocError> {
-    Ok(name.clone()? == *name && name.to_string(alloc)?.as_str() == "ops")
+fn is_copied_and_written(alloc: Global) -> Option<bool> {
+    let name = Caller::new(alloc, "ops").ok()?;
+    Some(name.clone().ok()? == name && is_written(alloc, &name, "ops"))
 }
 
 #[test]
-fn a_name_is_copied_and_written(rt: HostRuntime) -> Result<(), Fail> {
-    let name = Caller::new(rt.alloc(), "ops")?;
-    assert!(rt; is_copied_and_written(rt.alloc(), &name)?);
-    Ok(())
+fn a_name_is_copied_and_written(rt: HostRuntime) {
+    assert!(rt; matches!(is_copied_and_written(rt.alloc()), Some(true)));
 }

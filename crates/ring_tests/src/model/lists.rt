@@ -1,15 +1,16 @@
 //! Rings by their names, and devices of a draft by their places.
-use super::small_ring;
-use crate::fixtures::{row, with_ring};
+use super::{SMALL, SMALL_RING};
+use crate::fixtures::{
+    DEVICE_0, DeviceRow, NamedRow, RingRow, spelled, spelled_ring, spelled_rings, with_ring,
+};
 use ring_model::{Draft, Rings};
-use ring_words::RingName;
+use ring_words::{RingName, Row};
 use std::alloc::Global;
-use std::test::Fail;
 
 /// The version of the ring of a name.
-fn version_of(alloc: Global, rings: &Rings, name: &str) -> Result<Option<u32>, Fail> {
-    let name = RingName::new(alloc, name)?;
-    Ok(rings.get(&name).map(|ring| ring.version()))
+fn version_of(alloc: Global, rings: &Rings, name: &str) -> Option<u32> {
+    let name = RingName::new(alloc, name).ok()?;
+    Some(rings.get(&name)?.version())
 }
 
 /// Whether rings have these names, in this order.
@@ -25,70 +26,77 @@ fn has_names(rings: &Rings, names: &[&str]) -> bool {
 }
 
 /// A list of the ring `object` alone.
-fn one_ring(alloc: Global) -> Result<Rings, Fail> {
-    with_ring(alloc, &Rings::new(alloc), "object", small_ring(alloc)?)
-}
+static ONE: [NamedRow; 1] = [("object", SMALL)];
 
-/// Those rings with one of the name `account`.
-fn with_account(alloc: Global, rings: &Rings) -> Result<Rings, Fail> {
-    let account = small_ring(alloc)?.with_min_hours(0)?;
-    with_ring(alloc, rings, "account", account)
-}
+/// A ring that is told apart from that one by its version.
+static ACCOUNT: RingRow = ring_like!(SMALL, min_hours: 0, version: 4);
 
 /// Whether a ring of the name `account` comes before that of the name `object`, and is not in the
 /// list that was there before.
-fn are_kept(alloc: Global, one: &Rings) -> Result<bool, Fail> {
-    let two = with_account(alloc, one)?;
-    Ok(
-        has_names(&two, &["account", "object"])
-            && has_names(one, &["object"])
-            && version_of(alloc, &two, "object")? == Some(3),
-    )
+fn are_kept(alloc: Global) -> Option<bool> {
+    let one = spelled_rings(alloc, &ONE)?;
+    let two = with_ring(alloc, &one, "account", spelled_ring(alloc, &ACCOUNT)?)?;
+    let are_in_order = has_names(&two, &["account", "object"]) && has_names(&one, &["object"]);
+    Some(are_in_order && version_of(alloc, &two, "object") == Some(3))
 }
 
 #[test]
-fn rings_are_kept_by_name(rt: HostRuntime) -> Result<(), Fail> {
-    let one = one_ring(rt.alloc())?;
-    assert!(rt; are_kept(rt.alloc(), &one)?);
-    Ok(())
+fn rings_are_kept_by_name(rt: HostRuntime) {
+    assert!(rt; matches!(are_kept(rt.alloc()), Some(true)));
+}
+
+fn have_no_names(alloc: Global) -> bool {
+    let none = Rings::new(alloc);
+    has_names(&none, &[]) && version_of(alloc, &none, "object").is_none()
 }
 
 #[test]
-fn no_rings_have_no_names(rt: HostRuntime) -> Result<(), Fail> {
-    let none = Rings::new(rt.alloc());
-    assert!(rt; has_names(&none, &[]) && version_of(rt.alloc(), &none, "object")?.is_none());
-    Ok(())
+fn no_rings_have_no_names(rt: HostRuntime) {
+    assert!(rt; have_no_names(rt.alloc()));
 }
 
 /// A draft of the small ring.
-fn small_draft(alloc: Global) -> Result<Draft, Fail> {
-    Ok(Draft::of(&small_ring(alloc)?)?)
+fn small_draft(alloc: Global) -> Option<Draft> {
+    Draft::of(&spelled_ring(alloc, &SMALL_RING)?).ok()
 }
 
-/// Places, and the numbers of the devices of a draft of the small ring that have them.
-static PLACES: [(u8, &str, Option<u16>); 2] = [(0, "1.00", Some(0)), (2, "7.00", None)];
+/// Places and weights, and the numbers of the devices of a draft of the small ring that have the
+/// places.
+static PLACES: [(u8, u32, Option<u16>); 2] = [(0, 100, Some(0)), (2, 700, None)];
 
-/// Whether a draft knows its devices by their places.
-fn knows_places(alloc: Global, draft: &Draft) -> Result<bool, Fail> {
+/// The number of the device of a draft that has the place of a row.
+fn id_at(draft: &Draft, row: &Row) -> Option<u16> {
+    Some(draft.device_at(row)?.id)
+}
+
+/// Whether such a draft knows its devices by their places.
+fn knows_places(alloc: Global) -> Option<bool> {
+    let draft = small_draft(alloc)?;
     for (place, weight, id) in &PLACES {
-        let row = row(alloc, *place, weight)?;
-        if draft.device_at(&row).map(|device| device.id) != *id {
-            return Ok(false);
+        let row = DeviceRow {
+            place: *place,
+            server: *place,
+            weight: *weight,
+            ..DEVICE_0
+        };
+        if id_at(&draft, &spelled(alloc, &row)?.row) != *id {
+            return None;
         }
     }
-    Ok(true)
+    Some(true)
 }
 
 #[test]
-fn a_draft_knows_its_devices_by_their_place(rt: HostRuntime) -> Result<(), Fail> {
-    let draft = small_draft(rt.alloc())?;
-    assert!(rt; knows_places(rt.alloc(), &draft)?);
-    Ok(())
+fn a_draft_knows_its_devices_by_their_place(rt: HostRuntime) {
+    assert!(rt; matches!(knows_places(rt.alloc()), Some(true)));
+}
+
+fn begins_with_two_devices(alloc: Global) -> Option<bool> {
+    let draft = small_draft(alloc)?;
+    Some(draft.device_count() == 2 && draft.next_id() == 2)
 }
 
 #[test]
-fn a_draft_begins_with_the_devices_of_its_ring(rt: HostRuntime) -> Result<(), Fail> {
-    let draft = small_draft(rt.alloc())?;
-    assert!(rt; draft.device_count() == 2 && draft.next_id() == 2);
-    Ok(())
+fn a_draft_begins_with_the_devices_of_its_ring(rt: HostRuntime) {
+    assert!(rt; matches!(begins_with_two_devices(rt.alloc()), Some(true)));
 }

@@ -1,29 +1,34 @@
 //! The greatest rings, and those that are too large.
-use super::{small_parts, small_ring};
-use crate::fixtures::{row, seats_in_turn};
+use super::SMALL_RING;
+use crate::fixtures::{
+    DEVICE_0, DeviceRow, RingRow, WITHOUT_DEVICES, push_spelled, ring_on, seats_in_turn,
+    spelled_parts, spelled_ring,
+};
 use ring_model::{BuildFault, RaiseFault, Ring, RingParts};
-use ring_words::{Device, Port, Power, Replicas};
-use std::alloc::Global;
+use ring_words::Device;
+use std::alloc::{AllocError, Global};
 use std::rc::RcStr;
-use std::test::Fail;
 
 /// So many devices on ports of their own.
-fn devices_in_number(alloc: Global, count: u16) -> Result<Vec<Device>, Fail> {
+fn devices_in_number(alloc: Global, count: u16) -> Option<Vec<Device>> {
     let mut devices = Vec::new(alloc);
     for id in 0..count {
-        let mut row = row(alloc, (id % 250) as u8, "1.00")?;
-        row.port = Port::new(id.saturating_add(6200)).ok_or("a port")?;
-        devices.push(Device {
+        let place = (id % 250) as u8;
+        let row = DeviceRow {
             id,
-            row,
-            removed: false,
-        })?;
+            place,
+            server: place,
+            port: id.saturating_add(6200),
+            weight: 100,
+            ..DEVICE_0
+        };
+        push_spelled(alloc, &mut devices, &row)?;
     }
-    Ok(devices)
+    Some(devices)
 }
 
 /// So many texts of versions 0 and up.
-fn texts_in_number(alloc: Global, count: u32) -> Result<Vec<(u32, RcStr)>, Fail> {
+fn texts_in_number(alloc: Global, count: u32) -> Result<Vec<(u32, RcStr)>, AllocError> {
     let mut texts = Vec::new(alloc);
     for version in 0..count {
         texts.push((version, RcStr::from_str(alloc, "text")?))?;
@@ -32,95 +37,78 @@ fn texts_in_number(alloc: Global, count: u32) -> Result<Vec<(u32, RcStr)>, Fail>
 }
 
 /// The small ring's parts with so many devices, and so many texts.
-fn parts_in_number(alloc: Global, devices: u16, texts: u32) -> Result<RingParts, Fail> {
-    let devices = devices_in_number(alloc, devices)?;
-    let published = texts_in_number(alloc, texts)?;
-    let mut parts = small_parts(alloc)?;
-    parts.devices = devices;
-    parts.published = published;
+fn parts_in_number(alloc: Global, devices: u16, texts: u32) -> Option<RingParts> {
+    let mut parts = spelled_parts(alloc, &SMALL_RING)?;
     parts.next_id = 65536;
-    Ok(parts)
+    parts.devices = devices_in_number(alloc, devices)?;
+    parts.published = texts_in_number(alloc, texts).ok()?;
+    Some(parts)
 }
 
 /// Numbers of devices and of texts, and whether parts with so many make a ring.
-static SIZES: [(&str, u16, u32, bool); 4] = [
-    ("256 devices are the most", 256, 1, true),
-    ("more than 256 devices make no ring", 257, 1, false),
-    ("1000 texts are the most", 2, 1000, true),
-    ("more than 1000 texts make no ring", 2, 1001, false),
+static SIZES: [(u16, u32, bool); 4] = [
+    (256, 1, true), // 256 devices are the most
+    (257, 1, false), // more than 256 devices make no ring
+    (2, 1000, true), // 1000 texts are the most
+    (2, 1001, false), // more than 1000 texts make no ring
 ];
 
 /// Whether parts with so many devices and texts make a ring that has them all, or none.
-fn is_sized(alloc: Global, devices: u16, texts: u32, makes_ring: bool) -> Result<bool, Fail> {
-    match Ring::build(alloc, parts_in_number(alloc, devices, texts)?) {
-        Ok(ring) => Ok(
+fn is_sized(alloc: Global, devices: u16, texts: u32, makes_ring: bool) -> bool {
+    let Some(parts) = parts_in_number(alloc, devices, texts) else {
+        return false;
+    };
+    match Ring::build(alloc, parts) {
+        Ok(ring) => {
             makes_ring
                 && ring.devices().len() == usize::from(devices)
-                && ring.published_list().len() == texts as usize,
-        ),
-        Err(fault) => Ok(!makes_ring && fault == BuildFault::Invalid),
+                && ring.published_list().len() == texts as usize
+        }
+        Err(fault) => !makes_ring && fault == BuildFault::Invalid,
     }
 }
 
 #[test]
-fn devices_and_texts_are_limited(rt: HostRuntime) -> Result<(), Fail> {
-    for (shows, devices, texts, makes_ring) in &SIZES {
-        assert!(rt;
-            is_sized(rt.alloc(), *devices, *texts, *makes_ring)?,
-            "{shows}"
-        );
+fn devices_and_texts_are_limited(rt: HostRuntime) {
+    for (devices, texts, makes_ring) in &SIZES {
+        let is_sized = is_sized(rt.alloc(), *devices, *texts, *makes_ring);
+        assert!(rt; is_sized, "{devices} {texts}");
     }
-    Ok(())
 }
 
-/// A ring raised to the greatest power.
-fn raised_to_14(ring: Ring) -> Result<Ring, Fail> {
-    let mut ring = ring;
+/// Whether the small ring is raised to power 14, and no further.
+fn is_raised_to_14_alone(alloc: Global) -> Option<bool> {
+    let mut ring = spelled_ring(alloc, &SMALL_RING)?;
     for _ in ring.power().get()..14 {
-        ring = ring.raised()?;
+        ring = ring.raised().ok()?;
     }
-    Ok(ring)
-}
-
-/// Whether a ring of power 14 is refused another half.
-fn is_greatest(ring: &Ring) -> bool {
-    ring.power().get() == 14 && ring.raised().err() == Some(RaiseFault::PowerLimit)
+    Some(ring.power().get() == 14 && matches!(ring.raised(), Err(RaiseFault::PowerLimit)))
 }
 
 #[test]
-fn no_ring_is_raised_past_power_14(rt: HostRuntime) -> Result<(), Fail> {
-    let greatest = raised_to_14(small_ring(rt.alloc())?)?;
-    assert!(rt; is_greatest(&greatest));
-    Ok(())
+fn no_ring_is_raised_past_power_14(rt: HostRuntime) {
+    assert!(rt; matches!(is_raised_to_14_alone(rt.alloc()), Some(true)));
 }
 
-/// The largest ring.
-fn largest_ring(alloc: Global) -> Result<Ring, Fail> {
-    let parts = RingParts {
-        power: Power::new(14).ok_or("a power")?,
-        replicas: Replicas::new(5).ok_or("replicas")?,
-        min_hours: 0,
-        next_id: 65536,
-        version: 1,
-        devices: devices_in_number(alloc, 256)?,
-        seats: seats_in_turn(alloc, 81_920, 256)?,
-        moved: vec![in alloc; None; 16384]?,
-        published: Vec::new(alloc),
-    };
-    Ok(Ring::build(alloc, parts)?)
+/// What the largest ring is made of beside its devices and seats.
+static LARGEST: RingRow =
+    ring_like!(WITHOUT_DEVICES, power: 14, replicas: 5, min_hours: 0, version: 1);
+
+/// The parts of the largest ring, once it is built.
+fn largest_parts(alloc: Global) -> Option<RingParts> {
+    let devices = devices_in_number(alloc, 256)?;
+    let seats = seats_in_turn(alloc, 81_920, 256)?;
+    ring_on(alloc, &LARGEST, devices, seats)?.parts().ok()
 }
 
-/// Whether parts have the numbers of the largest ring.
-fn are_largest(parts: &RingParts) -> bool {
-    parts.seats.len() == 81_920
-        && parts.moved.len() == 16_384
-        && parts.devices.len() == 256
-        && parts.seats.get(81_919).copied() == Some(255)
+fn is_read_back(alloc: Global) -> Option<bool> {
+    let parts = largest_parts(alloc)?;
+    let are_all = parts.seats.len() == 81_920 && parts.moved.len() == 16_384;
+    let is_last = parts.seats.get(81_919).copied() == Some(255);
+    Some(are_all && is_last && parts.devices.len() == 256)
 }
 
 #[test]
-fn the_largest_ring_is_built_and_read_back(rt: HostRuntime) -> Result<(), Fail> {
-    let parts = largest_ring(rt.alloc())?.parts()?;
-    assert!(rt; are_largest(&parts));
-    Ok(())
+fn the_largest_ring_is_built_and_read_back(rt: HostRuntime) {
+    assert!(rt; matches!(is_read_back(rt.alloc()), Some(true)));
 }

@@ -1,96 +1,71 @@
 //! The nodes of partitions.
-use crate::fixtures::{DEVICE_0, DeviceRow, RingRow, WITHOUT_DEVICES, spelled_ring};
+use crate::fixtures::{DEVICE_0, DeviceRow, RingRow, WITHOUT_DEVICES, new_ring, spelled_ring};
 use path_lookup::{HashNames, NodesFault, Path, hash_path, nodes, partition_of};
 use ring_model::Ring;
-use ring_words::{Power, Replicas};
 use std::alloc::Global;
-use std::test::Fail;
 
 /// A ring of power 1 with two replicas, on devices 3 and 5.
-static SMALL: RingRow = RingRow {
-    replicas: 2,
-    version: 3,
+static SMALL: RingRow = ring_like!(WITHOUT_DEVICES, replicas: 2, version: 3,
     devices: &[
-        DeviceRow {
-            id: 3,
-            place: 3,
-            weight: "1.00",
-            ..DEVICE_0
-        },
-        DeviceRow {
-            id: 5,
-            place: 5,
-            weight: "1.00",
-            ..DEVICE_0
-        },
+        device_like!(DEVICE_0, id: 3, place: 3, server: 3, weight: 100),
+        device_like!(DEVICE_0, id: 5, place: 5, server: 5, weight: 100),
     ],
-    seats: &[3, 5, 5, 3],
-    ..WITHOUT_DEVICES
-};
+    seats: &[3, 5, 5, 3]);
 
-/// Whether both partitions of a small ring have their nodes.
-fn has_nodes(alloc: Global, ring: &Ring) -> Result<bool, NodesFault> {
-    if ring.power().get() != 1 || ring.replicas().get() != 2 {
-        return Ok(false);
+/// Whether these are the nodes of a partition of a ring of power 1 with two replicas.
+fn are_nodes(alloc: Global, ring: &Ring, partition: u32, ids: &[u16]) -> bool {
+    if partition > 1 || ring.power().get() != 1 || ring.replicas().get() != 2 {
+        return false;
     }
-    Ok(
-        nodes(alloc, ring, 0)?.as_slice() == [3, 5].as_slice()
-            && nodes(alloc, ring, 1)?.as_slice() == [5, 3].as_slice(),
-    )
+    match nodes(alloc, ring, partition) {
+        Ok(found) => found.as_slice() == ids,
+        Err(_) => false,
+    }
+}
+
+fn has_nodes(alloc: Global) -> Option<bool> {
+    let ring = spelled_ring(alloc, &SMALL)?;
+    Some(are_nodes(alloc, &ring, 0, &[3, 5]) && are_nodes(alloc, &ring, 1, &[5, 3]))
 }
 
 #[test]
-fn nodes_are_in_order_of_replica(rt: HostRuntime) -> Result<(), Fail> {
-    let ring = spelled_ring(rt.alloc(), &SMALL)?;
-    assert!(rt; has_nodes(rt.alloc(), &ring)?);
-    Ok(())
+fn nodes_are_in_order_of_replica(rt: HostRuntime) {
+    assert!(rt; matches!(has_nodes(rt.alloc()), Some(true)));
 }
 
-/// The hash of the path `/a/c` between `x` and `y`.
-fn hash_of_container(alloc: Global) -> Result<[u8; 16], Fail> {
-    let path = Path::new(alloc, b"a", Some(b"c"), None)?;
+/// Whether the nodes of the path `/a/c` between `x` and `y` are devices 5 and 3.
+fn are_nodes_of_path(alloc: Global, ring: &Ring) -> Option<bool> {
+    let path = Path::new(alloc, b"a", Some(b"c"), None).ok()?;
     let names = HashNames {
         prefix: b"x",
         suffix: b"y",
     };
-    Ok(hash_path(names, &path))
+    let partition = partition_of(hash_path(names, &path), ring.power());
+    Some(nodes(alloc, ring, partition).ok()?.as_slice() == [5, 3].as_slice())
 }
 
-/// Whether the nodes of a hash in a ring are devices 5 and 3.
-fn are_nodes(alloc: Global, ring: &Ring, hash: [u8; 16]) -> Result<bool, Fail> {
-    let found = nodes(alloc, ring, partition_of(hash, ring.power()))?;
-    Ok(found.as_slice() == [5, 3].as_slice())
-}
-
-/// Whether those are the nodes in a ring that is raised.
-fn are_raised_nodes(alloc: Global, ring: &Ring, hash: [u8; 16]) -> Result<bool, Fail> {
-    let raised = ring.raised()?;
-    are_nodes(alloc, &raised, hash)
+/// Whether those are the nodes in the small ring and in the ring that it is raised to.
+fn are_nodes_kept(alloc: Global) -> Option<bool> {
+    let ring = spelled_ring(alloc, &SMALL)?;
+    let raised = ring.raised().ok()?;
+    Some(are_nodes_of_path(alloc, &ring)? && are_nodes_of_path(alloc, &raised)?)
 }
 
 #[test]
-fn a_raised_ring_keeps_the_nodes(rt: HostRuntime) -> Result<(), Fail> {
-    let hash = hash_of_container(rt.alloc())?;
-    let ring = spelled_ring(rt.alloc(), &SMALL)?;
-    assert!(rt; are_nodes(rt.alloc(), &ring, hash)? && are_raised_nodes(rt.alloc(), &ring, hash)?);
-    Ok(())
-}
-
-/// A ring of power 14 without devices.
-fn empty_ring(alloc: Global) -> Result<Ring, Fail> {
-    let power = Power::new(14).ok_or("a power")?;
-    let replicas = Replicas::new(1).ok_or("replicas")?;
-    Ok(Ring::new(alloc, power, replicas, 0)?)
+fn a_raised_ring_keeps_the_nodes(rt: HostRuntime) {
+    assert!(rt; matches!(are_nodes_kept(rt.alloc()), Some(true)));
 }
 
 /// Whether the last partition of a ring of power 14 has no nodes.
-fn has_no_nodes(alloc: Global, ring: &Ring) -> bool {
-    ring.power().get() == 14 && nodes(alloc, ring, 16383).err() == Some(NodesFault::NotAssigned)
+fn has_no_nodes(alloc: Global) -> Option<bool> {
+    let ring = new_ring(alloc, 14, 0)?;
+    if ring.power().get() != 14 {
+        return None;
+    }
+    Some(matches!(nodes(alloc, &ring, 16383), Err(NodesFault::NotAssigned)))
 }
 
 #[test]
-fn a_ring_without_seats_has_no_nodes(rt: HostRuntime) -> Result<(), Fail> {
-    let ring = empty_ring(rt.alloc())?;
-    assert!(rt; has_no_nodes(rt.alloc(), &ring));
-    Ok(())
+fn a_ring_without_seats_has_no_nodes(rt: HostRuntime) {
+    assert!(rt; matches!(has_no_nodes(rt.alloc()), Some(true)));
 }

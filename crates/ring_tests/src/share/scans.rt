@@ -1,12 +1,12 @@
 //! The fast figures of drawn rings against plain scans.
 ghost use Rattle.std.specs.Prelude.{◌<◌};
 
-use crate::fixtures::{device, ring};
+use crate::fixtures::{DeviceRow, RingRow, WITHOUT_DEVICES, push_spelled, ring_on};
+use crate::scans::find_in;
 use ring_model::Ring;
 use ring_share::{balance, balance_of, dispersion};
-use ring_words::{Device, Port};
-use std::alloc::Global;
-use std::test::Fail;
+use ring_words::Device;
+use std::alloc::{AllocError, Global};
 
 /// Numbers that look random.
 #[derive(Drop)]
@@ -30,25 +30,30 @@ impl Draw {
 }
 
 /// A device under a number: closed or not, in few regions and zones, on few servers.
-fn drawn_device(alloc: Global, draw: &mut Draw, number: u64) -> Result<Device, Fail> {
+fn drawn_row(draw: &mut Draw, number: u64) -> DeviceRow {
     let region = draw.below(3) as u16;
-    let weight = if draw.below(4) == 0 { "0.00" } else { "70.00" };
-    let mut device = device(alloc, draw.below(3) as u8, weight)?;
-    device.row.region = region;
-    device.id = (3 * (number % 100) + 1) as u16;
-    device.row.zone = draw.below(2) as u16;
-    device.row.port = Port::new((6200 + number % 100) as u16).ok_or("a port")?;
-    device.removed = draw.below(6) == 0;
-    Ok(device)
+    let weight = if draw.below(4) == 0 { 0 } else { 7000 };
+    let place = draw.below(3) as u8;
+    let number = number % 100;
+    DeviceRow {
+        id: (3 * number + 1) as u16,
+        place,
+        server: place,
+        region,
+        zone: draw.below(2) as u16,
+        port: (6200 + number) as u16,
+        weight,
+        removed: draw.below(6) == 0,
+    }
 }
 
 /// So many drawn devices.
-fn drawn_devices(alloc: Global, draw: &mut Draw, count: u64) -> Result<Vec<Device>, Fail> {
+fn drawn_devices(alloc: Global, draw: &mut Draw, count: u64) -> Option<Vec<Device>> {
     let mut devices = Vec::new(alloc);
     for number in 0..count {
-        devices.push(drawn_device(alloc, draw, number)?)?;
+        push_spelled(alloc, &mut devices, &drawn_row(draw, number))?;
     }
-    Ok(devices)
+    Some(devices)
 }
 
 /// The seats of so many partitions, each on so many of the drawn devices in turn.
@@ -58,7 +63,7 @@ fn drawn_seats(
     partitions: u64,
     replicas: u64,
     count: u64,
-) -> Result<Vec<u16>, Fail> {
+) -> Result<Vec<u16>, AllocError> {
     let mut seats: Vec<u16> = Vec::new(alloc);
     for _ in 0..partitions {
         let first = draw.below(count);
@@ -69,14 +74,20 @@ fn drawn_seats(
     Ok(seats)
 }
 
+/// The ring that the drawn ones are made from.
+static AT_VERSION_1: RingRow = ring_like!(WITHOUT_DEVICES, version: 1);
+
 /// A small assigned ring: some devices closed, on few regions, zones and servers.
-fn drawn_ring(alloc: Global, draw: &mut Draw) -> Result<Ring, Fail> {
+fn drawn_ring(alloc: Global, draw: &mut Draw) -> Option<Ring> {
     let replicas = draw.below(4).saturating_add(1);
     let count = draw.below(8).saturating_add(replicas);
     let power = draw.below(3).saturating_add(1);
+    let mut row = AT_VERSION_1;
+    row.power = power as u16;
+    row.replicas = replicas as u16;
     let devices = drawn_devices(alloc, draw, count)?;
-    let seats = drawn_seats(alloc, draw, 1u64 << power.min(14), replicas, count)?;
-    ring(alloc, (power as u16, replicas as u16), 1, devices, seats)
+    let seats = drawn_seats(alloc, draw, 1u64 << power.min(14), replicas, count).ok()?;
+    ring_on(alloc, &row, devices, seats)
 }
 
 /// How crowded a device is for a seat of a row, by looking at each other seat.
@@ -88,7 +99,7 @@ fn scanned_crowd(
 ) -> (u32, u32, u32) {
     let mut crowd = (0u32, 0u32, 0u32);
     for (other, id) in row.iter().enumerate() {
-        let Some(near) = devices.iter().find(|device| device.id == *id) else {
+        let Some(near) = find_in(devices, *id) else {
             continue;
         };
         if other == replica || near.row.region != device.row.region {
@@ -105,20 +116,33 @@ fn scanned_crowd(
     crowd
 }
 
+/// Whether an open device outside a row is less crowded than that for one of its seats, by looking at
+/// each device.
+fn has_scanned_less(
+    devices: &[Device],
+    row: &[u16],
+    replica: usize,
+    least: (u32, u32, u32),
+) -> bool {
+    for device in devices {
+        let is_open = !device.removed && device.row.weight.hundredths() > 0;
+        if is_open
+            && !row.contains(&device.id)
+            && scanned_crowd(devices, row, replica, device) < least
+        {
+            return true;
+        }
+    }
+    false
+}
+
 /// Whether an open device outside a row is less crowded for one of its seats, by looking at each
 /// device for each seat.
 fn is_scanned_crowded(devices: &[Device], row: &[u16]) -> bool {
     for (replica, id) in row.iter().enumerate() {
-        let Some(own) = devices.iter().find(|device| device.id == *id) else {
-            continue;
-        };
-        let least = scanned_crowd(devices, row, replica, own);
-        for device in devices {
-            let is_open = !device.removed && device.row.weight.hundredths() > 0;
-            if is_open
-                && !row.contains(&device.id)
-                && scanned_crowd(devices, row, replica, device) < least
-            {
+        if let Some(own) = find_in(devices, *id) {
+            let least = scanned_crowd(devices, row, replica, own);
+            if has_scanned_less(devices, row, replica, least) {
                 return true;
             }
         }
@@ -149,31 +173,34 @@ fn greatest_balance(ring: &Ring) -> Option<u32> {
     Some(greatest)
 }
 
-/// Whether a ring's figures are those of plain scans, where so many of its rows are crowded.
-fn are_scanned(ring: &Ring, crowded: u32, rows: u32) -> bool {
-    dispersion(ring) == crowded.saturating_mul(10_000) / rows.max(1)
-        && greatest_balance(ring) == Some(balance(ring))
-}
-
 /// How many rows of the next drawn ring are crowded, or `None` where its figures are not those of
 /// plain scans.
-fn next_crowded(alloc: Global, draw: &mut Draw) -> Result<Option<u32>, Fail> {
+fn next_crowded(alloc: Global, draw: &mut Draw) -> Option<u32> {
     let ring = drawn_ring(alloc, draw)?;
     let (crowded, rows) = crowded_rows(&ring);
-    Ok(are_scanned(&ring, crowded, rows).then_some(crowded))
+    let is_dispersed = dispersion(&ring) == crowded.saturating_mul(10_000) / rows.max(1);
+    let is_balanced = greatest_balance(&ring) == Some(balance(&ring));
+    if is_dispersed && is_balanced {
+        Some(crowded)
+    } else {
+        None
+    }
 }
 
-#[test]
-fn figures_are_those_of_plain_scans(rt: HostRuntime) -> Result<(), Fail> {
+/// How many of 300 drawn rings have crowded rows, or `None` where the figures of one are not those of
+/// plain scans.
+fn crowded_rings(alloc: Global) -> Option<u32> {
     let mut draw = Draw { state: 7 };
     let mut crowded_rings = 0u32;
     for _ in 0..300 {
-        let crowded = next_crowded(rt.alloc(), &mut draw)?.ok_or("the figures of plain scans")?;
+        let crowded = next_crowded(alloc, &mut draw)?;
         crowded_rings = crowded_rings.saturating_add(crowded.min(1));
     }
-    assert!(rt;
-        crowded_rings > 50 && crowded_rings < 250,
-        "{crowded_rings}"
-    );
-    Ok(())
+    Some(crowded_rings)
+}
+
+#[test]
+fn figures_are_those_of_plain_scans(rt: HostRuntime) {
+    let rings = crowded_rings(rt.alloc()).unwrap_or(0);
+    assert!(rt; rings > 50 && rings < 250, "{rings}");
 }
