@@ -1,3 +1,5 @@
+use Rattle.std.proofs.Common.{arith}
+use Rattle.std.proofs.lemmas.Grind.{common_steps}
 use Rattle.std.proofs.Common.{map, ◌∷◌, []}
 use Rattle.store_model.specs.Contents.{device_of}
 use Rattle.store_model.specs.Entries.{name_number_cmp}
@@ -21,3 +23,6 @@ loop-device-preserved c =
     (map device_of c.args.into.now.items) (map device_of c.loop-device.into.items)
     (map device_of c.push_new_device.new.into.items) c.loop-device.invariant
     c.in_ok-push_new_device.ensures
+
+pub returns : goal.returns
+returns c = grind (arith, common_steps)

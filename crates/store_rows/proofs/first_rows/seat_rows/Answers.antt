@@ -1,3 +1,5 @@
+use Rattle.std.proofs.Common.{arith}
+use Rattle.std.proofs.lemmas.Grind.{common_steps}
 use Rattle.std.proofs.Common.{ℕ, List, map, ap, ◌∙◌, ◌++◌}
 use Rattle.std.specs.List.{enumerate_from}
 use Rattle.ring_model.specs.Ring.{RingRecord}
@@ -16,3 +18,6 @@ loop-entry-preserved c =
     (c.in_ok-push_seats.ensures ∙ ap (λ (r : RingRecord). map seat_of c.loop-entry.rows.items ++
     (λ (e : List ℕ × RingRecord). map (seat_entry e.0 e.1.replicas)
     (enumerate_from 0 e.1.seats)) (c.entry-item.result.0, r)) c.as_ref.ensures)
+
+pub returns : goal.returns
+returns c = grind (arith, common_steps)

@@ -1,3 +1,5 @@
+use Rattle.std.proofs.Common.{arith}
+use Rattle.std.proofs.lemmas.Grind.{common_steps}
 use Rattle.std.proofs.Common.{◌∙◌, ◌++◌, ap, rules}
 use Rattle.std.proofs.lemmas.Result.{IfErr-weaker}
 use Rattle.std.specs.Vec.Iter.{into_iter_items}
@@ -14,3 +16,9 @@ returns-in_err-read-clause-no_text g c =
     (of_row g.T.Listed.are_texts (shown_as g.T.Listed.layout) c.args.shown.items front
     (into_iter_items c.next.new.self) c.in-Some.row is all))
     c.read.ensures.no_text)
+
+pub rows-preserved : goal.rows-preserved
+rows-preserved g c = grind (arith, common_steps)
+
+pub returns-clause-rows : goal.returns-clause-rows
+returns-clause-rows g c = grind (arith, common_steps)
