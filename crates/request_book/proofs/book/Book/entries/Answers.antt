@@ -15,5 +15,6 @@ returns-clause-run g c = search (rules, run_one)
 
 pub returns-clause-entries : goal.returns-clause-entries
 returns-clause-entries g c = rw (← c.self.view_is) c.in_ok-entries.ensures.entries
+
 pub returns-clause-made : goal.returns-clause-made
 returns-clause-made g c = grind (arith, common_steps)

@@ -84,6 +84,7 @@ returns-in_err-answers-clause-settled g c = λ s z. g.met.K.Keeper.settled _ s z
 
 pub returns-clause-settled : goal.returns-clause-settled
 returns-clause-settled g c = λ s z. g.met.K.Keeper.settled _ s z
+
 pub returns-clause-run : goal.returns-clause-run
 returns-clause-run g c = grind (arith, common_steps)
 
