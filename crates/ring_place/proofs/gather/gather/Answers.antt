@@ -95,3 +95,6 @@ returns-clause-by_name c = steps_end (gather_at c.args.pass c.args.was.now c.arg
 
 pub returns-clause-falls : goal.returns-clause-falls
 returns-clause-falls c = c.loop-partition.invariant.falls
+
+pub gather_at-requires-clause-has : goal.gather_at-requires-clause-has
+gather_at-requires-clause-has c = grind (arith, common_steps)

@@ -1,3 +1,5 @@
+use Rattle.std.proofs.Common.{arith}
+use Rattle.std.proofs.lemmas.Grind.{common_steps}
 use Rattle.std.proofs.Common.{◌^◌, ℕ, List, Option, length, sym, ap, subst, ◌∙◌}
 use Rattle.std.specs.List.{range_with_len}
 use Rattle.std.specs.List.Sorted.{IsPermutation}
@@ -67,3 +69,6 @@ returns c =
           ∙ rebalanced_moved ring room.wanted hour c.args.seed (c.requires.not_dealt room.wanted gathered.wanted)
           (ap (is_settled ring) c.in_ok-room.ensures.wanted ∙ c.requires.not_settled);
     }
+
+pub place_all-requires-clause-as_many : goal.place_all-requires-clause-as_many
+place_all-requires-clause-as_many c = grind (arith, common_steps)

@@ -1,3 +1,4 @@
+use Rattle.std.proofs.lemmas.Grind.{elements}
 use Rattle.std.proofs.Common.{◌≡◌, ◌∙◌, None, IfSome, sym, ap, subst, length}
 use Rattle.std.proofs.Common.{arith, get_or, take, true}
 use Rattle.std.proofs.lemmas.Option.{slice_get_within}
@@ -72,3 +73,9 @@ returns-clause-by_name c =
     (c.places_on-count.ensures.by_name ∙ ap (λ row. seats_of (devices_on row)) c.row-2.ensures)
     ∙ ap (λ before. taken_for room before (row_at c.args.seats.now c.args.partition) n piles draw)
     c.row.ensures
+
+pub offset_bounds-row-replica : goal.offset_bounds-row-replica
+offset_bounds-row-replica c = grind (arith, elements)
+
+pub choose-requires-clause-own : goal.choose-requires-clause-own
+choose-requires-clause-own c = grind (arith, elements)

@@ -1,3 +1,4 @@
+use Rattle.std.proofs.lemmas.Grind.{elements}
 use Rattle.std.proofs.Common.{None, arith, ap, length}
 use Rattle.std.proofs.lemmas.Option.{slice_get_within}
 use Rattle.ring_room.specs.Places.{id_at}
@@ -21,3 +22,6 @@ returns-then-is_on-clause-put c = Puts c.args.replica c.requires.empty (record {
   written = c.put_on.ensures.seats;
   is_load = c.put_on.ensures.load;
 })
+
+pub offset_bounds-row-replica : goal.offset_bounds-row-replica
+offset_bounds-row-replica c = grind (arith, elements)
