@@ -1,3 +1,4 @@
+use Rattle.std.proofs.lemmas.Grind.{common_steps, elements}
 use Rattle.std.proofs.Common.{◌∙◌, List, ap, max, sym, arith}
 use Rattle.std.specs.Prelude.{slice_get}
 use Rattle.ring_words.specs.declared.device.Device.{Device}
@@ -23,3 +24,9 @@ device_balance-next-requires-clause-few c =
     let few = have_few c.args.ring.now c.index-devices-place.result.id
     c.devices-devices.ensures.valid in
     omega (arith, is, few)
+
+pub device_balance-next-requires-clause-seats : goal.device_balance-next-requires-clause-seats
+device_balance-next-requires-clause-seats c = grind (arith, elements)
+
+pub returns : goal.returns
+returns c = grind (arith, common_steps)

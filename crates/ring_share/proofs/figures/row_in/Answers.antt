@@ -1,3 +1,5 @@
+use Rattle.std.proofs.Common.{arith}
+use Rattle.std.proofs.lemmas.Grind.{common_steps}
 use Rattle.std.proofs.Common.{◌+◌, ◌*◌, ℕ, List, Some, ap, map, sym, ◌∙◌}
 use Rattle.std.specs.Prelude.{slice_range}
 use Rattle.ring_share.proofs.Assigned.{all_there, row_is}
@@ -12,3 +14,6 @@ returns-clause-row c =
     (c.from-replicas.ensures ∙ c.get.ensures.value ∙ c.replicas.ensures.value)
     ∙ sym (row_is c.args.ring.now p (all_there c.args.ring.now c.seats.ensures.valid
     c.requires.assigned) c.requires.partition)
+
+pub returns-clause-known : goal.returns-clause-known
+returns-clause-known c = grind (arith, common_steps)

@@ -1,3 +1,4 @@
+use Rattle.std.proofs.lemmas.Grind.{common_steps}
 use Rattle.std.proofs.Common.{◌≡◌, ◌<◌, ◌+◌, ℕ, zero, suc, All, List, [], ◌∷◌, ◌++◌, ◌∙◌, Some}
 use Rattle.std.proofs.Common.{true, get_or, length, set, take, subst, sym, ap, ⊎_elim, arith}
 use Rattle.std.specs.Prelude.{slice_get}
@@ -58,3 +59,6 @@ loop-place-preserved c =
       few = (let few = inv.few in omega (arith, few));
       long = length-set places count i ∙ inv.long;
     }
+
+pub loop-place-preserved-then-not-is_open : goal.loop-place-preserved-then-not-is_open
+loop-place-preserved-then-not-is_open c = grind (arith, common_steps)

@@ -1,3 +1,4 @@
+use Rattle.std.proofs.lemmas.Grind.{elements}
 use Rattle.std.proofs.Common.{⊎_elim, sym, subst, arith}
 use Rattle.std.proofs.lemmas.Bool.{cases_eq}
 use Rattle.ring_share.specs.Inner.Turns.{ComesBefore}
@@ -21,3 +22,6 @@ returns-else-share_rest c =
           (λ ne. before.2 place (omega (arith, ne, lt)) waiting other)
           (cases_eq place c.args.place),
     )
+
+pub returns-then-share_rest : goal.returns-then-share_rest
+returns-then-share_rest c = grind (arith, elements)

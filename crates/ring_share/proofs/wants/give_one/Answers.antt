@@ -1,3 +1,4 @@
+use Rattle.std.proofs.lemmas.Grind.{common_steps}
 use Rattle.std.proofs.Common.{arith}
 use Rattle.ring_share.proofs.Sharing.{none_waits, shares_more}
 use Rattle.ring_share.proofs.wants.give_one.Goals as goal
@@ -14,3 +15,9 @@ prove-unreachable-requires c =
 pub returns-in-Some-clause-shares : goal.returns-in-Some-clause-shares
 returns-in-Some-clause-shares c = shares_more c.args.ring.now c.args.shares.now c.in-Some.place
     c.requires.shares c.in-Some.ensures.1 c.in-Some.ensures.2
+
+pub overflow_add-shares : goal.overflow_add-shares
+overflow_add-shares c = grind (arith, common_steps)
+
+pub returns-in-Some-clause-more : goal.returns-in-Some-clause-more
+returns-in-Some-clause-more c = grind (arith, common_steps)

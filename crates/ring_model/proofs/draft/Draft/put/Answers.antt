@@ -1,3 +1,5 @@
+use Rattle.std.proofs.Common.{arith}
+use Rattle.std.proofs.lemmas.Grind.{common_steps}
 use Rattle.std.proofs.Common.{rules}
 use Rattle.std.proofs.Common.{◌≡◌, map, false, ap, sym, ◌∙◌}
 use Rattle.std.proofs.lemmas.List.{length-map}
@@ -44,3 +46,6 @@ returns-clause-ok c =
     ap (has_place c.args.row.now) (sym c.deref.ensures.value) ∙ sym c.if-has_place_in.ensures in
     rw (c.in_ok-push.ensures.items, row) (sym (after_free old c.args.row.now free) ∙
     ap (λ (r : RingRecord). after_row r c.args.row.now) c.self.view_is)
+
+pub returns-then-has_place_in-clause-ok : goal.returns-then-has_place_in-clause-ok
+returns-then-has_place_in-clause-ok c = grind (arith, common_steps)
