@@ -1,3 +1,4 @@
+use Rattle.std.proofs.lemmas.Grind.{common_steps}
 use Rattle.std.proofs.Common.{◌≡◌, List, ℕ, map, Bor, sym, ◌∙◌, arith}
 use Rattle.std.specs.Prelude.{codes}
 use Rattle.std.proofs.lemmas.List.{length-map}
@@ -23,3 +24,6 @@ returns c = record {
   replicas = rw c.text_at-5.ensures at c.in_ok-replicas_at.ensures;
   devices = rw c.text_at-6.ensures at c.in_ok-device_count_at.ensures;
 }
+
+pub returns-then-lines-ne-FIRST_LINES : goal.returns-then-lines-ne-FIRST_LINES
+returns-then-lines-ne-FIRST_LINES c = grind (arith, common_steps)

@@ -1,3 +1,4 @@
+use Rattle.std.proofs.lemmas.Grind.{common_steps}
 use Rattle.std.proofs.Common.{arith, rules, Bor, List, ℕ}
 use Rattle.std.proofs.lemmas.List.{length-map}
 use Rattle.ring_text.proofs.lines.device_of.Goals as goal
@@ -19,3 +20,6 @@ returns c =
 
 pub returns-in_err-weight : goal.returns-in_err-weight
 returns-in_err-weight c = search rules
+
+pub returns-then-words-ne8 : goal.returns-then-words-ne8
+returns-then-words-ne8 c = grind (arith, common_steps)

@@ -1,3 +1,4 @@
+use Rattle.std.proofs.lemmas.Grind.{common_steps}
 use Rattle.std.proofs.Common.{◌-◌, ◌<◌, length, sym, ◌∙◌, true≢false, arith}
 use Rattle.std.proofs.lemmas.Bool.{not-true}
 use Rattle.std.proofs.lemmas.List.{length-drop, length-take}
@@ -50,3 +51,6 @@ returns-clause-stop c = λ within.
     let all = simp (length-take, length-drop) at c.if-good-front.false in
     more_stops c.args.head.now c.args.devices.now c.args.lines.now c.in_ok-good.good
     (omega (arith, few, all, width, count, within)) within
+
+pub returns-then-is_empty-clause-stop : goal.returns-then-is_empty-clause-stop
+returns-then-is_empty-clause-stop c = grind (arith, common_steps)
