@@ -1,3 +1,4 @@
+use Rattle.std.proofs.lemmas.Grind.{common_steps}
 use Rattle.std.proofs.Common.{◌∙◌, arith}
 use Rattle.std.proofs.lemmas.Result.{err_from_is_err_and}
 use Rattle.programs.specs.Left.{GivesNoText, GivesText}
@@ -25,3 +26,6 @@ loop-name-preserved g c = (
       c.in_ok-snapshot.snapshot c.in_ok-snapshot.ensures.held),
   c.in_ok-snapshot.ensures.untold ∙ c.loop-name.invariant.1,
 )
+
+pub returns-clause-held : goal.returns-clause-held
+returns-clause-held g c = grind (arith, common_steps)
