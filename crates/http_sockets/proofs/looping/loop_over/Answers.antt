@@ -1,3 +1,4 @@
+use Rattle.std.proofs.lemmas.Grind.{common_steps}
 use Rattle.std.proofs.Common.{arith, refl}
 use Rattle.std.proofs.lemmas.List.{length-take}
 use Rattle.std.proofs.lemmas.Result.{err_from_is_err_and}
@@ -51,3 +52,12 @@ write_few-requires g c = omega (
   c.deref_mut.ensures.len,
   c.in_ok-room.ensures.len,
 )
+
+pub returns-in_err-count-clause-served : goal.returns-in_err-count-clause-served
+returns-in_err-count-clause-served g c = grind (arith, common_steps)
+
+pub returns-in_err-count-clause-ok : goal.returns-in_err-count-clause-ok
+returns-in_err-count-clause-ok g c = grind (arith, common_steps)
+
+pub returns-in_err-count-clause-flushed : goal.returns-in_err-count-clause-flushed
+returns-in_err-count-clause-flushed g c = grind (arith, common_steps)

@@ -1,3 +1,4 @@
+use Rattle.std.proofs.lemmas.Grind.{common_steps}
 use Rattle.std.proofs.Common.{rules, ◌≡◌, ◌++◌, refl, string_bytes, arith}
 use Rattle.ring_tables.specs.Layout.{row}
 use Rattle.ring_tables.specs.Tables.{device_columns, device_titles, device_texts}
@@ -12,3 +13,6 @@ loop-device-preserved c =
     next_row device_columns device_titles device_texts c.devices-devices.result.now
     c.loop-device.device-index c.device-item.result _ _ text
     (omega arith) c.device-item.is c.loop-device.invariant refl grown
+
+pub returns : goal.returns
+returns c = grind (arith, common_steps)
