@@ -1,3 +1,4 @@
+use Rattle.std.proofs.lemmas.Grind.{common_steps}
 use Rattle.std.proofs.Common.{arith, ◌∙◌, ap}
 use Rattle.clap.specs.Simple.{app_of, with_rule}
 use Rattle.command_line.specs.Inner.Adding.{rule_told, with_rules}
@@ -13,3 +14,6 @@ loop-argument-preserved c = record {
       ∙ ap (with_rule (app_of c.loop-argument.command)) c.told_arg.ensures.rule);
   alone = c.in_ok-command.ensures.alone;
 }
+
+pub returns-clause-app : goal.returns-clause-app
+returns-clause-app c = grind (arith, common_steps)
