@@ -109,18 +109,18 @@ fn deliver<K: Keeper<RingMachine>>(
 }
 
 /// Whether rows are answered as they say over memory that holds no more than this.
-fn runs_in_memory(alloc: Global, limits: Limits, rows: &[&[WorkedRow<'_>]]) -> Result<bool, Fail> {
-    Ok(in_memory(alloc, limits, &Deliver(rows))? == Ended::Whole)
+fn runs_in_memory(alloc: Global, limits: Limits, rows: &[&[WorkedRow<'_>]]) -> Option<bool> {
+    Some(in_memory(alloc, limits, &Deliver(rows)).ok()? == Ended::Whole)
 }
 
 /// Whether the rows of each run are answered as they say, each over a memory of its own.
-fn all_run_in_memory(alloc: Global, runs: &[&[&[WorkedRow<'_>]]]) -> Result<bool, Fail> {
+fn all_run_in_memory(alloc: Global, runs: &[&[&[WorkedRow<'_>]]]) -> Option<bool> {
     for rows in runs {
         if !runs_in_memory(alloc, Limits::full(), rows)? {
-            return Ok(false);
+            return Some(false);
         }
     }
-    Ok(true)
+    Some(true)
 }
 
 #[test]
@@ -129,28 +129,28 @@ fn the_worked_rows_are_answered_over_memory(rt: HostRuntime) -> Result<(), Fail>
 }
 
 /// What the first example leaves of a log over memory, read so many entries at a time.
-fn log_by(alloc: Global, most: u32) -> Result<String, Fail> {
+fn log_by(alloc: Global, most: u32) -> Option<String> {
     let task = ReadLog {
         rows: &[&FIRST],
         most,
     };
-    Ok(in_memory(alloc, Limits::full(), &task)?.ok_or("no log")?)
+    in_memory(alloc, Limits::full(), &task).ok()?
 }
 
 /// Whether a log that is read by pages of one entry, two or three is this one.
-fn is_same_by_pages(alloc: Global, whole: &str) -> Result<bool, Fail> {
+fn is_same_by_pages(alloc: Global, whole: &str) -> Option<bool> {
     for most in [1, 2, 3] {
         if log_by(alloc, most)?.as_str() != whole {
-            return Ok(false);
+            return Some(false);
         }
     }
-    Ok(true)
+    Some(true)
 }
 
 /// Whether there is a log, and it is the same by pages of any size.
-fn logs_are_one(alloc: Global) -> Result<bool, Fail> {
+fn logs_are_one(alloc: Global) -> Option<bool> {
     let whole = log_by(alloc, 1000)?;
-    Ok(!whole.is_empty() && is_same_by_pages(alloc, whole.as_str())?)
+    Some(!whole.is_empty() && is_same_by_pages(alloc, whole.as_str())?)
 }
 
 #[test]
@@ -159,23 +159,23 @@ fn a_log_is_the_same_by_pages_of_any_size(rt: HostRuntime) -> Result<(), Fail> {
 }
 
 /// Whether a run over files ends whole, and the files as it left them.
-fn run_once(alloc: Global, files: Fused, rows: &[&[WorkedRow<'_>]]) -> Result<(bool, Fused), Fail> {
+fn run_once(alloc: Global, files: Fused, rows: &[&[WorkedRow<'_>]]) -> Option<(bool, Fused)> {
     let (found, files) = in_files(alloc, files, &Run(rows))?;
-    Ok((found.ended == Ended::Whole, files))
+    Some((found.ended == Ended::Whole, files))
 }
 
 /// Whether each of some runs ends whole, one after the other, over a database file that is opened
 /// again for each.
-fn all_run_in_turn(alloc: Global, runs: &[&[WorkedRow<'_>]]) -> Result<bool, Fail> {
+fn all_run_in_turn(alloc: Global, runs: &[&[WorkedRow<'_>]]) -> Option<bool> {
     let mut files = new_files(alloc);
     for rows in runs {
         let (whole, left) = run_once(alloc, files, &[rows])?;
         if !whole {
-            return Ok(false);
+            return Some(false);
         }
         files = with_new_log(alloc, left);
     }
-    Ok(true)
+    Some(true)
 }
 
 #[test]

@@ -6,7 +6,6 @@ use ring_model::Rings;
 use ring_words::{Hour, Limits};
 use sqlite::{Alter, Connection};
 use std::alloc::Global;
-use std::test::Fail;
 use store_rows::Change;
 use test_fixtures::rows::WorkedRow;
 
@@ -28,7 +27,7 @@ pub trait Deed {
         &self,
         alloc: Global,
         conn: Connection<S>,
-    ) -> Result<(Self::Outcome, After<S>), Fail>;
+    ) -> Option<(Self::Outcome, After<S>)>;
 }
 
 /// How a run over a store ended, and what the store holds then.
@@ -40,20 +39,20 @@ pub struct Found {
 }
 
 /// All rows of rings as a text.
-fn rows_text(alloc: Global, rings: &Rings) -> Result<String, Fail> {
-    let change = Change::making(alloc, rings)?;
-    Ok(format!(in alloc; "{:?}", change.rows())?)
+fn rows_text(alloc: Global, rings: &Rings) -> Option<String> {
+    let change = Change::making(alloc, rings).ok()?;
+    format!(in alloc; "{:?}", change.rows()).ok()
 }
 
 /// Whether two lists of rings are one: no row of the store tells them apart.
-fn are_same(alloc: Global, one: &Rings, other: &Rings) -> Result<bool, Fail> {
-    Ok(rows_text(alloc, one)? == rows_text(alloc, other)?)
+fn are_same(alloc: Global, one: &Rings, other: &Rings) -> Option<bool> {
+    Some(rows_text(alloc, one)? == rows_text(alloc, other)?)
 }
 
 impl Found {
     /// Whether the store holds these rings and this hour.
-    pub fn is(&self, alloc: Global, rings: &Rings, hour: Hour) -> Result<bool, Fail> {
-        Ok(self.hour == hour && are_same(alloc, rings, &self.rings)?)
+    pub fn is(&self, alloc: Global, rings: &Rings, hour: Hour) -> Option<bool> {
+        Some(self.hour == hour && are_same(alloc, rings, &self.rings)?)
     }
 }
 
@@ -68,11 +67,11 @@ impl Deed for Run<'_> {
         &self,
         alloc: Global,
         conn: Connection<S>,
-    ) -> Result<(Found, After<S>), Fail> {
-        let (ended, conn) = over(alloc, conn, &Deliver(self.0))?;
-        let (held, conn) = over(alloc, conn, &Look)?;
-        let (rings, hour) = held.ok_or("not told")?;
-        Ok((Found { ended, rings, hour }, After::Open(conn)))
+    ) -> Option<(Found, After<S>)> {
+        let (ended, conn) = over(alloc, conn, &Deliver(self.0)).ok()?;
+        let (held, conn) = over(alloc, conn, &Look).ok()?;
+        let (rings, hour) = held?;
+        Some((Found { ended, rings, hour }, After::Open(conn)))
     }
 }
 
@@ -88,11 +87,11 @@ impl Deed for Make<'_> {
         &self,
         alloc: Global,
         conn: Connection<S>,
-    ) -> Result<(Option<MakeFault>, After<S>), Fail> {
-        let rings = self.0.clone()?;
+    ) -> Option<(Option<MakeFault>, After<S>)> {
+        let rings = self.0.clone().ok()?;
         match SqlKeeper::make(alloc, conn, rings, self.1, Limits::full()) {
-            Ok(keeper) => Ok((None, After::Open(keeper.close()))),
-            Err((fault, left)) => Ok((Some(fault), After::Left(left.into_store()))),
+            Ok(keeper) => Some((None, After::Open(keeper.close()))),
+            Err((fault, left)) => Some((Some(fault), After::Left(left.into_store()))),
         }
     }
 }

@@ -15,28 +15,28 @@ use std::test::Fail;
 use test_fixtures::rows::WorkedRow;
 
 /// A file of these bytes, which fails after so many calls.
-fn fused(alloc: Global, bytes: &[u8], calls: u64) -> Result<Fuse<Memory>, Fail> {
+fn fused(alloc: Global, bytes: &[u8], calls: u64) -> Option<Fuse<Memory>> {
     let mut file = Memory::new(alloc);
-    file.write_at(0, bytes).map_err(|_| "copied")?;
-    Ok(Fuse::new(file, calls))
+    file.write_at(0, bytes).ok()?;
+    Some(Fuse::new(file, calls))
 }
 
 /// A closed file of these bytes and its empty log, one of which fails after so many calls.
-fn failing(alloc: Global, bytes: &[u8], calls: u64, fails_in_log: bool) -> Result<Fused, Fail> {
+fn failing(alloc: Global, bytes: &[u8], calls: u64, fails_in_log: bool) -> Option<Fused> {
     let (log, db) = if fails_in_log {
         (calls, u64::MAX)
     } else {
         (u64::MAX, calls)
     };
-    Ok(Files {
+    Some(Files {
         log: fused(alloc, b"", log)?,
         db: fused(alloc, bytes, db)?,
     })
 }
 
 /// Files of the same bytes, which never fail.
-fn repaired(alloc: Global, files: &Fused) -> Result<Fused, Fail> {
-    Ok(Files {
+fn repaired(alloc: Global, files: &Fused) -> Option<Fused> {
+    Some(Files {
         log: fused(alloc, files.log.inner().bytes(), u64::MAX)?,
         db: fused(alloc, files.db.inner().bytes(), u64::MAX)?,
     })
@@ -53,13 +53,13 @@ impl Deed for RunUntilFailure<'_> {
         &self,
         alloc: Global,
         conn: Connection<S>,
-    ) -> Result<(Ended, After<S>), Fail> {
+    ) -> Option<(Ended, After<S>)> {
         let keeper = match SqlKeeper::adopt(alloc, conn, Limits::full()) {
             Ok(keeper) => keeper,
-            Err((_, left)) => return Ok((Ended::Failed, After::Left(left.into_store()))),
+            Err((_, left)) => return Some((Ended::Failed, After::Left(left.into_store()))),
         };
         let (ended, conn) = close_after(alloc, Limits::full(), keeper, &Deliver(self.0));
-        Ok((ended, After::Left(conn.into_store())))
+        Some((ended, After::Left(conn.into_store())))
     }
 }
 
@@ -69,18 +69,18 @@ fn are_usable<D: Disk>(files: &Files<D>) -> bool {
 }
 
 /// Runs rows over files, and gives the files as the run left them.
-fn run(alloc: Global, files: Fused, rows: &[&[WorkedRow<'_>]]) -> Result<(Ended, Fused), Fail> {
+fn run(alloc: Global, files: Fused, rows: &[&[WorkedRow<'_>]]) -> Option<(Ended, Fused)> {
     if !are_usable(&files) {
-        return Ok((Ended::Wrong, files));
+        return Some((Ended::Wrong, files));
     }
     let (ended, files) = try_in_files(alloc, files, &RunUntilFailure(rows))?;
-    Ok((ended.unwrap_or(Ended::Failed), files))
+    Some((ended.unwrap_or(Ended::Failed), files))
 }
 
 /// Whether rows end whole over files of the same bytes that never fail.
-fn goes_on_repaired(alloc: Global, files: Fused, rows: &[&[WorkedRow<'_>]]) -> Result<bool, Fail> {
+fn goes_on_repaired(alloc: Global, files: Fused, rows: &[&[WorkedRow<'_>]]) -> Option<bool> {
     let (ended, _) = run(alloc, repaired(alloc, &files)?, rows)?;
-    Ok(ended == Ended::Whole)
+    Some(ended == Ended::Whole)
 }
 
 /// Whether, after one of two files fails at this call, each delivery that is sent again is answered
@@ -91,12 +91,12 @@ fn goes_on(
     calls: u64,
     fails_in_log: bool,
     rows: &[&[WorkedRow<'_>]],
-) -> Result<Option<bool>, Fail> {
+) -> Option<Option<bool>> {
     let (ended, files) = run(alloc, failing(alloc, bytes, calls, fails_in_log)?, rows)?;
     match ended {
-        Ended::Whole => Ok(None),
-        Ended::Failed => Ok(Some(goes_on_repaired(alloc, files, rows)?)),
-        Ended::Wrong => Ok(Some(false)),
+        Ended::Whole => Some(None),
+        Ended::Failed => Some(Some(goes_on_repaired(alloc, files, rows)?)),
+        Ended::Wrong => Some(Some(false)),
     }
 }
 
@@ -109,25 +109,25 @@ fn all_go_on(
     fails_in_log: bool,
     step: u64,
     rows: &[&[WorkedRow<'_>]],
-) -> Result<bool, Fail> {
+) -> Option<bool> {
     for turn in 0..100u64 {
         let calls = turn.saturating_mul(step);
         match goes_on(alloc, bytes, calls, fails_in_log, rows)? {
             Some(true) => {}
-            Some(false) => return Ok(false),
-            None => return Ok(true),
+            Some(false) => return Some(false),
+            None => return Some(true),
         }
     }
-    Ok(false)
+    Some(false)
 }
 
 /// The same, from new files.
-fn new_go_on(alloc: Global, fails_in_log: bool) -> Result<bool, Fail> {
+fn new_go_on(alloc: Global, fails_in_log: bool) -> Option<bool> {
     all_go_on(alloc, b"", fails_in_log, 17, &[&FIRST])
 }
 
 /// The same, from files with a store of schema 1.
-fn old_go_on(alloc: Global, fails_in_log: bool, step: u64) -> Result<bool, Fail> {
+fn old_go_on(alloc: Global, fails_in_log: bool, step: u64) -> Option<bool> {
     let old = old_files(alloc)?;
     all_go_on(
         alloc,

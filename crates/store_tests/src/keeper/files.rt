@@ -3,7 +3,6 @@ use super::deeds::{After, Deed};
 use sqlite::{Connection, Error, FileStore, Files, Options};
 use sqlite_disk::{Disk, Fuse, Memory};
 use std::alloc::Global;
-use std::test::Fail;
 
 /// Files in memory, each of which fails after so many calls. It is the only kind of them here, since
 /// what is done over files is proved for each kind anew.
@@ -63,25 +62,21 @@ pub fn try_in_files<D: Disk + Drop, T: Deed>(
     alloc: Global,
     files: Files<D>,
     deed: &T,
-) -> Result<(Option<T::Outcome>, Files<D>), Fail> {
+) -> Option<(Option<T::Outcome>, Files<D>)> {
     match opened(alloc, files) {
         Ok(conn) => {
             let (outcome, after) = deed.done_over(alloc, conn)?;
             match closed(after) {
-                (None, files) => Ok((Some(outcome), files)),
-                (Some(error), _) => Err(Fail::from(error)),
+                (None, files) => Some((Some(outcome), files)),
+                (Some(_), _) => None,
             }
         }
-        Err(files) => Ok((None, files)),
+        Err(files) => Some((None, files)),
     }
 }
 
 /// Opens files, does a deed over them, and gives what came of it and the files.
-pub fn in_files<T: Deed>(
-    alloc: Global,
-    files: Fused,
-    deed: &T,
-) -> Result<(T::Outcome, Fused), Fail> {
+pub fn in_files<T: Deed>(alloc: Global, files: Fused, deed: &T) -> Option<(T::Outcome, Fused)> {
     let (outcome, files) = try_in_files(alloc, files, deed)?;
-    Ok((outcome.ok_or("not opened")?, files))
+    Some((outcome?, files))
 }

@@ -129,17 +129,17 @@ impl Deed for MakeOld {
         &self,
         _alloc: Global,
         conn: Connection<S>,
-    ) -> Result<((), After<S>), Fail> {
+    ) -> Option<((), After<S>)> {
         let mut conn = conn;
-        execute_old(&mut conn)?;
-        Ok(((), After::Open(conn)))
+        execute_old(&mut conn).ok()?;
+        Some(((), After::Open(conn)))
     }
 }
 
 /// Closed files with a store of schema 1.
-pub fn old_files(alloc: Global) -> Result<Fused, Fail> {
+pub fn old_files(alloc: Global) -> Option<Fused> {
     let ((), files) = in_files(alloc, new_files(alloc), &MakeOld)?;
-    Ok(files)
+    Some(files)
 }
 
 /// A connection with a store of schema 1.
@@ -150,12 +150,12 @@ fn old_store(alloc: Global) -> Result<Connection<MemStore>, Error> {
 }
 
 /// Whether a store of schema 1 goes on, opened a second time too.
-fn goes_on(alloc: Global) -> Result<bool, Fail> {
+fn goes_on(alloc: Global) -> Option<bool> {
     let kept: [&[WorkedRow]; 3] = [&FIRST, &LOCKED, &AT_THE_HOUR];
-    let (first, conn) = over(alloc, old_store(alloc)?, &Deliver(&kept))?;
-    let (again, conn) = over(alloc, conn, &Deliver(&kept))?;
-    let (later, _) = over(alloc, conn, &Deliver(&[&LATER]))?;
-    Ok(first == Ended::Whole && again == Ended::Whole && later == Ended::Whole)
+    let (first, conn) = over(alloc, old_store(alloc).ok()?, &Deliver(&kept)).ok()?;
+    let (again, conn) = over(alloc, conn, &Deliver(&kept)).ok()?;
+    let (later, _) = over(alloc, conn, &Deliver(&[&LATER])).ok()?;
+    Some(first == Ended::Whole && again == Ended::Whole && later == Ended::Whole)
 }
 
 #[test]
