@@ -1,3 +1,4 @@
+use Rattle.std.proofs.lemmas.Grind.{common_steps}
 use Rattle.std.proofs.Common.{arith}
 use Rattle.std.proofs.lemmas.Str.Pattern.{split_once_first}
 use Rattle.ring_words.proofs.Decimals.{IsCut, Splits, cut_of}
@@ -19,3 +20,6 @@ returns-in_err-of_word-clause-none c =
     cut_of 32 c.args.text.now c.split_once.result _ split c.in_ok-word.was in
     rw c.from_residual-in_err-of_word.ensures (λ plain rest is. c.in_err-of_word.ensures.none plain
     (is_word c.args.text.now c.in_ok-word.word.now c.in_ok-word.rest.now cut plain rest is))
+
+pub returns-clause-found : goal.returns-clause-found
+returns-clause-found c = grind (arith, common_steps)
