@@ -1,3 +1,4 @@
+use Rattle.std.proofs.lemmas.Grind.{common_steps}
 use Rattle.std.proofs.Common.{◌≤◌, length, [], arith}
 use Rattle.std.proofs.lemmas.Result.{err_from_is_err_and}
 use Rattle.byte_streams.proofs.KnownLemmas.{Consumes-none}
@@ -14,3 +15,6 @@ returns-clause-fewer g c =
     let enough : c.args.wanted ≤ length c.loop-reader.self.buffer =
     c.has.ensures.0 c.loop-reader-test.false in
     c.loop-reader.invariant.some (omega (arith, enough, c.requires.short))
+
+pub loop-reader-preserved : goal.loop-reader-preserved
+loop-reader-preserved g c = grind (arith, common_steps)
