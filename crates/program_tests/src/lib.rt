@@ -11,6 +11,8 @@ mod lines;
 #[cfg(test)]
 mod messages;
 #[cfg(test)]
+mod quotes;
+#[cfg(test)]
 mod sizes;
 #[cfg(test)]
 mod streams;

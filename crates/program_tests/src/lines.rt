@@ -4,14 +4,13 @@ mod failing;
 mod questions;
 mod rebalancing;
 
-use builder::{MessageFault, RingMachine, read_delivery};
+use builder::{RingMachine, read_delivery};
 use byte_streams::{CountedReader, CountedWriter, StreamFault};
 use line_api::run_lines;
-use request_book::{Book, Keeper, MemKeeper};
+use request_book::{Answer, Book, Keeper, MemKeeper};
 use ring_model::Rings;
-use ring_words::{Command, Deed, Delivery, Done, Hour, Limits, Refusal, Reply};
+use ring_words::{Command, Deed, Delivery, Done, Limits, Refusal, Reply};
 use std::alloc::{AllocError, Global};
-use std::test::Fail;
 use test_fixtures::{Giver, Taker};
 
 type Memory = MemKeeper<Rings, Command, Reply>;
@@ -39,9 +38,11 @@ static FIRST_ANSWERS: &str = "200 {\"done\":\"create\",\"version\":0}\n\
 400 {\"fault\":\"Unreadable\",\"rule\":20}\n\
 422 {\"refused\":\"RingExists\",\"rule\":2}\n";
 
-const LOST: &str = "503 {\"fault\":\"NoMemory\",\"rule\":23}\n";
+/// What a line is answered for which there was no memory.
+static LOST: &str = "503 {\"fault\":\"NoMemory\",\"rule\":23}\n";
 
-const UNREADABLE: &str = "400 {\"fault\":\"Unreadable\",\"rule\":20}\n";
+/// What a line is answered that is none.
+static UNREADABLE: &str = "400 {\"fault\":\"Unreadable\",\"rule\":20}\n";
 
 fn open(alloc: Global, limits: Limits) -> Book<RingMachine, Memory> {
     let keeper = MemKeeper::new(alloc, Rings::new(alloc), limits);
@@ -53,53 +54,69 @@ fn ask<K: Keeper<RingMachine>>(
     alloc: Global,
     book: &mut Book<RingMachine, K>,
     lines: &[u8],
-) -> Result<Vec<u8>, StreamFault> {
+) -> Option<Vec<u8>> {
     let mut reader = CountedReader::new(lines);
     let mut writer = CountedWriter::new(Vec::new(alloc));
-    run_lines(alloc, &mut reader, &mut writer, book)?;
-    Ok(writer.into_inner())
+    match run_lines(alloc, &mut reader, &mut writer, book) {
+        Ok(_) => Some(writer.into_inner()),
+        Err(_) => None,
+    }
 }
 
 /// What lines are answered by a new book of these limits.
-fn answers_within(alloc: Global, limits: Limits, lines: &[u8]) -> Result<Vec<u8>, StreamFault> {
+fn answers_within(alloc: Global, limits: Limits, lines: &[u8]) -> Option<Vec<u8>> {
     ask(alloc, &mut open(alloc, limits), lines)
 }
 
-/// What lines are answered by a new book.
-fn answers(alloc: Global, lines: &[u8]) -> Result<Vec<u8>, StreamFault> {
-    answers_within(alloc, Limits::full(), lines)
+/// Whether lines are answered so.
+fn tells<K: Keeper<RingMachine>>(
+    alloc: Global,
+    book: &mut Book<RingMachine, K>,
+    lines: &[u8],
+    want: &str,
+) -> bool {
+    match ask(alloc, book, lines) {
+        Some(got) => got.as_slice() == want.as_bytes(),
+        None => false,
+    }
 }
 
-fn delivery(alloc: Global, hour: Hour, text: &str) -> Result<Delivery<Command>, MessageFault> {
-    let (key, command) = read_delivery(alloc, text.as_bytes())?;
-    Ok(Delivery { hour, key, command })
+/// Whether lines are answered so by a new book.
+fn are_answered(alloc: Global, lines: &[u8], want: &str) -> bool {
+    tells(alloc, &mut open(alloc, Limits::full()), lines, want)
 }
 
-const CREATE: &str =
+static CREATE: &str =
     "{\"caller\":\"ops\",\"do\":\"create\",\"min_hours\":24,\"number\":1,\"power\":2,\"replicas\":1,\"ring\":\"object\"}";
 
-const EARLY_ADD: &str =
+static EARLY_ADD: &str =
     "{\"address\":\"10.0.0.1\",\"caller\":\"ops\",\"do\":\"add\",\"name\":\"d0\",\"number\":2,\"port\":6200,\"region\":1,\"ring\":\"object\",\"weight\":\"100.00\",\"zone\":1}";
 
-const ADD: &str =
+static ADD: &str =
     "{\"address\":\"10.0.0.1\",\"caller\":\"ops\",\"do\":\"add\",\"name\":\"d0\",\"number\":3,\"port\":6200,\"region\":1,\"ring\":\"object\",\"weight\":\"100.00\",\"zone\":1}";
 
-/// What deliveries in one call are answered.
-fn answers_in_one_call(
-    alloc: Global,
-    texts: &[&str],
-) -> Result<Vec<Result<Reply, request_book::Fault>>, Fail> {
-    let mut deliveries = Vec::new(alloc);
-    for text in texts {
-        deliveries.push(delivery(alloc, 0, text)?)?;
-    }
-    let mut book = open(alloc, Limits::full());
-    Ok(book.run(deliveries)?)
+/// Puts the delivery of a message at hour 0 behind others.
+fn push_delivery(alloc: Global, deliveries: &mut Vec<Delivery<Command>>, text: &str) -> Option<()> {
+    let (key, command) = read_delivery(alloc, text.as_bytes()).ok()?;
+    let delivery = Delivery {
+        hour: 0,
+        key,
+        command,
+    };
+    deliveries.push(delivery).ok()
 }
 
-#[test]
-fn deliveries_in_one_call_are_answered_alike(rt: HostRuntime) -> Result<(), Fail> {
-    let answers = answers_in_one_call(rt.alloc(), &[EARLY_ADD, CREATE, EARLY_ADD, ADD])?;
+/// The deliveries of messages.
+fn deliveries(alloc: Global, texts: &[&str]) -> Option<Vec<Delivery<Command>>> {
+    let mut deliveries = Vec::new(alloc);
+    for text in texts {
+        push_delivery(alloc, &mut deliveries, text)?;
+    }
+    Some(deliveries)
+}
+
+/// Whether an early addition, a creation, the early one again and another one are answered so.
+fn are_alike(answers: &[Answer<Reply>]) -> bool {
     let want = [
         Ok(Reply::Refused(Refusal::NoRing)),
         Ok(Reply::Done(Done {
@@ -112,8 +129,19 @@ fn deliveries_in_one_call_are_answered_alike(rt: HostRuntime) -> Result<(), Fail
             deed: Deed::Add { id: 0 },
         })),
     ];
-    assert!(rt; answers.as_slice() == want.as_slice());
-    Ok(())
+    answers == want.as_slice()
+}
+
+/// Whether these deliveries in one call are answered so by a new book.
+fn answers_alike(alloc: Global) -> Option<bool> {
+    let deliveries = deliveries(alloc, &[EARLY_ADD, CREATE, EARLY_ADD, ADD])?;
+    let answers = open(alloc, Limits::full()).run(deliveries).ok()?;
+    Some(are_alike(&answers))
+}
+
+#[test]
+fn deliveries_in_one_call_are_answered_alike(rt: HostRuntime) {
+    assert!(rt; matches!(answers_alike(rt.alloc()), Some(true)));
 }
 
 static WEIGHTS: [(&str, bool); 9] = [
@@ -128,25 +156,26 @@ static WEIGHTS: [(&str, bool); 9] = [
     ("", false),
 ];
 
+/// A command up to its weight.
+static SET_WEIGHT: &str =
+    "0 {\"caller\":\"ops\",\"do\":\"set_weight\",\"id\":0,\"number\":1,\"ring\":\"object\",\"weight\":\"";
+
+/// What is answered where it is read, since its ring is not there.
+static NOT_THERE: &str = "422 {\"refused\":\"NoRing\",\"rule\":1}\n";
+
 /// Whether a command to a ring that is not there is read with this weight, or is none.
-fn is_weight(alloc: Global, weight: &str, is_read: bool) -> Result<bool, Fail> {
-    let line = format!(in alloc;
-        "0 {{\"caller\":\"ops\",\"do\":\"set_weight\",\"id\":0,\"number\":1,\"ring\":\"object\",\"weight\":\"{weight}\"}}\n"
-    )?;
-    let want = if is_read {
-        "422 {\"refused\":\"NoRing\",\"rule\":1}\n"
-    } else {
-        UNREADABLE
-    };
-    Ok(answers(alloc, line.as_bytes())?.as_slice() == want.as_bytes())
+fn is_weight(alloc: Global, weight: &'static str, is_read: bool) -> bool {
+    let want = if is_read { NOT_THERE } else { UNREADABLE };
+    let mut line = Vec::new(alloc);
+    let parts = [SET_WEIGHT.as_bytes(), weight.as_bytes(), b"\"}\n"];
+    push_all(&mut line, &parts).is_ok() && are_answered(alloc, &line, want)
 }
 
 #[test]
-fn a_weight_has_one_spelling(rt: HostRuntime) -> Result<(), Fail> {
+fn a_weight_has_one_spelling(rt: HostRuntime) {
     for (weight, is_read) in &WEIGHTS {
-        assert!(rt; is_weight(rt.alloc(), weight, *is_read)?, "{weight}");
+        assert!(rt; is_weight(rt.alloc(), weight, *is_read), "{weight}");
     }
-    Ok(())
 }
 
 /// Numbers and hours that are none.
@@ -226,18 +255,25 @@ fn behind_unreadable<'a>(answers: &'a [u8], lines: &[u8]) -> Option<&'a [u8]> {
 }
 
 /// Whether lines are unreadable up to the last, which a book answers as if it were the first.
-fn are_unreadable(alloc: Global, lines: &[u8]) -> Result<bool, Fail> {
-    let got = answers(alloc, lines)?;
-    let want: &[u8] = b"200 {\"done\":\"create\",\"version\":0}\n";
-    Ok(behind_unreadable(&got, lines) == Some(want))
+fn are_unreadable(alloc: Global, lines: &[u8]) -> bool {
+    match answers_within(alloc, Limits::full(), lines) {
+        Some(got) => {
+            let want: &[u8] = b"200 {\"done\":\"create\",\"version\":0}\n";
+            behind_unreadable(&got, lines) == Some(want)
+        }
+        None => false,
+    }
+}
+
+/// Whether the hostile lines are.
+fn are_hostile_refused(alloc: Global) -> bool {
+    let mut lines = Vec::new(alloc);
+    push_hostile(&mut lines).is_ok() && are_unreadable(alloc, &lines)
 }
 
 #[test]
-fn hostile_lines_are_unreadable(rt: HostRuntime) -> Result<(), Fail> {
-    let mut lines = Vec::new(rt.alloc());
-    push_hostile(&mut lines)?;
-    assert!(rt; are_unreadable(rt.alloc(), &lines)?);
-    Ok(())
+fn hostile_lines_are_unreadable(rt: HostRuntime) {
+    assert!(rt; are_hostile_refused(rt.alloc()));
 }
 
 /// A delivery twice: with white space around the message, and with a key that comes twice.
@@ -245,11 +281,13 @@ static SPACED: &str =
     "0  {\"caller\":\"ops\",\"do\":\"create\",\"min_hours\":24,\"number\":1,\"power\":2,\"replicas\":1,\"ring\":\"object\"} \r
 0 {\"number\":7,\"caller\":\"ops\",\"do\":\"create\",\"min_hours\":24,\"number\":1,\"power\":2,\"replicas\":1,\"ring\":\"object\"}";
 
+/// What they are answered.
+static SPACED_ANSWERS: &str =
+    "200 {\"done\":\"create\",\"version\":0}\n200 {\"done\":\"create\",\"version\":0}\n";
+
 #[test]
-fn white_space_and_a_doubled_key_are_read_as_json_reads_them(rt: HostRuntime) -> Result<(), Fail> {
-    let want = "200 {\"done\":\"create\",\"version\":0}\n200 {\"done\":\"create\",\"version\":0}\n";
-    assert!(rt; answers(rt.alloc(), SPACED.as_bytes())?.as_slice() == want.as_bytes());
-    Ok(())
+fn white_space_and_a_doubled_key_are_read_as_json_reads_them(rt: HostRuntime) {
+    assert!(rt; are_answered(rt.alloc(), SPACED.as_bytes(), SPACED_ANSWERS));
 }
 
 /// Puts a line of 65537 bytes between two deliveries.
@@ -258,14 +296,19 @@ fn push_too_long(lines: &mut Vec<u8>) -> Result<(), AllocError> {
     push_all(lines, &[&[b'1'; 65_537], b"\n0 ", ADD.as_bytes()])
 }
 
+/// What the three are answered.
+static AROUND_TOO_LONG: &str =
+    "200 {\"done\":\"create\",\"version\":0}\n400 {\"fault\":\"Unreadable\",\"rule\":20}\n200 {\"done\":\"add\",\"id\":0,\"version\":1}\n";
+
+/// Whether that line is unreadable, and those around it are answered.
+fn is_skipped(alloc: Global) -> bool {
+    let mut lines = Vec::new(alloc);
+    push_too_long(&mut lines).is_ok() && are_answered(alloc, &lines, AROUND_TOO_LONG)
+}
+
 #[test]
-fn a_line_of_65537_bytes_is_skipped(rt: HostRuntime) -> Result<(), Fail> {
-    let want =
-        "200 {\"done\":\"create\",\"version\":0}\n400 {\"fault\":\"Unreadable\",\"rule\":20}\n200 {\"done\":\"add\",\"id\":0,\"version\":1}\n";
-    let mut lines = Vec::new(rt.alloc());
-    push_too_long(&mut lines)?;
-    assert!(rt; answers(rt.alloc(), &lines)?.as_slice() == want.as_bytes());
-    Ok(())
+fn a_line_of_65537_bytes_is_skipped(rt: HostRuntime) {
+    assert!(rt; is_skipped(rt.alloc()));
 }
 
 /// What came of a stream that fails.
@@ -307,14 +350,17 @@ fn leaves_answers(failed: &Failed) -> bool {
         && (failed.taken.is_empty() || failed.taken.ends_with(b"\n"))
 }
 
+/// Whether a read that fails leaves whole answers.
+fn read_leaves_answers(alloc: Global, fails_at: u32) -> bool {
+    let mut book = open(alloc, Limits::full());
+    leaves_answers(&run_failing(alloc, &mut book, 100, fails_at, u32::MAX))
+}
+
 #[test]
-fn a_failed_read_leaves_the_answers_so_far(rt: HostRuntime) -> Result<(), Fail> {
+fn a_failed_read_leaves_the_answers_so_far(rt: HostRuntime) {
     for fails_at in 1..12 {
-        let mut book = open(rt.alloc(), Limits::full());
-        let failed = run_failing(rt.alloc(), &mut book, 100, fails_at, u32::MAX);
-        assert!(rt; leaves_answers(&failed), "at {fails_at}");
+        assert!(rt; read_leaves_answers(rt.alloc(), fails_at), "at {fails_at}");
     }
-    Ok(())
 }
 
 /// Whether a failed write left a beginning of the answers.
@@ -327,51 +373,71 @@ fn leaves_a_beginning(failed: &Failed) -> bool {
 
 /// Whether a failed write left a beginning of the answers, and what was decided stayed decided: the
 /// repeats get the same answers.
-fn answers_repeats(alloc: Global, fails_at: u32) -> Result<bool, Fail> {
+fn answers_repeats(alloc: Global, fails_at: u32) -> bool {
     let mut book = open(alloc, Limits::full());
-    let failed = run_failing(alloc, &mut book, 200, u32::MAX, fails_at);
-    let got = ask(alloc, &mut book, FIRST_RUN.as_bytes())?;
-    Ok(leaves_a_beginning(&failed) && got.as_slice() == FIRST_ANSWERS.as_bytes())
+    leaves_a_beginning(&run_failing(alloc, &mut book, 200, u32::MAX, fails_at))
+        && tells(alloc, &mut book, FIRST_RUN.as_bytes(), FIRST_ANSWERS)
 }
 
 #[test]
-fn a_failed_write_leaves_a_beginning_of_the_answers(rt: HostRuntime) -> Result<(), Fail> {
+fn a_failed_write_leaves_a_beginning_of_the_answers(rt: HostRuntime) {
     for fails_at in 1..10 {
-        assert!(rt; answers_repeats(rt.alloc(), fails_at)?, "at {fails_at}");
+        assert!(rt; answers_repeats(rt.alloc(), fails_at), "at {fails_at}");
     }
-    Ok(())
 }
 
 /// What a line is answered, asked again where its answer found no memory.
-fn ask_again(
+fn ask_again<K: Keeper<RingMachine>>(
     alloc: Global,
-    book: &mut Book<RingMachine, Memory>,
+    book: &mut Book<RingMachine, K>,
     line: &str,
-) -> Result<Vec<u8>, StreamFault> {
+) -> Option<Vec<u8>> {
     match ask(alloc, book, line.as_bytes()) {
-        Ok(answer) if answer.as_slice() != LOST.as_bytes() => Ok(answer),
+        Some(answer) if answer.as_slice() != LOST.as_bytes() => Some(answer),
         _ => ask(alloc, book, line.as_bytes()),
     }
 }
 
-/// Whether a line is answered so, asked again where its answer found no memory.
-fn is_given(
+/// Whether a line is answered by this text and a line end, asked again where its answer found no
+/// memory.
+fn is_given<K: Keeper<RingMachine>>(
     alloc: Global,
-    book: &mut Book<RingMachine, Memory>,
+    book: &mut Book<RingMachine, K>,
     line: &str,
     want: &str,
-) -> Result<bool, Fail> {
-    Ok(ask_again(alloc, book, line)?.as_slice() == want.as_bytes())
+) -> bool {
+    match ask_again(alloc, book, line) {
+        Some(got) => got.as_slice().strip_suffix(b"\n") == Some(want.as_bytes()),
+        None => false,
+    }
+}
+
+/// The answer to the line of the first run behind so many, or nothing behind the last one.
+fn first_answer(count: usize) -> &'static str {
+    let mut left = count;
+    for answer in FIRST_ANSWERS.lines() {
+        if left == 0 {
+            return answer;
+        }
+        left -= 1;
+    }
+    ""
+}
+
+/// How many lines of the first run are answered so, up to the first that isn't.
+fn given<K: Keeper<RingMachine>>(alloc: Global, book: &mut Book<RingMachine, K>) -> usize {
+    let mut count = 0usize;
+    for line in FIRST_RUN.split_inclusive('\n') {
+        if !is_given(alloc, book, line, first_answer(count)) {
+            return count;
+        }
+        count = count.saturating_add(1);
+    }
+    count
 }
 
 #[test]
-fn a_lost_answer_is_given_to_the_repeat(rt: HostRuntime) -> Result<(), Fail> {
-    let mut book = open(rt.alloc(), Limits::full());
-    let mut all = true;
-    let wants = FIRST_ANSWERS.split_inclusive('\n');
-    for (line, want) in FIRST_RUN.split_inclusive('\n').zip(wants) {
-        all = all && is_given(rt.alloc(), &mut book, line, want)?;
-    }
-    assert!(rt; all);
-    Ok(())
+fn a_lost_answer_is_given_to_the_repeat(rt: HostRuntime) {
+    let count = given(rt.alloc(), &mut open(rt.alloc(), Limits::full()));
+    assert!(rt; count == 10, "{count}");
 }

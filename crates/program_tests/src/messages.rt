@@ -1,36 +1,38 @@
 //! Messages, commands and replies: worked texts, each read and written, and hostile ones.
+/// The reply to a command that was done, in fewer lines than its own.
+macro_rules! done {
+    ($version:expr, $deed:expr) => {
+        Reply::Done(Done {
+            version: $version,
+            deed: $deed,
+        })
+    };
+}
+
+mod answers;
+
+use answers::{FAULTS, REPLIES, TABLE_FAULTS, first_other_answer};
 use ring_messages::{
-    MessageFault, NO_MEMORY_TEXT, Told, command_text, message_text, no_memory, read_command,
-    read_delivery, read_reply, reply_text, status_of, told_text,
+    MessageFault, NO_MEMORY_TEXT, command_text, message_text, no_memory, read_command,
+    read_delivery, read_reply, reply_text,
 };
-use ring_words::{Deed, Done, Refusal, Reply, RowCause};
+use ring_words::{Command, Deed, Done, Refusal, Reply, RowCause};
 use serde_json::Value;
-use std::alloc::{AllocError, Global};
-use std::test::Fail;
+use std::alloc::Global;
 
-/// Whether a text was read. An error says that there was no memory to tell.
-fn is_read<T: Drop>(answer: Result<T, MessageFault>) -> Result<bool, MessageFault> {
+/// Whether a text was read, or `None` where there was no memory to tell.
+fn is_read<T: Drop>(answer: Result<T, MessageFault>) -> Option<bool> {
     match answer {
-        Ok(_) => Ok(true),
-        Err(MessageFault::Bad) => Ok(false),
-        Err(MessageFault::NoMemory) => Err(MessageFault::NoMemory),
+        Ok(_) => Some(true),
+        Err(MessageFault::Bad) => Some(false),
+        Err(MessageFault::NoMemory) => None,
     }
 }
 
-/// How what is read from a text of JSON is written.
-fn written_again(alloc: Global, text: &str) -> Result<String, Fail> {
-    let value = Value::from_str(alloc, text)?;
-    Ok(value.to_string(alloc)?)
-}
-
-/// Fails at the first text of JSON that isn't written again so.
-fn check_json(alloc: Global, texts: &[(&str, &str)]) -> Result<(), Fail> {
-    for (text, written) in texts {
-        if written_again(alloc, text)?.as_str() != *written {
-            return Err(Fail::new(format_args!("{text}")));
-        }
-    }
-    Ok(())
+/// Whether what is read from a text of JSON is written so.
+fn is_written(alloc: Global, text: &str, written: &str) -> Option<bool> {
+    let value = Value::from_str(alloc, text).ok()?;
+    Some(value.to_string(alloc).ok()?.as_str() == written)
 }
 
 /// Texts of JSON, and how what is read from them is written.
@@ -44,34 +46,57 @@ static JSON: [(&str, &str); 6] = [
 ];
 
 #[test]
-fn json_is_read_as_serde_json_reads_it(rt: HostRuntime) -> Result<(), Fail> {
-    check_json(rt.alloc(), &JSON)
+fn json_is_read_as_serde_json_reads_it(rt: HostRuntime) {
+    for (text, written) in &JSON {
+        let is_written = matches!(is_written(rt.alloc(), text, written), Some(true));
+        assert!(rt; is_written, "{text}");
+    }
 }
 
-/// Whether a message is read where its number is spelled so, and this stands before and behind it.
-fn is_read_between(
-    alloc: Global,
-    front: &str,
-    number: &str,
-    back: &str,
-) -> Result<bool, MessageFault> {
-    let text = format!(in alloc;
-        "{front}{{\"caller\":\"ann\",\"number\":{number},\"ring\":\"object\",\"do\":\"remove\",\"id\":3}}{back}"
-    )?;
+/// Puts texts behind another one.
+fn push_all(text: &mut String, parts: &[&str]) -> Option<()> {
+    for part in parts {
+        text.push_str(part).ok()?;
+    }
+    Some(())
+}
+
+/// Whether these parts make a message that is read.
+fn is_read_of(alloc: Global, parts: &[&str]) -> Option<bool> {
+    let mut text = String::new(alloc);
+    push_all(&mut text, parts)?;
     is_read(read_delivery(alloc, text.as_bytes()))
+}
+
+/// A message up to its number, and behind it.
+static BEFORE_NUMBER: &str = "{\"caller\":\"ann\",\"number\":";
+
+static BEHIND_NUMBER: &str = ",\"ring\":\"object\",\"do\":\"remove\",\"id\":3}";
+
+/// Whether a message is read where its number is spelled so, and this stands before and behind it.
+fn is_read_between<'a>(
+    alloc: Global,
+    front: &'a str,
+    number: &'a str,
+    back: &'a str,
+) -> Option<bool> {
+    is_read_of(alloc, &[front, BEFORE_NUMBER, number, BEHIND_NUMBER, back])
 }
 
 /// What stands before a message, its number, what stands behind it, and whether it is read.
 type Spelled<'a> = (&'a str, &'a str, &'a str, bool);
 
-/// Fails at the first message of which it is told otherwise whether it is read.
-fn check_spelled(alloc: Global, all: &[Spelled<'_>]) -> Result<(), Fail> {
+/// The place of the first message of which it is told otherwise whether it is read, or how many there
+/// are.
+fn first_misread(alloc: Global, all: &[Spelled<'_>]) -> usize {
+    let mut place = 0usize;
     for (front, number, back, is_message) in all {
-        if is_read_between(alloc, front, number, back)? != *is_message {
-            return Err(Fail::new(format_args!("{front}{number}{back}")));
+        if is_read_between(alloc, front, number, back) != Some(*is_message) {
+            return place;
         }
+        place = place.saturating_add(1);
     }
-    Ok(())
+    place
 }
 
 /// What stands beside a message.
@@ -85,8 +110,9 @@ static BESIDE: [Spelled<'_>; 6] = [
 ];
 
 #[test]
-fn nothing_but_white_space_stands_beside_a_message(rt: HostRuntime) -> Result<(), Fail> {
-    check_spelled(rt.alloc(), &BESIDE)
+fn nothing_but_white_space_stands_beside_a_message(rt: HostRuntime) {
+    let place = first_misread(rt.alloc(), &BESIDE);
+    assert!(rt; place == BESIDE.len(), "{place}");
 }
 
 /// How a number is spelled.
@@ -105,48 +131,70 @@ static NUMBERS: [Spelled<'_>; 11] = [
 ];
 
 #[test]
-fn a_number_has_one_spelling(rt: HostRuntime) -> Result<(), Fail> {
-    check_spelled(rt.alloc(), &NUMBERS)
+fn a_number_has_one_spelling(rt: HostRuntime) {
+    let place = first_misread(rt.alloc(), &NUMBERS);
+    assert!(rt; place == NUMBERS.len(), "{place}");
+}
+
+/// Puts a bracket behind a text, so many times.
+fn push_times(text: &mut String, bracket: char, count: usize) -> Option<()> {
+    for _ in 0..count {
+        text.push(bracket).ok()?;
+    }
+    Some(())
+}
+
+/// Puts a number, and a caller that is a list within lists, so many in all, behind a text.
+fn push_lists(text: &mut String, count: usize) -> Option<()> {
+    text.push_str("1,\"caller\":").ok()?;
+    push_times(text, '[', count)?;
+    push_times(text, ']', count)
 }
 
 /// Whether a message is read whose caller is written twice, first as a list within lists, so many
 /// in all.
-fn is_read_with_lists(alloc: Global, count: usize) -> Result<bool, MessageFault> {
-    let mut number = String::from_str(alloc, "1,\"caller\":")?;
-    for _ in 0..count {
-        number.push('[')?;
-    }
-    for _ in 0..count {
-        number.push(']')?;
-    }
-    number.push_str(",\"caller\":\"ann\"")?;
+fn is_read_with_lists(alloc: Global, count: usize) -> Option<bool> {
+    let mut number = String::new(alloc);
+    push_lists(&mut number, count)?;
+    number.push_str(",\"caller\":\"ann\"").ok()?;
     is_read_between(alloc, "", number.as_str(), "")
 }
 
+/// How many lists are in one another, and whether a message with them is read.
+static NESTED: [(usize, bool); 4] = [(1, true), (126, true), (127, false), (200, false)];
+
 #[test]
-fn lists_and_objects_nest_to_a_depth_of_127(rt: HostRuntime) -> Result<(), Fail> {
-    for (count, nests) in [(1usize, true), (126, true), (127, false), (200, false)] {
-        assert_eq!(rt; is_read_with_lists(rt.alloc(), count)?, nests, "{count}");
+fn lists_and_objects_nest_to_a_depth_of_127(rt: HostRuntime) {
+    for (count, nests) in &NESTED {
+        let is_told = is_read_with_lists(rt.alloc(), *count) == Some(*nests);
+        assert!(rt; is_told, "{count}");
     }
-    Ok(())
+}
+
+/// Whether a command has this text, and the text is read as the command.
+fn is_text(alloc: Global, command: &Command, written: &str) -> Option<bool> {
+    let has_text = command_text(alloc, command).ok()?.as_str() == written;
+    Some(has_text && read_command(alloc, written).ok()?.is(command))
 }
 
 /// Whether a message is Ann's, its command has this text, and the text is read as the command.
-fn is_message_of(alloc: Global, message: &str, written: &str) -> Result<bool, MessageFault> {
-    let (key, command) = read_delivery(alloc, message.as_bytes())?;
-    let text = command_text(alloc, &command)?;
-    let again = read_command(alloc, written)?;
-    Ok(key.caller.as_str() == "ann" && text.as_str() == written && again.is(&command))
+fn is_message_of(alloc: Global, message: &str, written: &str) -> Option<bool> {
+    let (key, command) = read_delivery(alloc, message.as_bytes()).ok()?;
+    let is_text = is_text(alloc, &command, written);
+    Some(key.caller.as_str() == "ann" && is_text == Some(true))
 }
 
-/// Fails at the first message that isn't Ann's with the command that has the text beside it.
-fn check_messages(alloc: Global, messages: &[(&str, &str)]) -> Result<(), Fail> {
+/// The place of the first message that isn't Ann's with the command that has the text beside it, or
+/// how many there are.
+fn first_other_message(alloc: Global, messages: &[(&str, &str)]) -> usize {
+    let mut place = 0usize;
     for (message, written) in messages {
-        if !is_message_of(alloc, message, written)? {
-            return Err(Fail::new(format_args!("{written}")));
+        if is_message_of(alloc, message, written) != Some(true) {
+            return place;
         }
+        place = place.saturating_add(1);
     }
-    Ok(())
+    place
 }
 
 /// Messages, and the texts of their commands. In the second a doubled key has its last value.
@@ -166,57 +214,69 @@ static MESSAGES: [(&str, &str); 3] = [
 ];
 
 #[test]
-fn messages_are_read_and_commands_written(rt: HostRuntime) -> Result<(), Fail> {
-    check_messages(rt.alloc(), &MESSAGES)
+fn messages_are_read_and_commands_written(rt: HostRuntime) {
+    let place = first_other_message(rt.alloc(), &MESSAGES);
+    assert!(rt; place == MESSAGES.len(), "{place}");
+}
+
+/// Bodies that are texts and no messages.
+static HOSTILE: [&str; 16] = [
+    "",
+    " ",
+    "{\"caller\":\"ann\",\"number\":1,\"ring\":\"object\",\"do\":\"remove\",\"id\":3,}",
+    "null",
+    "[]",
+    "{}",
+    "{\"caller\":\"Ann\",\"number\":1,\"ring\":\"object\",\"do\":\"set_weight\",\"id\":3,\"weight\":\"1.00\"}",
+    "{\"caller\":\"ann\",\"number\":1.0,\"ring\":\"object\",\"do\":\"set_weight\",\"id\":3,\"weight\":\"1.00\"}",
+    "{\"caller\":\"ann\",\"number\":1e0,\"ring\":\"object\",\"do\":\"set_weight\",\"id\":3,\"weight\":\"1.00\"}",
+    "{\"caller\":\"ann\",\"number\":4294967296,\"ring\":\"object\",\"do\":\"set_weight\",\"id\":3,\"weight\":\"1.00\"}",
+    "{\"caller\":\"ann\",\"number\":\"1\",\"ring\":\"object\",\"do\":\"set_weight\",\"id\":3,\"weight\":\"1.00\"}",
+    "{\"caller\":\"ann\",\"number\":1,\"ring\":\"object\",\"do\":\"set_weight\",\"id\":3,\"weight\":\"1.00\",\"x\":1}",
+    "{\"caller\":\"ann\",\"number\":1,\"ring\":\"object\",\"do\":\"set_weight\",\"id\":3}",
+    "{\"caller\":\"ann\",\"number\":1,\"ring\":\"object\",\"do\":\"set_weight\",\"id\":65536,\"weight\":\"1.00\"}",
+    "{\"caller\":\"ann\",\"number\":1,\"ring\":\"object\",\"do\":\"forget\",\"id\":3,\"weight\":\"1.00\"}",
+    "{\"caller\":\"ann\",\"number\":1,\"ring\":\"object\",\"do\":\"create\",\"power\":15,\"replicas\":3,\"min_hours\":1}",
+];
+
+/// Whether a body is unreadable.
+fn is_bad(alloc: Global, body: &[u8]) -> bool {
+    matches!(read_delivery(alloc, body), Err(MessageFault::Bad))
+}
+
+/// The place of the first text that isn't refused as a message, or how many there are.
+fn first_message(alloc: Global, texts: &[&str]) -> usize {
+    let mut place = 0usize;
+    for text in texts {
+        if !is_bad(alloc, text.as_bytes()) {
+            return place;
+        }
+        place = place.saturating_add(1);
+    }
+    place
+}
+
+/// Whether bodies that are no texts are unreadable.
+fn are_bytes_bad(alloc: Global) -> bool {
+    let body =
+        b"{\"caller\":\"\xff\",\"number\":1,\"ring\":\"object\",\"do\":\"set_weight\",\"id\":3,\"weight\":\"1.00\"}";
+    is_bad(alloc, b"\xff") && is_bad(alloc, body)
 }
 
 #[test]
-fn hostile_bodies_are_unreadable(rt: HostRuntime) -> Result<(), Fail> {
-    let bodies: [&[u8]; 18] = [
-        b"",
-        b" ",
-        b"{\"caller\":\"ann\",\"number\":1,\"ring\":\"object\",\"do\":\"remove\",\"id\":3,}",
-        b"null",
-        b"[]",
-        b"{}",
-        b"\xff",
-        b"{\"caller\":\"\xff\",\"number\":1,\"ring\":\"object\",\"do\":\"set_weight\",\"id\":3,\"weight\":\"1.00\"}",
-        b"{\"caller\":\"Ann\",\"number\":1,\"ring\":\"object\",\"do\":\"set_weight\",\"id\":3,\"weight\":\"1.00\"}",
-        b"{\"caller\":\"ann\",\"number\":1.0,\"ring\":\"object\",\"do\":\"set_weight\",\"id\":3,\"weight\":\"1.00\"}",
-        b"{\"caller\":\"ann\",\"number\":1e0,\"ring\":\"object\",\"do\":\"set_weight\",\"id\":3,\"weight\":\"1.00\"}",
-        b"{\"caller\":\"ann\",\"number\":4294967296,\"ring\":\"object\",\"do\":\"set_weight\",\"id\":3,\"weight\":\"1.00\"}",
-        b"{\"caller\":\"ann\",\"number\":\"1\",\"ring\":\"object\",\"do\":\"set_weight\",\"id\":3,\"weight\":\"1.00\"}",
-        b"{\"caller\":\"ann\",\"number\":1,\"ring\":\"object\",\"do\":\"set_weight\",\"id\":3,\"weight\":\"1.00\",\"x\":1}",
-        b"{\"caller\":\"ann\",\"number\":1,\"ring\":\"object\",\"do\":\"set_weight\",\"id\":3}",
-        b"{\"caller\":\"ann\",\"number\":1,\"ring\":\"object\",\"do\":\"set_weight\",\"id\":65536,\"weight\":\"1.00\"}",
-        b"{\"caller\":\"ann\",\"number\":1,\"ring\":\"object\",\"do\":\"forget\",\"id\":3,\"weight\":\"1.00\"}",
-        b"{\"caller\":\"ann\",\"number\":1,\"ring\":\"object\",\"do\":\"create\",\"power\":15,\"replicas\":3,\"min_hours\":1}",
-    ];
-    for body in bodies {
-        assert!(rt; !is_read(read_delivery(rt.alloc(), body))?);
-    }
-    Ok(())
+fn hostile_bodies_are_unreadable(rt: HostRuntime) {
+    let are_bytes_bad = are_bytes_bad(rt.alloc());
+    let place = first_message(rt.alloc(), &HOSTILE);
+    assert!(rt; are_bytes_bad && place == HOSTILE.len(), "{place}");
 }
+
+/// A message up to the weight that it sets.
+static BEFORE_WEIGHT: &str =
+    "{\"caller\":\"ann\",\"number\":1,\"ring\":\"object\",\"do\":\"set_weight\",\"id\":3,\"weight\":\"";
 
 /// Whether a message is read that sets a device's weight to this text.
-fn is_read_as_weight(alloc: Global, weight: &str) -> Result<bool, Fail> {
-    let mut text = String::from_str(
-        alloc,
-        "{\"caller\":\"ann\",\"number\":1,\"ring\":\"object\",\"do\":\"set_weight\",\"id\":3,\"weight\":\"",
-    )?;
-    text.push_str(weight)?;
-    text.push_str("\"}")?;
-    Ok(is_read(read_delivery(alloc, text.as_bytes()))?)
-}
-
-/// Fails at the first spelling of which it is told otherwise whether it is read as a weight.
-fn check_weights(alloc: Global, weights: &[(&str, bool)]) -> Result<(), Fail> {
-    for (weight, is_weight) in weights {
-        if is_read_as_weight(alloc, weight)? != *is_weight {
-            return Err(Fail::new(format_args!("{weight}")));
-        }
-    }
-    Ok(())
+fn is_weight(alloc: Global, weight: &'static str) -> Option<bool> {
+    is_read_of(alloc, &[BEFORE_WEIGHT, weight, "\"}"])
 }
 
 /// Spellings, and whether they are those of weights.
@@ -234,28 +294,28 @@ static WEIGHTS: [(&str, bool); 10] = [
 ];
 
 #[test]
-fn weights_have_one_spelling(rt: HostRuntime) -> Result<(), Fail> {
-    check_weights(rt.alloc(), &WEIGHTS)
+fn weights_have_one_spelling(rt: HostRuntime) {
+    for (weight, is_told) in &WEIGHTS {
+        let is_so = is_weight(rt.alloc(), weight) == Some(*is_told);
+        assert!(rt; is_so, "{weight}");
+    }
 }
 
-/// Fails at the first text that is read as a command.
-fn check_no_commands(alloc: Global, texts: &[&str]) -> Result<(), Fail> {
-    for text in texts {
-        if is_read(read_command(alloc, text))? {
-            return Err(Fail::new(format_args!("{text}")));
-        }
-    }
-    Ok(())
+/// Whether a text is refused as a command.
+fn is_no_command(alloc: Global, text: &str) -> bool {
+    matches!(read_command(alloc, text), Err(MessageFault::Bad))
 }
 
-/// Fails at the first text that is read as a reply.
-fn check_no_replies(alloc: Global, texts: &[&str]) -> Result<(), Fail> {
+/// The place of the first text that isn't refused as a reply, or how many there are.
+fn first_reply(alloc: Global, texts: &[&str]) -> usize {
+    let mut place = 0usize;
     for text in texts {
-        if is_read(read_reply(alloc, text))? {
-            return Err(Fail::new(format_args!("{text}")));
+        if !matches!(read_reply(alloc, text), Err(MessageFault::Bad)) {
+            return place;
         }
+        place = place.saturating_add(1);
     }
-    Ok(())
+    place
 }
 
 /// Spellings that are those of no reply.
@@ -276,62 +336,60 @@ static OTHER_COMMANDS: [&str; 3] = [
 ];
 
 #[test]
-fn other_spellings_of_commands_and_replies_are_unreadable(rt: HostRuntime) -> Result<(), Fail> {
-    check_no_commands(rt.alloc(), &OTHER_COMMANDS)?;
-    check_no_replies(rt.alloc(), &OTHER_REPLIES)
-}
-
-/// Whether a reply has this text, and the text is read as the reply.
-fn is_text_of(alloc: Global, text: &str, reply: Reply) -> Result<bool, MessageFault> {
-    let written = reply_text(alloc, &reply)?;
-    Ok(written.as_str() == text && read_reply(alloc, text)? == reply)
-}
-
-/// Fails at the first text that isn't that of its reply.
-fn check_replies(alloc: Global, replies: &[(Reply, &str)]) -> Result<(), Fail> {
-    for (reply, text) in replies {
-        if !is_text_of(alloc, text, *reply)? {
-            return Err(Fail::new(format_args!("{text}")));
-        }
+fn other_spellings_of_commands_and_replies_are_unreadable(rt: HostRuntime) {
+    for text in &OTHER_COMMANDS {
+        assert!(rt; is_no_command(rt.alloc(), text), "{text}");
     }
-    Ok(())
+    let place = first_reply(rt.alloc(), &OTHER_REPLIES);
+    assert!(rt; place == OTHER_REPLIES.len(), "{place}");
+}
+
+/// Whether a reply has this text.
+fn has_text(alloc: Global, reply: &Reply, text: &str) -> bool {
+    match reply_text(alloc, reply) {
+        Ok(written) => written.as_str() == text,
+        Err(_) => false,
+    }
+}
+
+/// The place of the first reply that hasn't the text beside it, or isn't read from it, or how many
+/// replies there are.
+fn first_other_reply(alloc: Global, replies: &[(Reply, &str)]) -> usize {
+    let mut place = 0usize;
+    for (reply, text) in replies {
+        let is_read = matches!(read_reply(alloc, text), Ok(read) if read == *reply);
+        if !is_read || !has_text(alloc, reply, text) {
+            return place;
+        }
+        place = place.saturating_add(1);
+    }
+    place
 }
 
 /// Replies to commands that were done, and their texts.
 static DONE: [(Reply, &str); 4] = [
     (
-        Reply::Done(Done {
-            version: 0,
-            deed: Deed::Create,
-        }),
+        done!(0, Deed::Create),
         "{\"done\":\"create\",\"version\":0}",
     ),
     (
-        Reply::Done(Done {
-            version: 4294967295,
-            deed: Deed::Create,
-        }),
+        done!(4294967295, Deed::Create),
         "{\"done\":\"create\",\"version\":4294967295}",
     ),
     (
-        Reply::Done(Done {
-            version: 1,
-            deed: Deed::Add { id: 65535 },
-        }),
+        done!(1, Deed::Add { id: 65535 }),
         "{\"done\":\"add\",\"id\":65535,\"version\":1}",
     ),
     (
-        Reply::Done(Done {
-            version: 2,
-            deed: Deed::SetWeight,
-        }),
+        done!(2, Deed::SetWeight),
         "{\"done\":\"set_weight\",\"version\":2}",
     ),
 ];
 
 #[test]
-fn done_replies_are_written_and_read_back(rt: HostRuntime) -> Result<(), Fail> {
-    check_replies(rt.alloc(), &DONE)
+fn done_replies_are_written_and_read_back(rt: HostRuntime) {
+    let place = first_other_reply(rt.alloc(), &DONE);
+    assert!(rt; place == DONE.len(), "{place}");
 }
 
 /// Refusals and their texts.
@@ -371,112 +429,30 @@ static REFUSALS: [(Reply, &str); 8] = [
 ];
 
 #[test]
-fn refusals_are_written_and_read_back(rt: HostRuntime) -> Result<(), Fail> {
-    check_replies(rt.alloc(), &REFUSALS)
+fn refusals_are_written_and_read_back(rt: HostRuntime) {
+    let place = first_other_reply(rt.alloc(), &REFUSALS);
+    assert!(rt; place == REFUSALS.len(), "{place}");
 }
-
-/// Whether an answer has this text and this status.
-fn is_told(alloc: Global, told: Told, text: &str, status: u16) -> Result<bool, AllocError> {
-    let written = told_text(alloc, &told)?;
-    Ok(written.as_str() == text && status_of(&told) == status)
-}
-
-/// Fails at the first answer that has another text or another status.
-fn check_told(alloc: Global, answers: &[(Told, &str, u16)]) -> Result<(), Fail> {
-    for (told, text, status) in answers {
-        if !is_told(alloc, *told, text, *status)? {
-            return Err(Fail::new(format_args!("{text}")));
-        }
-    }
-    Ok(())
-}
-
-/// Replies, their texts and their statuses.
-static REPLIES: [(Told, &str, u16); 2] = [
-    (
-        Told::Reply(Reply::Done(Done {
-            version: 0,
-            deed: Deed::Create,
-        })),
-        "{\"done\":\"create\",\"version\":0}",
-        200,
-    ),
-    (
-        Told::Reply(Reply::Refused(Refusal::NoRing)),
-        "{\"refused\":\"NoRing\",\"rule\":1}",
-        422,
-    ),
-];
 
 #[test]
-fn replies_have_a_status(rt: HostRuntime) -> Result<(), Fail> {
-    check_told(rt.alloc(), &REPLIES)
+fn replies_have_a_status(rt: HostRuntime) {
+    let place = first_other_answer(rt.alloc(), &REPLIES);
+    assert!(rt; place == REPLIES.len(), "{place}");
 }
 
-/// Faults, their texts and their statuses.
-static FAULTS: [(Told, &str, u16); 6] = [
-    (
-        Told::Unreadable,
-        "{\"fault\":\"Unreadable\",\"rule\":20}",
-        400,
-    ),
-    (
-        Told::NumberReused,
-        "{\"fault\":\"NumberReused\",\"rule\":21}",
-        409,
-    ),
-    (Told::BookFull, "{\"fault\":\"BookFull\",\"rule\":22}", 507),
-    (Told::NoMemory, NO_MEMORY_TEXT, 503),
-    (
-        Told::StoreFault,
-        "{\"fault\":\"StoreFault\",\"rule\":24}",
-        503,
-    ),
-    (Told::Closed, "{\"fault\":\"Closed\",\"rule\":25}", 503),
-];
-
 #[test]
-fn faults_have_a_text_and_a_status(rt: HostRuntime) -> Result<(), Fail> {
-    check_told(rt.alloc(), &FAULTS)?;
-    assert_eq!(rt; no_memory(), NO_MEMORY_TEXT);
-    Ok(())
+fn faults_have_a_text_and_a_status(rt: HostRuntime) {
+    let place = first_other_answer(rt.alloc(), &FAULTS);
+    assert!(rt;
+        place == FAULTS.len() && no_memory() == NO_MEMORY_TEXT,
+        "{place}"
+    );
 }
 
-/// Faults of paths and tables, their texts and their statuses.
-static TABLE_FAULTS: [(Told, &str, u16); 6] = [
-    (Told::BadPath, "{\"refused\":\"BadPath\",\"rule\":30}", 400),
-    (
-        Told::NoVersion,
-        "{\"refused\":\"NoVersion\",\"rule\":32}",
-        422,
-    ),
-    (
-        Told::BadHeader,
-        "{\"fault\":\"BadHeader\",\"rule\":40}",
-        400,
-    ),
-    (
-        Told::ReadFailed,
-        "{\"fault\":\"ReadFailed\",\"rule\":43}",
-        503,
-    ),
-    (
-        Told::BadRow {
-            row: 18446744073709551615,
-        },
-        "{\"fault\":\"BadRow\",\"row\":18446744073709551615,\"rule\":41}",
-        400,
-    ),
-    (
-        Told::BadField { row: 1, column: 6 },
-        "{\"column\":6,\"fault\":\"BadField\",\"row\":1,\"rule\":42}",
-        400,
-    ),
-];
-
 #[test]
-fn faults_of_paths_and_tables_have_a_text_and_a_status(rt: HostRuntime) -> Result<(), Fail> {
-    check_told(rt.alloc(), &TABLE_FAULTS)
+fn faults_of_paths_and_tables_have_a_text_and_a_status(rt: HostRuntime) {
+    let place = first_other_answer(rt.alloc(), &TABLE_FAULTS);
+    assert!(rt; place == TABLE_FAULTS.len(), "{place}");
 }
 
 /// Messages of commands that make no device, and the texts of these commands.
@@ -516,8 +492,9 @@ static WITHOUT_A_DEVICE: [(&str, &str); 8] = [
 ];
 
 #[test]
-fn commands_without_a_device_are_read_and_written(rt: HostRuntime) -> Result<(), Fail> {
-    check_messages(rt.alloc(), &WITHOUT_A_DEVICE)
+fn commands_without_a_device_are_read_and_written(rt: HostRuntime) {
+    let place = first_other_message(rt.alloc(), &WITHOUT_A_DEVICE);
+    assert!(rt; place == WITHOUT_A_DEVICE.len(), "{place}");
 }
 
 /// Messages that ask for a rebalance as it was foretold, and lack a part, or have one of another form.
@@ -530,14 +507,9 @@ static BAD_FORETOLD: [&str; 5] = [
 ];
 
 #[test]
-fn a_foretold_rebalance_names_seed_version_and_hour(rt: HostRuntime) -> Result<(), Fail> {
-    let alloc = rt.alloc();
-    for text in &BAD_FORETOLD {
-        if is_read(read_delivery(alloc, text.as_bytes()))? {
-            return Err(Fail::new(format_args!("{text}")));
-        }
-    }
-    Ok(())
+fn a_foretold_rebalance_names_seed_version_and_hour(rt: HostRuntime) {
+    let place = first_message(rt.alloc(), &BAD_FORETOLD);
+    assert!(rt; place == BAD_FORETOLD.len(), "{place}");
 }
 
 /// Texts of requests, in which the members of a message stand in byte order of their keys.
@@ -547,38 +519,27 @@ static REQUESTS: [&str; 3] = [
     "{\"caller\":\"b\",\"do\":\"publish\",\"number\":0,\"ring\":\"object\"}",
 ];
 
-/// Fails at the first text that, read as a message, isn't the text of what was read.
-fn check_requests(alloc: Global, texts: &[&str]) -> Result<(), Fail> {
-    for text in texts {
-        let (key, command) = read_delivery(alloc, text.as_bytes())?;
-        if message_text(alloc, &key, &command)?.as_str() != *text {
-            return Err(Fail::new(format_args!("{text}")));
-        }
-    }
-    Ok(())
+/// Whether a text, read as a message, is the text of what was read.
+fn is_request(alloc: Global, text: &str) -> Option<bool> {
+    let (key, command) = read_delivery(alloc, text.as_bytes()).ok()?;
+    Some(message_text(alloc, &key, &command).ok()?.as_str() == text)
 }
 
 #[test]
-fn a_request_is_written_as_its_message(rt: HostRuntime) -> Result<(), Fail> {
-    check_requests(rt.alloc(), &REQUESTS)
-}
-
-/// Whether a message is read that imports what this text spells.
-fn is_read_with_rows(alloc: Global, rows: &str) -> Result<bool, MessageFault> {
-    let text = format!(in alloc;
-        "{{\"caller\":\"ann\",\"number\":5,\"ring\":\"object\",\"do\":\"import\",\"rows\":{rows}}}"
-    )?;
-    is_read(read_delivery(alloc, text.as_bytes()))
-}
-
-/// Fails at the first text that is read as rows.
-fn check_no_rows(alloc: Global, texts: &[&str]) -> Result<(), Fail> {
-    for text in texts {
-        if is_read_with_rows(alloc, text)? {
-            return Err(Fail::new(format_args!("{text}")));
-        }
+fn a_request_is_written_as_its_message(rt: HostRuntime) {
+    for text in &REQUESTS {
+        let is_request = matches!(is_request(rt.alloc(), text), Some(true));
+        assert!(rt; is_request, "{text}");
     }
-    Ok(())
+}
+
+/// A message up to the rows that it imports.
+static BEFORE_ROWS: &str =
+    "{\"caller\":\"ann\",\"number\":5,\"ring\":\"object\",\"do\":\"import\",\"rows\":";
+
+/// Whether a message is unreadable that imports what this text spells.
+fn are_no_rows(alloc: Global, rows: &'static str) -> bool {
+    is_read_of(alloc, &[BEFORE_ROWS, rows, "}"]) == Some(false)
 }
 
 /// What stands for rows, and is none.
@@ -607,92 +568,75 @@ static WITH_ROWS: [(&str, &str); 2] = [
 ];
 
 #[test]
-fn rows_are_read_and_written(rt: HostRuntime) -> Result<(), Fail> {
-    check_messages(rt.alloc(), &WITH_ROWS)?;
-    check_no_rows(rt.alloc(), &BAD_ROWS)
+fn rows_are_read_and_written(rt: HostRuntime) {
+    let place = first_other_message(rt.alloc(), &WITH_ROWS);
+    assert!(rt; place == WITH_ROWS.len(), "{place}");
+    for rows in &BAD_ROWS {
+        assert!(rt; are_no_rows(rt.alloc(), rows), "{rows}");
+    }
 }
 
 /// Replies to the other commands, and their texts.
 static EVERY_COMMAND: [(Reply, &str); 9] = [
     (
-        Reply::Done(Done {
-            version: 7,
-            deed: Deed::Remove,
-        }),
+        done!(7, Deed::Remove),
         "{\"done\":\"remove\",\"version\":7}",
     ),
     (
-        Reply::Done(Done {
-            version: 7,
-            deed: Deed::SetHours,
-        }),
+        done!(7, Deed::SetHours),
         "{\"done\":\"set_hours\",\"version\":7}",
     ),
     (
-        Reply::Done(Done {
-            version: 7,
-            deed: Deed::PretendPassed,
-        }),
+        done!(7, Deed::PretendPassed),
         "{\"done\":\"pretend_passed\",\"version\":7}",
     ),
     (
-        Reply::Done(Done {
-            version: 7,
-            deed: Deed::RaisePower,
-        }),
+        done!(7, Deed::RaisePower),
         "{\"done\":\"raise_power\",\"version\":7}",
     ),
     (
-        Reply::Done(Done {
-            version: 7,
-            deed: Deed::Publish,
-        }),
+        done!(7, Deed::Publish),
         "{\"done\":\"publish\",\"version\":7}",
     ),
     (
-        Reply::Done(Done {
-            version: 7,
-            deed: Deed::Rebalance {
+        done!(
+            7,
+            Deed::Rebalance {
                 balance: 99999,
                 changed: 4,
-                dispersion: 0,
-            },
-        }),
+                dispersion: 0
+            }
+        ),
         "{\"balance\":99999,\"changed\":4,\"dispersion\":0,\"done\":\"rebalance\",\"version\":7}",
     ),
     (
-        Reply::Done(Done {
-            version: 7,
-            deed: Deed::Import {
+        done!(
+            7,
+            Deed::Import {
                 added: 1,
-                reweighted: 18446744073709551615,
-            },
-        }),
+                reweighted: 18446744073709551615
+            }
+        ),
         "{\"added\":1,\"done\":\"import\",\"reweighted\":18446744073709551615,\"version\":7}",
     ),
+    (done!(7, Deed::Keep), "{\"done\":\"keep\",\"version\":7}"),
     (
-        Reply::Done(Done {
-            version: 7,
-            deed: Deed::Keep,
-        }),
-        "{\"done\":\"keep\",\"version\":7}",
-    ),
-    (
-        Reply::Done(Done {
-            version: 8,
-            deed: Deed::RebalanceAs {
+        done!(
+            8,
+            Deed::RebalanceAs {
                 balance: 12345,
                 changed: 4294967295,
-                dispersion: 1,
-            },
-        }),
+                dispersion: 1
+            }
+        ),
         "{\"balance\":12345,\"changed\":4294967295,\"dispersion\":1,\"done\":\"rebalance_as\",\"version\":8}",
     ),
 ];
 
 #[test]
-fn replies_of_every_command_are_written_and_read_back(rt: HostRuntime) -> Result<(), Fail> {
-    check_replies(rt.alloc(), &EVERY_COMMAND)
+fn replies_of_every_command_are_written_and_read_back(rt: HostRuntime) {
+    let place = first_other_reply(rt.alloc(), &EVERY_COMMAND);
+    assert!(rt; place == EVERY_COMMAND.len(), "{place}");
 }
 
 /// Further refusals and their texts.
@@ -728,8 +672,9 @@ static LATER_REFUSALS: [(Reply, &str); 7] = [
 ];
 
 #[test]
-fn refusals_have_a_name_and_a_rule(rt: HostRuntime) -> Result<(), Fail> {
-    check_replies(rt.alloc(), &LATER_REFUSALS)
+fn refusals_have_a_name_and_a_rule(rt: HostRuntime) {
+    let place = first_other_reply(rt.alloc(), &LATER_REFUSALS);
+    assert!(rt; place == LATER_REFUSALS.len(), "{place}");
 }
 
 /// Refused rows, one for each cause, and their texts.
@@ -771,7 +716,9 @@ static OTHER_ROW_REFUSALS: [&str; 2] = [
 ];
 
 #[test]
-fn a_row_is_refused_with_its_number_and_cause(rt: HostRuntime) -> Result<(), Fail> {
-    check_replies(rt.alloc(), &ROW_REFUSALS)?;
-    check_no_replies(rt.alloc(), &OTHER_ROW_REFUSALS)
+fn a_row_is_refused_with_its_number_and_cause(rt: HostRuntime) {
+    let place = first_other_reply(rt.alloc(), &ROW_REFUSALS);
+    assert!(rt; place == ROW_REFUSALS.len(), "{place}");
+    let place = first_reply(rt.alloc(), &OTHER_ROW_REFUSALS);
+    assert!(rt; place == OTHER_ROW_REFUSALS.len(), "{place}");
 }

@@ -6,7 +6,6 @@ use std::alloc::{AllocError, Global};
 use std::cell::Cell;
 use std::io::{self, ErrorKind, Read, Write};
 use std::str;
-use std::test::Fail;
 use test_fixtures::{Giver, Taker};
 
 /// Answers a line with itself, loses the answer to `lose`, and counts the lines that it hears of.
@@ -84,52 +83,67 @@ impl Served {
     }
 }
 
-#[test]
-fn each_line_is_answered_however_the_reads_are_cut(rt: HostRuntime) {
-    let cases = [
-        (b"".as_slice(), b"".as_slice(), 0),
-        (b"\n".as_slice(), b"\n".as_slice(), 1),
-        (b"a".as_slice(), b"a\n".as_slice(), 1),
-        (
-            b"one\n\ntwo\r\n\r\n\xff\nlose\n four\nlast".as_slice(),
-            b"one\n\ntwo\r\n\r\nno text\nno memory\n four\nlast\n".as_slice(),
-            8,
-        ),
-    ];
-    for (input, want, lines) in cases {
-        for size in [1, 2, 3, 4, 100] {
-            let giver = Giver::new(input, size, u32::MAX);
-            let served = serve(rt.alloc(), giver, size, u32::MAX);
-            assert!(rt; served.is(Ok(lines), want, lines, (0, 0)), "at {size}");
+/// Whether bytes that come so many at a time, and are taken so, are answered by these, line by line.
+fn is_served(alloc: Global, input: &[u8], want: &[u8], lines: u32, size: usize) -> bool {
+    let giver = Giver::new(input, size, u32::MAX);
+    serve(alloc, giver, size, u32::MAX).is(Ok(lines), want, lines, (0, 0))
+}
+
+/// At which size of reads bytes are answered otherwise, or 0 where they are answered by these however
+/// the reads are cut.
+fn other_size(alloc: Global, input: &[u8], want: &[u8], lines: u32) -> usize {
+    for size in [1, 2, 3, 4, 100] {
+        if !is_served(alloc, input, want, lines, size) {
+            return size;
         }
     }
+    0
+}
+
+#[test]
+fn each_line_is_answered_however_the_reads_are_cut(rt: HostRuntime) {
+    let input = b"one\n\ntwo\r\n\r\n\xff\nlose\n four\nlast".as_slice();
+    let want = b"one\n\ntwo\r\n\r\nno text\nno memory\n four\nlast\n".as_slice();
+    let size = other_size(rt.alloc(), b"", b"", 0);
+    assert!(rt; size == 0, "at {size}");
+    let size = other_size(rt.alloc(), b"\n", b"\n", 1);
+    assert!(rt; size == 0, "at {size}");
+    let size = other_size(rt.alloc(), b"a", b"a\n", 1);
+    assert!(rt; size == 0, "at {size}");
+    let size = other_size(rt.alloc(), input, want, 8);
+    assert!(rt; size == 0, "at {size}");
+}
+
+/// Puts so many `x` behind bytes, and then what stands behind them.
+fn push_spelled(bytes: &mut Vec<u8>, count: usize, rest: &str) -> Result<(), AllocError> {
+    for _ in 0..count {
+        bytes.push(b'x')?;
+    }
+    bytes.extend_from_slice(rest.as_bytes())
 }
 
 /// Bytes that are so many `x` and what stands behind them, again and again.
-fn spelled(alloc: Global, parts: &[(usize, &[u8])]) -> Result<Vec<u8>, AllocError> {
+fn spelled(alloc: Global, parts: &[(usize, &str)]) -> Result<Vec<u8>, AllocError> {
     let mut bytes = Vec::new(alloc);
     for (count, rest) in parts {
-        for _ in 0..*count {
-            bytes.push(b'x')?;
-        }
-        bytes.extend_from_slice(rest)?;
+        push_spelled(&mut bytes, *count, rest)?;
     }
     Ok(bytes)
 }
 
 /// Lines of which two are too long, one of them the last one.
-static TOO_LONG: [(usize, &[u8]); 4] = [
-    (0, b"first\n"),
-    (LONGEST_LINE, b"\nsecond\n"),
-    (LONGEST_LINE, b"x\nthird\n"),
-    (LONGEST_LINE * 2, b""),
+static TOO_LONG: [(usize, &str); 4] = [
+    (0, "first\n"),
+    (LONGEST_LINE, "\nsecond\n"),
+    (LONGEST_LINE, "x\nthird\n"),
+    (LONGEST_LINE * 2, ""),
 ];
 
 /// Their answers.
-static TOO_LONG_ANSWERS: [(usize, &[u8]); 3] = [
-    (0, b"first\n"),
-    (LONGEST_LINE, b"\nsecond\n"),
-    (0, b"too long\nthird\ntoo long\n"),
+static TOO_LONG_ANSWERS: [(usize, &str); 3] = [
+    (0, "first\n"),
+    (LONGEST_LINE, "\nsecond\n"),
+    (0, "too long\nthird\ntoo long\n"),
 ];
 
 /// Serves bytes in reads and writes as large as can be, the writer failing at one of its calls.
@@ -142,68 +156,100 @@ fn serve_large(alloc: Global, input: &[u8], fails_at: u32) -> Served {
     )
 }
 
+/// Whether the lines that are too long are skipped.
+fn are_skipped(alloc: Global) -> Result<bool, AllocError> {
+    let input = spelled(alloc, &TOO_LONG)?;
+    let want = spelled(alloc, &TOO_LONG_ANSWERS)?;
+    Ok(serve_large(alloc, &input, u32::MAX).is(Ok(6), &want, 4, (0, 0)))
+}
+
 #[test]
-fn a_line_that_is_too_long_is_skipped(rt: HostRuntime) -> Result<(), Fail> {
-    let input = spelled(rt.alloc(), &TOO_LONG)?;
-    let want = spelled(rt.alloc(), &TOO_LONG_ANSWERS)?;
-    let served = serve_large(rt.alloc(), &input, u32::MAX);
-    assert!(rt; served.is(Ok(6), &want, 4, (0, 0)));
-    Ok(())
+fn a_line_that_is_too_long_is_skipped(rt: HostRuntime) {
+    assert!(rt; matches!(are_skipped(rt.alloc()), Ok(true)));
 }
 
 const FOUR: &[u8] = b"one\ntwo\nthree\nfour\n";
 
+/// Whether so many lines are heard of until a stream fails so, and the first so many bytes of their
+/// answers are written.
+fn is_stopped(served: &Served, fault: StreamFault, count: usize, hears: u32) -> bool {
+    let written = FOUR.get(..count).unwrap_or(b"");
+    let faults = match fault {
+        StreamFault::ReadFailed => (1, 0),
+        _ => (0, 1),
+    };
+    served.is(Err(fault), written, hears, faults)
+}
+
+/// At which read a reader fails that gives three bytes a read, how many bytes are written then, and
+/// how many lines are heard of. The eighth read would find the end.
+static FAILED_READS: [(u32, usize, u32); 8] = [
+    (1, 0, 0),
+    (2, 0, 0),
+    (3, 4, 1),
+    (4, 8, 2),
+    (5, 8, 2),
+    (6, 14, 3),
+    (7, 14, 3),
+    (8, 19, 4),
+];
+
+/// Whether a read that fails leaves so many bytes of answers, and so many lines were heard of.
+fn is_read_until(alloc: Global, fails_at: u32, count: usize, hears: u32) -> bool {
+    let served = serve(alloc, Giver::new(FOUR, 3, fails_at), 100, u32::MAX);
+    is_stopped(&served, StreamFault::ReadFailed, count, hears)
+}
+
 #[test]
 fn a_read_that_fails_leaves_the_answers_so_far(rt: HostRuntime) {
-    // Three bytes a read: the eighth read would find the end.
-    for (fails_at, written, hears) in [
-        (1, 0, 0),
-        (2, 0, 0),
-        (3, 4, 1),
-        (4, 8, 2),
-        (5, 8, 2),
-        (6, 14, 3),
-        (7, 14, 3),
-        (8, 19, 4),
-    ] {
-        let served = serve(rt.alloc(), Giver::new(FOUR, 3, fails_at), 100, u32::MAX);
-        let written = FOUR.get(..written).unwrap_or(b"");
-        let fault = Err(StreamFault::ReadFailed);
-        assert!(rt; served.is(fault, written, hears, (1, 0)), "at {fails_at}");
+    for (fails_at, count, hears) in &FAILED_READS {
+        let is_left = is_read_until(rt.alloc(), *fails_at, *count, *hears);
+        assert!(rt; is_left, "at {fails_at}");
     }
+}
+
+/// At which call a writer fails that takes two bytes a write and a flush after each line, how many
+/// bytes are written then, and how many lines are heard of.
+static FAILED_WRITES: [(u32, usize, u32); 14] = [
+    (1, 0, 1),
+    (2, 2, 1),
+    (3, 4, 1),
+    (4, 4, 2),
+    (5, 6, 2),
+    (6, 8, 2),
+    (7, 8, 3),
+    (8, 10, 3),
+    (9, 12, 3),
+    (10, 14, 3),
+    (11, 14, 4),
+    (12, 16, 4),
+    (13, 18, 4),
+    (14, 19, 4),
+];
+
+/// Whether a write that fails leaves so many bytes of answers, and so many lines were heard of.
+fn is_written_until(alloc: Global, fails_at: u32, count: usize, hears: u32) -> bool {
+    let served = serve(alloc, Giver::new(FOUR, 1, u32::MAX), 2, fails_at);
+    is_stopped(&served, StreamFault::WriteFailed, count, hears)
 }
 
 #[test]
 fn a_write_that_fails_leaves_a_beginning(rt: HostRuntime) {
-    // Two bytes a write, and a flush after each line.
-    for (fails_at, written, hears) in [
-        (1, 0, 1),
-        (2, 2, 1),
-        (3, 4, 1),
-        (4, 4, 2),
-        (5, 6, 2),
-        (6, 8, 2),
-        (7, 8, 3),
-        (8, 10, 3),
-        (9, 12, 3),
-        (10, 14, 3),
-        (11, 14, 4),
-        (12, 16, 4),
-        (13, 18, 4),
-        (14, 19, 4),
-    ] {
-        let served = serve(rt.alloc(), Giver::new(FOUR, 1, u32::MAX), 2, fails_at);
-        let written = FOUR.get(..written).unwrap_or(b"");
-        let fault = Err(StreamFault::WriteFailed);
-        assert!(rt; served.is(fault, written, hears, (0, 1)), "at {fails_at}");
+    for (fails_at, count, hears) in &FAILED_WRITES {
+        let is_left = is_written_until(rt.alloc(), *fails_at, *count, *hears);
+        assert!(rt; is_left, "at {fails_at}");
     }
+}
+
+/// Whether a writer that takes nothing fails.
+fn fails_taking_nothing(alloc: Global) -> bool {
+    let served = serve(alloc, Giver::new(FOUR, usize::MAX, u32::MAX), 0, u32::MAX);
+    served.answered == Err(StreamFault::WriteFailed) && served.faults.1 == 1
 }
 
 #[test]
 fn a_writer_that_takes_nothing_fails(rt: HostRuntime) {
-    let giver = Giver::new(FOUR, usize::MAX, u32::MAX);
-    let served = serve(rt.alloc(), giver, 0, u32::MAX);
-    assert!(rt; served.answered == Err(StreamFault::WriteFailed) && served.faults.1 == 1);
+    assert!(rt; fails_taking_nothing(rt.alloc()));
 }
 
 /// Waits for the answer to each line before it writes the next.
@@ -249,8 +295,8 @@ impl Write for Flushed<'_> {
     }
 }
 
-#[test]
-fn each_answer_is_flushed_before_the_next_read(rt: HostRuntime) {
+/// How many lines are answered where each answer is waited for.
+fn answered_in_turn(alloc: Global) -> Result<u32, StreamFault> {
     let flushed = Cell::new(0);
     let lines = [
         b"one\n".as_slice(),
@@ -267,8 +313,12 @@ fn each_answer_is_flushed_before_the_next_read(rt: HostRuntime) {
         flushed: &flushed,
     });
     let mut heard = 0;
-    let answered = serve_lines::<_, _, Echo>(rt.alloc(), &mut asker, &mut writer, &mut heard);
-    assert_eq!(rt; answered, Ok(4));
+    serve_lines::<_, _, Echo>(alloc, &mut asker, &mut writer, &mut heard)
+}
+
+#[test]
+fn each_answer_is_flushed_before_the_next_read(rt: HostRuntime) {
+    assert!(rt; answered_in_turn(rt.alloc()) == Ok(4));
 }
 
 /// Four lines, again and again, 24,000 in all.
@@ -280,13 +330,16 @@ fn many_lines(alloc: Global) -> Result<Vec<u8>, AllocError> {
     Ok(lines)
 }
 
-#[test]
-fn long_input_is_answered_in_large_writes(rt: HostRuntime) -> Result<(), Fail> {
-    let input = many_lines(rt.alloc())?;
+/// Whether they are answered by as many writes as they take reads.
+fn answers_in_large_writes(alloc: Global) -> Result<bool, AllocError> {
+    let input = many_lines(alloc)?;
     // 114,000 bytes are two reads: each is answered by a write and a flush.
-    let served = serve_large(rt.alloc(), &input, 5);
-    assert!(rt; served.is(Ok(24000), &input, 24000, (0, 0)));
-    Ok(())
+    Ok(serve_large(alloc, &input, 5).is(Ok(24000), &input, 24000, (0, 0)))
+}
+
+#[test]
+fn long_input_is_answered_in_large_writes(rt: HostRuntime) {
+    assert!(rt; matches!(answers_in_large_writes(rt.alloc()), Ok(true)));
 }
 
 /// What four lines are answered where there is memory, or none for one answer.

@@ -1,29 +1,83 @@
 //! What words ask for, and which ask for nothing.
-use command_line::{ArgsFault, task_of};
-use std::alloc::{AllocError, Global};
-use std::test::Fail;
+use command_line::{ArgsFault, Task, task_of};
+use std::alloc::Global;
 
-/// The words of a line, parted by spaces, behind the program's own name.
-fn words_of(alloc: Global, line: &str) -> Result<Vec<String>, AllocError> {
-    let mut words = Vec::new(alloc);
-    words.push(String::from_str(alloc, "ringd")?)?;
+/// Puts the words of a line, parted by spaces, behind others.
+fn push_words(alloc: Global, words: &mut Vec<String>, line: &str) -> Option<()> {
     for word in line.split(' ') {
-        words.push(String::from_str(alloc, word)?)?;
+        words.push(String::from_str(alloc, word).ok()?).ok()?;
     }
-    Ok(words)
+    Some(())
 }
 
-/// The task that the words of a line ask for, as its fields, or the first line of why it asks for
-/// none.
-fn told(alloc: Global, line: &str) -> Result<String, AllocError> {
-    let words = words_of(alloc, line)?;
-    match task_of(alloc, &words) {
-        Ok(task) => format!(in alloc; "{task:?}"),
-        Err(ArgsFault::Bad(text)) => {
-            String::from_str(alloc, text.as_str().lines().next().unwrap_or(""))
-        }
-        Err(ArgsFault::NoMemory) => Err(AllocError),
+/// The words of a line behind the program's own name.
+fn words_of(alloc: Global, line: &str) -> Option<Vec<String>> {
+    let mut words = Vec::new(alloc);
+    push_words(alloc, &mut words, "ringd")?;
+    push_words(alloc, &mut words, line)?;
+    Some(words)
+}
+
+/// Whether a task has these fields.
+fn has_fields(alloc: Global, task: &Task<'_>, fields: &str) -> bool {
+    match format!(in alloc; "{task:?}") {
+        Ok(text) => text.as_str() == fields,
+        Err(_) => false,
     }
+}
+
+/// Whether words ask for the task of these fields, or for none, which this line is the first to say.
+fn ask_for(alloc: Global, words: &[String], told: &str) -> bool {
+    match task_of(alloc, words) {
+        Ok(task) => has_fields(alloc, &task, told),
+        Err(ArgsFault::Bad(text)) => text.as_str().lines().next() == Some(told),
+        Err(ArgsFault::NoMemory) => false,
+    }
+}
+
+/// Whether the words of a line ask for this.
+fn is_asked(alloc: Global, line: &str, told: &str) -> bool {
+    match words_of(alloc, line) {
+        Some(words) => ask_for(alloc, &words, told),
+        None => false,
+    }
+}
+
+/// The place of the first line that asks for something else, or how many lines there are.
+fn first_other(alloc: Global, lines: &[(&str, &str)]) -> usize {
+    let mut place = 0usize;
+    for (line, told) in lines {
+        if !is_asked(alloc, line, told) {
+            return place;
+        }
+        place = place.saturating_add(1);
+    }
+    place
+}
+
+/// Whether words ask for nothing.
+fn are_bad(alloc: Global, words: &[String]) -> bool {
+    matches!(task_of(alloc, words), Err(ArgsFault::Bad(_)))
+}
+
+/// Whether the words of a line ask for nothing.
+fn is_bad(alloc: Global, line: &str) -> bool {
+    match words_of(alloc, line) {
+        Some(words) => are_bad(alloc, &words),
+        None => false,
+    }
+}
+
+/// The place of the first line that asks for something, or how many lines there are.
+fn first_asking(alloc: Global, lines: &[&str]) -> usize {
+    let mut place = 0usize;
+    for line in lines {
+        if !is_bad(alloc, line) {
+            return place;
+        }
+        place = place.saturating_add(1);
+    }
+    place
 }
 
 /// What the words of a line ask for.
@@ -300,55 +354,27 @@ static OTHER_WORDS: [&str; 75] = [
     "--version",
 ];
 
-/// Whether the words of a line ask for this.
-fn is_asked(alloc: Global, line: &str, task: &str) -> Result<bool, AllocError> {
-    Ok(told(alloc, line)?.as_str() == task)
+#[test]
+fn each_program_gets_its_arguments(rt: HostRuntime) {
+    let place = first_other(rt.alloc(), &ASKED);
+    assert!(rt; place == ASKED.len(), "{place}");
 }
 
 #[test]
-fn each_program_gets_its_arguments(rt: HostRuntime) -> Result<(), Fail> {
-    for (line, task) in &ASKED {
-        assert!(rt; is_asked(rt.alloc(), line, task)?, "{line}");
-    }
-    Ok(())
-}
-
-/// Whether words ask for nothing.
-fn are_bad(alloc: Global, words: &[String]) -> Result<bool, AllocError> {
-    match task_of(alloc, words) {
-        Ok(_) => Ok(false),
-        Err(ArgsFault::Bad(_)) => Ok(true),
-        Err(ArgsFault::NoMemory) => Err(AllocError),
-    }
-}
-
-/// Whether the words of a line ask for nothing.
-fn is_bad(alloc: Global, line: &str) -> Result<bool, AllocError> {
-    let words = words_of(alloc, line)?;
-    are_bad(alloc, &words)
+fn no_words_at_all_ask_for_nothing(rt: HostRuntime) {
+    assert!(rt; are_bad(rt.alloc(), &[]));
 }
 
 #[test]
-fn no_words_at_all_ask_for_nothing(rt: HostRuntime) -> Result<(), Fail> {
-    assert!(rt; are_bad(rt.alloc(), &[])?);
-    Ok(())
+fn arguments_keep_their_ranges(rt: HostRuntime) {
+    let place = first_asking(rt.alloc(), &NOT_OF_ITS_FORM);
+    assert!(rt; place == NOT_OF_ITS_FORM.len(), "{place}");
+    let place = first_other(rt.alloc(), &TOLD_OF_FORMS);
+    assert!(rt; place == TOLD_OF_FORMS.len(), "{place}");
 }
 
 #[test]
-fn arguments_keep_their_ranges(rt: HostRuntime) -> Result<(), Fail> {
-    for line in &NOT_OF_ITS_FORM {
-        assert!(rt; is_bad(rt.alloc(), line)?, "{line}");
-    }
-    for (line, told) in &TOLD_OF_FORMS {
-        assert!(rt; is_asked(rt.alloc(), line, told)?, "{line}");
-    }
-    Ok(())
-}
-
-#[test]
-fn other_words_and_calls_for_help_ask_for_nothing(rt: HostRuntime) -> Result<(), Fail> {
-    for line in &OTHER_WORDS {
-        assert!(rt; is_bad(rt.alloc(), line)?, "{line}");
-    }
-    Ok(())
+fn other_words_and_calls_for_help_ask_for_nothing(rt: HostRuntime) {
+    let place = first_asking(rt.alloc(), &OTHER_WORDS);
+    assert!(rt; place == OTHER_WORDS.len(), "{place}");
 }

@@ -4,7 +4,7 @@ use ring_words::Hour;
 use std::alloc::{AllocError, Global};
 
 /// What is done to the count.
-#[derive(Clone, Copy, Debug, PartialEq, Eq)]
+#[derive(Clone, Copy, PartialEq, Eq)]
 pub enum Change {
     /// Raises it.
     Add(u32),
@@ -14,7 +14,7 @@ pub enum Change {
 
 /// What a change is answered: the hour that it was decided at, and the count after it if it was
 /// made.
-#[derive(Clone, Copy, Debug, PartialEq, Eq)]
+#[derive(Clone, Copy, PartialEq, Eq)]
 pub enum Counted {
     Done { hour: Hour, count: u32 },
     PastBound { hour: Hour },

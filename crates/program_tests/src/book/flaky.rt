@@ -2,7 +2,8 @@
 ghost use Rattle.std.specs.Prelude.{◌≡◌, Some, cond, false, refl, true, ℕ};
 ghost use Rattle.request_book.specs.Inner.Only.{is_only};
 
-use request_book::{Entry, Found, KeepFault, Keeper, Machine};
+use super::counter::{Change, Counted, Counter};
+use request_book::{Entry, Found, KeepFault, Keeper};
 use ring_words::{Hour, Key};
 use std::alloc::Global;
 
@@ -51,7 +52,7 @@ impl<K> Flaky<K> {
     }
 }
 
-impl<M: Machine, K: Keeper<M>> Keeper<M> for Flaky<K> {
+impl<K: Keeper<Counter>> Keeper<Counter> for Flaky<K> {
     ghost content = { λ k. K.content k.kept };
 
     ghost sound = { λ k. K.sound k.kept };
@@ -75,7 +76,7 @@ impl<M: Machine, K: Keeper<M>> Keeper<M> for Flaky<K> {
         }
     }
 
-    fn look(&mut self, key: &Key, command: &M::Command) -> Result<Found<M::Reply>, KeepFault> {
+    fn look(&mut self, key: &Key, command: &Change) -> Result<Found<Counted>, KeepFault> {
         if self.fails_now() {
             return Err(KeepFault::Store);
         }
@@ -94,7 +95,7 @@ impl<M: Machine, K: Keeper<M>> Keeper<M> for Flaky<K> {
         alloc: Global,
         from: u32,
         most: u32,
-    ) -> Result<Vec<Entry<M::Command, M::Reply>>, KeepFault> {
+    ) -> Result<Vec<Entry<Change, Counted>>, KeepFault> {
         if self.fails_now() {
             return Err(KeepFault::Store);
         }
@@ -123,7 +124,7 @@ impl<M: Machine, K: Keeper<M>> Keeper<M> for Flaky<K> {
         self.kept.load()
     }
 
-    fn state(&self) -> &M::State {
+    fn state(&self) -> &u32 {
         self.kept.state()
     }
 
@@ -131,9 +132,9 @@ impl<M: Machine, K: Keeper<M>> Keeper<M> for Flaky<K> {
         &mut self,
         key: Key,
         hour: Hour,
-        command: M::Command,
-        reply: M::Reply,
-        state: M::State,
+        command: Change,
+        reply: Counted,
+        state: u32,
     ) -> Result<(), KeepFault> {
         if !self.fails_now() {
             return self.kept.commit(key, hour, command, reply, state);

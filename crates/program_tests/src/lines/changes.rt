@@ -2,7 +2,6 @@
 use super::{answers_within, push_all};
 use ring_words::Limits;
 use std::alloc::{AllocError, Global};
-use std::test::Fail;
 
 const CREATE: &str =
     "0 {\"caller\":\"ops\",\"do\":\"create\",\"min_hours\":24,\"number\":1,\"power\":2,\"replicas\":1,\"ring\":\"object\"}";
@@ -63,19 +62,18 @@ fn are_answers(text: &[u8], before: &[Line<'_>], then: &[Line<'_>]) -> bool {
 }
 
 /// Whether lines are answered so, behind others.
-pub fn runs(
-    alloc: Global,
-    limits: Limits,
-    before: &[Line<'_>],
-    then: &[Line<'_>],
-) -> Result<bool, Fail> {
-    let lines = lines_of(alloc, before, then)?;
-    let got = answers_within(alloc, limits, &lines)?;
-    Ok(are_answers(&got, before, then))
+pub fn runs(alloc: Global, limits: Limits, before: &[Line<'_>], then: &[Line<'_>]) -> bool {
+    let Ok(lines) = lines_of(alloc, before, then) else {
+        return false;
+    };
+    match answers_within(alloc, limits, &lines) {
+        Some(got) => are_answers(&got, before, then),
+        None => false,
+    }
 }
 
 /// Whether lines are answered so, behind those that make a ring with two devices.
-pub fn runs_behind(alloc: Global, limits: Limits, then: &[Line<'_>]) -> Result<bool, Fail> {
+pub fn runs_behind(alloc: Global, limits: Limits, then: &[Line<'_>]) -> bool {
     runs(alloc, limits, &BEFORE, then)
 }
 
@@ -215,18 +213,18 @@ static WITHOUT_A_RING: [Line<'_>; 7] = [
     ),
 ];
 
-/// What the first lines show that are answered otherwise.
-fn first_other<'a>(alloc: Global, changes: &[Shown<'a>]) -> Result<Option<&'a str>, Fail> {
+/// What the first lines show that are answered otherwise, and nothing where there are none.
+fn first_other<'a>(alloc: Global, changes: &[Shown<'a>]) -> &'a str {
     for (shows, before, then) in changes {
-        if !runs(alloc, Limits::full(), before, then)? {
-            return Ok(Some(shows));
+        if !runs(alloc, Limits::full(), before, then) {
+            return shows;
         }
     }
-    Ok(None)
+    ""
 }
 
 #[test]
-fn commands_are_answered_as_they_show(rt: HostRuntime) -> Result<(), Fail> {
+fn commands_are_answered_as_they_show(rt: HostRuntime) {
     let changes: [Shown<'static>; 6] = [
         ("rows_are_imported_all_or_none", &BEFORE, &IMPORTED),
         (
@@ -239,8 +237,8 @@ fn commands_are_answered_as_they_show(rt: HostRuntime) -> Result<(), Fail> {
         ("the_power_is_raised_up_to_14", &[], &RAISED),
         ("every_command_asks_for_its_ring", &[], &WITHOUT_A_RING),
     ];
-    assert_eq!(rt; first_other(rt.alloc(), &changes)?, None);
-    Ok(())
+    let other = first_other(rt.alloc(), &changes);
+    assert!(rt; other.is_empty(), "{other}");
 }
 
 /// A row that a ring has no room for.
@@ -256,51 +254,58 @@ static NO_ID: [Line<'_>; 1] = [(
 )];
 
 #[test]
-fn a_row_past_the_greatest_count_is_refused(rt: HostRuntime) -> Result<(), Fail> {
+fn a_row_past_the_greatest_count_is_refused(rt: HostRuntime) {
     let mut limits = Limits::full();
     limits.devices = 2;
-    assert!(rt; runs_behind(rt.alloc(), limits, &NO_ROOM)?);
+    assert!(rt; runs_behind(rt.alloc(), limits, &NO_ROOM));
     let mut limits = Limits::full();
     limits.ids = 2;
-    assert!(rt; runs_behind(rt.alloc(), limits, &NO_ID)?);
-    Ok(())
+    assert!(rt; runs_behind(rt.alloc(), limits, &NO_ID));
 }
 
-/// An import of 254 rows, and these rows more.
-fn import_with(alloc: Global, more: &str) -> Result<String, AllocError> {
-    let mut line = String::from_str(
-        alloc,
-        "1 {\"caller\":\"ops\",\"do\":\"import\",\"number\":4,\"ring\":\"object\",\"rows\":[",
-    )?;
+/// An import up to its rows.
+static IMPORT: &str =
+    "1 {\"caller\":\"ops\",\"do\":\"import\",\"number\":4,\"ring\":\"object\",\"rows\":[";
+
+/// Puts a row behind others.
+fn push_row(alloc: Global, line: &mut String, place: u32) -> Result<(), AllocError> {
+    let comma = if place == 0 { "" } else { "," };
+    let row = format!(in alloc; "{comma}[1,1,\"10.0.1.{place}\",6200,\"disk{place}\",\"10.00\"]")?;
+    line.push_str(row.as_str())
+}
+
+/// Puts an import of 254 rows behind a text, and these rows more.
+fn push_import(alloc: Global, line: &mut String, more: &str) -> Result<(), AllocError> {
+    line.push_str(IMPORT)?;
     for place in 0..254u32 {
-        let comma = if place == 0 { "" } else { "," };
-        let row = format!(in alloc;
-            "{comma}[1,1,\"10.0.1.{place}\",6200,\"disk{place}\",\"10.00\"]"
-        )?;
-        line.push_str(row.as_str())?;
+        push_row(alloc, line, place)?;
     }
     line.push_str(more)?;
-    line.push_str("]}")?;
-    Ok(line)
+    line.push_str("]}")
 }
 
 /// Whether an import of 254 rows and more is answered so.
-fn imports(alloc: Global, more: &str, answer: &str) -> Result<bool, Fail> {
-    let line = import_with(alloc, more)?;
-    runs_behind(alloc, Limits::full(), &[(line.as_str(), answer)])
+fn imports(alloc: Global, more: &str, answer: &str) -> bool {
+    let mut line = String::new(alloc);
+    push_import(alloc, &mut line, more).is_ok()
+        && runs_behind(alloc, Limits::full(), &[(line.as_str(), answer)])
 }
 
+/// Rows behind 254, and what the import of all is answered.
+static FILLING: [Line<'_>; 2] = [
+    (
+        "",
+        "200 {\"added\":254,\"done\":\"import\",\"reweighted\":0,\"version\":3}",
+    ),
+    (
+        ",[1,1,\"10.0.2.0\",6200,\"d\",\"10.00\"]",
+        "422 {\"cause\":7,\"refused\":\"RowRefused\",\"row\":255,\"rule\":13}",
+    ),
+];
+
 #[test]
-fn an_import_fills_a_ring(rt: HostRuntime) -> Result<(), Fail> {
-    let answer = "200 {\"added\":254,\"done\":\"import\",\"reweighted\":0,\"version\":3}";
-    assert!(rt; imports(rt.alloc(), "", answer)?);
-    let answer = "422 {\"cause\":7,\"refused\":\"RowRefused\",\"row\":255,\"rule\":13}";
-    assert!(rt;
-        imports(
-            rt.alloc(),
-            ",[1,1,\"10.0.2.0\",6200,\"d\",\"10.00\"]",
-            answer
-        )?
-    );
-    Ok(())
+fn an_import_fills_a_ring(rt: HostRuntime) {
+    for (more, answer) in &FILLING {
+        assert!(rt; imports(rt.alloc(), more, answer), "{more}");
+    }
 }

@@ -2,14 +2,12 @@
 //! previews, for what moved, and for the log.
 use super::changes::{BEFORE, Line, NO_RING, runs, runs_behind};
 use super::failing::Failing;
-use super::{Memory, UNREADABLE, answers, ask, ask_again, open};
+use super::{UNREADABLE, are_answered, is_given, open, tells};
 use builder::RingMachine;
-use byte_streams::StreamFault;
-use request_book::{Book, MemKeeper};
+use request_book::{Book, Keeper, MemKeeper};
 use ring_model::Rings;
 use ring_words::Limits;
 use std::alloc::Global;
-use std::test::Fail;
 
 /// The lines that make a ring and ask for its tables, named by what they show, and their answers.
 type Shown<'a> = (&'a str, &'a str, &'a str);
@@ -173,17 +171,11 @@ balance 0.00 dispersion 0.00 version 0\n",
     ),
 ];
 
-/// Whether lines are answered so by a new book.
-fn are_answered(alloc: Global, lines: &str, want: &str) -> Result<bool, Fail> {
-    Ok(answers(alloc, lines.as_bytes())?.as_slice() == want.as_bytes())
-}
-
 #[test]
-fn tables_are_shown(rt: HostRuntime) -> Result<(), Fail> {
+fn tables_are_shown(rt: HostRuntime) {
     for (shows, lines, want) in &BALANCED {
-        assert!(rt; are_answered(rt.alloc(), lines, want)?, "{shows}");
+        assert!(rt; are_answered(rt.alloc(), lines.as_bytes(), want), "{shows}");
     }
-    Ok(())
 }
 
 /// The table of two devices.
@@ -235,16 +227,14 @@ static NOT_THERE: [Line<'_>; 9] = [
 ];
 
 #[test]
-fn a_question_sees_the_lines_before_it(rt: HostRuntime) -> Result<(), Fail> {
-    assert!(rt; runs_behind(rt.alloc(), Limits::full(), &BETWEEN)?);
-    assert!(rt; runs(rt.alloc(), Limits::full(), &BEFORE_IT_IS_MADE, &BEFORE)?);
-    Ok(())
+fn a_question_sees_the_lines_before_it(rt: HostRuntime) {
+    assert!(rt; runs_behind(rt.alloc(), Limits::full(), &BETWEEN));
+    assert!(rt; runs(rt.alloc(), Limits::full(), &BEFORE_IT_IS_MADE, &BEFORE));
 }
 
 #[test]
-fn a_ring_that_is_not_there_has_no_table(rt: HostRuntime) -> Result<(), Fail> {
-    assert!(rt; runs_behind(rt.alloc(), Limits::full(), &NOT_THERE)?);
-    Ok(())
+fn a_ring_that_is_not_there_has_no_table(rt: HostRuntime) {
+    assert!(rt; runs_behind(rt.alloc(), Limits::full(), &NOT_THERE));
 }
 
 static NO_QUESTIONS: [&str; 72] = [
@@ -323,23 +313,13 @@ static NO_QUESTIONS: [&str; 72] = [
 ];
 
 #[test]
-fn other_lines_are_no_questions(rt: HostRuntime) -> Result<(), Fail> {
+fn other_lines_are_no_questions(rt: HostRuntime) {
     for line in &NO_QUESTIONS {
-        assert!(rt; are_answered(rt.alloc(), line, UNREADABLE)?, "{line}");
+        assert!(rt;
+            are_answered(rt.alloc(), line.as_bytes(), UNREADABLE),
+            "{line}"
+        );
     }
-    Ok(())
-}
-
-/// What lines are answered whose book fails in its store once it was made ready so often.
-fn failing(alloc: Global, loads: u32, lines: &[u8]) -> Result<Vec<u8>, StreamFault> {
-    let limits = Limits::full();
-    let kept = MemKeeper::new(alloc, Rings::new(alloc), limits);
-    let keeper = Failing::new(kept, loads);
-    ask(
-        alloc,
-        &mut Book::open(alloc, RingMachine { limits }, keeper),
-        lines,
-    )
 }
 
 static CLOSING: &str =
@@ -405,32 +385,37 @@ static FAILED_AT_A_READ: &str = "200 {\"done\":\"create\",\"version\":0}
 400 {\"fault\":\"Unreadable\",\"rule\":20}
 ";
 
-/// Whether the lines are answered so whose book fails once it was made ready so often.
-fn closes(alloc: Global, loads: u32, lines: &str, want: &str) -> Result<bool, Fail> {
-    Ok(failing(alloc, loads, lines.as_bytes())?.as_slice() == want.as_bytes())
+/// Whether the lines are answered so whose book fails in its store once it was made ready so often.
+fn closes(alloc: Global, loads: u32, lines: &str, want: &str) -> bool {
+    let limits = Limits::full();
+    let kept = MemKeeper::new(alloc, Rings::new(alloc), limits);
+    let keeper = Failing::new(kept, loads);
+    let mut book = Book::open(alloc, RingMachine { limits }, keeper);
+    tells(alloc, &mut book, lines.as_bytes(), want)
 }
 
 #[test]
-fn a_closed_book_answers_no_question(rt: HostRuntime) -> Result<(), Fail> {
-    assert!(rt; closes(rt.alloc(), 2, CLOSING, FAILED_AT_A_QUESTION)?);
-    assert!(rt; closes(rt.alloc(), 0, CLOSING, FAILED_AT_ONCE)?);
-    assert!(rt; closes(rt.alloc(), 2, CLOSING_READS, FAILED_AT_A_READ)?);
-    Ok(())
+fn a_closed_book_answers_no_question(rt: HostRuntime) {
+    assert!(rt; closes(rt.alloc(), 2, CLOSING, FAILED_AT_A_QUESTION));
+    assert!(rt; closes(rt.alloc(), 0, CLOSING, FAILED_AT_ONCE));
+    assert!(rt; closes(rt.alloc(), 2, CLOSING_READS, FAILED_AT_A_READ));
 }
 
-/// Whether lines are answered so, each asked again where its answer found no memory.
-fn are_given(
+/// How many lines are answered so, up to the first that isn't, each asked again where its answer
+/// found no memory.
+fn given<K: Keeper<RingMachine>>(
     alloc: Global,
-    book: &mut Book<RingMachine, Memory>,
+    book: &mut Book<RingMachine, K>,
     lines: &[Line<'_>],
-) -> Result<bool, Fail> {
+) -> usize {
+    let mut count = 0usize;
     for (line, want) in lines {
-        let got = ask_again(alloc, book, line)?;
-        if got.as_slice().strip_suffix(b"\n") != Some(want.as_bytes()) {
-            return Ok(false);
+        if !is_given(alloc, book, line, want) {
+            return count;
         }
+        count = count.saturating_add(1);
     }
-    Ok(true)
+    count
 }
 
 static SHOWN: [Line<'_>; 7] = [
@@ -461,10 +446,18 @@ balance 100.00 dispersion 0.00 version 2",
     ),
 ];
 
+/// How many of the lines before and of those questions are answered so.
+fn given_anew(alloc: Global) -> (usize, usize) {
+    let mut book = open(alloc, Limits::full());
+    let made = given(alloc, &mut book, &BEFORE);
+    (made, given(alloc, &mut book, &SHOWN))
+}
+
 #[test]
-fn a_lost_table_is_shown_to_the_repeat(rt: HostRuntime) -> Result<(), Fail> {
-    let mut book = open(rt.alloc(), Limits::full());
-    let made = are_given(rt.alloc(), &mut book, &BEFORE)?;
-    assert!(rt; made && are_given(rt.alloc(), &mut book, &SHOWN)?);
-    Ok(())
+fn a_lost_table_is_shown_to_the_repeat(rt: HostRuntime) {
+    let (made, shown) = given_anew(rt.alloc());
+    assert!(rt;
+        made == BEFORE.len() && shown == SHOWN.len(),
+        "{made} {shown}"
+    );
 }

@@ -1,139 +1,115 @@
 //! Rebalances, raised rings and published texts, line by line. The rows are written with `'` for
 //! `"`.
+mod parts;
+
 use super::answers_within;
+use crate::quotes::{behind_quoted, push_message};
 use builder::{decide, read_delivery};
-use ring_model::Rings;
-use ring_words::{Limits, RingName};
+use parts::{PUBLISH, Part, rows_of};
+use ring_model::{Ring, Rings};
+use ring_words::{Command, Limits, RingName};
 use std::alloc::{AllocError, Global};
-use std::test::Fail;
-use test_fixtures::rows::{
-    ADD_D0, ADD_D1, ADD_D2, ADD_D3, ADDED_D0, AT_THE_HOUR, CLOCK_BACK, CREATED, FAR, FEW, FIRST,
-    FULL, LOCKED, PAIRS, PRETEND, REBALANCE, REMOVAL, REORDERED, REPEATED, SET_ASIDE, SMALL,
-    TOO_FEW, UNREACHABLE, WorkedRow,
-};
-
-const PUBLISH: &str = "'do':'publish'";
-
-const REMOVE_D0: &str = "'do':'remove','id':0";
-
-const REMOVE_D1: &str = "'do':'remove','id':1";
-
-/// Puts a row's text behind others, with `"` for `'`.
-fn push_quoted(into: &mut String, row: &str) -> Result<(), AllocError> {
-    for character in row.chars() {
-        into.push(if character == '\'' { '"' } else { character })?;
-    }
-    into.push('\n')
-}
-
-/// Puts the line of a row on a ring behind others.
-fn push_line(
-    alloc: Global,
-    lines: &mut String,
-    ring: &str,
-    row: &WorkedRow<'_>,
-) -> Result<(), AllocError> {
-    let (hour, number, what, _) = *row;
-    let line = format!(in alloc;
-        "{hour} {{'caller':'ops','number':{number},'ring':'{ring}',{what}}}"
-    )?;
-    push_quoted(lines, line.as_str())
-}
+use std::str;
+use test_fixtures::rows::{ADD_D0, ADD_D1, ADD_D2, ADD_D3, REBALANCE, WorkedRow};
 
 /// Puts the lines of rows on a ring behind others.
 fn push_lines(
     alloc: Global,
     lines: &mut String,
     ring: &str,
-    rows: &[&[WorkedRow]],
+    rows: &[WorkedRow<'_>],
 ) -> Result<(), AllocError> {
-    for part in rows {
-        for row in *part {
-            push_line(alloc, lines, ring, row)?;
-        }
+    for row in rows {
+        let (hour, number, what, _) = *row;
+        let hour = format!(in alloc; "{hour} ")?;
+        lines.push_str(hour.as_str())?;
+        push_message(alloc, lines, number, ring, what)?;
+        lines.push('\n')?;
     }
     Ok(())
 }
 
-/// The lines of rows on a ring, and a last one.
-fn lines_of(
+/// Puts the lines of parts on a ring behind others, and a last one.
+fn push_parts(
     alloc: Global,
+    lines: &mut String,
     ring: &str,
-    rows: &[&[WorkedRow]],
+    parts: &[Part],
     last: &str,
-) -> Result<String, AllocError> {
+) -> Result<(), AllocError> {
+    for part in parts {
+        push_lines(alloc, lines, ring, rows_of(*part))?;
+    }
+    lines.push_str(last)
+}
+
+/// All that is told to parts on a ring, when the ring is asked for its tables last.
+fn told(alloc: Global, limits: Limits, ring: &str, parts: &[Part], last: &str) -> Option<Vec<u8>> {
     let mut lines = String::new(alloc);
-    push_lines(alloc, &mut lines, ring, rows)?;
-    lines.push_str(last)?;
-    Ok(lines)
+    push_parts(alloc, &mut lines, ring, parts, last).ok()?;
+    answers_within(alloc, limits, lines.as_bytes())
 }
 
-/// Puts the answers of rows behind others.
-fn push_answers(answers: &mut String, rows: &[&[WorkedRow]]) -> Result<(), AllocError> {
-    for part in rows {
-        for (_, _, _, answer) in *part {
-            push_quoted(answers, answer)?;
-        }
+/// What follows in a text behind the answers of rows, if it begins with them.
+fn behind_rows<'a>(text: &'a [u8], rows: &[WorkedRow<'_>]) -> Option<&'a [u8]> {
+    let mut rest = text;
+    for (_, _, _, answer) in rows {
+        rest = behind_quoted(rest, answer)?.strip_prefix(b"\n")?;
     }
-    Ok(())
+    Some(rest)
 }
 
-/// The answers of rows.
-fn answers_of(alloc: Global, rows: &[&[WorkedRow]]) -> Result<String, AllocError> {
-    let mut answers = String::new(alloc);
-    push_answers(&mut answers, rows)?;
-    Ok(answers)
+/// What follows in a text behind the answers of parts, if it begins with them.
+fn behind_parts<'a>(text: &'a [u8], parts: &[Part]) -> Option<&'a [u8]> {
+    let mut rest = text;
+    for part in parts {
+        rest = behind_rows(rest, rows_of(*part))?;
+    }
+    Some(rest)
 }
 
-/// All that is told to rows on a ring, when the ring is asked for its tables last.
-fn all_told(
+/// Whether parts on a ring are answered as their rows say, and what is asked behind them.
+fn is_shown(
     alloc: Global,
     limits: Limits,
     ring: &str,
-    rows: &[&[WorkedRow]],
+    parts: &[Part],
     last: &str,
-) -> Result<Vec<u8>, Fail> {
-    let lines = lines_of(alloc, ring, rows, last)?;
-    Ok(answers_within(alloc, limits, lines.as_bytes())?)
-}
-
-/// What is told behind answers, or all of it as the fault where it doesn't begin with them.
-fn behind(alloc: Global, told: &[u8], answers: &str) -> Result<String, Fail> {
-    match told.strip_prefix(answers.as_bytes()) {
-        Some(rest) => Ok(String::from_utf8_lossy(alloc, rest)?),
-        None => Err(Fail::new(format_args!("{}", String::from_utf8_lossy(alloc, told)?))),
+    answers: &str,
+) -> bool {
+    match told(alloc, limits, ring, parts, last) {
+        Some(text) => behind_parts(&text, parts) == Some(answers.as_bytes()),
+        None => false,
     }
 }
 
-/// What is told behind the answers of rows, when the ring is asked for its tables last.
-fn told(
-    alloc: Global,
-    limits: Limits,
-    ring: &str,
-    rows: &[&[WorkedRow]],
-    last: &str,
-) -> Result<String, Fail> {
-    let answers = answers_of(alloc, rows)?;
-    let told = all_told(alloc, limits, ring, rows, last)?;
-    behind(alloc, &told, answers.as_str())
-}
+/// Runs on the ring `object` behind which nothing is asked.
+static RUNS: [[Part; 3]; 13] = [
+    // a repeated rebalance gets its reply and moves nothing
+    [Part::First, Part::Repeated, Part::Pretended],
+    [Part::First, Part::Locked, Part::AtTheHour], // a moved partition stays for its hours
+    [Part::First, Part::Locked, Part::SetAside], // hours that are set aside lock nothing
+    [Part::Pairs, Part::Drained, Part::Nothing], // a drained device keeps one of two locked seats
+    // a drained device keeps its seats while they are locked
+    [Part::First, Part::DrainedWhileLocked, Part::Nothing],
+    [Part::Few, Part::Nothing, Part::Nothing], // too few open devices change nothing
+    [Part::Pairs, Part::Marked, Part::Nothing], // a marked device is none to put seats on
+    // a want that no seats can meet moves nothing
+    [Part::Unreachable, Part::Nothing, Part::Nothing],
+    // a request that came too early keeps its refusal
+    [Part::Reordered, Part::Nothing, Part::Nothing],
+    [Part::ClockBack, Part::Nothing, Part::Nothing], // a clock that goes back frees no partition
+    // two full devices of each partition give a seat each
+    [Part::Small, Part::Spread, Part::Nothing],
+    [Part::Small, Part::HalfFar, Part::Nothing], // a far device with room for one seat takes one
+    [Part::First, Part::Locked, Part::Raised], // both halves of a locked partition stay
+];
 
-/// Rows on a ring, named by what they show; what is asked of the ring behind them; and what that is
-/// answered.
-type Shown<'a> = (&'a str, &'a [&'a [WorkedRow<'a>]], &'a str, &'a str);
-
-/// Whether rows on a ring are answered as they say, and what is asked behind them.
-fn is_shown(alloc: Global, limits: Limits, ring: &str, shown: &Shown<'_>) -> Result<bool, Fail> {
-    let (_, rows, last, answers) = *shown;
-    let rest = told(alloc, limits, ring, rows, last)?;
-    Ok(rest.as_str() == answers)
-}
-
-/// Runs on the ring `object`.
-const RUNS: [Shown<'_>; 17] = [
+/// Runs on the ring `object`, what is asked of the ring behind them, and what that is answered.
+static ASKED: [([Part; 3], &str, &str); 4] = [
+    // the first assignment is shown
     (
-        "the_first_assignment_is_shown",
-        &[&FIRST],
+        [Part::First, Part::Nothing, Part::Nothing],
         "? balance object\n? devices object\n",
         "   id     weight wanted    has balance
     0     100.00      2      2    0.00
@@ -144,35 +120,9 @@ balance 0.00 dispersion 0.00 version 3
     1      1     1 10.0.0.2         6200     100.00 open    d1
 ",
     ),
+    // removal ignores the lock
     (
-        "a_repeated_rebalance_gets_its_reply_and_moves_nothing",
-        &[
-            &FIRST,
-            &REPEATED,
-            &[(9, 5, PRETEND, "200 {'done':'pretend_passed','version':4}")],
-        ],
-        "",
-        "",
-    ),
-    (
-        "a_moved_partition_stays_for_its_hours",
-        &[&FIRST, &LOCKED, &AT_THE_HOUR],
-        "",
-        "",
-    ),
-    (
-        "hours_that_are_set_aside_lock_nothing",
-        &[&FIRST, &LOCKED, &SET_ASIDE],
-        "",
-        "",
-    ),
-    (
-        "removal_ignores_the_lock",
-        &[
-            &FIRST,
-            &REMOVAL,
-            &[(1, 8, REMOVE_D0, "422 {'refused':'NoDevice','rule':4}")],
-        ],
+        [Part::First, Part::Removal, Part::Removed],
         "? balance object\n",
         "   id     weight wanted    has balance
     1     100.00      2      2    0.00
@@ -180,22 +130,9 @@ balance 0.00 dispersion 0.00 version 3
 balance 0.00 dispersion 0.00 version 6
 ",
     ),
+    // a removed device gives all its seats away
     (
-        "a_removed_device_gives_all_its_seats_away",
-        &[
-            &PAIRS,
-            &[
-                (0, 5, ADD_D2, "200 {'done':'add','id':2,'version':4}"),
-                (0, 6, REMOVE_D0, "200 {'done':'remove','version':5}"),
-                (
-                    1,
-                    7,
-                    REBALANCE,
-                    "200 {'balance':0,'changed':4,'dispersion':0,'done':'rebalance','version':6}",
-                ),
-                (1, 8, REMOVE_D0, "422 {'refused':'NoDevice','rule':4}"),
-            ],
-        ],
+        [Part::Pairs, Part::Emptied, Part::Nothing],
         "? balance object\n",
         "   id     weight wanted    has balance
     1     100.00      4      4    0.00
@@ -203,88 +140,9 @@ balance 0.00 dispersion 0.00 version 6
 balance 0.00 dispersion 0.00 version 6
 ",
     ),
+    // a far device lacks a seat of each partition
     (
-        "a_drained_device_keeps_one_of_two_locked_seats",
-        &[
-            &PAIRS,
-            &[
-                (0, 5, ADD_D2, "200 {'done':'add','id':2,'version':4}"),
-                (
-                    0,
-                    6,
-                    "'do':'set_weight','id':1,'weight':'0.00'",
-                    "200 {'done':'set_weight','version':5}",
-                ),
-                (
-                    1,
-                    7,
-                    REBALANCE,
-                    "200 {'balance':99999,'changed':0,'dispersion':0,'done':'rebalance','version':6}",
-                ),
-            ],
-        ],
-        "",
-        "",
-    ),
-    (
-        "a_drained_device_keeps_its_seats_while_they_are_locked",
-        &[
-            &FIRST,
-            &[
-                (
-                    1,
-                    5,
-                    "'do':'set_weight','id':0,'weight':'0.00'",
-                    "200 {'done':'set_weight','version':4}",
-                ),
-                (
-                    23,
-                    6,
-                    REBALANCE,
-                    "200 {'balance':99999,'changed':0,'dispersion':0,'done':'rebalance','version':5}",
-                ),
-                (
-                    24,
-                    7,
-                    REBALANCE,
-                    "200 {'balance':0,'changed':2,'dispersion':0,'done':'rebalance','version':6}",
-                ),
-            ],
-        ],
-        "",
-        "",
-    ),
-    ("too_few_open_devices_change_nothing", &[&FEW], "", ""),
-    (
-        "a_marked_device_is_none_to_put_seats_on",
-        &[
-            &PAIRS,
-            &[
-                (0, 5, REMOVE_D1, "200 {'done':'remove','version':4}"),
-                (0, 6, REMOVE_D1, "422 {'refused':'DeviceRemoved','rule':6}"),
-                (0, 7, ADD_D1, "422 {'refused':'DeviceExists','rule':5}"),
-                (0, 8, REBALANCE, TOO_FEW),
-                (0, 9, REMOVE_D1, "422 {'refused':'DeviceRemoved','rule':6}"),
-            ],
-        ],
-        "",
-        "",
-    ),
-    (
-        "a_want_that_no_seats_can_meet_moves_nothing",
-        &[&UNREACHABLE],
-        "",
-        "",
-    ),
-    (
-        "a_request_that_came_too_early_keeps_its_refusal",
-        &[&REORDERED],
-        "",
-        "",
-    ),
-    (
-        "a_far_device_lacks_a_seat_of_each_partition",
-        &[&SMALL, &FAR],
+        [Part::Small, Part::Far, Part::Nothing],
         "? balance object\n",
         "   id     weight wanted    has balance
     0     100.00      1      2  100.00
@@ -293,112 +151,43 @@ balance 0.00 dispersion 0.00 version 6
 balance 100.00 dispersion 100.00 version 4
 ",
     ),
-    (
-        "a_clock_that_goes_back_frees_no_partition",
-        &[&CLOCK_BACK],
-        "",
-        "",
-    ),
-    (
-        "two_full_devices_of_each_partition_give_a_seat_each",
-        &[
-            &SMALL,
-            &[
-                (0, 5, ADD_D2, "200 {'done':'add','id':2,'version':4}"),
-                (0, 6, ADD_D3, "200 {'done':'add','id':3,'version':5}"),
-                (
-                    0,
-                    7,
-                    REBALANCE,
-                    "200 {'balance':0,'changed':2,'dispersion':0,'done':'rebalance','version':6}",
-                ),
-                (
-                    0,
-                    8,
-                    "'do':'rebalance','seed':8",
-                    "200 {'balance':0,'changed':0,'dispersion':0,'done':'rebalance','version':7}",
-                ),
-            ],
-        ],
-        "",
-        "",
-    ),
-    (
-        "a_far_device_with_room_for_one_seat_takes_one",
-        &[
-            &SMALL,
-            &[
-                (
-                    0,
-                    5,
-                    "'do':'add','region':2,'zone':1,'address':'10.0.0.3','port':6200,'name':'d2','weight':'50.00'",
-                    "200 {'done':'add','id':2,'version':4}",
-                ),
-                (
-                    0,
-                    6,
-                    REBALANCE,
-                    "200 {'balance':3750,'changed':1,'dispersion':5000,'done':'rebalance','version':5}",
-                ),
-            ],
-        ],
-        "",
-        "",
-    ),
-    (
-        "both_halves_of_a_locked_partition_stay",
-        &[
-            &FIRST,
-            &LOCKED,
-            &[
-                (
-                    23,
-                    7,
-                    "'do':'raise_power'",
-                    "200 {'done':'raise_power','version':6}",
-                ),
-                (
-                    23,
-                    8,
-                    REBALANCE,
-                    "200 {'balance':10000,'changed':0,'dispersion':0,'done':'rebalance','version':7}",
-                ),
-                (
-                    24,
-                    9,
-                    REBALANCE,
-                    "200 {'balance':2500,'changed':2,'dispersion':0,'done':'rebalance','version':8}",
-                ),
-            ],
-        ],
-        "",
-        "",
-    ),
 ];
 
-#[test]
-fn rows_are_answered_as_they_show(rt: HostRuntime) -> Result<(), Fail> {
-    for shown in &RUNS {
-        assert!(rt;
-            is_shown(rt.alloc(), Limits::full(), "object", shown)?,
-            "{}",
-            shown.0
-        );
+/// The place of the first run of the first table that is answered otherwise, or how many there are.
+fn first_other(alloc: Global) -> usize {
+    let mut place = 0usize;
+    for parts in &RUNS {
+        if !is_shown(alloc, Limits::full(), "object", parts, "", "") {
+            return place;
+        }
+        place = place.saturating_add(1);
     }
-    Ok(())
+    place
 }
 
 #[test]
-fn a_full_book_still_gives_its_replies(rt: HostRuntime) -> Result<(), Fail> {
+fn rows_are_answered_as_they_show(rt: HostRuntime) {
+    let place = first_other(rt.alloc());
+    assert!(rt; place == RUNS.len(), "{place}");
+    for (parts, last, answers) in &ASKED {
+        let is_shown = is_shown(rt.alloc(), Limits::full(), "object", parts, last, answers);
+        assert!(rt; is_shown, "{answers}");
+    }
+}
+
+#[test]
+fn a_full_book_still_gives_its_replies(rt: HostRuntime) {
     let mut limits = Limits::full();
     limits.numbers = 2;
-    assert!(rt; is_shown(rt.alloc(), limits, "object", &("", &[&FULL], "", ""))?);
-    Ok(())
+    assert!(rt; is_shown(rt.alloc(), limits, "object", &[Part::Full], "", ""));
 }
 
 /// What follows the far device's first rebalance in the order of the words: the answer's end, its
 /// row, and one of two last lines.
-fn is_dispersed(told: &str) -> bool {
+fn is_dispersed(told: &[u8]) -> bool {
+    let Ok(told) = str::from_utf8(told) else {
+        return false;
+    };
     let Some((answer, table)) = told.split_once('\n') else {
         return false;
     };
@@ -409,114 +198,115 @@ fn is_dispersed(told: &str) -> bool {
         && (near || uneven)
 }
 
-#[test]
-fn a_far_device_takes_a_seat_of_each_partition(rt: HostRuntime) -> Result<(), Fail> {
-    let last =
-        "0 {\"caller\":\"ops\",\"number\":6,\"ring\":\"object\",\"do\":\"rebalance\",\"seed\":7}\n? balance object\n";
-    let told = told(rt.alloc(), Limits::full(), "object", &[&SMALL, &FAR], last)?;
-    assert!(rt; is_dispersed(&told), "{told}");
-    Ok(())
+/// The far device's first rebalance, and a question behind it.
+static FAR_REBALANCE: &str =
+    "0 {\"caller\":\"ops\",\"number\":6,\"ring\":\"object\",\"do\":\"rebalance\",\"seed\":7}\n? balance object\n";
+
+/// Whether the far device takes a seat of each partition.
+fn is_far_dispersed(alloc: Global) -> bool {
+    let parts = [Part::Small, Part::Far];
+    match told(alloc, Limits::full(), "object", &parts, FAR_REBALANCE) {
+        Some(text) => behind_parts(&text, &parts).is_some_and(is_dispersed),
+        None => false,
+    }
 }
 
-/// The ring `tiny` with one device, assigned at version 2 and published.
-static TINY: [WorkedRow; 6] = [
-    (
-        0,
-        1,
-        "'do':'create','power':1,'replicas':1,'min_hours':0",
-        CREATED,
-    ),
-    (0, 2, ADD_D0, ADDED_D0),
-    (0, 3, PUBLISH, "422 {'refused':'NotAssigned','rule':10}"),
-    (
-        0,
-        4,
-        REBALANCE,
-        "200 {'balance':0,'changed':2,'dispersion':0,'done':'rebalance','version':2}",
-    ),
-    (0, 5, PUBLISH, "200 {'done':'publish','version':2}"),
-    (0, 6, PUBLISH, "200 {'done':'publish','version':2}"),
-];
-
-/// What follows where one version may be published.
-static THEN: [WorkedRow; 2] = [
-    (
-        0,
-        7,
-        REBALANCE,
-        "200 {'balance':0,'changed':0,'dispersion':0,'done':'rebalance','version':3}",
-    ),
-    (0, 8, PUBLISH, "422 {'refused':'TooManyVersions','rule':11}"),
-];
+#[test]
+fn a_far_device_takes_a_seat_of_each_partition(rt: HostRuntime) {
+    assert!(rt; is_far_dispersed(rt.alloc()));
+}
 
 #[test]
-fn a_version_is_published_once(rt: HostRuntime) -> Result<(), Fail> {
+fn a_version_is_published_once(rt: HostRuntime) {
     let mut limits = Limits::full();
     limits.versions = 1;
-    assert!(rt; is_shown(rt.alloc(), limits, "tiny", &("", &[&TINY, &THEN], "", ""))?);
-    Ok(())
+    let parts = [Part::Tiny, Part::Then];
+    assert!(rt; is_shown(rt.alloc(), limits, "tiny", &parts, "", ""));
 }
 
 /// The 119 bytes of the ring `tiny`.
 static TINY_TEXT: &str =
     "swift-ring-text 1\nring tiny\nversion 2\npower 1\nreplicas 1\ndevices 1\n0 1 1 10.0.0.1 6200 100.00 present d0\nseats\n0\n0\nend\n";
 
-/// The rings after commands on one ring.
-fn rings_after(alloc: Global, ring: &str, commands: &[&str]) -> Result<Rings, Fail> {
-    let limits = Limits::full();
-    let mut rings = Rings::new(alloc);
-    for what in commands {
-        let mut message = String::new(alloc);
-        let text = format!(in alloc; "{{'caller':'ops','number':1,'ring':'{ring}',{what}}}")?;
-        push_quoted(&mut message, text.as_str())?;
-        let (_, command) = read_delivery(alloc, message.as_bytes())?;
-        let (after, _) = decide(alloc, &rings, 0, &command, &limits)?;
-        rings = after;
-    }
-    Ok(rings)
+/// The command of what is asked of a ring.
+fn command(alloc: Global, ring: &str, what: &str) -> Option<Command> {
+    let mut message = String::new(alloc);
+    push_message(alloc, &mut message, 1, ring, what).ok()?;
+    let (_, command) = read_delivery(alloc, message.as_bytes()).ok()?;
+    Some(command)
 }
 
-/// Whether the rings hold the text of `tiny` at version 2, and no other.
-fn is_published(alloc: Global, rings: &Rings) -> Result<bool, Fail> {
-    let name = RingName::new(alloc, "tiny")?;
-    Ok(
-        rings.get(&name).is_some_and(|ring| {
-            ring.published(2) == Some(TINY_TEXT) && ring.published_list().len() == 1
-        }),
-    )
+/// The rings after one more command on a ring.
+fn moved(alloc: Global, rings: &Rings, ring: &str, what: &str) -> Option<Rings> {
+    let command = command(alloc, ring, what)?;
+    match decide(alloc, rings, 0, &command, &Limits::full()) {
+        Ok((after, _)) => Some(after),
+        Err(_) => None,
+    }
+}
+
+/// The rings after commands on one ring.
+fn rings_after(alloc: Global, ring: &str, commands: &[&str]) -> Option<Rings> {
+    let mut rings = Rings::new(alloc);
+    for what in commands {
+        rings = moved(alloc, &rings, ring, what)?;
+    }
+    Some(rings)
+}
+
+/// Commands that publish the ring `tiny` twice at one version.
+static PUBLISHED_TWICE: [&str; 5] = [
+    "'do':'create','power':1,'replicas':1,'min_hours':0",
+    ADD_D0,
+    REBALANCE,
+    PUBLISH,
+    PUBLISH,
+];
+
+/// The ring of a name.
+fn ring_of<'a>(alloc: Global, rings: &'a Rings, name: &str) -> Option<&'a Ring> {
+    let name = RingName::new(alloc, name).ok()?;
+    rings.get(&name)
+}
+
+/// Whether the rings hold the text of `tiny` at version 2 then, and no other.
+fn is_published(alloc: Global) -> Option<bool> {
+    let rings = rings_after(alloc, "tiny", &PUBLISHED_TWICE)?;
+    let ring = ring_of(alloc, &rings, "tiny")?;
+    Some(ring.published(2) == Some(TINY_TEXT) && ring.published_list().len() == 1)
 }
 
 #[test]
-fn the_text_of_a_version_is_published(rt: HostRuntime) -> Result<(), Fail> {
-    let create = "'do':'create','power':1,'replicas':1,'min_hours':0";
-    let commands = [create, ADD_D0, REBALANCE, PUBLISH, PUBLISH];
-    let rings = rings_after(rt.alloc(), "tiny", &commands)?;
-    assert!(rt; is_published(rt.alloc(), &rings)?);
-    Ok(())
+fn the_text_of_a_version_is_published(rt: HostRuntime) {
+    assert!(rt; matches!(is_published(rt.alloc()), Some(true)));
 }
 
-/// The seats of a ring of four devices after a rebalance.
-fn seats_after(alloc: Global, rebalance: &'static str) -> Result<Vec<u16>, Fail> {
-    let create = "'do':'create','power':4,'replicas':2,'min_hours':0";
-    let commands = [create, ADD_D0, ADD_D1, ADD_D2, ADD_D3, rebalance];
-    let rings = rings_after(alloc, "object", &commands)?;
-    let name = RingName::new(alloc, "object")?;
-    match rings.get(&name) {
-        Some(ring) => Ok(Vec::from_slice(alloc, ring.seats())?),
-        None => Err("the ring".into()),
-    }
+/// Commands that make a ring of four devices.
+static OF_FOUR: [&str; 5] = [
+    "'do':'create','power':4,'replicas':2,'min_hours':0",
+    ADD_D0,
+    ADD_D1,
+    ADD_D2,
+    ADD_D3,
+];
+
+/// The seats of that ring after a rebalance.
+fn seats_after(alloc: Global, rebalance: &str) -> Option<Vec<u16>> {
+    let made = rings_after(alloc, "object", &OF_FOUR)?;
+    let rings = moved(alloc, &made, "object", rebalance)?;
+    Vec::from_slice(alloc, ring_of(alloc, &rings, "object")?.seats()).ok()
 }
 
 /// Whether two rebalances of the same ring come to the same 32 seats.
-fn come_to_the_same(alloc: Global, one: &'static str, other: &'static str) -> Result<bool, Fail> {
+fn come_to_the_same(alloc: Global, one: &str, other: &str) -> Option<bool> {
     let one = seats_after(alloc, one)?;
     let other = seats_after(alloc, other)?;
-    Ok(one.len() == 32 && one.as_slice() == other.as_slice())
+    Some(one.len() == 32 && one.as_slice() == other.as_slice())
 }
 
 #[test]
-fn a_seed_gives_one_ring_and_another_seed_another(rt: HostRuntime) -> Result<(), Fail> {
-    assert!(rt; come_to_the_same(rt.alloc(), REBALANCE, REBALANCE)?);
-    assert!(rt; !come_to_the_same(rt.alloc(), REBALANCE, "'do':'rebalance','seed':8")?);
-    Ok(())
+fn a_seed_gives_one_ring_and_another_seed_another(rt: HostRuntime) {
+    let again = come_to_the_same(rt.alloc(), REBALANCE, REBALANCE);
+    let another = come_to_the_same(rt.alloc(), REBALANCE, "'do':'rebalance','seed':8");
+    assert!(rt; again == Some(true) && another == Some(false));
 }
