@@ -1,12 +1,10 @@
 //! Readers and writers that fail over four requests.
 use crate::serving::{
-    CREATE, CREATED, Outcome, RingBook, answers, are_beginning, joined, open, serve,
+    CREATE, CREATED, Calls, Outcome, RingBook, answers, are_beginning, joined, open, serve,
 };
 use byte_streams::StreamFault;
 use ring_words::Limits;
-use std::alloc::{AllocError, Global};
-use std::test::Fail;
-use test_fixtures::Taker;
+use std::alloc::Global;
 
 /// Four requests.
 static FOUR: [&str; 4] = [
@@ -25,31 +23,27 @@ static FOUR_ANSWERS: [&str; 4] = [
 ];
 
 /// Whether the four requests get their answers.
-fn four_are_answered(alloc: Global, book: &mut RingBook) -> Result<bool, AllocError> {
-    let stream = joined(alloc, &FOUR)?;
-    answers(alloc, book, &stream, &FOUR_ANSWERS)
+fn four_are_answered(alloc: Global, book: &mut RingBook) -> bool {
+    match joined(alloc, &FOUR) {
+        Some(stream) => answers(alloc, book, &stream, &FOUR_ANSWERS),
+        None => false,
+    }
 }
 
 /// The same of a new book.
-fn four_are_answered_anew(alloc: Global) -> Result<bool, AllocError> {
+fn four_are_answered_anew(alloc: Global) -> bool {
     four_are_answered(alloc, &mut open(alloc, Limits::full()))
 }
 
 #[test]
-fn four_requests_are_answered(rt: HostRuntime) -> Result<(), Fail> {
-    assert!(rt; four_are_answered_anew(rt.alloc())?);
-    Ok(())
+fn four_requests_are_answered(rt: HostRuntime) {
+    assert!(rt; four_are_answered_anew(rt.alloc()));
 }
 
-/// Serves the four requests, read so many bytes at a time, on a writer.
-fn serve_four(
-    alloc: Global,
-    book: &mut RingBook,
-    reads: (usize, u32),
-    taker: Taker,
-) -> Result<Outcome, AllocError> {
+/// Serves the four requests, where reads and writes are such calls.
+fn serve_four(alloc: Global, book: &mut RingBook, reads: Calls, writes: Calls) -> Option<Outcome> {
     let stream = joined(alloc, &FOUR)?;
-    serve(alloc, book, stream.as_bytes(), reads, taker)
+    serve(alloc, book, stream.as_bytes(), reads, writes)
 }
 
 /// Whether a fault is told just where the stream that it tells of has counted one, and the other
@@ -67,72 +61,75 @@ fn is_told(came: &Outcome, fault: StreamFault) -> bool {
 fn leaves_a_beginning(
     alloc: Global,
     book: &mut RingBook,
-    reads: (usize, u32),
-    taker: Taker,
+    reads: Calls,
+    writes: Calls,
     fault: StreamFault,
-) -> Result<bool, AllocError> {
-    let came = serve_four(alloc, book, reads, taker)?;
-    Ok(is_told(&came, fault) && are_beginning(&came.text, &FOUR_ANSWERS))
+) -> bool {
+    match serve_four(alloc, book, reads, writes) {
+        Some(came) => is_told(&came, fault) && are_beginning(&came.text, &FOUR_ANSWERS),
+        None => false,
+    }
 }
 
 /// The same of a new book, and whether all is answered when it is sent again.
-fn fails_well(
-    alloc: Global,
-    reads: (usize, u32),
-    taker: Taker,
-    fault: StreamFault,
-) -> Result<bool, AllocError> {
+fn fails_well(alloc: Global, reads: Calls, writes: Calls, fault: StreamFault) -> bool {
     let mut book = open(alloc, Limits::full());
-    let is_well = leaves_a_beginning(alloc, &mut book, reads, taker, fault)?;
-    Ok(is_well && four_are_answered(alloc, &mut book)?)
-}
-
-/// Whether a read that fails so leaves the answers so far.
-fn read_fails_well(alloc: Global, fails_at: u32) -> Result<bool, AllocError> {
-    let taker = Taker::new(alloc, 1000, u32::MAX);
-    fails_well(alloc, (40, fails_at), taker, StreamFault::ReadFailed)
+    leaves_a_beginning(alloc, &mut book, reads, writes, fault)
+        && four_are_answered(alloc, &mut book)
 }
 
 #[test]
-fn a_failed_read_leaves_the_answers_so_far(rt: HostRuntime) -> Result<(), Fail> {
+fn a_failed_read_leaves_the_answers_so_far(rt: HostRuntime) {
     for fails_at in 1..12 {
-        assert!(rt; read_fails_well(rt.alloc(), fails_at)?, "at {fails_at}");
+        let is_well = fails_well(
+            rt.alloc(),
+            (40, fails_at),
+            (1000, u32::MAX),
+            StreamFault::ReadFailed,
+        );
+        assert!(rt; is_well, "at {fails_at}");
     }
-    Ok(())
-}
-
-/// The same of a write that fails.
-fn write_fails_well(alloc: Global, fails_at: u32) -> Result<bool, AllocError> {
-    let taker = Taker::new(alloc, 30, fails_at);
-    fails_well(alloc, (100, u32::MAX), taker, StreamFault::WriteFailed)
 }
 
 #[test]
-fn a_failed_write_leaves_a_beginning_of_the_answers(rt: HostRuntime) -> Result<(), Fail> {
+fn a_failed_write_leaves_a_beginning_of_the_answers(rt: HostRuntime) {
     for fails_at in 1..24 {
-        assert!(rt; write_fails_well(rt.alloc(), fails_at)?, "at {fails_at}");
+        let is_well = fails_well(
+            rt.alloc(),
+            (100, u32::MAX),
+            (30, fails_at),
+            StreamFault::WriteFailed,
+        );
+        assert!(rt; is_well, "at {fails_at}");
     }
-    Ok(())
 }
 
 /// Serves a stream over a new book up to the second read, which fails.
-fn serve_one_read(alloc: Global, stream: &str) -> Result<Outcome, AllocError> {
-    let taker = Taker::new(alloc, 1000, u32::MAX);
+fn serve_one_read(alloc: Global, stream: &str) -> Option<Outcome> {
     let mut book = open(alloc, Limits::full());
-    serve(alloc, &mut book, stream.as_bytes(), (1000, 2), taker)
+    serve(
+        alloc,
+        &mut book,
+        stream.as_bytes(),
+        (1000, 2),
+        (1000, u32::MAX),
+    )
 }
 
 /// Whether a request is answered, and its answer flushed, before the read behind it, which fails.
-fn is_written_at_once(alloc: Global) -> Result<bool, AllocError> {
-    let came = serve_one_read(alloc, FOUR[0])?;
-    let is_written = came.is_flushed && came.text.as_slice() == FOUR_ANSWERS[0].as_bytes();
-    Ok(is_written && came.count == Err(StreamFault::ReadFailed))
+fn is_written_at_once(alloc: Global) -> bool {
+    match serve_one_read(alloc, FOUR[0]) {
+        Some(came) => {
+            let is_written = came.is_flushed && came.text.as_slice() == FOUR_ANSWERS[0].as_bytes();
+            is_written && came.count == Err(StreamFault::ReadFailed)
+        }
+        None => false,
+    }
 }
 
 #[test]
-fn answers_are_written_before_more_is_read(rt: HostRuntime) -> Result<(), Fail> {
-    assert!(rt; is_written_at_once(rt.alloc())?);
-    Ok(())
+fn answers_are_written_before_more_is_read(rt: HostRuntime) {
+    assert!(rt; is_written_at_once(rt.alloc()));
 }
 
 /// A request that says that it is the last.
@@ -142,14 +139,15 @@ static LAST: &str = "GET /v2 HTTP/1.1\r\nHost: a\r\nConnection: close\r\n\r\n";
 static REFUSED: &str = "POST /v1/requests HTTP/1.1\r\nContent-Length: 95\r\n\r\n";
 
 /// Whether a stream is answered without a second read, which would fail.
-fn is_answered_at_once(alloc: Global, stream: &str) -> Result<bool, AllocError> {
-    let came = serve_one_read(alloc, stream)?;
-    Ok(came.count.is_ok() && came.read_faults == 0 && !came.text.is_empty())
+fn is_answered_at_once(alloc: Global, stream: &str) -> bool {
+    match serve_one_read(alloc, stream) {
+        Some(came) => came.count.is_ok() && came.read_faults == 0 && !came.text.is_empty(),
+        None => false,
+    }
 }
 
 #[test]
-fn nothing_is_read_behind_the_last_answer(rt: HostRuntime) -> Result<(), Fail> {
-    assert!(rt; is_answered_at_once(rt.alloc(), LAST)?);
-    assert!(rt; is_answered_at_once(rt.alloc(), REFUSED)?);
-    Ok(())
+fn nothing_is_read_behind_the_last_answer(rt: HostRuntime) {
+    assert!(rt; is_answered_at_once(rt.alloc(), LAST));
+    assert!(rt; is_answered_at_once(rt.alloc(), REFUSED));
 }

@@ -3,7 +3,7 @@ use crate::serving::{
     CREATED, LOST, NO_RING, Sent, Step, Told, UNREADABLE, session, session_of_one,
 };
 use std::alloc::{AllocError, Global};
-use std::test::Fail;
+use std::process::Abort;
 
 const BAD_PATH: Told<'_> = Told::Json("400 Bad Request", "{\"refused\":\"BadPath\",\"rule\":30}");
 
@@ -16,54 +16,101 @@ const BAD_LENGTH: Told<'_> = Told::Last(
     "{\"fault\":\"BadLength\",\"status\":400}",
 );
 
-/// A text, and another one so many times behind it.
-fn with_more(alloc: Global, front: &str, more: &str, count: u32) -> Result<String, AllocError> {
-    let mut all = String::from_str(alloc, front)?;
-    for _ in 0..count {
-        all.push_str(more)?;
+/// A long text: a front, a part so many times behind it, and another part so many times behind that.
+type Long<'a> = (&'a str, (&'a str, u32), (&'a str, u32));
+
+/// Puts a text so many times behind another one.
+fn push_times(all: &mut String, part: (&str, u32)) -> Result<(), AllocError> {
+    for _ in 0..part.1 {
+        all.push_str(part.0)?;
     }
+    Ok(())
+}
+
+/// A long text, where there is memory.
+fn long_text(alloc: Global, long: Long<'_>) -> Result<String, AllocError> {
+    let mut all = String::from_str(alloc, long.0)?;
+    push_times(&mut all, long.1)?;
+    push_times(&mut all, long.2)?;
     Ok(all)
 }
 
-static ONE_FIELD_MORE: &str = "GET /v2 HTTP/1.1\r\nHost: a\r\nX: ";
+/// Where a long text stands in what is sent.
+#[derive(Clone, Copy)]
+enum Place {
+    Target,
+    Message,
+    Bytes,
+    Before,
+}
 
-#[test]
-fn a_head_without_an_end_is_refused_at_8192_bytes(rt: HostRuntime) -> Result<(), Fail> {
-    let head = with_more(rt.alloc(), ONE_FIELD_MORE, "x", 8191 - 30)?;
-    session_of_one(rt.alloc(), Sent::Bytes(&head), Told::Bytes(""))
+/// Asserts that a long text, sent at this place to a new book, is answered so.
+fn session_of_text<R: AllocGlobal + Abort>(rt: &R, place: Place, text: &str, told: Told<'_>) {
+    let sent = match place {
+        Place::Target => Sent::Get(text),
+        Place::Message => Sent::Message(text),
+        Place::Bytes => Sent::Bytes(text),
+        Place::Before => Sent::Before(text),
+    };
+    session_of_one(rt, sent, told);
+}
+
+/// The same of a text that is made.
+fn session_of_long<R: AllocGlobal + Abort>(rt: &R, place: Place, long: Long<'_>, told: Told<'_>) {
+    let text = long_text(rt.alloc(), long);
+    assert!(rt; text.is_ok());
+    if let Ok(text) = text {
+        session_of_text(rt, place, &text, told);
+    }
+}
+
+/// A head of so many bytes, without an end.
+fn endless_head(bytes: u32) -> Long<'static> {
+    (
+        "GET /v2 HTTP/1.1\r\nHost: a\r\nX: ",
+        ("x", bytes.saturating_sub(30)),
+        ("", 0),
+    )
 }
 
 #[test]
-fn a_head_of_8192_bytes_without_an_end_is_refused(rt: HostRuntime) -> Result<(), Fail> {
-    let head = with_more(rt.alloc(), ONE_FIELD_MORE, "x", 8192 - 30)?;
-    session_of_one(rt.alloc(), Sent::Bytes(&head), BAD_HEAD)
+fn a_head_without_an_end_is_refused_at_8192_bytes(rt: HostRuntime) {
+    session_of_long(&rt, Place::Bytes, endless_head(8191), Told::Bytes(""));
+}
+
+#[test]
+fn a_head_of_8192_bytes_without_an_end_is_refused(rt: HostRuntime) {
+    session_of_long(&rt, Place::Bytes, endless_head(8192), BAD_HEAD);
 }
 
 /// A head of so many fields.
-fn head_of(alloc: Global, count: u32) -> Result<String, AllocError> {
-    let front = "GET /v2 HTTP/1.1\r\nHost: a\r\n";
-    let mut head = with_more(alloc, front, "X: y\r\n", count.saturating_sub(1))?;
-    head.push_str("\r\n")?;
-    Ok(head)
+fn head_of(count: u32) -> Long<'static> {
+    (
+        "GET /v2 HTTP/1.1\r\nHost: a\r\n",
+        ("X: y\r\n", count.saturating_sub(1)),
+        ("\r\n", 1),
+    )
 }
 
 #[test]
-fn a_head_of_32_fields_is_read(rt: HostRuntime) -> Result<(), Fail> {
-    let head = head_of(rt.alloc(), 32)?;
-    session_of_one(rt.alloc(), Sent::Bytes(&head), LOST)
+fn a_head_of_32_fields_is_read(rt: HostRuntime) {
+    session_of_long(&rt, Place::Bytes, head_of(32), LOST);
 }
 
 #[test]
-fn a_head_of_33_fields_is_refused(rt: HostRuntime) -> Result<(), Fail> {
-    let head = head_of(rt.alloc(), 33)?;
-    session_of_one(rt.alloc(), Sent::Before(&head), BAD_HEAD)
+fn a_head_of_33_fields_is_refused(rt: HostRuntime) {
+    session_of_long(&rt, Place::Before, head_of(33), BAD_HEAD);
 }
 
+/// A request of another method.
+static OTHER_METHOD: [Step<'_>; 1] = [(
+    Sent::Before("PUT /v1/requests HTTP/1.1\r\nHost: a\r\n\r\n"),
+    Told::Bytes("HTTP/1.1 501 Not Implemented\r\nContent-Length: 0\r\nConnection: close\r\n\r\n"),
+)];
+
 #[test]
-fn another_method_is_refused_without_a_body(rt: HostRuntime) -> Result<(), Fail> {
-    let stream = "PUT /v1/requests HTTP/1.1\r\nHost: a\r\n\r\n";
-    let want = "HTTP/1.1 501 Not Implemented\r\nContent-Length: 0\r\nConnection: close\r\n\r\n";
-    session_of_one(rt.alloc(), Sent::Before(stream), Told::Bytes(want))
+fn another_method_is_refused_without_a_body(rt: HostRuntime) {
+    session(&rt, &OTHER_METHOD);
 }
 
 /// Heads that end their connections: nothing behind them is answered.
@@ -126,15 +173,21 @@ static LAST_HEADS: [Step<'_>; 10] = [
 ];
 
 #[test]
-fn a_refused_head_is_the_last(rt: HostRuntime) -> Result<(), Fail> {
-    session(rt.alloc(), &LAST_HEADS)
+fn a_refused_head_is_the_last(rt: HostRuntime) {
+    session(&rt, &LAST_HEADS);
 }
 
+/// A request that makes a ring, whose length has leading zeros.
+static LEADING_ZEROS: [Step<'_>; 1] = [(
+    Sent::Bytes(
+        "POST /v1/requests HTTP/1.1\r\nHost: a\r\nContent-Length: 0000000095\r\n\r\n{\"caller\":\"ops\",\"do\":\"create\",\"min_hours\":24,\"number\":1,\"power\":2,\"replicas\":1,\"ring\":\"object\"}",
+    ),
+    Told::Bytes(CREATED),
+)];
+
 #[test]
-fn a_length_may_have_leading_zeros(rt: HostRuntime) -> Result<(), Fail> {
-    let stream =
-        "POST /v1/requests HTTP/1.1\r\nHost: a\r\nContent-Length: 0000000095\r\n\r\n{\"caller\":\"ops\",\"do\":\"create\",\"min_hours\":24,\"number\":1,\"power\":2,\"replicas\":1,\"ring\":\"object\"}";
-    session_of_one(rt.alloc(), Sent::Bytes(stream), Told::Bytes(CREATED))
+fn a_length_may_have_leading_zeros(rt: HostRuntime) {
+    session(&rt, &LEADING_ZEROS);
 }
 
 /// A good request, and one of 65537 bytes behind it.
@@ -148,26 +201,23 @@ static TOO_LARGE: [Step<'_>; 1] = [(
 )];
 
 #[test]
-fn a_body_of_65537_bytes_is_too_large(rt: HostRuntime) -> Result<(), Fail> {
-    session(rt.alloc(), &TOO_LARGE)
+fn a_body_of_65537_bytes_is_too_large(rt: HostRuntime) {
+    session(&rt, &TOO_LARGE);
 }
 
 #[test]
-fn a_body_of_65536_bytes_is_read(rt: HostRuntime) -> Result<(), Fail> {
-    let body = with_more(rt.alloc(), "", " ", 65536)?;
-    session_of_one(rt.alloc(), Sent::Message(&body), UNREADABLE)
-}
-
-/// So many lists, one in another.
-fn nested(alloc: Global, count: u32) -> Result<String, AllocError> {
-    let open = with_more(alloc, "", "[", count)?;
-    with_more(alloc, &open, "]", count)
+fn a_body_of_65536_bytes_is_read(rt: HostRuntime) {
+    session_of_long(&rt, Place::Message, ("", (" ", 65536), ("", 0)), UNREADABLE);
 }
 
 #[test]
-fn a_body_of_200_nested_lists_is_unreadable(rt: HostRuntime) -> Result<(), Fail> {
-    let nested = nested(rt.alloc(), 200)?;
-    session_of_one(rt.alloc(), Sent::Message(&nested), UNREADABLE)
+fn a_body_of_200_nested_lists_is_unreadable(rt: HostRuntime) {
+    session_of_long(
+        &rt,
+        Place::Message,
+        ("", ("[", 200), ("]", 200)),
+        UNREADABLE,
+    );
 }
 
 /// Bodies that are no messages.
@@ -196,8 +246,8 @@ static NO_MESSAGES: [Step<'_>; 5] = [
 ];
 
 #[test]
-fn bodies_that_are_no_messages_are_unreadable(rt: HostRuntime) -> Result<(), Fail> {
-    session(rt.alloc(), &NO_MESSAGES)
+fn bodies_that_are_no_messages_are_unreadable(rt: HostRuntime) {
+    session(&rt, &NO_MESSAGES);
 }
 
 /// Queries that name no path.
@@ -221,14 +271,14 @@ static NO_PATHS: [Step<'_>; 7] = [
 ];
 
 #[test]
-fn paths_that_are_none_are_refused(rt: HostRuntime) -> Result<(), Fail> {
-    session(rt.alloc(), &NO_PATHS)
+fn paths_that_are_none_are_refused(rt: HostRuntime) {
+    session(&rt, &NO_PATHS);
 }
 
 #[test]
-fn an_account_of_257_bytes_is_refused(rt: HostRuntime) -> Result<(), Fail> {
-    let target = with_more(rt.alloc(), "/v1/rings/none/nodes?account=", "a", 257)?;
-    session_of_one(rt.alloc(), Sent::Get(&target), BAD_PATH)
+fn an_account_of_257_bytes_is_refused(rt: HostRuntime) {
+    let target = ("/v1/rings/none/nodes?account=", ("a", 257), ("", 0));
+    session_of_long(&rt, Place::Target, target, BAD_PATH);
 }
 
 /// Segments are taken as they stand, and empty ones are none.
@@ -268,6 +318,6 @@ static SEGMENTS: [Step<'_>; 32] = [
 ];
 
 #[test]
-fn segments_are_taken_as_they_stand(rt: HostRuntime) -> Result<(), Fail> {
-    session(rt.alloc(), &SEGMENTS)
+fn segments_are_taken_as_they_stand(rt: HostRuntime) {
+    session(&rt, &SEGMENTS);
 }

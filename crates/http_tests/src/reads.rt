@@ -1,11 +1,8 @@
 //! Rings that are read, and tables that are imported.
-use crate::serving::{
-    LOST, NO_RING, Sent, Step, Told, UNREADABLE, session, session_of_one, session_within,
-};
+use crate::serving::{LOST, NO_RING, Sent, Step, Told, UNREADABLE, session, session_within};
 use ring_page::page;
 use ring_words::Limits;
-use std::alloc::{AllocError, Global};
-use std::test::Fail;
+use std::process::Abort;
 
 /// Makes the ring `tiny`.
 const CREATE_TINY: Step<'_> = (
@@ -80,9 +77,9 @@ static OBJECT: [Step<'_>; 4] = [
 const TWO_DEVICES: &str =
     "   id region  zone address          port     weight state   name\n    0      1     1 10.0.0.1         6200     100.00 open    d0\n    1      1     1 10.0.0.2         6200     100.00 open    d1\n";
 
-/// Fails where a step is answered otherwise over a book that these other steps have filled.
-fn session_after(alloc: Global, first: &[Step<'_>], then: &[Step<'_>]) -> Result<(), Fail> {
-    session_within(alloc, Limits::full(), first, then)
+/// Asserts that each step is answered as it says over a book that these other steps have filled.
+fn session_after<R: AllocGlobal + Abort>(rt: &R, first: &[Step<'_>], then: &[Step<'_>]) {
+    session_within(rt, Limits::full(), first, then);
 }
 
 /// Targets without a route, and those that have it by another method.
@@ -114,8 +111,8 @@ static NO_ROUTES: [Step<'_>; 4] = [
 ];
 
 #[test]
-fn what_has_no_route_is_told_so(rt: HostRuntime) -> Result<(), Fail> {
-    session(rt.alloc(), &NO_ROUTES)
+fn what_has_no_route_is_told_so(rt: HostRuntime) {
+    session(&rt, &NO_ROUTES);
 }
 
 /// Reads of the ring `tiny`: its text of 119 bytes, and nodes of 101 bytes.
@@ -142,8 +139,8 @@ static TINY_READS: [Step<'_>; 3] = [
 ];
 
 #[test]
-fn a_published_text_and_its_nodes_are_read(rt: HostRuntime) -> Result<(), Fail> {
-    session_after(rt.alloc(), &TINY, &TINY_READS)
+fn a_published_text_and_its_nodes_are_read(rt: HostRuntime) {
+    session_after(&rt, &TINY, &TINY_READS);
 }
 
 /// The device of `tiny`, under a name with which the JSON of Swift's file has 256 bytes: then all of
@@ -186,16 +183,8 @@ static SWIFT_READS: [Step<'_>; 6] = [
 ];
 
 #[test]
-fn a_published_ring_is_read_as_the_file_that_swift_loads(rt: HostRuntime) -> Result<(), Fail> {
-    session_after(rt.alloc(), &NAMED_TINY, &SWIFT_READS)
-}
-
-/// The answer that tells a page.
-fn page_answer(alloc: Global, page: &str) -> Result<String, AllocError> {
-    let length = page.len();
-    format!(in alloc;
-        "HTTP/1.1 200 OK\r\nContent-Type: text/html; charset=utf-8\r\nContent-Length: {length}\r\n\r\n{page}"
-    )
+fn a_published_ring_is_read_as_the_file_that_swift_loads(rt: HostRuntime) {
+    session_after(&rt, &NAMED_TINY, &SWIFT_READS);
 }
 
 /// What is asked for beside the page.
@@ -210,24 +199,26 @@ static BESIDE_THE_PAGE: [Step<'_>; 3] = [
     ),
 ];
 
-/// Fails where the page is answered otherwise, or what is beside it.
-fn page_session(alloc: Global, told: Told<'_>) -> Result<(), Fail> {
+/// Asserts that a page is told as it stands, and what is beside it.
+fn page_session<R: AllocGlobal + Abort>(rt: &R, page: &str) {
     let steps = [
-        (Sent::Get("/v1/page"), told),
-        (Sent::Get("/v1/page?more=1"), told),
+        (Sent::Get("/v1/page"), Told::Page(page)),
+        (Sent::Get("/v1/page?more=1"), Told::Page(page)),
     ];
-    session_after(alloc, &steps, &BESIDE_THE_PAGE)
+    session_after(rt, &steps, &BESIDE_THE_PAGE);
 }
 
 #[test]
-fn the_page_is_told_as_it_stands(rt: HostRuntime) -> Result<(), Fail> {
-    let want = page_answer(rt.alloc(), page())?;
-    page_session(rt.alloc(), Told::Bytes(&want))
+fn the_page_is_told_as_it_stands(rt: HostRuntime) {
+    page_session(&rt, page());
 }
 
+/// A read of a ring that is not there.
+static NOT_THERE: [Step<'_>; 1] = [(Sent::Get("/v1/rings/object/devices"), NO_RING)];
+
 #[test]
-fn a_ring_that_is_not_there_is_not_read(rt: HostRuntime) -> Result<(), Fail> {
-    session_of_one(rt.alloc(), Sent::Get("/v1/rings/object/devices"), NO_RING)
+fn a_ring_that_is_not_there_is_not_read(rt: HostRuntime) {
+    session(&rt, &NOT_THERE);
 }
 
 /// A read of nodes where no seats are assigned.
@@ -240,8 +231,8 @@ static UNASSIGNED: [Step<'_>; 1] = [(
 )];
 
 #[test]
-fn a_ring_without_seats_has_no_nodes(rt: HostRuntime) -> Result<(), Fail> {
-    session_after(rt.alloc(), &OBJECT[..3], &UNASSIGNED)
+fn a_ring_without_seats_has_no_nodes(rt: HostRuntime) {
+    session_after(&rt, &OBJECT[..3], &UNASSIGNED);
 }
 
 /// Reads of the tables and the locks of the ring `object`.
@@ -267,8 +258,8 @@ static TABLES: [Step<'_>; 4] = [
 ];
 
 #[test]
-fn tables_are_read(rt: HostRuntime) -> Result<(), Fail> {
-    session_after(rt.alloc(), &OBJECT, &TABLES)
+fn tables_are_read(rt: HostRuntime) {
+    session_after(&rt, &OBJECT, &TABLES);
 }
 
 /// A read of the whole ring `tiny`, and of what is none.
@@ -284,8 +275,8 @@ static WHOLE: [Step<'_>; 2] = [
 ];
 
 #[test]
-fn a_whole_ring_is_read(rt: HostRuntime) -> Result<(), Fail> {
-    session_after(rt.alloc(), &TINY, &WHOLE)
+fn a_whole_ring_is_read(rt: HostRuntime) {
+    session_after(&rt, &TINY, &WHOLE);
 }
 
 /// Previews of the ring `tiny`, and of what is none.
@@ -334,9 +325,9 @@ static NO_PREVIEWS: [Step<'_>; 9] = [
 ];
 
 #[test]
-fn previews_are_read(rt: HostRuntime) -> Result<(), Fail> {
-    session_after(rt.alloc(), &TINY, &PREVIEWS)?;
-    session_after(rt.alloc(), &TINY, &NO_PREVIEWS)
+fn previews_are_read(rt: HostRuntime) {
+    session_after(&rt, &TINY, &PREVIEWS);
+    session_after(&rt, &TINY, &NO_PREVIEWS);
 }
 
 /// What moved between versions of the ring `tiny`, of which one is published.
@@ -377,8 +368,8 @@ static MOVES: [Step<'_>; 12] = [
 ];
 
 #[test]
-fn moves_are_read(rt: HostRuntime) -> Result<(), Fail> {
-    session_after(rt.alloc(), &TINY, &MOVES)
+fn moves_are_read(rt: HostRuntime) {
+    session_after(&rt, &TINY, &MOVES);
 }
 
 /// A ring without devices, and the refusal of its preview.
@@ -394,8 +385,8 @@ static EMPTY_RING: [Step<'_>; 2] = [
 ];
 
 #[test]
-fn a_preview_is_refused_as_a_rebalance_is(rt: HostRuntime) -> Result<(), Fail> {
-    session(rt.alloc(), &EMPTY_RING)
+fn a_preview_is_refused_as_a_rebalance_is(rt: HostRuntime) {
+    session(&rt, &EMPTY_RING);
 }
 
 /// Reads of which rings there are and of how much is kept, with the ring `tiny` and its four numbers.
@@ -536,15 +527,15 @@ static NO_METRICS: [Step<'_>; 1] = [(
 )];
 
 #[test]
-fn the_metrics_are_read(rt: HostRuntime) -> Result<(), Fail> {
-    session_after(rt.alloc(), &TINY, &METRICS)?;
-    session(rt.alloc(), &NO_METRICS)
+fn the_metrics_are_read(rt: HostRuntime) {
+    session_after(&rt, &TINY, &METRICS);
+    session(&rt, &NO_METRICS);
 }
 
 #[test]
-fn the_rings_and_the_status_are_read(rt: HostRuntime) -> Result<(), Fail> {
-    session_after(rt.alloc(), &TINY, &STORE)?;
-    session(rt.alloc(), &EMPTY_STORE)
+fn the_rings_and_the_status_are_read(rt: HostRuntime) {
+    session_after(&rt, &TINY, &STORE);
+    session(&rt, &EMPTY_STORE);
 }
 
 /// What is told of a log that has nothing from a place on.
@@ -588,9 +579,9 @@ static LOG: [Step<'_>; 13] = [
 static NO_LOG: [Step<'_>; 1] = [(Sent::Get("/v1/log"), NO_ENTRY)];
 
 #[test]
-fn the_log_is_read(rt: HostRuntime) -> Result<(), Fail> {
-    session_after(rt.alloc(), &TINY, &LOG)?;
-    session(rt.alloc(), &NO_LOG)
+fn the_log_is_read(rt: HostRuntime) {
+    session_after(&rt, &TINY, &LOG);
+    session(&rt, &NO_LOG);
 }
 
 /// An import of two rows for one place, and its message.
@@ -617,8 +608,8 @@ static IMPORT_TWICE: [Step<'_>; 2] = [
 ];
 
 #[test]
-fn a_table_is_imported_as_its_message_is(rt: HostRuntime) -> Result<(), Fail> {
-    session_after(rt.alloc(), &OBJECT, &IMPORT_TWICE)
+fn a_table_is_imported_as_its_message_is(rt: HostRuntime) {
+    session_after(&rt, &OBJECT, &IMPORT_TWICE);
 }
 
 /// An import into a ring that has room for two devices, and the ring behind it.
@@ -640,10 +631,10 @@ static IMPORT_TOO_MANY: [Step<'_>; 2] = [
 ];
 
 #[test]
-fn a_table_with_a_row_too_many_is_refused_whole(rt: HostRuntime) -> Result<(), Fail> {
+fn a_table_with_a_row_too_many_is_refused_whole(rt: HostRuntime) {
     let mut limits = Limits::full();
     limits.devices = 2;
-    session_within(rt.alloc(), limits, &OBJECT, &IMPORT_TOO_MANY)
+    session_within(&rt, limits, &OBJECT, &IMPORT_TOO_MANY);
 }
 
 /// What an import of a table asks for.
@@ -688,8 +679,8 @@ static BAD_TABLES: [Step<'_>; 4] = [
 ];
 
 #[test]
-fn a_table_that_is_not_read_is_not_decided(rt: HostRuntime) -> Result<(), Fail> {
-    session_after(rt.alloc(), &OBJECT, &BAD_TABLES)
+fn a_table_that_is_not_read_is_not_decided(rt: HostRuntime) {
+    session_after(&rt, &OBJECT, &BAD_TABLES);
 }
 
 const HEADER: &str = "region,zone,address,port,name,weight\n";
@@ -725,6 +716,6 @@ static BAD_TARGETS: [Step<'_>; 8] = [
 ];
 
 #[test]
-fn an_import_without_its_number_is_not_decided(rt: HostRuntime) -> Result<(), Fail> {
-    session_after(rt.alloc(), &OBJECT, &BAD_TARGETS)
+fn an_import_without_its_number_is_not_decided(rt: HostRuntime) {
+    session_after(&rt, &OBJECT, &BAD_TARGETS);
 }

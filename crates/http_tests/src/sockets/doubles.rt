@@ -7,18 +7,20 @@ use std::time::{Clock, Duration};
 use timed_streams::Desk;
 
 /// A clock that goes on where it is told to, and tells that so many seconds have passed since 1970,
-/// or nothing.
+/// or nothing. It is a desk too, at which others wait or don't.
 #[derive(Drop)]
 pub struct OwnClock {
     passed: Cell<Duration>,
     pub seconds: Cell<Option<u64>>,
+    others: bool,
 }
 
 impl OwnClock {
-    pub fn new() -> OwnClock {
+    pub fn new(others: bool) -> OwnClock {
         OwnClock {
             passed: Cell::new(Duration::ZERO),
             seconds: Cell::new(None),
+            others,
         }
     }
 
@@ -41,90 +43,68 @@ impl Clock for OwnClock {
     }
 }
 
-/// A desk by such a clock, at which others wait or don't.
-#[derive(Drop)]
-pub struct OwnDesk<'a> {
-    pub clock: &'a OwnClock,
-    pub others: bool,
-}
-
-impl<'a> Clock for OwnDesk<'a> {
-    fn monotonic(&self) -> io::Result<Duration> {
-        self.clock.monotonic()
-    }
-
-    fn since_1970(&self) -> io::Result<Duration> {
-        self.clock.since_1970()
-    }
-}
-
-impl<'a> Desk for OwnDesk<'a> {
+impl Desk for OwnClock {
     fn others_wait(&self) -> bool {
         self.others
     }
 }
 
-/// A stream that gives and takes one byte a call, for ever, and takes so long over each.
+/// What a peer does.
+#[derive(Clone, Copy)]
+enum Does<'a> {
+    /// It has gone: a stream of it fails when it is read or written.
+    Leaves,
+    /// It sends these bytes, and takes whatever is written.
+    Sends(&'static [u8]),
+    /// It gives and takes one byte a call, for ever, and so much time passes over each.
+    Trickles(&'a OwnClock, Duration),
+}
+
+/// A stream of a peer. Both of its ends are at one port.
 #[derive(Drop)]
-pub struct Slow<'a> {
-    pub clock: &'a OwnClock,
-    pub step: Duration,
-}
-
-impl<'a> Read for Slow<'a> {
-    fn read(&mut self, buf: &mut [u8]) -> io::Result<usize> {
-        self.clock.pass(self.step);
-        Ok(buf.len().min(1))
-    }
-}
-
-impl<'a> Write for Slow<'a> {
-    fn write(&mut self, buf: &[u8]) -> io::Result<usize> {
-        self.clock.pass(self.step);
-        Ok(buf.len().min(1))
-    }
-
-    fn flush(&mut self) -> io::Result<()> {
-        Ok(())
-    }
-}
-
-impl<'a> OpenStream for Slow<'a> {
-    fn set_read_timeout(&self, _dur: Option<Duration>) -> io::Result<()> {
-        Ok(())
-    }
-
-    fn set_write_timeout(&self, _dur: Option<Duration>) -> io::Result<()> {
-        Ok(())
-    }
-}
-
-/// A stream that has these bytes and takes whatever is written, or one whose peer has gone: it fails
-/// when it is read or written. Both of its ends are at one port.
-#[derive(Drop)]
-pub struct Peer {
-    text: Option<&'static [u8]>,
+pub struct Peer<'a> {
+    does: Does<'a>,
     port: u16,
 }
 
-impl Read for Peer {
-    fn read(&mut self, buf: &mut [u8]) -> io::Result<usize> {
-        let Some(text) = self.text else {
-            return Err(ErrorKind::ConnectionReset.into());
-        };
-        let count = text.len().min(buf.len());
-        buf[..count].copy_from_slice(&text[..count]);
-        self.text = Some(&text[count..]);
-        Ok(count)
+impl<'a> Peer<'a> {
+    /// A peer whose every byte takes so much time.
+    pub fn slow(clock: &'a OwnClock, step: Duration) -> Peer<'a> {
+        Peer {
+            does: Does::Trickles(clock, step),
+            port: 0,
+        }
     }
 }
 
-impl Write for Peer {
-    fn write(&mut self, buf: &[u8]) -> io::Result<usize> {
-        if self.text.is_none() {
-            return Err(ErrorKind::BrokenPipe.into());
+impl<'a> Read for Peer<'a> {
+    fn read(&mut self, buf: &mut [u8]) -> io::Result<usize> {
+        match self.does {
+            Does::Leaves => Err(ErrorKind::ConnectionReset.into()),
+            Does::Sends(text) => {
+                let count = text.len().min(buf.len());
+                buf[..count].copy_from_slice(&text[..count]);
+                self.does = Does::Sends(&text[count..]);
+                Ok(count)
+            }
+            Does::Trickles(clock, step) => {
+                clock.pass(step);
+                Ok(buf.len().min(1))
+            }
         }
-        Ok(buf.len())
+    }
+}
+
+impl<'a> Write for Peer<'a> {
+    fn write(&mut self, buf: &[u8]) -> io::Result<usize> {
+        match self.does {
+            Does::Leaves => Err(ErrorKind::BrokenPipe.into()),
+            Does::Sends(_) => Ok(buf.len()),
+            Does::Trickles(clock, step) => {
+                clock.pass(step);
+                Ok(buf.len().min(1))
+            }
+        }
     }
 
     fn flush(&mut self) -> io::Result<()> {
@@ -132,7 +112,7 @@ impl Write for Peer {
     }
 }
 
-impl OpenStream for Peer {
+impl<'a> OpenStream for Peer<'a> {
     fn peer_addr(&self) -> io::Result<SocketAddr> {
         Ok(SocketAddr::from(([127, 0, 0, 1], self.port)))
     }
@@ -153,15 +133,15 @@ impl OpenStream for Peer {
         Ok(())
     }
 
-    fn try_clone(&self) -> io::Result<Peer> {
+    fn try_clone(&self) -> io::Result<Peer<'a>> {
         Ok(Peer {
-            text: self.text,
+            does: self.does,
             port: self.port,
         })
     }
 }
 
-impl AsRawFd for Peer {
+impl<'a> AsRawFd for Peer<'a> {
     fn as_raw_fd(&self) -> RawFd {
         0
     }
@@ -178,16 +158,16 @@ pub enum Comers {
 
 impl Comers {
     /// Who comes at this call, counted from 0.
-    fn at(self, count: u32) -> io::Result<Peer> {
+    fn at(self, count: u32) -> io::Result<Peer<'static>> {
         match self {
             Comers::Gone(_) if count == 0 => Err(ErrorKind::ConnectionAborted.into()),
             Comers::Gone(peers) if count > peers => Err(ErrorKind::Other.into()),
             Comers::Strangers(strangers) if count >= strangers => Ok(Peer {
-                text: Some(b""),
+                does: Does::Sends(b""),
                 port: 1,
             }),
             _ => Ok(Peer {
-                text: None,
+                does: Does::Leaves,
                 port: 2,
             }),
         }
@@ -202,9 +182,9 @@ pub struct OwnListener {
 }
 
 impl OpenListener for OwnListener {
-    type Stream = Peer;
+    type Stream = Peer<'static>;
 
-    fn accept(&self) -> io::Result<(Peer, SocketAddr)> {
+    fn accept(&self) -> io::Result<(Peer<'static>, SocketAddr)> {
         let count = self.accepts.get();
         self.accepts.set(count.saturating_add(1));
         let peer = self.comers.at(count)?;
@@ -242,7 +222,7 @@ impl OwnNet {
 }
 
 impl Net for OwnNet {
-    type Stream = Peer;
+    type Stream = Peer<'static>;
 
     type Listener = OwnListener;
 
@@ -257,9 +237,9 @@ impl Net for OwnNet {
         })
     }
 
-    fn connect(&self, _addr: SocketAddr) -> io::Result<Peer> {
+    fn connect(&self, _addr: SocketAddr) -> io::Result<Peer<'static>> {
         Ok(Peer {
-            text: Some(b""),
+            does: Does::Sends(b""),
             port: 1,
         })
     }

@@ -2,17 +2,15 @@
 use super::doubles::OwnClock;
 use http_api::Clock;
 use http_sockets::HourClock;
-use std::test::Fail;
 
 #[test]
-fn a_given_hour_is_told_always(rt: HostRuntime) -> Result<(), Fail> {
+fn a_given_hour_is_told_always(rt: HostRuntime) {
     let mut clock = HourClock::new(&rt, Some(7));
     assert!(rt; clock.hour() == 7 && clock.hour() == 7);
-    Ok(())
 }
 
 /// The seconds that a machine tells, or none, and the hour that is told then.
-const HOURS: [(Option<u64>, u32); 7] = [
+static HOURS: [(Option<u64>, u32); 7] = [
     (None, 0),
     (Some(7199), 1),
     (Some(7200), 2),
@@ -22,20 +20,27 @@ const HOURS: [(Option<u64>, u32); 7] = [
     (Some(4294967296 * 3600), 1),
 ];
 
-#[test]
-fn whole_hours_are_told_and_told_again_where_none_can_be_had(rt: HostRuntime) -> Result<(), Fail> {
-    let time = OwnClock::new();
-    let mut clock = HourClock::new(&time, None);
-    for (seconds, hour) in HOURS {
-        time.seconds.set(seconds);
-        assert!(rt; clock.hour() == hour, "{hour}");
+/// The place of the first hour that is told otherwise by a machine of these seconds, one after
+/// another, or how many hours there are.
+fn first_other(time: &OwnClock, hours: &[(Option<u64>, u32)]) -> usize {
+    let mut clock = HourClock::new(time, None);
+    for (place, (seconds, hour)) in hours.iter().enumerate() {
+        time.seconds.set(*seconds);
+        if clock.hour() != *hour {
+            return place;
+        }
     }
-    Ok(())
+    hours.len()
 }
 
 #[test]
-fn the_hour_of_the_machine_is_past_2020(rt: HostRuntime) -> Result<(), Fail> {
+fn whole_hours_are_told_and_told_again_where_none_can_be_had(rt: HostRuntime) {
+    let place = first_other(&OwnClock::new(false), &HOURS);
+    assert!(rt; place == HOURS.len(), "{place}");
+}
+
+#[test]
+fn the_hour_of_the_machine_is_past_2020(rt: HostRuntime) {
     let mut clock = HourClock::new(&rt, None);
     assert!(rt; clock.hour() > 438_000);
-    Ok(())
 }

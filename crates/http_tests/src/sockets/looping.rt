@@ -1,16 +1,15 @@
 //! Bytes served by way of a socket.
 use super::doubles::{Comers, OwnNet};
-use super::serving::{LAST, LAST_ANSWER};
+use super::serving::{LAST, LAST_ANSWER, ONE, ONE_ANSWERED};
 use crate::serving::{
     CREATE, CREATED, NO_NAMES, RingBook, are_beginning, are_joined, joined, open,
 };
 use byte_streams::{CountedWriter, StreamFault};
 use http_sockets::{HourClock, ServeFault, loop_over};
 use ring_words::Limits;
-use std::alloc::{AllocError, Global};
+use std::alloc::Global;
 use std::io::Write;
 use std::net::Net;
-use std::test::Fail;
 use std::time::Clock;
 use test_fixtures::Taker;
 
@@ -41,78 +40,69 @@ fn looped<R: AllocGlobal + Net + Clock>(
     (came, writer.into_inner())
 }
 
-/// Whether a file of these texts is answered so at this book, where `told` is how the serving ends.
-fn loops(
-    rt: &HostRuntime,
-    book: &mut RingBook,
-    texts: &[&str],
-    told: Result<(), ServeFault>,
-    want: &[&str],
-) -> Result<bool, AllocError> {
-    let input = joined(rt.alloc(), texts)?;
-    let (came, written) = looped(rt, book, input.as_bytes());
-    Ok(came == told && are_joined(&written, want))
+/// Whether a file of these bytes is served to its end at this book, and answered so.
+fn loops(rt: &HostRuntime, book: &mut RingBook, input: &[u8], want: &[&str]) -> bool {
+    let (came, written) = looped(rt, book, input);
+    came.is_ok() && are_joined(&written, want)
 }
 
-/// Whether a file of these texts is served to its end at a new book, and answered so.
-fn loops_anew(rt: &HostRuntime, texts: &[&str], want: &[&str]) -> Result<bool, AllocError> {
-    loops(
-        rt,
-        &mut open(rt.alloc(), Limits::full()),
-        texts,
-        Ok(()),
-        want,
-    )
+/// The same of a file of these texts at a new book.
+fn loops_anew(rt: &HostRuntime, texts: &[&str], want: &[&str]) -> bool {
+    let Some(input) = joined(rt.alloc(), texts) else {
+        return false;
+    };
+    let mut book = open(rt.alloc(), Limits::full());
+    loops(rt, &mut book, input.as_bytes(), want)
 }
 
-/// A request.
-static ONE: [&str; 1] = [CREATE];
+/// Three requests, the last of which says so, and one behind it.
+static WITH_A_LAST: [&str; 4] = [CREATE, CREATE, LAST, CREATE];
 
-/// Its answer.
-static ONE_ANSWERED: [&str; 1] = [CREATED];
+/// The answers to the three.
+static ANSWERED_TO_THE_LAST: [&str; 3] = [CREATED, CREATED, LAST_ANSWER];
 
 #[test]
-fn the_answers_to_a_file_are_written(rt: HostRuntime) -> Result<(), Fail> {
-    let texts = [CREATE, CREATE, LAST, CREATE];
-    let want = [CREATED, CREATED, LAST_ANSWER];
-    assert!(rt; loops_anew(&rt, &texts, &want)?);
-    Ok(())
+fn the_answers_to_a_file_are_written(rt: HostRuntime) {
+    assert!(rt; loops_anew(&rt, &WITH_A_LAST, &ANSWERED_TO_THE_LAST));
 }
 
 #[test]
-fn a_file_that_ends_within_a_request_is_answered_up_to_it(rt: HostRuntime) -> Result<(), Fail> {
+fn a_file_that_ends_within_a_request_is_answered_up_to_it(rt: HostRuntime) {
     let texts = [READ, &CREATE[..100]];
-    assert!(rt; loops_anew(&rt, &texts, &[READ_ANSWER])?);
-    Ok(())
+    assert!(rt; loops_anew(&rt, &texts, &[READ_ANSWER]));
 }
 
 #[test]
-fn a_file_of_32768_bytes_is_answered(rt: HostRuntime) -> Result<(), Fail> {
+fn a_file_of_32768_bytes_is_answered(rt: HostRuntime) {
     let mut texts = ["x"; 32721];
-    texts[0] = LAST;
-    assert!(rt; LAST.len() == 48);
-    assert!(rt; loops_anew(&rt, &texts, &[LAST_ANSWER])?);
-    Ok(())
+    texts[0] = WITH_A_LAST[2];
+    assert!(rt; texts[0].len() == 48);
+    assert!(rt; loops_anew(&rt, &texts, &ANSWERED_TO_THE_LAST[2..]));
 }
 
-/// How the serving of 500 reads ends whose answers are too long, and whether what was written is
-/// the first 32,768 bytes of their answers.
-fn too_long(rt: &HostRuntime) -> Result<(Result<(), ServeFault>, bool), AllocError> {
+/// How the serving of 500 reads ends whose answers are too long, and what is written.
+fn looped_too_long(rt: &HostRuntime) -> Option<(Result<(), ServeFault>, Vec<u8>)> {
     let input = joined(rt.alloc(), &[READ; 500])?;
     let mut book = open(rt.alloc(), Limits::full());
-    let (came, text) = looped(rt, &mut book, input.as_bytes());
-    Ok((
-        came,
-        text.len() == 32768 && are_beginning(&text, &[READ_ANSWER; 500]),
-    ))
+    Some(looped(rt, &mut book, input.as_bytes()))
+}
+
+/// Whether it is told that a write failed, and what was written is the first 32,768 bytes of their
+/// answers.
+fn is_cut(rt: &HostRuntime) -> bool {
+    match looped_too_long(rt) {
+        Some((came, text)) => {
+            came == Err(ServeFault::Stream(StreamFault::WriteFailed))
+                && text.len() == 32768
+                && are_beginning(&text, &[READ_ANSWER; 500])
+        }
+        None => false,
+    }
 }
 
 #[test]
-fn answers_past_32768_bytes_end_the_stream(rt: HostRuntime) -> Result<(), Fail> {
-    let (came, is_beginning) = too_long(&rt)?;
-    let failed = Err(ServeFault::Stream(StreamFault::WriteFailed));
-    assert!(rt; came == failed && is_beginning);
-    Ok(())
+fn answers_past_32768_bytes_end_the_stream(rt: HostRuntime) {
+    assert!(rt; is_cut(&rt));
 }
 
 /// Whether serving a request, whose answer is written to a writer that fails, tells so, and the
@@ -121,22 +111,21 @@ fn tells_a_failing_writer(rt: &HostRuntime, book: &mut RingBook) -> bool {
     let mut writer = CountedWriter::new(Taker::new(rt.alloc(), 30, 3));
     let came = loop_on(rt, book, ONE[0].as_bytes(), &mut writer);
     let is_counted = writer.faults() == 1;
+    let text = writer.into_inner().taken;
     came == Err(ServeFault::Stream(StreamFault::WriteFailed))
         && is_counted
-        && are_beginning(&writer.into_inner().taken, &ONE_ANSWERED)
+        && are_beginning(&text, &ONE_ANSWERED)
 }
 
 /// Whether a writer that fails is told so, and the request gets its answer when it is served again.
-fn survives_a_failing_writer(rt: &HostRuntime) -> Result<bool, AllocError> {
+fn survives_a_failing_writer(rt: &HostRuntime) -> bool {
     let mut book = open(rt.alloc(), Limits::full());
-    let is_told = tells_a_failing_writer(rt, &mut book);
-    Ok(is_told && loops(rt, &mut book, &ONE, Ok(()), &ONE_ANSWERED)?)
+    tells_a_failing_writer(rt, &mut book) && loops(rt, &mut book, ONE[0].as_bytes(), &ONE_ANSWERED)
 }
 
 #[test]
-fn a_writer_that_fails_is_told(rt: HostRuntime) -> Result<(), Fail> {
-    assert!(rt; survives_a_failing_writer(&rt)?);
-    Ok(())
+fn a_writer_that_fails_is_told(rt: HostRuntime) {
+    assert!(rt; survives_a_failing_writer(&rt));
 }
 
 /// How the serving of no bytes ends where so many strangers come before the client.
@@ -146,15 +135,13 @@ fn looped_past(alloc: Global, strangers: u32) -> Result<(), ServeFault> {
 }
 
 #[test]
-fn a_stranger_is_turned_away(rt: HostRuntime) -> Result<(), Fail> {
-    assert!(rt; looped_past(rt.alloc(), 0) == Ok(()));
-    assert!(rt; looped_past(rt.alloc(), 1) == Ok(()));
-    assert!(rt; looped_past(rt.alloc(), 128) == Ok(()));
-    Ok(())
+fn a_stranger_is_turned_away(rt: HostRuntime) {
+    assert!(rt; looped_past(rt.alloc(), 0).is_ok());
+    assert!(rt; looped_past(rt.alloc(), 1).is_ok());
+    assert!(rt; looped_past(rt.alloc(), 128).is_ok());
 }
 
 #[test]
-fn no_more_than_128_strangers_are_turned_away(rt: HostRuntime) -> Result<(), Fail> {
-    assert!(rt; looped_past(rt.alloc(), 129) == Err(ServeFault::NetFailed));
-    Ok(())
+fn no_more_than_128_strangers_are_turned_away(rt: HostRuntime) {
+    assert!(rt; matches!(looped_past(rt.alloc(), 129), Err(ServeFault::NetFailed)));
 }

@@ -8,9 +8,8 @@ use http_sockets::{HourClock, Ports, ServeFault, Server, ServiceEnd, serve_conne
 use request_book::{Book, Keeper};
 use ring_words::{Limits, Port};
 use std::alloc::Global;
-use std::io::{self, Read, Write};
+use std::io::{Read, Write};
 use std::net::{Net, OpenStream, SocketAddr};
-use std::test::Fail;
 use std::time::{Clock, Duration, Instant};
 use timed_streams::Patience;
 
@@ -19,6 +18,12 @@ pub const LAST: &str = "GET /v2 HTTP/1.1\r\nHost: a\r\nConnection: close\r\n\r\n
 
 pub const LAST_ANSWER: &str =
     "HTTP/1.1 404 Not Found\r\nContent-Type: application/json\r\nContent-Length: 32\r\nConnection: close\r\n\r\n{\"fault\":\"NoRoute\",\"status\":404}";
+
+/// A request that makes a ring.
+pub static ONE: [&str; 1] = [CREATE];
+
+/// Its answer.
+pub static ONE_ANSWERED: [&str; 1] = [CREATED];
 
 /// Patience in milliseconds.
 fn patience(between: u64, within: u64, after: u64) -> Patience {
@@ -35,39 +40,38 @@ fn patience(between: u64, within: u64, after: u64) -> Patience {
 type Talk<'a> = (&'a [&'a str], &'a [&'a str]);
 
 /// Sends texts. What the other side does is waited for up to five seconds.
-fn send_all<S: Write + OpenStream>(stream: &mut S, texts: &[&str]) -> io::Result<()> {
-    stream.set_read_timeout(Some(Duration::from_secs(5)))?;
-    stream.set_write_timeout(Some(Duration::from_secs(5)))?;
+fn send_all<S: Write + OpenStream>(stream: &mut S, texts: &[&str]) -> Option<()> {
+    stream.set_read_timeout(Some(Duration::from_secs(5))).ok()?;
+    stream.set_write_timeout(Some(Duration::from_secs(5))).ok()?;
     for text in texts {
-        stream.write_all(text.as_bytes())?;
+        stream.write_all(text.as_bytes()).ok()?;
     }
-    Ok(())
+    Some(())
 }
 
 /// A client that has sent these texts, and is not done.
-fn client<R: Net>(rt: &R, address: SocketAddr, texts: &[&str]) -> io::Result<R::Stream> {
-    let mut stream = rt.connect(address)?;
+fn client<R: Net>(rt: &R, address: SocketAddr, texts: &[&str]) -> Option<R::Stream> {
+    let mut stream = rt.connect(address).ok()?;
     send_all(&mut stream, texts)?;
-    Ok(stream)
+    Some(stream)
 }
 
 /// Whether a client gets exactly these texts until the end.
-fn gets<S: Read>(alloc: Global, stream: &mut S, want: &[&str]) -> io::Result<bool> {
+fn gets<S: Read>(alloc: Global, stream: &mut S, want: &[&str]) -> bool {
     let mut bytes = Vec::new(alloc);
-    stream.read_to_end(&mut bytes)?;
-    Ok(are_joined(&bytes, want))
+    stream.read_to_end(&mut bytes).is_ok() && are_joined(&bytes, want)
 }
 
 /// A client, and what it is to get.
 type Waiting<'a, S> = (S, &'a [&'a str]);
 
 /// Whether each client gets what it is to get.
-fn all_get<S: Read>(alloc: Global, clients: &mut [Waiting<'_, S>]) -> io::Result<bool> {
+fn all_get<S: Read>(alloc: Global, clients: &mut [Waiting<'_, S>]) -> bool {
     let mut all = true;
     for (stream, want) in clients {
-        all = gets(alloc, stream, *want)? && all;
+        all = gets(alloc, stream, *want) && all;
     }
-    Ok(all)
+    all
 }
 
 /// Puts the clients of some talks, each of which has sent its texts, behind others.
@@ -76,11 +80,11 @@ fn push_clients<'a, R: Net>(
     address: SocketAddr,
     talks: &[Talk<'a>],
     clients: &mut Vec<Waiting<'a, R::Stream>>,
-) -> io::Result<()> {
+) -> Option<()> {
     for talk in talks {
-        clients.push((client(rt, address, talk.0)?, talk.1))?;
+        clients.push((client(rt, address, talk.0)?, talk.1)).ok()?;
     }
-    Ok(())
+    Some(())
 }
 
 /// How often serving went well, and how it ended.
@@ -117,10 +121,10 @@ fn time_of_serving<R: AllocGlobal + Net + Clock>(
     rt: &R,
     server: &mut Server<'_, R>,
     count: u16,
-) -> Result<Duration, Fail> {
-    let began = Instant::now(rt)?;
-    serve_new_book(rt, server, &[count]).1?;
-    Ok(began.elapsed(rt)?)
+) -> Option<Duration> {
+    let began = Instant::now(rt).ok()?;
+    serve_new_book(rt, server, &[count]).1.ok()?;
+    began.elapsed(rt).ok()
 }
 
 /// Serves a client for each talk over a new book: whether each gets what its talk says, and how
@@ -130,11 +134,11 @@ fn serve_clients<'a, R: AllocGlobal + Net + Clock>(
     server: &mut Server<'_, R>,
     clients: &mut Vec<Waiting<'a, R::Stream>>,
     talks: &[Talk<'a>],
-) -> Result<(bool, Duration), Fail> {
-    push_clients(rt, server.address()?, talks, clients)?;
+) -> Option<(bool, Duration)> {
+    push_clients(rt, server.address().ok()?, talks, clients)?;
     let count = u16::try_from(talks.len()).unwrap_or(0);
     let took = time_of_serving(rt, server, count)?;
-    Ok((all_get(rt.alloc(), clients)?, took))
+    Some((all_get(rt.alloc(), clients), took))
 }
 
 /// The same by a new server.
@@ -142,80 +146,108 @@ fn served<R: AllocGlobal + Net + Clock>(
     rt: &R,
     patience: Patience,
     talks: &[Talk<'_>],
-) -> Result<(bool, Duration), Fail> {
-    let mut server = Server::bind(rt, 0, patience)?;
+) -> Option<(bool, Duration)> {
+    let mut server = Server::bind(rt, 0, patience).ok()?;
     let mut clients = Vec::new(rt.alloc());
     serve_clients(rt, &mut server, &mut clients, talks)
 }
 
 /// Whether each talk goes as it says, in at least so many milliseconds and under four seconds.
-fn goes_so(
+fn goes_so(rt: &HostRuntime, patience: Patience, least: u64, talks: &[Talk<'_>]) -> bool {
+    match served(rt, patience, talks) {
+        Some((all, took)) => {
+            all && took >= Duration::from_millis(least) && took < Duration::from_secs(4)
+        }
+        None => false,
+    }
+}
+
+/// The same of two talks.
+fn both_go_so<'a>(
     rt: &HostRuntime,
     patience: Patience,
     least: u64,
-    talks: &[Talk<'_>],
-) -> Result<bool, Fail> {
-    let (all, took) = served(rt, patience, talks)?;
-    Ok(all && took >= Duration::from_millis(least) && took < Duration::from_secs(4))
+    first: Talk<'a>,
+    second: Talk<'a>,
+) -> bool {
+    goes_so(rt, patience, least, &[first, second])
 }
 
-/// A client that asks for two things, and gets both.
-const TWO: Talk<'_> = (&[CREATE, LAST], &[CREATED, LAST_ANSWER]);
+/// Two requests.
+static TWO: [&str; 2] = [CREATE, LAST];
+
+/// Their answers. A client that asks for both gets both.
+static TWO_ANSWERED: [&str; 2] = [CREATED, LAST_ANSWER];
 
 #[test]
-fn two_requests_of_one_connection_are_answered(rt: HostRuntime) -> Result<(), Fail> {
-    assert!(rt; goes_so(&rt, patience(1000, 1000, 1000), 0, &[TWO])?);
-    Ok(())
-}
-
-#[test]
-fn a_repeat_over_another_connection_gets_the_kept_reply(rt: HostRuntime) -> Result<(), Fail> {
-    assert!(rt; goes_so(&rt, patience(1000, 1000, 1000), 0, &[TWO, TWO])?);
-    Ok(())
+fn two_requests_of_one_connection_are_answered(rt: HostRuntime) {
+    assert!(rt; goes_so(&rt, patience(1000, 1000, 1000), 0, &[(&TWO, &TWO_ANSWERED)]));
 }
 
 #[test]
-fn half_a_request_ends_in_time_and_the_next_is_served(rt: HostRuntime) -> Result<(), Fail> {
+fn a_repeat_over_another_connection_gets_the_kept_reply(rt: HostRuntime) {
+    assert!(rt;
+        goes_so(
+            &rt,
+            patience(1000, 1000, 1000),
+            0,
+            &[(&TWO, &TWO_ANSWERED), (&TWO, &TWO_ANSWERED)]
+        )
+    );
+}
+
+#[test]
+fn half_a_request_ends_in_time_and_the_next_is_served(rt: HostRuntime) {
     let half: [&str; 1] = [&CREATE[..80]];
-    assert!(rt; goes_so(&rt, patience(50, 150, 50), 150, &[(&half, &[]), TWO])?);
-    Ok(())
+    assert!(rt;
+        both_go_so(
+            &rt,
+            patience(50, 150, 50),
+            150,
+            (&half, &[]),
+            (&TWO, &TWO_ANSWERED)
+        )
+    );
 }
 
 #[test]
-fn silence_between_requests_ends_sooner_than_within_one(rt: HostRuntime) -> Result<(), Fail> {
-    let talks: [Talk<'_>; 2] = [(&[], &[]), (&[CREATE], &[CREATED])];
-    assert!(rt; goes_so(&rt, patience(50, 9000, 50), 100, &talks)?);
-    Ok(())
+fn silence_between_requests_ends_sooner_than_within_one(rt: HostRuntime) {
+    let talks: [Talk<'_>; 2] = [(&[], &[]), (&ONE, &ONE_ANSWERED)];
+    assert!(rt; goes_so(&rt, patience(50, 9000, 50), 100, &talks));
 }
 
 #[test]
-fn a_turn_ends_where_another_client_waits(rt: HostRuntime) -> Result<(), Fail> {
+fn a_turn_ends_where_another_client_waits(rt: HostRuntime) {
     let patience = Patience {
         among_others: Duration::ZERO,
         ..patience(9000, 1000, 50)
     };
-    assert!(rt; goes_so(&rt, patience, 0, &[(&[CREATE], &[CREATED]), TWO])?);
-    Ok(())
+    assert!(rt;
+        goes_so(
+            &rt,
+            patience,
+            0,
+            &[(&ONE, &ONE_ANSWERED), (&TWO, &TWO_ANSWERED)]
+        )
+    );
 }
 
 #[test]
-fn what_comes_behind_the_last_request_loses_no_answer(rt: HostRuntime) -> Result<(), Fail> {
-    let mut many = [CREATE; 1201];
-    many[0] = LAST;
-    let talks: [Talk<'_>; 1] = [(&many, &[LAST_ANSWER])];
-    assert!(rt; goes_so(&rt, patience(1000, 1000, 1000), 0, &talks)?);
-    Ok(())
+fn what_comes_behind_the_last_request_loses_no_answer(rt: HostRuntime) {
+    let mut many = [TWO[0]; 1201];
+    many[0] = TWO[1];
+    let talks: [Talk<'_>; 1] = [(&many, &TWO_ANSWERED[1..])];
+    assert!(rt; goes_so(&rt, patience(1000, 1000, 1000), 0, &talks));
 }
 
 /// The port of a server.
-fn port_of<R: Net>(server: &Server<'_, R>) -> Result<Port, Fail> {
-    let port = server.address()?.port();
-    Ok(Port::new(port).ok_or("a port")?)
+fn port_of<R: Net>(server: &Server<'_, R>) -> Option<Port> {
+    Port::new(server.address().ok()?.port())
 }
 
 /// A port that a server had, and gave back.
-fn free_port<R: Net>(rt: &R) -> Result<Port, Fail> {
-    port_of(&Server::bind(rt, 0, Patience::usual())?)
+fn free_port<R: Net>(rt: &R) -> Option<Port> {
+    port_of(&Server::bind(rt, 0, Patience::usual()).ok()?)
 }
 
 /// Serves no connection at a port of any ports.
@@ -235,69 +267,59 @@ fn serve_none<R: AllocGlobal + Net + Clock>(rt: &R, port: Port) -> Result<(), Se
     serve_no_one(rt.alloc(), rt, rt, port)
 }
 
-#[test]
-fn no_connection_is_waited_for_at_count_0(rt: HostRuntime) -> Result<(), Fail> {
-    let free = free_port(&rt)?;
-    assert!(rt; serve_none(&rt, free) == Ok(()));
-    Ok(())
+/// How the serving of no connection at a free port goes.
+fn serve_free(rt: &HostRuntime) -> Option<Result<(), ServeFault>> {
+    Some(serve_none(rt, free_port(rt)?))
 }
 
-/// How the serving of no connection at a port goes, and the port that was bound.
-fn bound_by(alloc: Global, port: Port) -> (Result<(), ServeFault>, u16) {
+#[test]
+fn no_connection_is_waited_for_at_count_0(rt: HostRuntime) {
+    assert!(rt; matches!(serve_free(&rt), Some(Ok(()))));
+}
+
+/// How the serving of no connection at port 80 goes, and the port that was bound.
+fn bound_at_80(alloc: Global) -> Option<(Result<(), ServeFault>, u16)> {
+    let port = Port::new(80)?;
     let machine = (OwnNet::new(Comers::Gone(0)), alloc);
     let served = serve_none(&machine, port);
-    (served, machine.0.bound.get())
+    Some((served, machine.0.bound.get()))
 }
 
 #[test]
-fn the_very_port_is_bound_on_127_0_0_1(rt: HostRuntime) -> Result<(), Fail> {
-    let port = Port::new(80).ok_or("a port")?;
-    assert!(rt; bound_by(rt.alloc(), port) == (Ok(()), 80));
-    Ok(())
+fn the_very_port_is_bound_on_127_0_0_1(rt: HostRuntime) {
+    assert!(rt; matches!(bound_at_80(rt.alloc()), Some((Ok(()), 80))));
 }
 
-/// Serves no connection at the port that a server has.
-fn serve_beside<R: AllocGlobal + Net + Clock>(
-    rt: &R,
-    server: &Server<'_, R>,
-) -> Result<Result<(), ServeFault>, Fail> {
-    Ok(serve_none(rt, port_of(server)?))
-}
-
-/// Serves no connection at a port that another server has.
-fn serve_taken<R: AllocGlobal + Net + Clock>(rt: &R) -> Result<Result<(), ServeFault>, Fail> {
-    serve_beside(rt, &Server::bind(rt, 0, Patience::usual())?)
+/// Serves no connection at a port that a server has.
+fn serve_taken<R: AllocGlobal + Net + Clock>(rt: &R) -> Option<Result<(), ServeFault>> {
+    let server = Server::bind(rt, 0, Patience::usual()).ok()?;
+    let port = port_of(&server)?;
+    Some(serve_none(rt, port))
 }
 
 #[test]
-fn a_port_that_is_taken_is_told(rt: HostRuntime) -> Result<(), Fail> {
-    assert!(rt; serve_taken(&rt)? == Err(ServeFault::NetFailed));
-    Ok(())
+fn a_port_that_is_taken_is_told(rt: HostRuntime) {
+    assert!(rt; matches!(serve_taken(&rt), Some(Err(ServeFault::NetFailed))));
 }
 
 /// Serves so many connections over a new book, and then so many again, of a listener that has so many
 /// peers, which go.
-fn served_twice(alloc: Global, peers: u32, counts: [u16; 2]) -> Result<Served, ServeFault> {
+fn served_twice(alloc: Global, peers: u32, counts: [u16; 2]) -> Option<Served> {
     let machine = (OwnNet::new(Comers::Gone(peers)), alloc);
-    let mut server = Server::bind(&machine, 0, Patience::usual())?;
-    Ok(serve_new_book(&machine, &mut server, &counts))
+    let mut server = Server::bind(&machine, 0, Patience::usual()).ok()?;
+    Some(serve_new_book(&machine, &mut server, &counts))
 }
 
 #[test]
-fn a_peer_that_is_gone_is_passed_over_and_a_net_that_fails_is_told(
-    rt: HostRuntime,
-) -> Result<(), Fail> {
-    let want = Ok((1, Err(ServeFault::NetFailed)));
-    assert!(rt; served_twice(rt.alloc(), 1, [1, 1]) == want);
-    Ok(())
+fn a_peer_that_is_gone_is_passed_over_and_a_net_that_fails_is_told(rt: HostRuntime) {
+    let came = served_twice(rt.alloc(), 1, [1, 1]);
+    assert!(rt; matches!(came, Some((1, Err(ServeFault::NetFailed)))));
 }
 
 #[test]
-fn as_many_connections_are_served_as_a_service_may_be_asked_for(
-    rt: HostRuntime,
-) -> Result<(), Fail> {
-    assert!(rt; served_twice(rt.alloc(), 131070, [65535, 65535]) == Ok((2, Ok(()))));
-    Ok(())
+fn as_many_connections_are_served_as_a_service_may_be_asked_for(rt: HostRuntime) {
+    let came = served_twice(rt.alloc(), 131070, [65535, 65535]);
+    assert!(rt; matches!(came, Some((2, Ok(())))));
 }
 
 /// Why a service of programs alone over a new book ends.
@@ -314,16 +336,13 @@ fn end_of<R: AllocGlobal + Net + Clock>(rt: &R, server: &mut Server<'_, R>) -> S
 }
 
 /// Why a service over so many peers ends.
-fn served_on(alloc: Global, peers: u32) -> Result<ServiceEnd, ServeFault> {
+fn served_on(alloc: Global, peers: u32) -> Option<ServiceEnd> {
     let machine = (OwnNet::new(Comers::Gone(peers)), alloc);
-    let mut server = Server::bind(&machine, 0, Patience::usual())?;
-    Ok(end_of(&machine, &mut server))
+    let mut server = Server::bind(&machine, 0, Patience::usual()).ok()?;
+    Some(end_of(&machine, &mut server))
 }
 
 #[test]
-fn a_service_goes_on_past_65535_connections_and_ends_where_none_comes(
-    rt: HostRuntime,
-) -> Result<(), Fail> {
-    assert!(rt; served_on(rt.alloc(), 65536) == Ok(ServiceEnd::NetFailed));
-    Ok(())
+fn a_service_goes_on_past_65535_connections_and_ends_where_none_comes(rt: HostRuntime) {
+    assert!(rt; matches!(served_on(rt.alloc(), 65536), Some(ServiceEnd::NetFailed)));
 }
