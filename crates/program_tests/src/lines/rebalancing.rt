@@ -83,32 +83,67 @@ fn is_shown(
     }
 }
 
-/// Runs on the ring `object` behind which nothing is asked.
-static RUNS: [[Part; 3]; 13] = [
-    // a repeated rebalance gets its reply and moves nothing
-    [Part::First, Part::Repeated, Part::Pretended],
-    [Part::First, Part::Locked, Part::AtTheHour], // a moved partition stays for its hours
-    [Part::First, Part::Locked, Part::SetAside], // hours that are set aside lock nothing
-    [Part::Pairs, Part::Drained, Part::Nothing], // a drained device keeps one of two locked seats
-    // a drained device keeps its seats while they are locked
-    [Part::First, Part::DrainedWhileLocked, Part::Nothing],
-    [Part::Few, Part::Nothing, Part::Nothing], // too few open devices change nothing
-    [Part::Pairs, Part::Marked, Part::Nothing], // a marked device is none to put seats on
-    // a want that no seats can meet moves nothing
-    [Part::Unreachable, Part::Nothing, Part::Nothing],
-    // a request that came too early keeps its refusal
-    [Part::Reordered, Part::Nothing, Part::Nothing],
-    [Part::ClockBack, Part::Nothing, Part::Nothing], // a clock that goes back frees no partition
-    // two full devices of each partition give a seat each
-    [Part::Small, Part::Spread, Part::Nothing],
-    [Part::Small, Part::HalfFar, Part::Nothing], // a far device with room for one seat takes one
-    [Part::First, Part::Locked, Part::Raised], // both halves of a locked partition stay
+/// What runs on the ring `object` show, behind which nothing is asked, and their parts.
+static RUNS: [(&str, [Part; 3]); 13] = [
+    (
+        "a_repeated_rebalance_gets_its_reply_and_moves_nothing",
+        [Part::First, Part::Repeated, Part::Pretended],
+    ),
+    (
+        "a_moved_partition_stays_for_its_hours",
+        [Part::First, Part::Locked, Part::AtTheHour],
+    ),
+    (
+        "hours_that_are_set_aside_lock_nothing",
+        [Part::First, Part::Locked, Part::SetAside],
+    ),
+    (
+        "a_drained_device_keeps_one_of_two_locked_seats",
+        [Part::Pairs, Part::Drained, Part::Nothing],
+    ),
+    (
+        "a_drained_device_keeps_its_seats_while_they_are_locked",
+        [Part::First, Part::DrainedWhileLocked, Part::Nothing],
+    ),
+    (
+        "too_few_open_devices_change_nothing",
+        [Part::Few, Part::Nothing, Part::Nothing],
+    ),
+    (
+        "a_marked_device_is_none_to_put_seats_on",
+        [Part::Pairs, Part::Marked, Part::Nothing],
+    ),
+    (
+        "a_want_that_no_seats_can_meet_moves_nothing",
+        [Part::Unreachable, Part::Nothing, Part::Nothing],
+    ),
+    (
+        "a_request_that_came_too_early_keeps_its_refusal",
+        [Part::Reordered, Part::Nothing, Part::Nothing],
+    ),
+    (
+        "a_clock_that_goes_back_frees_no_partition",
+        [Part::ClockBack, Part::Nothing, Part::Nothing],
+    ),
+    (
+        "two_full_devices_of_each_partition_give_a_seat_each",
+        [Part::Small, Part::Spread, Part::Nothing],
+    ),
+    (
+        "a_far_device_with_room_for_one_seat_takes_one",
+        [Part::Small, Part::HalfFar, Part::Nothing],
+    ),
+    (
+        "both_halves_of_a_locked_partition_stay",
+        [Part::First, Part::Locked, Part::Raised],
+    ),
 ];
 
-/// Runs on the ring `object`, what is asked of the ring behind them, and what that is answered.
-static ASKED: [([Part; 3], &str, &str); 4] = [
-    // the first assignment is shown
+/// What runs on the ring `object` show, their parts, what is asked of the ring behind them, and what
+/// that is answered.
+static ASKED: [(&str, [Part; 3], &str, &str); 4] = [
     (
+        "the_first_assignment_is_shown",
         [Part::First, Part::Nothing, Part::Nothing],
         "? balance object\n? devices object\n",
         "   id     weight wanted    has balance
@@ -120,8 +155,8 @@ balance 0.00 dispersion 0.00 version 3
     1      1     1 10.0.0.2         6200     100.00 open    d1
 ",
     ),
-    // removal ignores the lock
     (
+        "removal_ignores_the_lock",
         [Part::First, Part::Removal, Part::Removed],
         "? balance object\n",
         "   id     weight wanted    has balance
@@ -130,8 +165,8 @@ balance 0.00 dispersion 0.00 version 3
 balance 0.00 dispersion 0.00 version 6
 ",
     ),
-    // a removed device gives all its seats away
     (
+        "a_removed_device_gives_all_its_seats_away",
         [Part::Pairs, Part::Emptied, Part::Nothing],
         "? balance object\n",
         "   id     weight wanted    has balance
@@ -140,8 +175,8 @@ balance 0.00 dispersion 0.00 version 6
 balance 0.00 dispersion 0.00 version 6
 ",
     ),
-    // a far device lacks a seat of each partition
     (
+        "a_far_device_lacks_a_seat_of_each_partition",
         [Part::Small, Part::Far, Part::Nothing],
         "? balance object\n",
         "   id     weight wanted    has balance
@@ -153,25 +188,22 @@ balance 100.00 dispersion 100.00 version 4
     ),
 ];
 
-/// The place of the first run of the first table that is answered otherwise, or how many there are.
-fn first_other(alloc: Global) -> usize {
-    let mut place = 0usize;
-    for parts in &RUNS {
+/// What the first run of the first table shows that is answered otherwise.
+fn first_other(alloc: Global) -> Option<&'static str> {
+    for (shows, parts) in &RUNS {
         if !is_shown(alloc, Limits::full(), "object", parts, "", "") {
-            return place;
+            return Some(*shows);
         }
-        place = place.saturating_add(1);
     }
-    place
+    None
 }
 
 #[test]
 fn rows_are_answered_as_they_show(rt: HostRuntime) {
-    let place = first_other(rt.alloc());
-    assert!(rt; place == RUNS.len(), "{place}");
-    for (parts, last, answers) in &ASKED {
+    assert_eq!(rt; first_other(rt.alloc()), None);
+    for (shows, parts, last, answers) in &ASKED {
         let is_shown = is_shown(rt.alloc(), Limits::full(), "object", parts, last, answers);
-        assert!(rt; is_shown, "{answers}");
+        assert!(rt; is_shown, "{shows}");
     }
 }
 
